@@ -1,0 +1,12 @@
+pub mod Ranked
+pub mod Message
+pub mod Queue
+pub mod Names
+pub mod State
+pub mod Head
+pub mod Write
+pub mod Turns
+pub mod Calls
+pub mod Refused
+pub mod Journal
+pub mod Step

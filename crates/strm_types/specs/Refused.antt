@@ -1,0 +1,83 @@
+-- Which refusal a call or a turn meets: the first whose condition holds, in this order. A side that isn't open; an
+-- argument; a full journal; too few free blocks; what the state says.
+use Rattle.std.specs.Prelude.{ℕ, Bool, true, false, not, ◌&&◌, ◌||◌, ◌==◌, nat_lt, nat_le, ◌+◌, List, [], ◌∷◌, length, Option, None, Some}
+use Rattle.strm_types.specs.declared.limits.Config.{Config}
+use Rattle.strm_types.specs.declared.events.Caller.{Caller}
+use Rattle.strm_types.specs.declared.names.Side.{Side}
+use Rattle.strm_types.specs.declared.names.QueueName.{QueueName}
+use Rattle.strm_types.specs.declared.refusals.Refusal.{Refusal}
+use Rattle.strm_types.specs.declared.refusals.Refusal.TheVariants.{Einval, Eagain, Enxio, Enosr, JournalFull}
+use Rattle.strm_types.specs.Names.{is_master, is_enabled}
+use Rattle.strm_types.specs.Queue.{is_full}
+use Rattle.strm_types.specs.State.{State, stream}
+use Rattle.strm_types.specs.Write.{chunk_count}
+use Rattle.strm_types.specs.Turns.{is_none_left}
+use Rattle.strm_types.specs.Calls.{Request, OpenMaster, Unlock, OpenSlave, Write, Read}
+use Rattle.strm_types.specs.Journal.{PlainEntry, payload_of, content_max, room_used}
+
+-- how many blocks of each kind are free
+pub record Free : Type 0 where
+  pub mblks : ℕ
+  pub dblks : ℕ
+
+-- the first refusal, else the second
+abbrev pub or_else : Option Refusal → Option Refusal → Option Refusal
+or_else None second = second
+or_else (Some first) second = Some first
+
+-- a refusal unless a condition holds
+abbrev pub unless : Bool → Refusal → Option Refusal
+unless true refusal = None
+unless false refusal = Some refusal
+
+-- so many blocks of each kind are free
+abbrev pub enough : ℕ → Free → Bool
+enough need free = nat_le need free.mblks && nat_le need free.dblks
+
+-- how many blocks of each kind have to be free for a call, whatever it then takes of them
+abbrev pub blocks_asked : {C : Type 0} → Request C → ℕ
+blocks_asked (Write cells) = 32 + chunk_count (length cells)
+blocks_asked _ = 0
+
+-- how many blocks of each kind have to be free for a driver's turn
+abbrev pub turn_blocks_asked : ℕ
+turn_blocks_asked = 8
+
+module _ {C : Type 0} where
+  -- the journal takes one more entry with so many bytes
+  abbrev pub has_room : List (PlainEntry C) → Config → ℕ → Bool
+  has_room entries limits bytes =
+      nat_lt (length entries) limits.journal_events && nat_le (room_used entries + bytes) limits.journal_bytes
+
+  -- what a call is refused for before all else: its side, and then its arguments
+  abbrev pub refused_at_once : State C → Caller → Request C → Option Refusal
+  refused_at_once s caller OpenMaster = None
+  refused_at_once s caller Unlock =
+      or_else (unless (stream caller.side s).is_open Enxio) (unless (is_master caller.side) Einval)
+  refused_at_once s caller OpenSlave = unless s.master.is_open Enxio
+  refused_at_once s caller (Write cells) = unless (stream caller.side s).is_open Enxio
+  refused_at_once s caller (Read n) = unless (stream caller.side s).is_open Enxio
+
+  -- what a call is refused for after all else: what the state says
+  abbrev pub refused_by_state : State C → Caller → Request C → Option Refusal
+  refused_by_state s caller OpenMaster = unless (not s.master.is_open) Einval
+  refused_by_state s caller Unlock = None
+  refused_by_state s caller OpenSlave = or_else (unless (not s.slave.is_open) Einval) (unless (not s.locked) Eagain)
+  refused_by_state s caller (Write cells) = unless (not (is_full 0 (stream caller.side s).driver.queue)) Eagain
+  refused_by_state s caller (Read n) =
+      unless (n == 0 || not (is_none_left (stream caller.side s).head.queue.messages)) Eagain
+
+  -- the refusal of a call, if any
+  abbrev pub refused : State C → List (PlainEntry C) → Config → Free → Caller → Request C → Option Refusal
+  refused s entries limits free caller asked =
+      or_else (refused_at_once s caller asked)
+      (or_else (unless (has_room entries limits (length (payload_of asked) + content_max asked)) JournalFull)
+      (or_else (unless (enough (blocks_asked asked) free) Enosr)
+      (refused_by_state s caller asked)))
+
+  -- the refusal of a turn, if any
+  abbrev pub turn_refused : State C → List (PlainEntry C) → Config → Free → QueueName → Option Refusal
+  turn_refused s entries limits free name =
+      or_else (unless (is_enabled name s.enabled) Einval)
+      (or_else (unless (has_room entries limits 0) JournalFull)
+      (unless (enough turn_blocks_asked free) Enosr))

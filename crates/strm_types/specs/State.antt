@@ -1,0 +1,69 @@
+-- The plain state of a pair: what every call acts on.
+use Rattle.std.specs.Prelude.{ℕ, Bool, true, false, List, []}
+use Rattle.strm_types.specs.declared.names.Side.{Side}
+use Rattle.strm_types.specs.declared.names.Side.TheVariants.{Master, Slave}
+use Rattle.strm_types.specs.declared.names.QueueName.{QueueName}
+use Rattle.strm_types.specs.Queue.{Queue, new_queue, map_queue}
+
+-- a stream head: what it has for its readers
+pub record Head (C : Type 0) : Type 0 where
+  pub queue : Queue C
+
+-- a driver: what it has for the other side
+pub record Driver (C : Type 0) : Type 0 where
+  pub queue : Queue C
+
+-- the stream of one side
+pub record Stream (C : Type 0) : Type 0 where
+  pub is_open : Bool
+  pub head : Head C
+  pub driver : Driver C
+
+-- a pair: its two streams, whether the slave is locked, the enabled queues in order of enabling, and the number that
+-- the next ioctl gets
+pub record State (C : Type 0) : Type 0 where
+  pub master : Stream C
+  pub slave : Stream C
+  pub locked : Bool
+  pub enabled : List QueueName
+  pub next_ioctl : ℕ
+
+module _ {C : Type 0} where
+  -- a head as it is made: marks 5120 and 1024
+  abbrev pub new_head : Head C
+  new_head = record { queue = new_queue 5120 1024 }
+
+  -- a driver as it is made: marks 512 and 128
+  abbrev pub new_driver : Driver C
+  new_driver = record { queue = new_queue 512 128 }
+
+  -- a stream that nobody opened yet
+  abbrev pub new_stream : Stream C
+  new_stream = record { is_open = false; head = new_head; driver = new_driver }
+
+  -- a pair as it is made
+  abbrev pub opening : State C
+  opening = record { master = new_stream; slave = new_stream; locked = true; enabled = []; next_ioctl = 1 }
+
+  -- the stream of a side
+  abbrev pub stream : Side → State C → Stream C
+  stream Master s = s.master
+  stream Slave s = s.slave
+
+  -- the state with another stream on a side
+  abbrev pub with_stream : Side → Stream C → State C → State C
+  with_stream Master new s = record s { master = new }
+  with_stream Slave new s = record s { slave = new }
+
+  abbrev pub with_head_queue : Queue C → Stream C → Stream C
+  with_head_queue q t = record t { head = record { queue = q } }
+
+  abbrev pub with_driver_queue : Queue C → Stream C → Stream C
+  with_driver_queue q t = record t { driver = record { queue = q } }
+
+-- the same state of other cells, as where their origins are forgotten
+abbrev pub map_stream : {C D : Type 0} → (C → D) → Stream C → Stream D
+map_stream f t = record { is_open = t.is_open; head = record { queue = map_queue f t.head.queue }; driver = record { queue = map_queue f t.driver.queue } }
+
+abbrev pub map_state : {C D : Type 0} → (C → D) → State C → State D
+map_state f s = record { master = map_stream f s.master; slave = map_stream f s.slave; locked = s.locked; enabled = s.enabled; next_ioctl = s.next_ioctl }

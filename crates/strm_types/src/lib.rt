@@ -1,0 +1,20 @@
+//! What every crate of the stack speaks of: sides, queues, kinds of message, the calls on a pair with their
+//! answers and refusals, and the entries of a pair's journal. `specs/` holds the definitions that every contract
+//! cites, one file for each subject; `laws` holds what follows from them, each law the contract of a function.
+#![tactic(auto)]
+
+mod answers;
+mod entries;
+mod events;
+mod kinds;
+mod limits;
+mod names;
+mod refusals;
+
+pub use answers::{Answer, READ_MAX, Turn};
+pub use entries::{AnswerShape, Entry, EventShape};
+pub use events::{Caller, Event};
+pub use kinds::{Band, MsgKind};
+pub use limits::Config;
+pub use names::{Dir, Place, QueueName, Side, Way};
+pub use refusals::Refusal;

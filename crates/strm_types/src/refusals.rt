@@ -1,0 +1,36 @@
+//! Why a call is refused.
+
+use thiserror::Error;
+
+/// Why a call is refused. A refused call changes nothing. Each refusal has a number, from 1.
+#[derive(Clone, Copy, Debug, Error, PartialEq, Eq)]
+pub enum Refusal {
+    #[error("EINVAL: an argument is out of range, or the call doesn't fit what is there")]
+    Einval = 1,
+    #[error("EAGAIN: the call would have to wait")]
+    Eagain = 2,
+    #[error("ENXIO: that side isn't open, or was hung up")]
+    Enxio = 3,
+    #[error("EBADMSG: the first message isn't one that a read can give")]
+    Ebadmsg = 4,
+    #[error("ENOSR: fewer message or data blocks are free than the call may need")]
+    Enosr = 5,
+    #[error("ERANGE: a size or a number is beyond its limit")]
+    Erange = 6,
+    #[error("the journal is full")]
+    JournalFull = 7,
+    #[error("each minor number is taken")]
+    NoMinor = 8,
+    #[error("memory was refused")]
+    NoMemory = 9,
+    #[error("another end still has a share of the pair")]
+    StillShared = 10,
+}
+
+impl Refusal {
+    /// The number of the refusal, from 1 for EINVAL to 10 for StillShared.
+    pub fn number(self) -> u8
+    {
+        self as u8
+    }
+}
