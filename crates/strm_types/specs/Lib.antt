@@ -10,3 +10,4 @@ pub mod Calls
 pub mod Refused
 pub mod Journal
 pub mod Step
+pub mod Pair
