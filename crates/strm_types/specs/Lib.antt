@@ -11,3 +11,4 @@ pub mod Refused
 pub mod Journal
 pub mod Step
 pub mod Pair
+pub mod Numbers
