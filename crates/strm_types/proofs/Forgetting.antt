@@ -1,10 +1,10 @@
 -- Forgetting the origins of cells commutes with what is done to them.
 use Rattle.std.proofs.Common.{ℕ, zero, suc, ◌≡◌, ◌+◌, ◌-◌, Bool, true, false, cond, List, [], ◌∷◌, ◌++◌, length, map, take, drop, refl, sym, ap, ◌∙◌, arith}
-use Rattle.std.specs.Prelude.{sum_by, if◌then◌else◌, ◌==◌, ◌||◌, nat_le, nat_lt, Option, None, Some, option_map}
+use Rattle.std.specs.Prelude.{if◌then◌else◌, ◌==◌, ◌||◌, nat_le, nat_lt, Option, None, Some, option_map}
 use Rattle.std.proofs.lemmas.List.{take-map, drop-map, length-map, map-append}
 use Rattle.std.proofs.lemmas.List.Sums.{sum_by-cons}
-use Rattle.strm_types.specs.Message.{Message, part, rank_of, band_of, cells_of, size_of, data_message, map_message, is_high_priority}
-use Rattle.strm_types.specs.Queue.{Queue, Flow, put, put_back, put_on, put_enables, count_of, is_full, flow_of, map_messages, map_queue}
+use Rattle.strm_types.specs.Message.{Message, part, rank_of, band_of, cells_of, size_of, data_message, map_message}
+use Rattle.strm_types.specs.Queue.{Queue, put, put_back, put_on, put_enables, count_of, is_full, flow_of, map_messages, map_queue}
 use Rattle.strm_types.specs.Write.{Sent, sent, written, chunks_of, chunk_count}
 use Rattle.strm_types.specs.Head.{Taken, rest_of, gathered, head_read}
 

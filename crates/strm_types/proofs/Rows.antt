@@ -1,21 +1,17 @@
 -- What the definitions compute, for a few scripts whose answers were worked out by hand from the manual pages.
-use Rattle.std.proofs.Common.{ℕ, ◌≡◌, ◌++◌, Bool, true, false, List, [], ◌∷◌, refl, replicate, length}
-use Rattle.std.specs.Prelude.{Option, None, Some, map}
-use Rattle.strm_types.specs.declared.kinds.MsgKind.{MsgKind}
-use Rattle.strm_types.specs.declared.kinds.MsgKind.TheVariants.{Data, Pcproto, Proto}
+use Rattle.std.proofs.Common.{ℕ, ◌≡◌, [], ◌∷◌, refl, replicate}
+use Rattle.std.specs.Prelude.{None, Some}
+use Rattle.strm_types.specs.declared.kinds.MsgKind.TheVariants.{Data, Pcproto}
 use Rattle.strm_types.specs.declared.names.Side.TheVariants.{Master, Slave}
-use Rattle.strm_types.specs.declared.answers.Turn.{Turn}
-use Rattle.strm_types.specs.declared.answers.Turn.TheVariants.{Moved, Blocked, Idle}
-use Rattle.strm_types.specs.declared.events.Caller.{Caller}
-use Rattle.strm_types.specs.declared.refusals.Refusal.{Refusal}
+use Rattle.strm_types.specs.declared.answers.Turn.TheVariants.{Moved}
 use Rattle.strm_types.specs.declared.refusals.Refusal.TheVariants.{Eagain, Enxio, Einval}
 use Rattle.strm_types.specs.Message.{Message, data_message, rank_of, band_of, size_of, cells_of, is_high_priority, is_held}
-use Rattle.strm_types.specs.Queue.{put, put_back, lane}
+use Rattle.strm_types.specs.Queue.{put, put_back}
 use Rattle.strm_types.specs.Names.{driver_of}
 use Rattle.strm_types.specs.State.{State, opening}
 use Rattle.strm_types.specs.Write.{chunk_count}
 use Rattle.strm_types.specs.Turns.{turned}
-use Rattle.strm_types.specs.Calls.{Request, OpenMaster, Unlock, OpenSlave, Write, Read, Reply, Count, Bytes, called}
+use Rattle.strm_types.specs.Calls.{OpenMaster, Unlock, OpenSlave, Write, Read, Count, Bytes, called}
 use Rattle.strm_types.specs.Refused.{refused_by_state, refused_at_once}
 
 -- the state after the master was opened, the slave unlocked and opened

@@ -1,13 +1,13 @@
 -- What a test counts of the cells of a queue, after each operation.
-use Rattle.std.proofs.Common.{ℕ, zero, suc, ◌≡◌, ◌≤◌, ◌+◌, ◌-◌, Bool, true, false, cond, List, [], ◌∷◌, ◌++◌, length, take, drop, refl, sym, ap, ◌∙◌, arith}
-use Rattle.std.specs.Prelude.{sum_by, count_by, if◌then◌else◌, ◌==◌, ◌||◌, nat_lt, Option, None, Some}
+use Rattle.std.proofs.Common.{ℕ, zero, suc, ◌≡◌, ◌+◌, ◌-◌, Bool, true, false, cond, List, [], ◌∷◌, ◌++◌, length, take, drop, refl, sym, ap, ◌∙◌, arith}
+use Rattle.std.specs.Prelude.{count_by, ◌==◌, ◌||◌, nat_lt}
 use Rattle.std.proofs.lemmas.List.{take-append-drop, nil_from_length}
 use Rattle.std.proofs.Math.Seq.{take-append-add}
 use Rattle.std.proofs.lemmas.Bool.Decides.{nat_tests}
 use Rattle.std.proofs.lemmas.List.Sums.{sum_by-cons, sum_by-append}
 use Rattle.strm_types.specs.Message.{Message, rank_of, cells_of, size_of, weight_of, data_message}
 use Rattle.strm_types.specs.Queue.{Queue, put, put_back, put_on, weight, is_full}
-use Rattle.strm_types.specs.Write.{Sent, sent, written, chunks_of, chunk_count}
+use Rattle.strm_types.specs.Write.{sent, written, chunks_of, chunk_count}
 use Rattle.strm_types.specs.Head.{Taken, rest_of, gathered, head_read}
 use Rattle.strm_types.proofs.Ranked.{sum-put, sum-put_back}
 
