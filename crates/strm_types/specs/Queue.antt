@@ -5,9 +5,9 @@ use Rattle.strm_types.specs.Message.{Message, rank_of, band_of, size_of, weight_
 
 -- the flow control of one band of a queue
 pub record Flow : Type 0 where
-  pub high : ℕ          -- the high-water mark: a count from it on is full
-  pub low : ℕ           -- the low-water mark: a count down to it lets writers go on
-  pub want_write : Bool -- a service procedure found the band full
+  pub high : ℕ  -- the high-water mark: a count from it on is full
+  pub low : ℕ  -- the low-water mark: a count down to it lets writers go on
+  pub want_write : Bool  -- a service procedure found the band full
 
 -- A queue: its messages, the first one first, the flow control of its bands from 0 up, and its flags.
 pub record Queue (C : Type 0) : Type 0 where

@@ -29,8 +29,7 @@ pub enum Refusal {
 
 impl Refusal {
     /// The number of the refusal, from 1 for EINVAL to 10 for StillShared.
-    pub fn number(self) -> u8
-    {
+    pub fn number(self) -> u8 {
         self as u8
     }
 }

@@ -1,0 +1,12 @@
+-- The plain journal is what the stored entries and bytes say.
+use Rattle.std.proofs.Common.{ap, ◌∙◌}
+use Rattle.strm_types.specs.Journal.{entries_in}
+use Rattle.strm_types.specs.Pair.{PairState}
+use Rattle.strm_pair.specs.Pairs.{journal_of}
+use Rattle.strm_pair.proofs.pair.Pair.journal.Goals as goal
+
+pub returns-clause-entries : goal.returns-clause-entries
+unfolding journal_of
+returns-clause-entries c =
+    let j = c.self.inside.journal in
+    ap (λ es. entries_in es c.as_slice-2.result.now) c.as_slice.ensures.value ∙ ap (λ b. entries_in j.entries.items b) c.as_slice-2.ensures.value ∙ ap (λ (p : PairState). p.journal) c.self.view_is
