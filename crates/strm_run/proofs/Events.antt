@@ -11,7 +11,7 @@ use Rattle.strm_types.specs.Refused.{enough, blocks_asked, turn_blocks_asked}
 use Rattle.strm_types.specs.Pair.{PairState, call_refused, queue_refused, AddsEntry}
 use Rattle.strm_types.specs.ScriptAnswers.{Ran, reply_line, turn_line}
 use Rattle.strm_types.specs.ScriptRun as script
-use Rattle.strm_types.specs.ScriptRun.{Supply, Enough, TooFew, is_enough, PlainPair, Happened, call_refusal, turn_refusal, call_happens, turn_happens, call_of, turn_of, is_short, is_enosr, Turns, no_turns, counted, turns_of, by_call, by_turn, by_run, by_open, unanswered, new_plain}
+use Rattle.strm_types.specs.ScriptRun.{Supply, Enough, TooFew, is_enough, PlainPair, Happened, call_refusal, turn_refusal, call_happens, turn_happens, call_of, turn_of, is_short, is_enosr, Turns, no_turns, counted, turns_of, by_call, by_turn, by_run, by_open, unanswered, new_plain, next_of, rest_of}
 use Rattle.std.proofs.lemmas.Bool.{le-leb, lt-leb}
 use Rattle.strm_types.specs.Calls as calls
 use Rattle.strm_types.specs.declared.names.Side.TheVariants.{Master}
@@ -147,19 +147,19 @@ turns_none zero account p h = refl
 turns_none (suc n) account p h = rw (h, turns_of) refl
 
 -- one that is refused ends the turns, and one that isn't counts
-pub turns_err : (n : ℕ) (supply : Supply) (account : List Supply) (p after : PlainPair) (name : QueueName) (refusal : Refusal)
-    → slice_get p.state.enabled 0 ≡ Some name → turn_of supply p name ≡ record { answer = Err refusal; pair = after }
-    → turns_of (suc n) (supply ∷ account) p ≡ no_turns (is_enosr refusal) account after
+pub turns_err : (n : ℕ) (account : List Supply) (p after : PlainPair) (name : QueueName) (refusal : Refusal)
+    → slice_get p.state.enabled 0 ≡ Some name → turn_of (next_of account) p name ≡ record { answer = Err refusal; pair = after }
+    → turns_of (suc n) account p ≡ no_turns (is_enosr refusal) (rest_of account) after
 unfolding turns_of
-turns_err n supply account p after name refusal first h =
-    rw (first, turns_of, h) (ap (λ (x : Happened Turn). no_turns (is_enosr refusal) account x.pair) h)
+turns_err n account p after name refusal first h =
+    rw (first, turns_of, h) (ap (λ (x : Happened Turn). no_turns (is_enosr refusal) (rest_of account) x.pair) h)
 
-pub turns_ok : (n : ℕ) (supply : Supply) (account : List Supply) (p after : PlainPair) (name : QueueName) (turn : Turn)
-    → slice_get p.state.enabled 0 ≡ Some name → turn_of supply p name ≡ record { answer = Ok turn; pair = after }
-    → turns_of (suc n) (supply ∷ account) p ≡ counted (turns_of n account after)
+pub turns_ok : (n : ℕ) (account : List Supply) (p after : PlainPair) (name : QueueName) (turn : Turn)
+    → slice_get p.state.enabled 0 ≡ Some name → turn_of (next_of account) p name ≡ record { answer = Ok turn; pair = after }
+    → turns_of (suc n) account p ≡ counted (turns_of n (rest_of account) after)
 unfolding turns_of
-turns_ok n supply account p after name turn first h =
-    rw (first, turns_of, h) (ap (λ (x : Happened Turn). counted (turns_of n account x.pair)) h)
+turns_ok n account p after name turn first h =
+    rw (first, turns_of, h) (ap (λ (x : Happened Turn). counted (turns_of n (rest_of account) x.pair)) h)
 
 -- so many turns before others
 abbrev pub counted_by : ℕ → Turns → Turns
@@ -170,7 +170,7 @@ pub record RunsTo (turns taken : ℕ) (begun now : PlainPair) : Type 0 where
   pub events : List Supply
   pub leads : (account : List Supply) → turns_of turns (events ++ account) begun ≡ counted_by taken (turns_of (turns - taken) account now)
 
-turns_zero : (account : List Supply) (p : PlainPair) → turns_of 0 account p ≡ no_turns false account p
+pub turns_zero : (account : List Supply) (p : PlainPair) → turns_of 0 account p ≡ no_turns false account p
 unfolding turns_of
 turns_zero account p = refl
 
@@ -197,7 +197,7 @@ RunsTo-more turns taken begun old new name turn r below so first h e = record {
        let rest = turns_of (turns - (taken + 1)) account (plain new) in
        let count : taken + suc rest.count ≡ taken + 1 + rest.count = omega arith in
        ap (λ n. counted_by taken (turns_of n (h.supply ∷ account) (plain old))) left
-       ∙ ap (counted_by taken) (turns_ok (turns - (taken + 1)) h.supply account (plain old) (plain new) name turn first
+       ∙ ap (counted_by taken) (turns_ok (turns - (taken + 1)) (h.supply ∷ account) (plain old) (plain new) name turn first
            (h.same ∙ ap (λ x. record { answer = x; pair = plain new }) e))
        ∙ (λ i. record { count = count i; pair = rest.pair; account = rest.account; is_short = rest.is_short }));
 }
@@ -236,7 +236,7 @@ run_refused turns taken begun old new name refusal r found below so first h e li
       (λ account.
         let left : turns - taken ≡ suc (turns - (taken + 1)) = omega arith in
         ap (λ n. turns_of n (h.supply ∷ account) (plain old)) left
-        ∙ turns_err (turns - (taken + 1)) h.supply account (plain old) (plain new) name refusal first
+        ∙ turns_err (turns - (taken + 1)) (h.supply ∷ account) (plain old) (plain new) name refusal first
             (h.same ∙ ap (λ x. record { answer = x; pair = plain new }) e))
       line short
 

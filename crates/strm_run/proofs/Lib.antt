@@ -1,2 +1,7 @@
 pub mod Readings
 pub mod Events
+pub mod Ways
+pub mod EngineSteps
+pub mod Supplies
+pub mod Known
+pub mod Whole

@@ -6,3 +6,6 @@ pub mod Plain
 pub mod Outcomes
 pub mod Points
 pub mod Steps
+pub mod Output
+pub mod Runs
+pub mod Serving

@@ -53,3 +53,15 @@ pub record Breaks (a : Point) (input text : List ℕ) (short : Option ℕ) : Typ
   pub input_is : input ≡ taken ++ left
   pub goes : Goes a taken (text ++ unsaid) point
   pub same : point.short ≡ short
+
+-- what bytes up to the end of the input come to, some of which is said
+pub record Shows (a : Point) (bytes text : List ℕ) (short : Option ℕ) : Type 0 where
+  pub events : List Supply
+  pub unsaid : List ℕ
+  pub text_is : (told_at events a bytes).text ≡ text ++ unsaid
+  pub short_is : (told_at events a bytes).short ≡ short
+
+-- what they come to, all of which is said, with the first malformed line
+pub record Says (a : Point) (bytes text : List ℕ) (short fault : Option ℕ) : Type 0 where
+  pub events : List Supply
+  pub told_is : told_at events a bytes ≡ record { text = text; short = short; fault = fault }

@@ -3,6 +3,7 @@
 ghost use Rattle.std.specs.Prelude.{◌≡◌, ◌+◌, ◌<◌, ◌≤◌, ◌^◌, length, [], ◌∷◌, ◌++◌, None, OnOk, OnErr};
 ghost use Rattle.strm_types.specs.ScriptAnswers.{printed_line};
 ghost use Rattle.strm_types.specs.ScriptRun.{first_of, line_if};
+ghost use Rattle.strm_run.specs.Commands.{command_of};
 ghost use Rattle.strm_run.specs.Lines.{line_of};
 
 use std::alloc::{AllocError, Global};
@@ -10,7 +11,7 @@ use std::alloc::{AllocError, Global};
 use strm_pair::Pair;
 
 use crate::answers::Line;
-use crate::commands::Reading;
+use crate::commands::{Command, Reading};
 use crate::lines::{LINE_MAX, reading};
 use crate::session::answer;
 
@@ -49,7 +50,7 @@ fn say(alloc: Global, line: &Line, answers: &mut Vec<u8>) -> Result<(), AllocErr
 }
 
 impl Engine {
-    ghost use Rattle.strm_run.specs.Steps.{Steps, Ready};
+    ghost use Rattle.strm_run.specs.Steps.{Steps, Ready, Refused, Obeyed, AnswersLine, EndsInput};
 
     /// A script that begins.
     pub fn new(alloc: Global) -> Engine
@@ -64,42 +65,74 @@ impl Engine {
         }
     }
 
-    /// Notes that an event of a line got ENOSR, where it is the first.
-    fn note(&mut self, short: bool, number: u64)
-        ensures { self.new ≡ record self.old { short = first_of self.old.short (line_if short number) } }
+    /// Notes that an event of the next line to end got ENOSR, where that line is the first.
+    fn note(&mut self, short: bool)
+        requires { self.old.lines < 2 ^ 60 }
+        ensures { self.new ≡ record self.old { short = first_of self.old.short (line_if short (self.old.lines + 1)) } }
     {
         if short && self.short.is_none() {
-            self.short = Some(number);
+            self.short = Some(self.lines + 1);
         }
     }
 
-    /// Answers the line that has ended.
+    /// Says that the next line to end is malformed.
+    fn refuse(&mut self, alloc: Global) -> Stop
+        requires { self.old.lines < 2 ^ 60 }
+        ensures refused { Refused self.old self.new result }
+        ensures lines { self.new.lines ≡ self.old.lines }
+    {
+        let line = Line::Wrong(self.lines + 1);
+        if say(alloc, &line, &mut self.answers).is_ok() {
+            Stop::Malformed
+        } else {
+            Stop::NoMemory
+        }
+    }
+
+    /// Carries out the command of the next line to end, and says its answer.
+    fn obey(&mut self, alloc: Global, command: &Command) -> Result<(), Stop>
+        requires { self.old.lines < 2 ^ 60 }
+        ensures obeyed { Obeyed (command_of command.now) self.old self.new result }
+        ensures lines { self.new.lines ≡ self.old.lines }
+    {
+        let Ok(answered) = answer(alloc, &mut self.pair, command) else {
+            return Err(Stop::NoMemory);
+        };
+        self.note(answered.short);
+        if say(alloc, &answered.line, &mut self.answers).is_ok() {
+            Ok(())
+        } else {
+            Err(Stop::NoMemory)
+        }
+    }
+
+    /// Answers the line that ends.
+    fn answer_line(&mut self, alloc: Global) -> Result<(), Stop>
+        requires { self.old.lines < 2 ^ 60 }
+        ensures answers { AnswersLine self.old self.new result }
+        ensures lines { self.new.lines ≡ self.old.lines }
+    {
+        let Ok(found) = reading(alloc, self.line.as_slice()) else {
+            return Err(Stop::NoMemory);
+        };
+        match found {
+            Reading::Silent => Ok(()),
+            Reading::Malformed => Err(self.refuse(alloc)),
+            Reading::Spoken(command) => self.obey(alloc, &command),
+        }
+    }
+
+    /// Answers the line that ends, and begins the next.
     fn end_line(&mut self, alloc: Global) -> Result<(), Stop>
         requires { self.old.lines < 2 ^ 60 }
         ensures steps { Steps self.old self.new (10 ∷ []) result }
+        ensures fresh { OnOk result (self.new.line.items ≡ []) }
         ensures count { self.new.lines ≤ self.old.lines + 1 }
     {
-        let number = self.lines + 1;
-        match reading(alloc, self.line.as_slice()) {
-            Ok(Reading::Silent) => {}
-            Ok(Reading::Malformed) => {
-                if say(alloc, &Line::Wrong(number), &mut self.answers).is_err() {
-                    return Err(Stop::NoMemory);
-                }
-                return Err(Stop::Malformed);
-            }
-            Ok(Reading::Spoken(command)) => {
-                let Ok(answered) = answer(alloc, &mut self.pair, &command) else {
-                    return Err(Stop::NoMemory);
-                };
-                self.note(answered.short, number);
-                if say(alloc, &answered.line, &mut self.answers).is_err() {
-                    return Err(Stop::NoMemory);
-                }
-            }
-            Err(_) => return Err(Stop::NoMemory),
+        if let Err(stop) = self.answer_line(alloc) {
+            return Err(stop);
         }
-        self.lines = number;
+        self.lines += 1;
         self.line.clear();
         Ok(())
     }
@@ -114,16 +147,13 @@ impl Engine {
             return self.end_line(alloc);
         }
         if self.line.len() >= LINE_MAX {
-            let number = self.lines + 1;
-            if say(alloc, &Line::Wrong(number), &mut self.answers).is_err() {
-                return Err(Stop::NoMemory);
-            }
-            return Err(Stop::Malformed);
+            return Err(self.refuse(alloc));
         }
-        if self.line.push(byte).is_err() {
-            return Err(Stop::NoMemory);
+        if self.line.push(byte).is_ok() {
+            Ok(())
+        } else {
+            Err(Stop::NoMemory)
         }
-        Ok(())
     }
 
     /// Takes the next bytes of the script.
@@ -138,5 +168,16 @@ impl Engine {
             }
         }
         Ok(())
+    }
+
+    /// Answers the last line, where it lacks its LF.
+    pub fn finish(&mut self, alloc: Global) -> Result<(), Stop>
+        requires { self.old.lines < 2 ^ 60 }
+        ensures { EndsInput self.old self.new result }
+    {
+        if self.line.is_empty() {
+            return Ok(());
+        }
+        self.end_line(alloc)
     }
 }

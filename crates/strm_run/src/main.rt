@@ -8,8 +8,21 @@ mod commands;
 mod engine;
 mod lines;
 mod numbers;
+mod output;
+mod script;
 mod session;
+#[cfg(test)]
+mod tests;
 mod texts;
 mod words;
 
-fn main() {}
+use std::io;
+use std::process::ExitCode;
+
+use crate::script::run_script;
+
+/// Runs the script on standard input, and ends with its status. Arguments are ignored.
+fn main(rt: HostRuntime) -> ExitCode {
+    let end = run_script(rt.alloc(), &mut rt.reader(), &mut io::writer(&rt));
+    ExitCode::from(end.status)
+}
