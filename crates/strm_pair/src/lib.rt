@@ -15,3 +15,5 @@ pub use pair::{Pair, Recorded};
 
 #[cfg(test)]
 mod tests;
+#[cfg(test)]
+mod walk;

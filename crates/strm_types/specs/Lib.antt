@@ -15,3 +15,4 @@ pub mod Script
 pub mod ScriptReading
 pub mod ScriptAnswers
 pub mod ScriptRun
+pub mod Numbers
