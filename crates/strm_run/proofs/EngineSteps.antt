@@ -1,12 +1,10 @@
 -- What the engine's parts do, joined.
-use Rattle.std.proofs.Common.{◌≡◌, ℕ, suc, ◌≤◌, ◌+◌, List, [], ◌∷◌, ◌++◌, length, Option, None, Some, Result, Ok, Err, refl, sym, ap, ◌∙◌, append_assoc, append-nil, inl, inr, subst, OnOk}
+use Rattle.std.proofs.Common.{◌≡◌, ℕ, suc, ◌≤◌, List, [], ◌∷◌, ◌++◌, length, None, Some, Result, Ok, Err, sym, ap, ◌∙◌, append_assoc, append-nil, inl, inr, OnOk}
 use Rattle.strm_types.specs.Script.{Command}
 use Rattle.strm_types.specs.ScriptReading.{reading, Malformed as MalformedLine, Spoken}
 use Rattle.strm_types.specs.ScriptAnswers.{printed_line, Wrong}
-use Rattle.strm_types.specs.ScriptRun.{first_of, line_if}
 use Rattle.strm_run.specs.Lines.{line_of}
-use Rattle.strm_run.specs.Points.{Point, Goes, Ends, Breaks}
-use Rattle.strm_run.specs.Steps.{pair_of, point_of, point_behind, Refused, Obeys, Obeyed, Took, Answers, Refuses, Fails, Steps, AnswersLine, Finishes, EndsInput}
+use Rattle.strm_run.specs.Steps.{pair_of, point_of, Refused, Obeyed, Took, Fails, Steps, AnswersLine, Finishes, EndsInput}
 use Rattle.strm_run.specs.declared.engine.Engine.{Engine}
 use Rattle.strm_run.specs.declared.engine.Stop.{Stop}
 use Rattle.strm_run.specs.declared.engine.Stop.TheVariants.{Malformed, NoMemory}
@@ -51,17 +49,18 @@ obeyed_line command old new (Ok _) h lines line = record {
 obeyed_line command old new (Err Malformed) h lines line = absurd h
 obeyed_line command old new (Err NoMemory) h lines line =
     elim h.0 [
-      inl same ↦ fails_none old new (10 ∷ []) same h.1
-    | inr done ↦ record {
+      | inl same ↦ fails_none old new (10 ∷ []) same h.1
+      | inr done ↦ record {
         text = [];
         breaks = Breaks-unsaid (point_of old) _ (10 ∷ []) _ new.short
-          (goes_spoken (point_of old) command done.0 (pair_of new) line done.1.leads) (sym done.1.short);
+            (goes_spoken (point_of old) command done.0 (pair_of new) line done.1.leads) (sym done.1.short);
         answers = h.1 ∙ sym (append-nil old.answers.items);
-      } ]
+      }
+    ]
 
 -- what comes behind bytes that were taken
 pub Took-none : (e : Engine) → Took e e []
-Took-none e = record { text = []; goes = Goes-none (point_of e); answers = sym (append-nil e.answers.items); }
+Took-none e = record { text = []; goes = Goes-none (point_of e); answers = sym (append-nil e.answers.items) }
 
 pub Took-join : (e m n : Engine) (i j : List ℕ) → Took e m i → Took m n j → Took e n (i ++ j)
 Took-join e m n i j x y = record {
@@ -76,13 +75,13 @@ stop_join e m n i j k Malformed x y = record {
   text = x.text ++ y.text;
   number = y.number;
   ends = Ends-more (point_of e) (i ++ j) k (x.text ++ y.text) n.short y.number
-    (Ends-join (point_of e) (point_of m) i j x.text y.text n.short y.number x.goes y.ends);
+      (Ends-join (point_of e) (point_of m) i j x.text y.text n.short y.number x.goes y.ends);
   answers = y.answers ∙ ap (λ k. k ++ y.text) x.answers ∙ append_assoc e.answers.items x.text y.text;
 }
 stop_join e m n i j k NoMemory x y = record {
   text = x.text ++ y.text;
   breaks = Breaks-more (point_of e) (i ++ j) k (x.text ++ y.text) n.short
-    (Breaks-join (point_of e) (point_of m) i j x.text y.text n.short x.goes y.breaks);
+      (Breaks-join (point_of e) (point_of m) i j x.text y.text n.short x.goes y.breaks);
   answers = y.answers ∙ ap (λ k. k ++ y.text) x.answers ∙ append_assoc e.answers.items x.text y.text;
 }
 
@@ -97,21 +96,24 @@ took_byte old new b pair lines short answers line ne = record {
 
 -- the end of the input behind a whole line, and behind a line without its LF
 pub finished_none : (e : Engine) → e.line.items ≡ [] → Finishes e e None
-finished_none e h = record { text = []; says = Says-none (point_of e) h; answers = sym (append-nil e.answers.items); }
+finished_none e h = record { text = []; says = Says-none (point_of e) h; answers = sym (append-nil e.answers.items) }
 
 pub finished_last : (old new : Engine) (r : Result (Unit {0}) Stop) → (old.line.items ≡ [] → ⊥) → Steps old new (10 ∷ []) r
     → OnOk r (new.line.items ≡ []) → EndsInput old new r
 finished_last old new (Ok _) ne x fresh = record {
   text = x.text;
   says = Says-last (point_of old) x.text new.short None ne
-    (rw (sym (append-nil x.text)) (Says-behind (point_of old) (point_of new) (10 ∷ []) [] x.text [] new.short None x.goes (Says-none (point_of new) fresh)));
+      (rw (sym (append-nil x.text)) (Says-behind (point_of old) (point_of new) (10 ∷ []) [] x.text [] new.short None x.goes (Says-none (point_of new) fresh)));
   answers = x.answers;
 }
-finished_last old new (Err Malformed) ne x fresh = (x.number, record {
-  text = x.text;
-  says = Says-last (point_of old) x.text new.short (Some x.number) ne (Says-ended (point_of old) (10 ∷ []) [] x.text new.short x.number x.ends);
-  answers = x.answers;
-})
+finished_last old new (Err Malformed) ne x fresh = (
+  x.number,
+  record {
+    text = x.text;
+    says = Says-last (point_of old) x.text new.short (Some x.number) ne (Says-ended (point_of old) (10 ∷ []) [] x.text new.short x.number x.ends);
+    answers = x.answers;
+  },
+)
 finished_last old new (Err NoMemory) ne x fresh = record {
   text = x.text;
   shows = Shows-last (point_of old) x.text new.short ne (Shows-broken (point_of old) (10 ∷ []) [] x.text new.short x.breaks);

@@ -1,5 +1,5 @@
 -- The calls and turns of a pair, as the plain session has them.
-use Rattle.std.proofs.Common.{◌≡◌, ℕ, zero, suc, ◌+◌, ◌-◌, ◌<◌, ◌≤◌, Bool, true, false, List, [], ◌∷◌, ◌++◌, length, Option, None, Some, Result, Ok, Err, IsOk, IfOk, MatchOption, slice_get, refl, arith, sym, ap, ◌∙◌, inl, inr, append_assoc, ◌⊎◌, leb, ◌&&◌}
+use Rattle.std.proofs.Common.{◌≡◌, ℕ, zero, suc, ◌+◌, ◌-◌, ◌<◌, ◌≤◌, Bool, true, false, List, [], ◌∷◌, ◌++◌, Option, None, Some, Result, Ok, Err, IsOk, IfOk, MatchOption, slice_get, refl, arith, sym, ap, ◌∙◌, inl, inr, append_assoc, ◌⊎◌, leb, ◌&&◌}
 use Rattle.strm_types.specs.declared.answers.Answer.{Answer}
 use Rattle.strm_types.specs.declared.answers.Turn.{Turn}
 use Rattle.strm_types.specs.declared.events.Caller.{Caller}
@@ -15,7 +15,7 @@ use Rattle.strm_types.specs.ScriptRun.{Supply, Enough, TooFew, is_enough, PlainP
 use Rattle.std.proofs.lemmas.Bool.{le-leb, lt-leb}
 use Rattle.strm_types.specs.Calls as calls
 use Rattle.strm_types.specs.declared.names.Side.TheVariants.{Master}
-use Rattle.strm_types.specs.declared.refusals.Refusal.TheVariants.{Einval, Enxio}
+use Rattle.strm_types.specs.declared.refusals.Refusal.TheVariants.{Einval}
 use Rattle.strm_run.specs.declared.answers.Line.TheVariants as lines
 use Rattle.strm_run.specs.Plain.{plain}
 use Rattle.strm_run.specs.Lines.{line_of}
@@ -115,13 +115,13 @@ unfolding by_call
 answers_call old new caller asked r found h line short = record {
   events = h.supply ∷ [];
   leads = λ account.
-    ap (λ (happened : Happened (Reply ℕ)). record {
-      line = reply_line happened.answer;
-      pair = Some happened.pair;
-      account = account;
-      is_short = is_short happened.answer;
-    }) h.same
-    ∙ (λ i. record { line = sym line i; pair = Some (plain new); account = account; is_short = sym short i });
+      ap (λ (happened : Happened (Reply ℕ)). record {
+        line = reply_line happened.answer;
+        pair = Some happened.pair;
+        account = account;
+        is_short = is_short happened.answer;
+      }) h.same
+      ∙ (λ i. record { line = sym line i; pair = Some (plain new); account = account; is_short = sym short i });
 }
 
 pub answers_turn : (old new : PairState) (name : QueueName) (r : Result Turn Refusal) (found : Answered)
@@ -131,13 +131,13 @@ unfolding by_turn
 answers_turn old new name r found h line short = record {
   events = h.supply ∷ [];
   leads = λ account.
-    ap (λ (happened : Happened Turn). record {
-      line = turn_line happened.answer;
-      pair = Some happened.pair;
-      account = account;
-      is_short = is_short happened.answer;
-    }) h.same
-    ∙ (λ i. record { line = sym line i; pair = Some (plain new); account = account; is_short = sym short i });
+      ap (λ (happened : Happened Turn). record {
+        line = turn_line happened.answer;
+        pair = Some happened.pair;
+        account = account;
+        is_short = is_short happened.answer;
+      }) h.same
+      ∙ (λ i. record { line = sym line i; pair = Some (plain new); account = account; is_short = sym short i });
 }
 
 -- where no queue is enabled, no turn is taken
@@ -178,11 +178,11 @@ pub RunsTo-start : (turns : ℕ) (p : PlainPair) → RunsTo turns 0 p p
 RunsTo-start turns p = record {
   events = [];
   leads = λ account.
-    let all : turns ≡ turns - 0 = omega arith in
-    ap (λ n. turns_of n account p) all
-    ∙ (let rest = turns_of (turns - 0) account p in
-       let count : rest.count ≡ 0 + rest.count = omega arith in
-       λ i. record { count = count i; pair = rest.pair; account = rest.account; is_short = rest.is_short });
+      let all : turns ≡ turns - 0 = omega arith in
+      ap (λ n. turns_of n account p) all
+      ∙ (let rest = turns_of (turns - 0) account p in
+      let count : rest.count ≡ 0 + rest.count = omega arith in
+      λ i. record { count = count i; pair = rest.pair; account = rest.account; is_short = rest.is_short });
 }
 
 pub RunsTo-more : (turns taken : ℕ) (begun : PlainPair) (old new : PairState) (name : QueueName) (turn : Turn) (r : Result Turn Refusal)
@@ -191,15 +191,15 @@ pub RunsTo-more : (turns taken : ℕ) (begun : PlainPair) (old new : PairState) 
 RunsTo-more turns taken begun old new name turn r below so first h e = record {
   events = so.events ++ h.supply ∷ [];
   leads = λ account.
-    ap (λ events. turns_of turns events begun) (append_assoc so.events (h.supply ∷ []) account)
-    ∙ so.leads (h.supply ∷ account)
-    ∙ (let left : turns - taken ≡ suc (turns - (taken + 1)) = omega arith in
-       let rest = turns_of (turns - (taken + 1)) account (plain new) in
-       let count : taken + suc rest.count ≡ taken + 1 + rest.count = omega arith in
-       ap (λ n. counted_by taken (turns_of n (h.supply ∷ account) (plain old))) left
-       ∙ ap (counted_by taken) (turns_ok (turns - (taken + 1)) (h.supply ∷ account) (plain old) (plain new) name turn first
-           (h.same ∙ ap (λ x. record { answer = x; pair = plain new }) e))
-       ∙ (λ i. record { count = count i; pair = rest.pair; account = rest.account; is_short = rest.is_short }));
+      ap (λ events. turns_of turns events begun) (append_assoc so.events (h.supply ∷ []) account)
+      ∙ so.leads (h.supply ∷ account)
+      ∙ (let left : turns - taken ≡ suc (turns - (taken + 1)) = omega arith in
+      let rest = turns_of (turns - (taken + 1)) account (plain new) in
+      let count : taken + suc rest.count ≡ taken + 1 + rest.count = omega arith in
+      ap (λ n. counted_by taken (turns_of n (h.supply ∷ account) (plain old))) left
+      ∙ ap (counted_by taken) (turns_ok (turns - (taken + 1)) (h.supply ∷ account) (plain old) (plain new) name turn first
+      (h.same ∙ ap (λ x. record { answer = x; pair = plain new }) e))
+      ∙ (λ i. record { count = count i; pair = rest.pair; account = rest.account; is_short = rest.is_short }));
 }
 
 -- the turns end here
@@ -211,12 +211,12 @@ unfolding by_run
 run_ends turns taken begun now after found front short so ends line same = record {
   events = so.events ++ front;
   leads = λ account.
-    let all = ap (λ events. turns_of turns events begun) (append_assoc so.events front account)
-        ∙ so.leads (front ++ account) ∙ ap (counted_by taken) (ends account) in
-    let count : taken + 0 ≡ taken = omega arith in
-    ap (λ (t : Turns). record { line = Ran t.count; pair = Some t.pair; account = t.account; is_short = t.is_short }) all
-    ∙ (λ i. record { line = Ran (count i); pair = Some after; account = account; is_short = short })
-    ∙ (λ i. record { line = sym line i; pair = Some after; account = account; is_short = sym same i });
+      let all = ap (λ events. turns_of turns events begun) (append_assoc so.events front account)
+      ∙ so.leads (front ++ account) ∙ ap (counted_by taken) (ends account) in
+      let count : taken + 0 ≡ taken = omega arith in
+      ap (λ (t : Turns). record { line = Ran t.count; pair = Some t.pair; account = t.account; is_short = t.is_short }) all
+      ∙ (λ i. record { line = Ran (count i); pair = Some after; account = account; is_short = short })
+      ∙ (λ i. record { line = sym line i; pair = Some after; account = account; is_short = sym same i });
 }
 
 pub run_none : (turns taken : ℕ) (begun : PlainPair) (old : PairState) (found : Answered)
@@ -233,22 +233,22 @@ pub run_refused : (turns taken : ℕ) (begun : PlainPair) (old new : PairState) 
     → LeadsTo (λ account. by_run turns account begun) found (Some (plain new))
 run_refused turns taken begun old new name refusal r found below so first h e line short =
     run_ends turns taken begun (plain old) (plain new) found (h.supply ∷ []) (is_enosr refusal) so
-      (λ account.
-        let left : turns - taken ≡ suc (turns - (taken + 1)) = omega arith in
-        ap (λ n. turns_of n (h.supply ∷ account) (plain old)) left
-        ∙ turns_err (turns - (taken + 1)) (h.supply ∷ account) (plain old) (plain new) name refusal first
-            (h.same ∙ ap (λ x. record { answer = x; pair = plain new }) e))
-      line short
+    (λ account.
+    let left : turns - taken ≡ suc (turns - (taken + 1)) = omega arith in
+    ap (λ n. turns_of n (h.supply ∷ account) (plain old)) left
+    ∙ turns_err (turns - (taken + 1)) (h.supply ∷ account) (plain old) (plain new) name refusal first
+    (h.same ∙ ap (λ x. record { answer = x; pair = plain new }) e))
+    line short
 
 pub run_all : (turns : ℕ) (begun : PlainPair) (old : PairState) (found : Answered) (taken : ℕ) → turns ≤ taken
     → RunsTo turns taken begun (plain old) → line_of found.line ≡ Ran taken → found.short ≡ false
     → LeadsTo (λ account. by_run turns account begun) found (Some (plain old))
 run_all turns begun old found taken past so line short =
     run_ends turns taken begun (plain old) (plain old) found [] false so
-      (λ account.
-        let none : turns - taken ≡ 0 = omega arith in
-        ap (λ n. turns_of n account (plain old)) none ∙ turns_zero account (plain old))
-      line short
+    (λ account.
+    let none : turns - taken ≡ 0 = omega arith in
+    ap (λ n. turns_of n account (plain old)) none ∙ turns_zero account (plain old))
+    line short
 
 -- a command that no call answers
 pub leads_unanswered : (command : List Supply → script.Answered) (refusal : Refusal) (pair : Option PlainPair) (found : Answered)

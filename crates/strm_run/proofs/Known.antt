@@ -1,10 +1,10 @@
 -- Known bytes of readers and writers, one call after another.
-use Rattle.std.proofs.Common.{◌≡◌, ℕ, List, [], ◌∷◌, ◌++◌, Option, None, Some, refl, sym, ap, ◌∙◌, append_assoc, append-nil, take, drop, Bool, true, false, ◌+◌, ◌-◌, ◌≤◌, length, arith, length-drop, subst}
+use Rattle.std.proofs.Common.{◌≡◌, ℕ, List, [], ◌++◌, Option, None, Some, refl, sym, ap, ◌∙◌, append_assoc, append-nil, take, drop, Bool, true, false, ◌+◌, ◌-◌, ◌≤◌, length, arith, length-drop, subst}
 use Rattle.std.proofs.lemmas.Bool.{false≢true}
 use Rattle.std.proofs.lemmas.List.{take-append-drop, take_rest}
 use Rattle.std.proofs.Math.Seq.{take-add}
 use Rattle.strm_run.specs.Output.{Writes}
-use Rattle.std.specs.Io.KnownBytes.{Appends, Keeps, Consumes, IsAtEnd}
+use Rattle.std.specs.Io.KnownBytes.{Appends, Keeps, Consumes}
 
 pub Appends-none : (a : Option (List ℕ)) → Appends a a []
 Appends-none None = tt
@@ -58,7 +58,7 @@ Appends-more w0 w1 w2 bytes n k x y =
 
 -- all is written
 pub Writes-all : (w0 w1 : Option (List ℕ)) (bytes : List ℕ) (well : Bool) → Appends w0 w1 bytes → Writes w0 w1 bytes well
-Writes-all w0 w1 bytes well x = record { front = bytes; rest = []; appends = x; bytes_are = sym (append-nil bytes); all = λ e. refl; }
+Writes-all w0 w1 bytes well x = record { front = bytes; rest = []; appends = x; bytes_are = sym (append-nil bytes); all = λ e. refl }
 
 pub Writes-kept : (w0 w1 w2 : Option (List ℕ)) (bytes : List ℕ) (well last : Bool) → Writes w0 w1 bytes well → Keeps w1 w2 → (last ≡ true → well ≡ true) → Writes w0 w2 bytes last
 Writes-kept w0 w1 w2 bytes well last x k e = record {
@@ -77,7 +77,7 @@ pub record Slices (bytes : List ℕ) (n k : ℕ) : Type 0 where
 pub slices : (bytes : List ℕ) (n k : ℕ) → n ≤ length bytes → Slices bytes n k
 slices bytes n k h =
     let same = take_rest bytes n in
-    record { same = same; within = λ b. omega (arith, ap length same, length-drop n bytes); }
+    record { same = same; within = λ b. omega (arith, ap length same, length-drop n bytes) }
 
 pub Appends-slice : (w0 w1 w2 : Option (List ℕ)) (bytes : List ℕ) (n k : ℕ) → n ≤ length bytes → Appends w0 w1 (take n bytes)
     → Appends w1 w2 (take k (take (length bytes - n) (drop n bytes))) → Appends w0 w2 (take (n + k) bytes)

@@ -5,3 +5,4 @@ pub mod EngineSteps
 pub mod Supplies
 pub mod Known
 pub mod Whole
+pub mod PlainTexts

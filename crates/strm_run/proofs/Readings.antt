@@ -1,10 +1,10 @@
 -- What the small readers of words and numbers do, step by step.
-use Rattle.std.proofs.Common.{◌≡◌, ℕ, ◌+◌, ◌*◌, ◌<◌, ◌≤◌, Bool, true, false, cond, eqb, nat_eq, List, [], ◌∷◌, length, take, drop, get_or, Option, None, Some, refl, arith, leb, sym, ap, ◌∙◌, rules, inl, inr, ◌++◌, append_assoc, append-nil}
+use Rattle.std.proofs.Common.{◌≡◌, ℕ, ◌+◌, ◌*◌, ◌<◌, ◌≤◌, true, false, cond, eqb, List, [], ◌∷◌, length, take, drop, get_or, Option, None, Some, refl, arith, sym, ap, ◌∙◌, inl, inr, ◌++◌, append_assoc, append-nil}
 use Rattle.std.proofs.lemmas.List.{at_drop_more, at_drop_all}
 use Rattle.std.proofs.lemmas.Bool.Decides.{nat_tests, eqb_tells}
 use Rattle.std.proofs.lemmas.Bool.{cond-true, cond-false, eq-eqb}
-use Rattle.strm_types.specs.Script.{digit_of, number_max}
-use Rattle.strm_types.specs.ScriptReading.{after, number_from, Mode, Inside, Move, Breaks, Goes, Gives, moved_by, text_from, with_front, is_closed}
+use Rattle.strm_types.specs.Script.{digit_of}
+use Rattle.strm_types.specs.ScriptReading.{after, number_from, Mode, Inside, Breaks, Goes, Gives, moved_by, text_from, with_front, is_closed}
 
 -- a word that stands at the front, and one that doesn't
 pub after_front : (word line : List ℕ) → take (length word) line ≡ word → after word line ≡ Some (drop (length word) line)
@@ -20,8 +20,9 @@ after_none [] line h = absurd (h refl)
 after_none (w ∷ word) [] h = refl
 after_none (w ∷ word) (b ∷ line) h =
     elim (eqb_tells w b) [
-      inl e ↦ cond-true (eqb w b) (after word line) None e.0 ∙ after_none word line (λ same. h (ap (λ x. x ∷ take (length word) line) (sym e.1) ∙ ap (λ l. w ∷ l) same))
-    | inr e ↦ cond-false (eqb w b) (after word line) None e.0 ]
+      | inl e ↦ cond-true (eqb w b) (after word line) None e.0 ∙ after_none word line (λ same. h (ap (λ x. x ∷ take (length word) line) (sym e.1) ∙ ap (λ l. w ∷ l) same))
+      | inr e ↦ cond-false (eqb w b) (after word line) None e.0
+    ]
 
 pub number_none : (v b : ℕ) (digits : List ℕ) → digit_of b ≡ None → number_from v (b ∷ digits) ≡ None
 unfolding number_from
@@ -77,8 +78,8 @@ TextTo-goes mode next front i bytes within so h = record {
 pub TextTo-gives : (mode : Mode) (front : List ℕ) (i c : ℕ) (bytes : List ℕ) → i < length bytes → TextTo mode front i bytes → moved_by mode (get_or bytes i 0) ≡ Gives c → TextTo Inside (front ++ c ∷ []) (i + 1) bytes
 TextTo-gives mode front i c bytes within so h = record {
   reads =
-    with_front-more front (c ∷ []) (text_from Inside (drop (i + 1) bytes))
-    ∙ (sym (ap (with_front front) (at_drop_more (text_from mode) bytes i 0 within ∙ text_gives mode (get_or bytes i 0) c (drop (i + 1) bytes) h)) ∙ so.reads);
+      with_front-more front (c ∷ []) (text_from Inside (drop (i + 1) bytes))
+      ∙ (sym (ap (with_front front) (at_drop_more (text_from mode) bytes i 0 within ∙ text_gives mode (get_or bytes i 0) c (drop (i + 1) bytes) h)) ∙ so.reads);
 }
 
 TextTo-ends : (mode : Mode) (front : List ℕ) (i : ℕ) (bytes : List ℕ) → length bytes ≤ i → TextTo mode front i bytes → with_front front (cond (is_closed mode) (Some []) None) ≡ text_from Inside bytes

@@ -1,11 +1,11 @@
 -- Events that get the blocks that they ask for: none of them is short.
-use Rattle.std.proofs.Common.{◌≡◌, ℕ, zero, suc, Bool, true, false, List, [], ◌∷◌, ◌++◌, Option, None, Some, Result, Ok, Err, refl, sym, ap, ◌∙◌, slice_get, inl, inr, unwrap_or, nat_le, ◌&&◌}
+use Rattle.std.proofs.Common.{◌≡◌, ℕ, zero, suc, Bool, true, false, List, [], ◌∷◌, Option, None, Some, Result, Ok, Err, refl, sym, ap, ◌∙◌, slice_get, inl, inr, unwrap_or, nat_le, ◌&&◌}
 use Rattle.std.proofs.lemmas.Bool.{cases_Bool}
 use Rattle.strm_types.specs.declared.answers.Turn.{Turn}
 use Rattle.strm_types.specs.declared.events.Caller.{Caller}
 use Rattle.strm_types.specs.declared.names.QueueName.{QueueName}
 use Rattle.strm_types.specs.declared.refusals.Refusal.{Refusal}
-use Rattle.strm_types.specs.declared.refusals.Refusal.TheVariants.{Einval, Eagain, Enxio, Enosr, JournalFull}
+use Rattle.strm_types.specs.declared.refusals.Refusal.TheVariants.{Einval, Eagain, Enxio, JournalFull}
 use Rattle.strm_types.specs.State.{State}
 use Rattle.strm_types.specs.Calls as calls
 use Rattle.strm_types.specs.Calls.{Request, Reply}
@@ -17,7 +17,7 @@ use Rattle.strm_types.specs.ScriptRun.{Supply, Enough, TooFew, PlainPair, Happen
 use Rattle.strm_run.proofs.Events.{turns_none, turns_err, turns_ok, turns_zero}
 
 -- a refusal is for want of blocks
-pub is_want : Option Refusal → Bool
+unfoldable pub is_want : Option Refusal → Bool
 is_want None = false
 is_want (Some refusal) = is_enosr refusal
 
@@ -48,12 +48,12 @@ by_state-want s caller calls.OpenSlave = or_else-want _ _ (unless-want _ Einval 
 by_state-want s caller (calls.Write cells) = unless-want _ Eagain refl
 by_state-want s caller (calls.Read n) = unless-want _ Eagain refl
 
-call_happens-short : (o : Option Refusal) (p : PlainPair) (caller : Caller) (asked : Request ℕ) → is_short (call_happens o p caller asked).answer ≡ is_want o
+pub call_happens-short : (o : Option Refusal) (p : PlainPair) (caller : Caller) (asked : Request ℕ) → is_short (call_happens o p caller asked).answer ≡ is_want o
 unfolding is_want
 call_happens-short None p caller asked = refl
 call_happens-short (Some r) p caller asked = refl
 
-turn_happens-short : (o : Option Refusal) (p : PlainPair) (name : QueueName) → is_short (turn_happens o p name).answer ≡ is_want o
+pub turn_happens-short : (o : Option Refusal) (p : PlainPair) (name : QueueName) → is_short (turn_happens o p name).answer ≡ is_want o
 unfolding is_want
 turn_happens-short None p name = refl
 turn_happens-short (Some r) p name = refl
@@ -63,7 +63,7 @@ unfolding call_of
 call-enough p caller asked =
     call_happens-short (call_refusal Enough p caller asked) p caller asked
     ∙ or_else-want (refused_at_once p.state caller asked) _ (at_once-want p.state caller asked)
-        (or_else-want _ _ (unless-want _ JournalFull refl) (by_state-want p.state caller asked))
+    (or_else-want _ _ (unless-want _ JournalFull refl) (by_state-want p.state caller asked))
 
 pub turn-enough : (p : PlainPair) (name : QueueName) → is_short (turn_of Enough p name).answer ≡ false
 unfolding turn_of
@@ -113,25 +113,26 @@ turns-enough (suc n) p = turns-first n (turns-enough n) p (slice_get p.state.ena
 open-enough : (blocks : ℕ) → AllEnough (by_open blocks []).is_short (by_open blocks []).account
 unfolding by_open by_call
 open-enough blocks = elim (cases_Bool (nat_le 1 blocks && nat_le blocks 4096)) [
-    inl e ↦ rw (e) (record { not_short = call-enough (new_plain blocks) _ calls.OpenMaster; none_left = refl; })
-  | inr e ↦ rw (e) (record { not_short = refl; none_left = refl; }) ]
+  | inl e ↦ rw (e) (record { not_short = call-enough (new_plain blocks) _ calls.OpenMaster; none_left = refl })
+  | inr e ↦ rw (e) (record { not_short = refl; none_left = refl })
+]
 
 -- a command whose events get their blocks
 pub answered-enough : (command : Command) (pair : Option PlainPair) → AllEnough (answered command [] pair).is_short (answered command [] pair).account
 unfolding answered by_call by_turn by_run by_open
 answered-enough (Open blocks) None = open-enough (unwrap_or blocks 256)
-answered-enough (Open blocks) (Some p) = record { not_short = refl; none_left = refl; }
-answered-enough Unlock None = record { not_short = refl; none_left = refl; }
-answered-enough Unlock (Some p) = record { not_short = call-enough p _ calls.Unlock; none_left = refl; }
-answered-enough OpenSlave None = record { not_short = refl; none_left = refl; }
-answered-enough OpenSlave (Some p) = record { not_short = call-enough p _ calls.OpenSlave; none_left = refl; }
-answered-enough (Write side bytes) None = record { not_short = refl; none_left = refl; }
-answered-enough (Write side bytes) (Some p) = record { not_short = call-enough p _ (calls.Write bytes); none_left = refl; }
-answered-enough (Read side n) None = record { not_short = refl; none_left = refl; }
-answered-enough (Read side n) (Some p) = record { not_short = call-enough p _ (calls.Read n); none_left = refl; }
-answered-enough (TurnOf name) None = record { not_short = refl; none_left = refl; }
-answered-enough (TurnOf name) (Some p) = record { not_short = turn-enough p name; none_left = refl; }
-answered-enough (Run n) None = record { not_short = refl; none_left = refl; }
+answered-enough (Open blocks) (Some p) = record { not_short = refl; none_left = refl }
+answered-enough Unlock None = record { not_short = refl; none_left = refl }
+answered-enough Unlock (Some p) = record { not_short = call-enough p _ calls.Unlock; none_left = refl }
+answered-enough OpenSlave None = record { not_short = refl; none_left = refl }
+answered-enough OpenSlave (Some p) = record { not_short = call-enough p _ calls.OpenSlave; none_left = refl }
+answered-enough (Write side bytes) None = record { not_short = refl; none_left = refl }
+answered-enough (Write side bytes) (Some p) = record { not_short = call-enough p _ (calls.Write bytes); none_left = refl }
+answered-enough (Read side n) None = record { not_short = refl; none_left = refl }
+answered-enough (Read side n) (Some p) = record { not_short = call-enough p _ (calls.Read n); none_left = refl }
+answered-enough (TurnOf name) None = record { not_short = refl; none_left = refl }
+answered-enough (TurnOf name) (Some p) = record { not_short = turn-enough p name; none_left = refl }
+answered-enough (Run n) None = record { not_short = refl; none_left = refl }
 answered-enough (Run n) (Some p) = turns-enough n p
 
 -- a script whose events get their blocks has no short line

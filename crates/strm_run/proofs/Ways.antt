@@ -1,16 +1,16 @@
 -- How bytes lead a script on, from line to line.
-use Rattle.std.proofs.Common.{◌≡◌, ℕ, suc, ◌<◌, ◌≤◌, Bool, true, false, eqb, cond, List, [], ◌∷◌, ◌++◌, length, Option, None, Some, refl, arith, sym, ap, ◌∙◌, append_assoc, append-nil, length-append, inl, inr}
+use Rattle.std.proofs.Common.{◌≡◌, ℕ, suc, ◌<◌, ◌≤◌, List, [], ◌∷◌, ◌++◌, length, Option, None, Some, refl, arith, sym, ap, ◌∙◌, append_assoc, append-nil, length-append, inl, inr}
 use Rattle.std.proofs.lemmas.Bool.{ne_eqb, lt-ltb}
 use Rattle.std.proofs.lemmas.Bool.Decides.{eqb_tells}
-use Rattle.strm_types.specs.Script.{Command, line_max}
-use Rattle.strm_types.specs.ScriptReading.{Reading, Silent, Malformed, Spoken, reading}
+use Rattle.strm_types.specs.Script.{Command}
+use Rattle.strm_types.specs.ScriptReading.{Silent, Malformed, Spoken, reading}
 use Rattle.strm_types.specs.ScriptAnswers.{printed_line, Wrong}
 use Rattle.strm_types.specs.ScriptRun as script
 use Rattle.strm_types.specs.ScriptRun.{Supply, PlainPair, Told, told_after, told_from, first_of, line_if, answered}
 use Rattle.strm_run.specs.Lines.{line_of}
 use Rattle.strm_run.specs.Outcomes.{LeadsTo, answered_as}
 use Rattle.strm_run.specs.declared.session.Answered.{Answered}
-use Rattle.strm_run.specs.Points.{Point, last_line, lines_behind, told_at, behind, Goes, Ends, Breaks, Shows, Says}
+use Rattle.strm_run.specs.Points.{Point, lines_behind, told_at, behind, Goes, Ends, Breaks, Shows, Says}
 use Rattle.strm_run.proofs.Supplies.{told-enough}
 
 lines_ended : (line bytes : List ℕ) → lines_behind line (10 ∷ bytes) ≡ line ∷ lines_behind [] bytes
@@ -47,26 +47,26 @@ first_of-none None = refl
 first_of-none (Some n) = refl
 
 pub Goes-none : (p : Point) → Goes p [] [] p
-Goes-none p = record { events = []; goes = λ account bytes. refl; }
+Goes-none p = record { events = []; goes = λ account bytes. refl }
 
 pub Goes-join : (a b c : Point) (i j s t : List ℕ) → Goes a i s b → Goes b j t c → Goes a (i ++ j) (s ++ t) c
 Goes-join a b c i j s t x y = record {
   events = x.events ++ y.events;
   goes = λ account bytes.
-    (λ k. told_at (append_assoc x.events y.events account k) a (append_assoc i j bytes k))
-    ∙ x.goes (y.events ++ account) (j ++ bytes)
-    ∙ ap (behind s) (y.goes account bytes)
-    ∙ (let later = told_at account c bytes in
-       λ k. record { text = sym (append_assoc s t later.text) k; short = later.short; fault = later.fault });
+      (λ k. told_at (append_assoc x.events y.events account k) a (append_assoc i j bytes k))
+      ∙ x.goes (y.events ++ account) (j ++ bytes)
+      ∙ ap (behind s) (y.goes account bytes)
+      ∙ (let later = told_at account c bytes in
+      λ k. record { text = sym (append_assoc s t later.text) k; short = later.short; fault = later.fault });
 }
 
 pub Ends-join : (a b : Point) (i j s t : List ℕ) (short : Option ℕ) (n : ℕ) → Goes a i s b → Ends b j t short n → Ends a (i ++ j) (s ++ t) short n
 Ends-join a b i j s t short n x y = record {
   events = x.events ++ y.events;
   ends = λ bytes.
-    ap (told_at (x.events ++ y.events) a) (append_assoc i j bytes)
-    ∙ x.goes y.events (j ++ bytes)
-    ∙ ap (behind s) (y.ends bytes);
+      ap (told_at (x.events ++ y.events) a) (append_assoc i j bytes)
+      ∙ x.goes y.events (j ++ bytes)
+      ∙ ap (behind s) (y.ends bytes);
 }
 
 pub Ends-more : (a : Point) (i j t : List ℕ) (short : Option ℕ) (n : ℕ) → Ends a i t short n → Ends a (i ++ j) t short n
@@ -77,12 +77,12 @@ Ends-more a i j t short n x = record {
 
 -- nothing was taken yet
 pub Breaks-none : (a : Point) (i : List ℕ) (short : Option ℕ) → a.short ≡ short → Breaks a i [] short
-Breaks-none a i short same = record { point = a; taken = []; left = i; unsaid = []; input_is = refl; goes = Goes-none a; same = same; }
+Breaks-none a i short same = record { point = a; taken = []; left = i; unsaid = []; input_is = refl; goes = Goes-none a; same = same }
 
 -- all was taken, and its text isn't said
 pub Breaks-unsaid : (a b : Point) (i t : List ℕ) (short : Option ℕ) → Goes a i t b → b.short ≡ short → Breaks a i [] short
 Breaks-unsaid a b i t short x same =
-    record { point = b; taken = i; left = []; unsaid = t; input_is = sym (append-nil i); goes = x; same = same; }
+    record { point = b; taken = i; left = []; unsaid = t; input_is = sym (append-nil i); goes = x; same = same }
 
 pub Breaks-join : (a b : Point) (i j s t : List ℕ) (short : Option ℕ) → Goes a i s b → Breaks b j t short → Breaks a (i ++ j) (s ++ t) short
 Breaks-join a b i j s t short x y = record {
@@ -92,8 +92,8 @@ Breaks-join a b i j s t short x y = record {
   unsaid = y.unsaid;
   input_is = ap (λ k. i ++ k) y.input_is ∙ sym (append_assoc i y.taken y.left);
   goes =
-    let all = Goes-join a b y.point i y.taken s (t ++ y.unsaid) x y.goes in
-    rw (append_assoc s t y.unsaid) all;
+      let all = Goes-join a b y.point i y.taken s (t ++ y.unsaid) x y.goes in
+      rw (append_assoc s t y.unsaid) all;
   same = y.same;
 }
 
@@ -114,7 +114,7 @@ unfolding told_at
 goes_byte p b ne = record {
   events = [];
   goes = λ account bytes.
-    ap (λ lines. told_after [] p.short (told_from (suc p.lines) account p.pair lines)) (lines_within p.line b bytes ne);
+      ap (λ lines. told_after [] p.short (told_from (suc p.lines) account p.pair lines)) (lines_within p.line b bytes ne);
 }
 
 -- the end of a line that asks for nothing
@@ -124,7 +124,7 @@ unfolding told_at
 goes_silent p h = record {
   events = [];
   goes = λ account bytes.
-    ap (told_after [] p.short)
+      ap (told_after [] p.short)
       (ap (told_from (suc p.lines) account p.pair) (lines_ended p.line bytes)
       ∙ told_silent (suc p.lines) account p.pair p.line (lines_behind [] bytes) h);
 }
@@ -133,20 +133,20 @@ goes_silent p h = record {
 pub goes_spoken : (p : Point) (command : Command) (found : Answered) (after : Option PlainPair)
     → reading p.line ≡ Spoken command → LeadsTo (λ account. answered command account p.pair) found after
     → Goes p (10 ∷ []) (printed_line (line_of found.line))
-        (record { pair = after; lines = suc p.lines; line = []; short = first_of p.short (line_if found.short (suc p.lines)) })
+    (record { pair = after; lines = suc p.lines; line = []; short = first_of p.short (line_if found.short (suc p.lines)) })
 unfolding told_at
 goes_spoken p command found after h lead = record {
   events = lead.events;
   goes = λ account bytes.
-    let rest = told_from (suc (suc p.lines)) account after (lines_behind [] bytes) in
-    ap (told_after [] p.short)
+      let rest = told_from (suc (suc p.lines)) account after (lines_behind [] bytes) in
+      ap (told_after [] p.short)
       (ap (told_from (suc p.lines) (lead.events ++ account) p.pair) (lines_ended p.line bytes)
       ∙ told_spoken (suc p.lines) (lead.events ++ account) p.pair p.line (lines_behind [] bytes) command (answered_as found after account) h (lead.leads account))
-    ∙ (λ k. record {
-      text = printed_line (line_of found.line) ++ rest.text;
-      short = first_of-assoc p.short (line_if found.short (suc p.lines)) rest.short k;
-      fault = rest.fault;
-    });
+      ∙ (λ k. record {
+        text = printed_line (line_of found.line) ++ rest.text;
+        short = first_of-assoc p.short (line_if found.short (suc p.lines)) rest.short k;
+        fault = rest.fault;
+      });
 }
 
 -- the end of a malformed line
@@ -155,10 +155,10 @@ unfolding told_at
 ends_malformed p h = record {
   events = [];
   ends = λ bytes.
-    ap (told_after [] p.short)
+      ap (told_after [] p.short)
       (ap (told_from (suc p.lines) [] p.pair) (lines_ended p.line bytes)
       ∙ told_malformed (suc p.lines) [] p.pair p.line (lines_behind [] bytes) h)
-    ∙ ap (λ short. record { text = printed_line (Wrong (suc p.lines)); short = short; fault = Some (suc p.lines) }) (first_of-none p.short);
+      ∙ ap (λ short. record { text = printed_line (Wrong (suc p.lines)); short = short; fault = Some (suc p.lines) }) (first_of-none p.short);
 }
 
 -- a line that goes beyond the limit
@@ -169,10 +169,11 @@ lines_long [] [] h = absurd (omega arith)
 lines_long (b ∷ line) [] h = (b ∷ line, [], refl, h)
 lines_long line (b ∷ bytes) h =
     elim (eqb_tells b 10) [
-      inl e ↦ (line, lines_behind [] bytes, rw (e.0) refl, h)
-    | inr e ↦
-        let more = lines_long (line ++ b ∷ []) bytes (omega (arith, length-append line (b ∷ []))) in
-        (more.0, more.1, rw (e.0) more.2, more.3) ]
+      | inl e ↦ (line, lines_behind [] bytes, rw (e.0) refl, h)
+      | inr e ↦
+          let more = lines_long (line ++ b ∷ []) bytes (omega (arith, length-append line (b ∷ []))) in
+          (more.0, more.1, rw (e.0) more.2, more.3)
+    ]
 
 reading_long : (line : List ℕ) → 4096 < length line → reading line ≡ Malformed
 unfolding reading
@@ -184,11 +185,11 @@ unfolding told_at
 ends_long p b h ne = record {
   events = [];
   ends = λ bytes.
-    let long = lines_long (p.line ++ b ∷ []) bytes (omega (arith, length-append p.line (b ∷ []))) in
-    ap (told_after [] p.short)
+      let long = lines_long (p.line ++ b ∷ []) bytes (omega (arith, length-append p.line (b ∷ []))) in
+      ap (told_after [] p.short)
       (ap (told_from (suc p.lines) [] p.pair) (lines_within p.line b bytes ne ∙ long.2)
       ∙ told_malformed (suc p.lines) [] p.pair long.0 long.1 (reading_long long.0 long.3))
-    ∙ ap (λ short. record { text = printed_line (Wrong (suc p.lines)); short = short; fault = Some (suc p.lines) }) (first_of-none p.short);
+      ∙ ap (λ short. record { text = printed_line (Wrong (suc p.lines)); short = short; fault = Some (suc p.lines) }) (first_of-none p.short);
 }
 
 -- a point from which all events get their blocks
@@ -247,7 +248,7 @@ Says-behind a b i j s t short fault x y = record {
 }
 
 pub Says-ended : (a : Point) (i more t : List ℕ) (short : Option ℕ) (n : ℕ) → Ends a i t short n → Says a (i ++ more) t short (Some n)
-Says-ended a i more t short n x = record { events = x.events; told_is = x.ends more; }
+Says-ended a i more t short n x = record { events = x.events; told_is = x.ends more }
 
 -- the end of the input: of a line that has no bytes, and of one that has
 pub Says-none : (p : Point) → p.line ≡ [] → Says p [] [] p.short None
@@ -267,7 +268,7 @@ unfolding told_at
 told_at-last account p h = ap (λ lines. told_after [] p.short (told_from (suc p.lines) account p.pair lines)) (last_is p.line h)
 
 pub Says-last : (p : Point) (t : List ℕ) (short fault : Option ℕ) → (p.line ≡ [] → ⊥) → Says p (10 ∷ []) t short fault → Says p [] t short fault
-Says-last p t short fault h x = record { events = x.events; told_is = told_at-last x.events p h ∙ x.told_is; }
+Says-last p t short fault h x = record { events = x.events; told_is = told_at-last x.events p h ∙ x.told_is }
 
 pub Shows-last : (p : Point) (t : List ℕ) (short : Option ℕ) → (p.line ≡ [] → ⊥) → Shows p (10 ∷ []) t short → Shows p [] t short
 Shows-last p t short h x = record {

@@ -1,21 +1,22 @@
 -- A run of a script, from its points to its whole text.
-use Rattle.std.proofs.Common.{◌≡◌, ℕ, suc, ◌≤◌, ◌+◌, Bool, true, false, List, [], ◌∷◌, ◌++◌, Option, None, Some, Result, Ok, Err, IfSome, refl, sym, ap, ◌∙◌, append_assoc, append-nil, arith, inl, inr, subst, ◌⊎◌, take}
+use Rattle.std.proofs.Common.{◌≡◌, ℕ, suc, Bool, true, List, [], ◌∷◌, ◌++◌, Option, None, Some, Ok, Err, refl, sym, ap, ◌∙◌, append_assoc, append-nil, arith, inl, inr, subst, take}
 use Rattle.std.proofs.lemmas.Bool.Decides.{eqb_tells}
 use Rattle.std.specs.Io.KnownBytes.{Appends, Keeps, Consumes, IsAtEnd}
 use Rattle.strm_types.specs.Script.{lines_of, begun_with}
 use Rattle.strm_types.specs.ScriptReading.{Reading, Silent, Malformed as MalformedLine, Spoken, reading}
 use Rattle.strm_types.specs.ScriptAnswers.{printed_line, Wrong}
-use Rattle.strm_types.specs.ScriptRun.{Supply, PlainPair, Told, told_after, told_from, told, script_lines, answered}
-use Rattle.strm_run.specs.Points.{Point, beginning, last_line, lines_behind, told_at, Goes, Shows, Says}
-use Rattle.strm_run.specs.Steps.{point_of, Ready, Took, Refuses, Fails, Steps, Finishes, BreaksOff, EndsInput}
+use Rattle.strm_types.specs.ScriptRun.{Supply, PlainPair, Told, told_from, told, answered}
+use Rattle.strm_run.specs.Points.{Point, beginning, last_line, lines_behind, told_at, Shows, Says}
+use Rattle.strm_run.specs.Steps.{point_of, Ready, Took, Steps, Finishes, EndsInput}
 use Rattle.strm_run.specs.Output.{Writes}
 use Rattle.strm_run.specs.Serving.{Serves, Ended, status_of}
-use Rattle.strm_run.specs.Runs.{IsWhole, IsFaulty, IsCut, IsScript, IsRun}
+use Rattle.strm_run.specs.Runs.{Agrees, IsScript, IsRun}
+use Rattle.strm_run.proofs.PlainTexts.{told-same, told-front}
 use Rattle.strm_run.specs.declared.engine.Engine.{Engine}
 use Rattle.strm_run.specs.declared.engine.Stop.{Stop}
 use Rattle.strm_run.specs.declared.engine.Stop.TheVariants.{Malformed, NoMemory}
 use Rattle.strm_run.proofs.Ways.{Goes-none, Goes-join, Ends-join, Breaks-join, Says-behind, Says-ended, Shows-broken, Shows-going, Shows-behind, Shows-less}
-use Rattle.strm_run.proofs.Known.{Appends-none, Appends-join, Consumes-none, Consumes-join, Consumes-kept, Appends-at}
+use Rattle.strm_run.proofs.Known.{Appends-none, Appends-join, Consumes-none, Consumes-join, Consumes-kept}
 
 -- a line so far, in front of the lines of the bytes behind it
 put_front : List ℕ → List (List ℕ) → List (List ℕ)
@@ -41,9 +42,10 @@ unfolding lines_behind put_front lines_of
 lines_behind-is line [] = refl
 lines_behind-is line (b ∷ bytes) =
     elim (eqb_tells b 10) [
-      inl e ↦ rw (e.0)
-        ((λ i. sym (append-nil line) i ∷ (lines_behind-is [] bytes ∙ put_front-none (lines_of bytes)) i))
-    | inr e ↦ rw (e.0) (lines_behind-is (line ++ b ∷ []) bytes ∙ put_front-begun line b (lines_of bytes)) ]
+      | inl e ↦ rw (e.0)
+          ((λ i. sym (append-nil line) i ∷ (lines_behind-is [] bytes ∙ put_front-none (lines_of bytes)) i))
+      | inr e ↦ rw (e.0) (lines_behind-is (line ++ b ∷ []) bytes ∙ put_front-begun line b (lines_of bytes))
+    ]
 
 -- from the beginning the script comes to what the whole of it does
 told_begins : (account : List Supply) (bytes : List ℕ) → told_at account beginning bytes ≡ told account bytes
@@ -62,7 +64,7 @@ unfolding told_from
 fault-line n k account pair line lines Silent e later h = rw (e, told_from) (later account pair (rw (e, told_from) at h))
 fault-line n k account pair line lines MalformedLine e later h =
     let same : n ≡ k = cc (rw (e, told_from) at h) in
-    rw (e, told_from) (record { front = []; text_is = ap (λ m. printed_line (Wrong m)) same; })
+    rw (e, told_from) (record { front = []; text_is = ap (λ m. printed_line (Wrong m)) same })
 fault-line n k account pair line lines (Spoken command) e later h =
     let here = answered command account pair in
     let rest = later here.account here.pair (rw (e, told_from) at h) in
@@ -78,6 +80,11 @@ fault-last n k account pair [] h = absurd cc
 fault-last n k account pair (line ∷ lines) h =
     fault-line n k account pair line lines (reading line) refl (λ later p. fault-last (suc n) k later p lines) h
 
+-- a script agrees with its plain text up to its first short line
+agrees : (account : List Supply) (short : Option ℕ) (bytes : List ℕ) → (told account bytes).short ≡ short → Agrees account short bytes
+agrees account None bytes h = ap (λ (t : Told). t.text) (told-same 1 (lines_of bytes) account None h)
+agrees account (Some n) bytes h = let x = told-front n 1 (lines_of bytes) account None h in (x.rest, x.text_is)
+
 -- the three ways in which a script ends
 script_cut : (bytes written : List ℕ) (short : Option ℕ) → Shows beginning bytes written short → IsScript 2 short bytes written
 script_cut bytes written short x = record {
@@ -85,8 +92,9 @@ script_cut bytes written short x = record {
   known = omega arith;
   whole = λ e. absurd (omega (arith, e));
   faulty = λ e. absurd (omega (arith, e));
-  cut = λ e. record { rest = x.unsaid; text = ap (λ (t : Told). t.text) (sym (told_begins x.events bytes)) ∙ x.text_is; };
+  cut = λ e. record { rest = x.unsaid; text = ap (λ (t : Told). t.text) (sym (told_begins x.events bytes)) ∙ x.text_is };
   first_short = sym x.short_is ∙ ap (λ (t : Told). t.short) (told_begins x.events bytes);
+  plain = agrees x.events short bytes (ap (λ (t : Told). t.short) (sym (told_begins x.events bytes)) ∙ x.short_is);
 }
 
 script_whole : (bytes written : List ℕ) (short : Option ℕ) → Says beginning bytes written short None → IsScript 0 short bytes written
@@ -95,10 +103,11 @@ script_whole bytes written short x =
     record {
       account = x.events;
       known = omega arith;
-      whole = λ e. record { text = ap (λ (t : Told). t.text) (sym all); no_fault = ap (λ (t : Told). t.fault) all; };
+      whole = λ e. record { text = ap (λ (t : Told). t.text) (sym all); no_fault = ap (λ (t : Told). t.fault) all };
       faulty = λ e. absurd (omega (arith, e));
       cut = λ e. absurd (omega (arith, e));
       first_short = ap (λ (t : Told). t.short) (sym all);
+      plain = agrees x.events short bytes (ap (λ (t : Told). t.short) all);
     }
 
 script_faulty : (bytes written : List ℕ) (short : Option ℕ) (n : ℕ) → Says beginning bytes written short (Some n) → IsScript 1 short bytes written
@@ -118,6 +127,7 @@ script_faulty bytes written short n x =
       };
       cut = λ e. absurd (omega (arith, e));
       first_short = ap (λ (t : Told). t.short) (sym all);
+      plain = agrees x.events short bytes (ap (λ (t : Told). t.short) all);
     }
 
 -- a run on a reader that tells its bytes, by what it has left
@@ -148,10 +158,10 @@ serves_sent r0 r1 w0 w1 w2 e sent x y point none = record {
   reads = x.reads;
   writes = Appends-join w0 w1 w2 x.written y.front x.writes y.appends;
   goes =
-    let text : x.written ++ e.answers.items ≡ (x.written ++ y.front) ++ sent.answers.items =
+      let text : x.written ++ e.answers.items ≡ (x.written ++ y.front) ++ sent.answers.items =
       ap (λ k. x.written ++ k) (y.bytes_are ∙ ap (λ k. y.front ++ k) (y.all refl ∙ sym none))
       ∙ sym (append_assoc x.written y.front sent.answers.items) in
-    rw (sym text, point) x.goes;
+      rw (sym text, point) x.goes;
 }
 
 -- they aren't, or not all of them
@@ -159,18 +169,23 @@ pub serves_cut : (r0 r1 w0 w1 w2 : Option (List ℕ)) (e : Engine) (well : Bool)
     → Writes w1 w2 e.answers.items well → short ≡ e.short → IsRun r0 w0 w2 2 short
 serves_cut r0 r1 w0 w1 w2 e well short x y same =
     run_by r0 r1 w0 w2 2 short x.input x.reads (λ rest left.
-      let text : x.written ++ e.answers.items ≡ (x.written ++ y.front) ++ y.rest =
-        ap (λ k. x.written ++ k) y.bytes_are ∙ sym (append_assoc x.written y.front y.rest) in
-      (x.written ++ y.front, Appends-join w0 w1 w2 x.written y.front x.writes y.appends,
-        rw (same) (script_cut (x.input ++ rest) (x.written ++ y.front) e.short
-          (Shows-going beginning (point_of e) x.input rest (x.written ++ y.front) y.rest (rw (sym text) x.goes)))))
+    let text : x.written ++ e.answers.items ≡ (x.written ++ y.front) ++ y.rest =
+    ap (λ k. x.written ++ k) y.bytes_are ∙ sym (append_assoc x.written y.front y.rest) in (
+      x.written ++ y.front,
+      Appends-join w0 w1 w2 x.written y.front x.writes y.appends,
+      rw (same) (script_cut (x.input ++ rest) (x.written ++ y.front) e.short
+          (Shows-going beginning (point_of e) x.input rest (x.written ++ y.front) y.rest (rw (sym text) x.goes))),
+    ))
 
 -- the reader failed
 pub serves_failed : (r0 r1 r2 w0 w1 : Option (List ℕ)) (e : Engine) → Serves r0 r1 w0 w1 e → Keeps r1 r2 → IsRun r0 w0 w1 2 e.short
 serves_failed r0 r1 r2 w0 w1 e x k =
-    run_by r0 r1 w0 w1 2 e.short x.input x.reads (λ rest left.
-      (x.written, x.writes, script_cut (x.input ++ rest) x.written e.short
-        (Shows-going beginning (point_of e) x.input rest x.written e.answers.items x.goes)))
+    run_by r0 r1 w0 w1 2 e.short x.input x.reads (λ rest left. (
+      x.written,
+      x.writes,
+      script_cut (x.input ++ rest) x.written e.short
+          (Shows-going beginning (point_of e) x.input rest x.written e.answers.items x.goes),
+    ))
 
 -- more was read, and taken
 pub serves_took : (r0 r1 r2 w0 w1 : Option (List ℕ)) (e took : Engine) (bytes : List ℕ) → Serves r0 r1 w0 w1 e → Consumes r1 r2 bytes → Took e took bytes
@@ -181,9 +196,9 @@ serves_took r0 r1 r2 w0 w1 e took bytes x read y = record {
   reads = Consumes-join r0 r1 r2 x.input bytes x.reads read;
   writes = x.writes;
   goes =
-    let text : (x.written ++ e.answers.items) ++ y.text ≡ x.written ++ took.answers.items =
+      let text : (x.written ++ e.answers.items) ++ y.text ≡ x.written ++ took.answers.items =
       append_assoc x.written e.answers.items y.text ∙ ap (λ k. x.written ++ k) (sym y.answers) in
-    rw (sym text) (Goes-join beginning (point_of e) (point_of took) x.input bytes (x.written ++ e.answers.items) y.text x.goes y.goes);
+      rw (sym text) (Goes-join beginning (point_of e) (point_of took) x.input bytes (x.written ++ e.answers.items) y.text x.goes y.goes);
 }
 
 -- nothing was read, for once
@@ -209,33 +224,41 @@ outcome_cut : (w0 w1 w2 : Option (List ℕ)) (short : Option ℕ) (bytes written
     → Shows beginning bytes (written ++ answers) short → Appends w0 w1 written → Appends w1 w2 front → answers ≡ front ++ rest
     → Outcome w0 w2 2 short bytes
 outcome_cut w0 w1 w2 short bytes written answers front rest x before now e =
-    let text : written ++ answers ≡ (written ++ front) ++ rest = ap (λ k. written ++ k) e ∙ sym (append_assoc written front rest) in
-    (written ++ front, Appends-join w0 w1 w2 written front before now,
-      script_cut bytes (written ++ front) short (Shows-less beginning bytes (written ++ front) rest short (rw (sym text) x)))
+    let text : written ++ answers ≡ (written ++ front) ++ rest = ap (λ k. written ++ k) e ∙ sym (append_assoc written front rest) in (
+      written ++ front,
+      Appends-join w0 w1 w2 written front before now,
+      script_cut bytes (written ++ front) short (Shows-less beginning bytes (written ++ front) rest short (rw (sym text) x)),
+    )
 
 whole_text : (written answers front rest : List ℕ) → answers ≡ front ++ rest → rest ≡ [] → written ++ answers ≡ written ++ front
 whole_text written answers front rest e none = ap (λ k. written ++ k) (e ∙ ap (λ k. front ++ k) none ∙ append-nil front)
 
 outcome_whole : (w0 w1 w2 : Option (List ℕ)) (short : Option ℕ) (bytes written answers : List ℕ)
     → Says beginning bytes (written ++ answers) short None → Appends w0 w1 written → Writes w1 w2 answers true → Outcome w0 w2 0 short bytes
-outcome_whole w0 w1 w2 short bytes written answers x before y =
-    (written ++ y.front, Appends-join w0 w1 w2 written y.front before y.appends,
-      script_whole bytes (written ++ y.front) short (rw (sym (whole_text written answers y.front y.rest y.bytes_are (y.all refl))) x))
+outcome_whole w0 w1 w2 short bytes written answers x before y = (
+  written ++ y.front,
+  Appends-join w0 w1 w2 written y.front before y.appends,
+  script_whole bytes (written ++ y.front) short (rw (sym (whole_text written answers y.front y.rest y.bytes_are (y.all refl))) x),
+)
 
 outcome_faulty : (w0 w1 w2 : Option (List ℕ)) (status : ℕ) (short : Option ℕ) (n : ℕ) (bytes written answers : List ℕ)
     → Says beginning bytes (written ++ answers) short (Some n) → Appends w0 w1 written → Ended w1 w2 answers status 1 → Outcome w0 w2 status short bytes
 outcome_faulty w0 w1 w2 status short n bytes written answers x before y = elim y.status_is [
-    inl e ↦ rw (e) (outcome_cut w0 w1 w2 short bytes written answers y.front y.rest
+  | inl e ↦ rw (e) (outcome_cut w0 w1 w2 short bytes written answers y.front y.rest
       (Shows-said beginning bytes (written ++ answers) [] short (Some n) (rw (append-nil (written ++ answers)) x)) before y.appends y.answers_are)
-  | inr e ↦ rw (e.0)
-      (written ++ y.front, Appends-join w0 w1 w2 written y.front before y.appends,
-        script_faulty bytes (written ++ y.front) short n (rw (sym (whole_text written answers y.front y.rest y.answers_are e.1)) x)) ]
+  | inr e ↦ rw (e.0) (
+    written ++ y.front,
+    Appends-join w0 w1 w2 written y.front before y.appends,
+    script_faulty bytes (written ++ y.front) short n (rw (sym (whole_text written answers y.front y.rest y.answers_are e.1)) x),
+  )
+]
 
 outcome_broken : (w0 w1 w2 : Option (List ℕ)) (status : ℕ) (short : Option ℕ) (bytes written answers : List ℕ)
     → Shows beginning bytes (written ++ answers) short → Appends w0 w1 written → Ended w1 w2 answers status 2 → Outcome w0 w2 status short bytes
 outcome_broken w0 w1 w2 status short bytes written answers x before y = elim y.status_is [
-    inl e ↦ rw (e) (outcome_cut w0 w1 w2 short bytes written answers y.front y.rest x before y.appends y.answers_are)
-  | inr e ↦ rw (e.0) (outcome_cut w0 w1 w2 short bytes written answers y.front y.rest x before y.appends y.answers_are) ]
+  | inl e ↦ rw (e) (outcome_cut w0 w1 w2 short bytes written answers y.front y.rest x before y.appends y.answers_are)
+  | inr e ↦ rw (e.0) (outcome_cut w0 w1 w2 short bytes written answers y.front y.rest x before y.appends y.answers_are)
+]
 
 -- the answers of the last line, behind what was written
 said_text : (written old new text : List ℕ) → new ≡ old ++ text → (written ++ old) ++ text ≡ written ++ new
@@ -247,16 +270,16 @@ pub serves_stopped : (r0 r1 r2 w0 w1 w2 : Option (List ℕ)) (e done : Engine) (
     → short ≡ done.short → IsRun r0 w0 w2 status short
 serves_stopped r0 r1 r2 w0 w1 w2 e done bytes Malformed status short x read y end same =
     run_by r0 r2 w0 w2 status short (x.input ++ bytes) (Consumes-join r0 r1 r2 x.input bytes x.reads read) (λ rest left.
-      let says = Says-ended beginning (x.input ++ bytes) rest ((x.written ++ e.answers.items) ++ y.text) done.short y.number
-        (Ends-join beginning (point_of e) x.input bytes (x.written ++ e.answers.items) y.text done.short y.number x.goes y.ends) in
-      rw (same) (outcome_faulty w0 w1 w2 status done.short y.number ((x.input ++ bytes) ++ rest) x.written done.answers.items
-        (rw (sym (said_text x.written e.answers.items done.answers.items y.text y.answers)) says) x.writes end))
+    let says = Says-ended beginning (x.input ++ bytes) rest ((x.written ++ e.answers.items) ++ y.text) done.short y.number
+    (Ends-join beginning (point_of e) x.input bytes (x.written ++ e.answers.items) y.text done.short y.number x.goes y.ends) in
+    rw (same) (outcome_faulty w0 w1 w2 status done.short y.number ((x.input ++ bytes) ++ rest) x.written done.answers.items
+    (rw (sym (said_text x.written e.answers.items done.answers.items y.text y.answers)) says) x.writes end))
 serves_stopped r0 r1 r2 w0 w1 w2 e done bytes NoMemory status short x read y end same =
     run_by r0 r2 w0 w2 status short (x.input ++ bytes) (Consumes-join r0 r1 r2 x.input bytes x.reads read) (λ rest left.
-      let shows = Shows-broken beginning (x.input ++ bytes) rest ((x.written ++ e.answers.items) ++ y.text) done.short
-        (Breaks-join beginning (point_of e) x.input bytes (x.written ++ e.answers.items) y.text done.short x.goes y.breaks) in
-      rw (same) (outcome_broken w0 w1 w2 status done.short ((x.input ++ bytes) ++ rest) x.written done.answers.items
-        (rw (sym (said_text x.written e.answers.items done.answers.items y.text y.answers)) shows) x.writes end))
+    let shows = Shows-broken beginning (x.input ++ bytes) rest ((x.written ++ e.answers.items) ++ y.text) done.short
+    (Breaks-join beginning (point_of e) x.input bytes (x.written ++ e.answers.items) y.text done.short x.goes y.breaks) in
+    rw (same) (outcome_broken w0 w1 w2 status done.short ((x.input ++ bytes) ++ rest) x.written done.answers.items
+    (rw (sym (said_text x.written e.answers.items done.answers.items y.text y.answers)) shows) x.writes end))
 
 -- a reader that has nothing left has no known byte left
 at_end : (r : Option (List ℕ)) (rest : List ℕ) → r ≡ Some rest → IsAtEnd r → rest ≡ []
@@ -267,39 +290,39 @@ finish_says : (r0 r1 w0 w1 : Option (List ℕ)) (e done : Engine) (fault : Optio
     → Says beginning (x.input ++ []) (x.written ++ done.answers.items) done.short fault
 finish_says r0 r1 w0 w1 e done fault x y =
     rw (sym (said_text x.written e.answers.items done.answers.items y.text y.answers))
-      (Says-behind beginning (point_of e) x.input [] (x.written ++ e.answers.items) y.text done.short fault x.goes y.says)
+    (Says-behind beginning (point_of e) x.input [] (x.written ++ e.answers.items) y.text done.short fault x.goes y.says)
 
 -- a script whose input has ended, and whose last answers are sent or not
 pub serves_finished : (r0 r1 w0 w1 w2 : Option (List ℕ)) (e done : Engine) (short : Option ℕ) → Serves r0 r1 w0 w1 e → IsAtEnd r1
     → EndsInput e done (Ok tt) → Writes w1 w2 done.answers.items true → short ≡ done.short → IsRun r0 w0 w2 0 short
 serves_finished r0 r1 w0 w1 w2 e done short x none y sent same =
     run_by r0 r1 w0 w2 0 short x.input x.reads (λ rest left.
-      rw (same, at_end r1 rest left none)
-        (outcome_whole w0 w1 w2 done.short (x.input ++ []) x.written done.answers.items (finish_says r0 r1 w0 w1 e done None x y) x.writes sent))
+    rw (same, at_end r1 rest left none)
+    (outcome_whole w0 w1 w2 done.short (x.input ++ []) x.written done.answers.items (finish_says r0 r1 w0 w1 e done None x y) x.writes sent))
 
 pub serves_unsent : (r0 r1 w0 w1 w2 : Option (List ℕ)) (e done : Engine) (well : Bool) (short : Option ℕ) → Serves r0 r1 w0 w1 e → IsAtEnd r1
     → EndsInput e done (Ok tt) → Writes w1 w2 done.answers.items well → short ≡ done.short → IsRun r0 w0 w2 2 short
 serves_unsent r0 r1 w0 w1 w2 e done well short x none y sent same =
     run_by r0 r1 w0 w2 2 short x.input x.reads (λ rest left.
-      rw (same, at_end r1 rest left none)
-        (outcome_cut w0 w1 w2 done.short (x.input ++ []) x.written done.answers.items sent.front sent.rest
-          (Shows-said beginning (x.input ++ []) (x.written ++ done.answers.items) [] done.short None
-            (rw (append-nil (x.written ++ done.answers.items)) (finish_says r0 r1 w0 w1 e done None x y)))
-          x.writes sent.appends sent.bytes_are))
+    rw (same, at_end r1 rest left none)
+    (outcome_cut w0 w1 w2 done.short (x.input ++ []) x.written done.answers.items sent.front sent.rest
+    (Shows-said beginning (x.input ++ []) (x.written ++ done.answers.items) [] done.short None
+    (rw (append-nil (x.written ++ done.answers.items)) (finish_says r0 r1 w0 w1 e done None x y)))
+    x.writes sent.appends sent.bytes_are))
 
 pub serves_ended : (r0 r1 w0 w1 w2 : Option (List ℕ)) (e done : Engine) (stop : Stop) (status : ℕ) (short : Option ℕ) → Serves r0 r1 w0 w1 e → IsAtEnd r1
     → EndsInput e done (Err stop) → Ended w1 w2 done.answers.items status (status_of stop) → short ≡ done.short → IsRun r0 w0 w2 status short
 serves_ended r0 r1 w0 w1 w2 e done Malformed status short x none y end same =
     run_by r0 r1 w0 w2 status short x.input x.reads (λ rest left.
-      rw (same, at_end r1 rest left none)
-        (outcome_faulty w0 w1 w2 status done.short y.0 (x.input ++ []) x.written done.answers.items (finish_says r0 r1 w0 w1 e done (Some y.0) x y.1) x.writes end))
+    rw (same, at_end r1 rest left none)
+    (outcome_faulty w0 w1 w2 status done.short y.0 (x.input ++ []) x.written done.answers.items (finish_says r0 r1 w0 w1 e done (Some y.0) x y.1) x.writes end))
 serves_ended r0 r1 w0 w1 w2 e done NoMemory status short x none y end same =
     run_by r0 r1 w0 w2 status short x.input x.reads (λ rest left.
-      rw (same, at_end r1 rest left none)
-        (outcome_broken w0 w1 w2 status done.short (x.input ++ []) x.written done.answers.items
-          (rw (sym (said_text x.written e.answers.items done.answers.items y.text y.answers))
-            (Shows-behind beginning (point_of e) x.input [] (x.written ++ e.answers.items) y.text done.short x.goes y.shows))
-          x.writes end))
+    rw (same, at_end r1 rest left none)
+    (outcome_broken w0 w1 w2 status done.short (x.input ++ []) x.written done.answers.items
+    (rw (sym (said_text x.written e.answers.items done.answers.items y.text y.answers))
+    (Shows-behind beginning (point_of e) x.input [] (x.written ++ e.answers.items) y.text done.short x.goes y.shows))
+    x.writes end))
 
 -- a read that gave nothing
 pub read_none : (r1 r2 : Option (List ℕ)) (n : ℕ) (bytes : List ℕ) → n ≡ 0 → Consumes r1 r2 (take n bytes) → Keeps r1 r2

@@ -1,5 +1,5 @@
 -- The commands and readings of the code, as the definitions of script text have them.
-use Rattle.std.specs.Prelude.{ℕ, List, [], Option, None, Some, Result, Ok, Err, ◌≡◌, IfOk, option_map}
+use Rattle.std.specs.Prelude.{Option, option_map}
 use Rattle.strm_types.specs.Script as script
 use Rattle.strm_types.specs.ScriptReading as readings
 use Rattle.strm_run.specs.declared.commands.Command.{Command}

@@ -1,8 +1,6 @@
 -- The answer lines of the code, as the definitions of script text have them.
-use Rattle.std.specs.Prelude.{ℕ, List, [], ◌∷◌, Option, None, Some, Ok, Err, Result}
-use Rattle.strm_types.specs.declared.answers.Answer.{Answer}
-use Rattle.strm_types.specs.declared.answers.Turn.{Turn}
-use Rattle.strm_types.specs.Calls.{Reply, reply}
+use Rattle.std.specs.Prelude.{Ok}
+use Rattle.strm_types.specs.Calls.{reply}
 use Rattle.strm_types.specs.ScriptAnswers as script
 use Rattle.strm_run.specs.declared.answers.Line.{Line}
 use Rattle.strm_run.specs.declared.answers.Line.TheVariants.{Done, Turned, Ran, Refused, Wrong}

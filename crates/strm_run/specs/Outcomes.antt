@@ -1,5 +1,5 @@
 -- What a command of the code leads to.
-use Rattle.std.specs.Prelude.{◌≡◌, List, [], ◌∷◌, ◌++◌, Option, None, Some}
+use Rattle.std.specs.Prelude.{◌≡◌, List, ◌++◌, Option}
 use Rattle.strm_types.specs.ScriptRun as script
 use Rattle.strm_types.specs.ScriptRun.{Supply, PlainPair}
 use Rattle.strm_run.specs.Lines.{line_of}

@@ -1,8 +1,9 @@
 -- A whole run of a script: what was written for the bytes that were read, and how the run ended.
-use Rattle.std.specs.Prelude.{◌≡◌, ℕ, ◌≤◌, List, [], ◌∷◌, ◌++◌, Option, None, Some, IfSome}
+use Rattle.std.specs.Prelude.{◌≡◌, ℕ, ◌≤◌, List, ◌++◌, Option, None, Some, IfSome, ◌-◌, take}
 use Rattle.std.specs.Io.KnownBytes.{Appends}
+use Rattle.strm_types.specs.Script.{lines_of}
 use Rattle.strm_types.specs.ScriptAnswers.{printed_line, Wrong}
-use Rattle.strm_types.specs.ScriptRun.{Supply, told, script_lines}
+use Rattle.strm_types.specs.ScriptRun.{Supply, told, script_lines, plain_lines, plain_text}
 
 -- a run that wrote the whole text, to the end of the input
 pub record IsWhole (account : List Supply) (bytes written : List ℕ) : Type 0 where
@@ -22,6 +23,12 @@ pub record IsCut (account : List Supply) (bytes written : List ℕ) : Type 0 whe
   pub rest : List ℕ
   pub text : script_lines account bytes ≡ written ++ rest
 
+-- The text of a script agrees with its plain text: all of it where no line is short, else before the first short line.
+abbrev pub Agrees : List Supply → Option ℕ → List ℕ → Type 0
+Agrees account None bytes = script_lines account bytes ≡ plain_text bytes
+Agrees account (Some n) bytes =
+    (rest : List ℕ) × (script_lines account bytes ≡ plain_lines (take (n - 1) (lines_of bytes)) ++ rest)
+
 -- What a run wrote, by the status with which it ended, for an account of which events the pool had enough blocks for.
 -- The first short line is the first in which an event got ENOSR.
 pub record IsScript (status : ℕ) (short : Option ℕ) (bytes written : List ℕ) : Type 0 where
@@ -31,6 +38,7 @@ pub record IsScript (status : ℕ) (short : Option ℕ) (bytes written : List �
   pub faulty : status ≡ 1 → IsFaulty account bytes written
   pub cut : status ≡ 2 → IsCut account bytes written
   pub first_short : short ≡ (told account bytes).short
+  pub plain : Agrees account short bytes
 
 -- a run on a reader and a writer that tell their bytes
 abbrev pub IsRun : Option (List ℕ) → Option (List ℕ) → Option (List ℕ) → ℕ → Option ℕ → Type 0

@@ -1,7 +1,7 @@
 -- A script on its way between a reader and a writer.
-use Rattle.std.specs.Prelude.{◌≡◌, ℕ, List, [], ◌++◌, Option, None, Some, ◌⊎◌}
+use Rattle.std.specs.Prelude.{◌≡◌, ℕ, List, [], ◌++◌, Option, ◌⊎◌}
 use Rattle.std.specs.Io.KnownBytes.{Appends, Consumes}
-use Rattle.strm_run.specs.Points.{beginning, Goes, Shows, Says}
+use Rattle.strm_run.specs.Points.{beginning, Goes}
 use Rattle.strm_run.specs.Steps.{point_of}
 use Rattle.strm_run.specs.declared.engine.Engine.{Engine}
 use Rattle.strm_run.specs.declared.engine.Stop.{Stop}

@@ -1,5 +1,5 @@
 -- What the crate's values stand for.
-use Rattle.std.specs.Prelude.{ℕ, List, [], ◌∷◌, Option, None, Some, option_map}
+use Rattle.std.specs.Prelude.{ℕ, List}
 use Rattle.std.specs.Borrow.{Bor}
 use Rattle.strm_types.specs.ScriptReading.{Front}
 

@@ -5,7 +5,6 @@ ghost use Rattle.strm_types.specs.ScriptAnswers.{hex_digit, printed, quoted, lin
 ghost use Rattle.strm_run.specs.Lines.{line_of};
 
 use std::fmt;
-
 use strm_types::{Answer, Refusal, Turn};
 
 /// An answer line, without its LF.

@@ -6,14 +6,12 @@ ghost use Rattle.strm_types.specs.ScriptRun.{first_of, line_if};
 ghost use Rattle.strm_run.specs.Commands.{command_of};
 ghost use Rattle.strm_run.specs.Lines.{line_of};
 
-use std::alloc::{AllocError, Global};
-
-use strm_pair::Pair;
-
 use crate::answers::Line;
 use crate::commands::{Command, Reading};
 use crate::lines::{LINE_MAX, reading};
 use crate::session::answer;
+use std::alloc::{AllocError, Global};
+use strm_pair::Pair;
 
 /// Why a script ends before its input does.
 #[derive(Clone, Copy, Debug, PartialEq, Eq)]

@@ -4,12 +4,11 @@ ghost use Rattle.std.specs.Prelude.{◌≡◌, IfOk, option_map};
 ghost use Rattle.strm_types.specs.ScriptReading.{open_in, unlock_in, slave_in, write_in, read_in, turn_in, run_in, command_in, reading};
 ghost use Rattle.strm_run.specs.Commands.{command_of, commands_of, reading_of};
 
-use std::alloc::{AllocError, Global};
-
 use crate::commands::{Command, Reading};
 use crate::numbers::number;
 use crate::texts::text;
 use crate::words::{after, queue, side};
+use std::alloc::{AllocError, Global};
 
 /// The most bytes of a line, without its LF.
 pub const LINE_MAX: usize = 4096;

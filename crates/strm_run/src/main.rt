@@ -16,10 +16,9 @@ mod tests;
 mod texts;
 mod words;
 
+use crate::script::run_script;
 use std::io;
 use std::process::ExitCode;
-
-use crate::script::run_script;
 
 /// Runs the script on standard input, and ends with its status. Arguments are ignored.
 fn main(rt: HostRuntime) -> ExitCode {

@@ -6,11 +6,10 @@ ghost use Rattle.strm_run.specs.Output.{Writes};
 ghost use Rattle.strm_run.specs.Serving.{Serves, Ended, status_of};
 ghost use Rattle.strm_run.specs.Steps.{Ready, point_of};
 
-use std::alloc::Global;
-use std::io::{ErrorKind, Read, Write};
-
 use crate::engine::{Engine, Stop};
 use crate::output::send;
+use std::alloc::Global;
+use std::io::{ErrorKind, Read, Write};
 
 /// How a script ended.
 #[derive(Clone, Copy, Debug, PartialEq, Eq)]

@@ -8,13 +8,11 @@ ghost use Rattle.strm_run.specs.Commands.{command_of};
 ghost use Rattle.strm_run.specs.Plain.{plain};
 ghost use Rattle.strm_run.specs.Outcomes.{LeadsTo};
 
-use std::alloc::{AllocError, Global};
-
-use strm_pair::Pair;
-use strm_types::{Caller, Config, Event, QueueName, Refusal, Side};
-
 use crate::answers::Line;
 use crate::commands::Command;
+use std::alloc::{AllocError, Global};
+use strm_pair::Pair;
+use strm_types::{Caller, Config, Event, QueueName, Refusal, Side};
 
 /// How many blocks of each kind a pair gets where a script names no number.
 const USUAL_BLOCKS: u32 = 256;
@@ -161,7 +159,11 @@ fn open(alloc: Global, pair: &mut Option<Pair>, blocks: u32) -> Result<Answered,
 }
 
 /// What a command leads to. Want of memory changes nothing.
-pub fn answer(alloc: Global, pair: &mut Option<Pair>, command: &Command) -> Result<Answered, AllocError>
+pub fn answer(
+    alloc: Global,
+    pair: &mut Option<Pair>,
+    command: &Command,
+) -> Result<Answered, AllocError>
     ensures ok { IfOk result (λ found. LeadsTo
         (λ account. answered (command_of command.now) account (option_map plain pair.old))
         found (option_map plain pair.new)) }

@@ -7,9 +7,8 @@ ghost use Rattle.strm_types.specs.ScriptReading.{moved_by, text_in, text_from, i
 ghost use Rattle.strm_types.specs.ScriptReading as readings;
 ghost use Rattle.strm_run.specs.Modes.{mode_of, move_of, IsMode, IsMove};
 
-use std::alloc::{AllocError, Global};
-
 use crate::words::after;
+use std::alloc::{AllocError, Global};
 
 /// How far the spelling of a text has come.
 #[derive(Clone, Copy, Debug, PartialEq, Eq)]

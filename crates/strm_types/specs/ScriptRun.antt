@@ -237,6 +237,9 @@ told account bytes = told_from 1 account None (lines_of bytes)
 abbrev pub script_lines : List Supply → List ℕ → List ℕ
 script_lines account bytes = (told account bytes).text
 
--- the text of a script whose events all had the blocks that they asked for
+-- the text of lines whose events all had the blocks that they asked for, and of a whole script
+abbrev pub plain_lines : List (List ℕ) → List ℕ
+plain_lines lines = (told_from 1 [] None lines).text
+
 abbrev pub plain_text : List ℕ → List ℕ
-plain_text bytes = script_lines [] bytes
+plain_text bytes = plain_lines (lines_of bytes)

@@ -1,4 +1,4 @@
-use Rattle.std.proofs.Common.{rules, arith, sym, ap, ◌∙◌, ◌≡◌, drop}
+use Rattle.std.proofs.Common.{arith, sym, ◌∙◌}
 use Rattle.std.proofs.lemmas.List.{at_drop_more}
 use Rattle.strm_types.specs.ScriptReading.{number_from}
 use Rattle.strm_run.proofs.Readings.{number_none, number_over, number_more, number_end}
@@ -20,6 +20,6 @@ loop-byte-preserved c =
     (omega arith, sym (at_drop_more (number_from l.value) c.args.digits.now l.byte-index _ (omega arith) ∙ number_more l.value _ _ _ (sym c.in-Some.ensures.same) (omega arith)) ∙ l.invariant.1)
 
 pub returns : goal.returns
-returns c = 
+returns c =
     let l = c.loop-byte in
     sym (number_end l.value l.byte-index c.args.digits.now (omega arith)) ∙ l.invariant.1

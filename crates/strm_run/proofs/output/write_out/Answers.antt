@@ -1,5 +1,4 @@
-use Rattle.std.proofs.Common.{◌≡◌, ◌≤◌, ◌+◌, take, drop, length, true, false, sym, ap, ◌∙◌, subst, arith, inl, inr}
-use Rattle.std.specs.Io.KnownBytes.{Appends}
+use Rattle.std.proofs.Common.{◌+◌, true, arith}
 use Rattle.std.proofs.lemmas.List.{take_all}
 use Rattle.strm_run.proofs.Known.{Appends-kept, Appends-slice, Appends-at, slices, Writes-front, Writes-all}
 use Rattle.strm_run.proofs.output.write_out.Goals as goal
@@ -12,7 +11,7 @@ returns-then-done-bytes g c =
 pub returns-in-Ok-eq0 : goal.returns-in-Ok-eq0
 returns-in-Ok-eq0 g c =
     Writes-front _ _ c.args.bytes.now (c.loop.done + c.in-Ok-eq0.field-0)
-      (Appends-slice _ _ _ c.args.bytes.now c.loop.done c.in-Ok-eq0.field-0 c.loop.invariant.0 c.loop.invariant.1 c.in-Ok-eq0.ensures.bytes)
+    (Appends-slice _ _ _ c.args.bytes.now c.loop.done c.in-Ok-eq0.field-0 c.loop.invariant.0 c.loop.invariant.1 c.in-Ok-eq0.ensures.bytes)
 
 pub returns-then-ne : goal.returns-then-ne
 returns-then-ne g c =
@@ -20,11 +19,13 @@ returns-then-ne g c =
 
 pub loop-preserved : goal.loop-preserved
 loop-preserved g c = elim c.match-write.branch [
-    in-Ok w ↦ rw (w.done-is)
-      ((slices c.args.bytes.now c.loop.done w.in-Ok.n c.loop.invariant.0).within w.in-Ok.ensures.bound,
-       Appends-slice _ _ _ c.args.bytes.now c.loop.done w.in-Ok.n c.loop.invariant.0 c.loop.invariant.1 w.in-Ok.ensures.bytes)
+  | in-Ok w ↦ rw (w.done-is) (
+    (slices c.args.bytes.now c.loop.done w.in-Ok.n c.loop.invariant.0).within w.in-Ok.ensures.bound,
+    Appends-slice _ _ _ c.args.bytes.now c.loop.done w.in-Ok.n c.loop.invariant.0 c.loop.invariant.1 w.in-Ok.ensures.bytes,
+  )
   | in-Err+else-ne w ↦ rw (w.done-is)
-      (c.loop.invariant.0, Appends-kept _ _ _ _ c.loop.invariant.1 w.in-Err.ensures.bytes) ]
+      (c.loop.invariant.0, Appends-kept _ _ _ _ c.loop.invariant.1 w.in-Err.ensures.bytes)
+]
 
 pub returns : goal.returns
 returns g c = Writes-front _ _ c.args.bytes.now c.loop.done c.loop.invariant.1

@@ -1,4 +1,4 @@
-use Rattle.std.proofs.Common.{◌≡◌, ℕ, List, Option, None, Some, ap, sym, refl, ◌∙◌, unwrap_or, option_map}
+use Rattle.std.proofs.Common.{◌≡◌, ℕ, List, Option, None, ap, sym, refl, ◌∙◌, unwrap_or, option_map}
 use Rattle.std.proofs.lemmas.Result.{IfOk-weaker}
 use Rattle.strm_types.specs.ScriptRun.{Supply, PlainPair, answered, unanswered, by_open}
 use Rattle.strm_types.specs.declared.refusals.Refusal.TheVariants.{Enxio}
@@ -27,7 +27,7 @@ closed (Run turns) h account = refl
 pub returns-in_default-command : goal.returns-in_default-command
 returns-in_default-command c = record {
   ok = rw c.in_default.is
-    (leads_unanswered (λ account. answered (command_of c.args.command.now) account None) Enxio None c.refused.result c.refused.ensures
+      (leads_unanswered (λ account. answered (command_of c.args.command.now) account None) Enxio None c.refused.result c.refused.ensures
       (closed c.args.command.now c.in_default-command.not-Open));
   err = tt;
 }
@@ -39,10 +39,10 @@ opens : (command : Command) (pair : Option PairState) (new : Option PlainPair) (
 unfolding answered
 opens command pair new blocks n found said none count h =
     leads_same (λ account. answered (command_of command) account (option_map plain pair)) (λ account. by_open n account) new found
-      (λ account. (λ i. answered (command_of (said i)) account (option_map plain (none i))) ∙ ap (λ k. by_open k account) (sym count)) h
+    (λ account. (λ i. answered (command_of (said i)) account (option_map plain (none i))) ∙ ap (λ k. by_open k account) (sym count)) h
 
 pub returns-in-Open-clause-ok : goal.returns-in-Open-clause-ok
 returns-in-Open-clause-ok c =
     IfOk-weaker c.open.result _ _
-      (λ found h. opens c.args.command.now c.args.pair.now _ c.in-Open.blocks c.unwrap_or.result found c.in-Open.is c.in_default.is c.unwrap_or.ensures h)
-      c.open.ensures.ok
+    (λ found h. opens c.args.command.now c.args.pair.now _ c.in-Open.blocks c.unwrap_or.result found c.in-Open.is c.in_default.is c.unwrap_or.ensures h)
+    c.open.ensures.ok

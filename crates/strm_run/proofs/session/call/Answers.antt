@@ -1,4 +1,4 @@
-use Rattle.std.proofs.Common.{refl, ap, sym, ◌∙◌, Err, Ok}
+use Rattle.std.proofs.Common.{ap, sym, ◌∙◌}
 use Rattle.strm_types.specs.ScriptAnswers.{reply_line}
 use Rattle.strm_types.specs.ScriptRun.{is_short}
 use Rattle.strm_run.proofs.Events.{CallHappens-from, answers_call, replied}

@@ -1,5 +1,5 @@
-use Rattle.std.proofs.Common.{◌≡◌, List, Option, None, Some, ap, sym, refl}
-use Rattle.strm_types.specs.ScriptRun.{Supply, PlainPair, answered}
+use Rattle.std.proofs.Common.{◌≡◌, Option, ap, sym, refl}
+use Rattle.strm_types.specs.ScriptRun.{PlainPair, answered}
 use Rattle.strm_types.specs.declared.refusals.Refusal.TheVariants.{Einval}
 use Rattle.strm_run.specs.Commands.{command_of}
 use Rattle.strm_run.specs.Outcomes.{LeadsTo}
@@ -14,7 +14,7 @@ known : (command said : Command) (found : Answered) (old new : Option PlainPair)
     → LeadsTo (λ account. answered (command_of command) account old) found new
 known command said found old new e h =
     leads_same (λ account. answered (command_of command) account old) (λ account. answered (command_of said) account old) new found
-      (λ account. ap (λ x. answered (command_of x) account old) e) h
+    (λ account. ap (λ x. answered (command_of x) account old) e) h
 
 pub returns-in-Open : goal.returns-in-Open
 unfolding answered

@@ -1,4 +1,4 @@
-use Rattle.std.proofs.Common.{◌≡◌, refl, ap, sym, ◌∙◌, arith, rules, ◌≤◌}
+use Rattle.std.proofs.Common.{◌≡◌, refl, ap, sym, ◌∙◌, arith, ◌≤◌}
 use Rattle.strm_types.specs.ScriptAnswers.{Ran}
 use Rattle.strm_run.specs.Plain.{plain}
 use Rattle.strm_run.proofs.Events.{RunsTo-start, RunsTo-more, run_none, run_refused, run_all, TurnHappens-from}
@@ -16,17 +16,17 @@ pub returns-in-Err : goal.returns-in-Err
 returns-in-Err c =
     let l = c.loop-taken in
     run_refused c.args.turns l.taken (plain c.args.pair.now) l.pair c.turn.new.self c.in-Some.name c.in-Err.refusal c.turn.result _
-      c.loop-taken-test.true l.invariant (sym c.first_enabled.ensures ∙ c.in-Some.is)
-      (TurnHappens-from l.pair c.turn.new.self c.in-Some.name c.turn.result c.turn.ensures.refused c.turn.ensures.adds)
-      c.in-Err.is refl c.is_short.ensures
+    c.loop-taken-test.true l.invariant (sym c.first_enabled.ensures ∙ c.in-Some.is)
+    (TurnHappens-from l.pair c.turn.new.self c.in-Some.name c.turn.result c.turn.ensures.refused c.turn.ensures.adds)
+    c.in-Err.is refl c.is_short.ensures
 
 pub loop-taken-preserved : goal.loop-taken-preserved
 loop-taken-preserved c =
     let l = c.loop-taken in
     RunsTo-more c.args.turns l.taken (plain c.args.pair.now) l.pair c.turn.new.self c.in-Some.name c.in_default-turn.field-0 c.turn.result
-      c.loop-taken-test.true l.invariant (sym c.first_enabled.ensures ∙ c.in-Some.is)
-      (TurnHappens-from l.pair c.turn.new.self c.in-Some.name c.turn.result c.turn.ensures.refused c.turn.ensures.adds)
-      c.in_default-turn.is
+    c.loop-taken-test.true l.invariant (sym c.first_enabled.ensures ∙ c.in-Some.is)
+    (TurnHappens-from l.pair c.turn.new.self c.in-Some.name c.turn.result c.turn.ensures.refused c.turn.ensures.adds)
+    c.in_default-turn.is
 
 pub returns : goal.returns
 returns c =

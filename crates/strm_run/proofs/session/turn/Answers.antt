@@ -1,4 +1,4 @@
-use Rattle.std.proofs.Common.{refl, ap, sym, ◌∙◌, Err, Ok}
+use Rattle.std.proofs.Common.{ap, sym, ◌∙◌}
 use Rattle.strm_types.specs.ScriptAnswers.{turn_line}
 use Rattle.strm_types.specs.ScriptRun.{is_short}
 use Rattle.strm_run.proofs.Events.{TurnHappens-from, answers_turn}

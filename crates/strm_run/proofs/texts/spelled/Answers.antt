@@ -1,8 +1,5 @@
-use Rattle.std.proofs.Common.{rules, ◌≡◌, ◌≤◌, ◌+◌, ◌++◌, length, List, [], ◌∷◌, Some, None, cond, arith, sym, ap, ◌∙◌, append-nil}
-use Rattle.std.proofs.lemmas.Bool.{cond-true, cond-false}
-use Rattle.strm_types.specs.ScriptReading as readings
-use Rattle.strm_run.specs.Modes.{mode_of, move_of, IsMode, IsMove}
-use Rattle.strm_run.proofs.Readings.{TextTo, TextTo-breaks, TextTo-goes, TextTo-gives, TextTo-closed, TextTo-open}
+use Rattle.std.proofs.Common.{arith, sym, ◌∙◌}
+use Rattle.strm_run.proofs.Readings.{TextTo-breaks, TextTo-goes, TextTo-gives, TextTo-closed, TextTo-open}
 use Rattle.strm_run.proofs.texts.spelled.Goals as goal
 use Rattle.strm_run.proofs.texts.spelled.Goals.{in-Goes, in-Gives+in_ok-push-in-Gives}
 
@@ -11,10 +8,11 @@ returns-in-Breaks c = TextTo-breaks _ _ _ 0 _ (omega arith) c.loop-byte.invarian
 
 pub loop-byte-preserved : goal.loop-byte-preserved
 loop-byte-preserved c = elim c.match-moved.branch [
-    in-Goes w ↦ rw (w.text-is, w.mode-is)
+  | in-Goes w ↦ rw (w.text-is, w.mode-is)
       (w.in-Goes.ensures.small, TextTo-goes _ _ _ _ _ (omega arith) c.loop-byte.invariant.1 (sym w.in-Goes.ensures.same))
   | in-Gives+in_ok-push-in-Gives w ↦ rw (w.text-is, w.mode-is, w.in_ok-push-in-Gives.ensures.items)
-      (tt, TextTo-gives _ _ _ _ _ (omega arith) c.loop-byte.invariant.1 (sym w.in-Gives.ensures.same)) ]
+      (tt, TextTo-gives _ _ _ _ _ (omega arith) c.loop-byte.invariant.1 (sym w.in-Gives.ensures.same))
+]
 
 pub returns-then-is_closed : goal.returns-then-is_closed
 returns-then-is_closed c = TextTo-closed _ _ _ _ (omega arith) c.loop-byte.invariant.1 (sym c.is_closed.ensures ∙ c.if-is_closed.true)

@@ -8,7 +8,7 @@ use Rattle.strm_run.proofs.words.after.Goals as goal
 
 after_stripped : (r : Option (Bor (List ℕ))) (word line : List ℕ)
     → MatchOption r (pointwise nat_eq (take (length word) line) word ≡ false)
-        (λ x. (pointwise nat_eq (take (length word) line) word ≡ true) × (x.now ≡ drop (length word) line) × (length x.now + length word ≡ length line))
+    (λ x. (pointwise nat_eq (take (length word) line) word ≡ true) × (x.now ≡ drop (length word) line) × (length x.now + length word ≡ length line))
     → option_copied r ≡ after word line
 after_stripped None word line h =
     sym (after_none word line (λ same. both_ways _ h ((bytes_decides (take (length word) line) word).1 same)))

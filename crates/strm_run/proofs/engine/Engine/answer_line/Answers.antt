@@ -1,4 +1,4 @@
-use Rattle.std.proofs.Common.{rules, refl, sym, ap, ◌∙◌, append-nil, [], ◌∷◌}
+use Rattle.std.proofs.Common.{refl, sym, ap, ◌∙◌, append-nil, []}
 use Rattle.strm_types.specs.ScriptReading.{reading}
 use Rattle.strm_run.specs.Commands.{reading_of}
 use Rattle.strm_run.specs.Steps.{point_of}
@@ -13,7 +13,7 @@ pub returns-in-Silent : goal.returns-in-Silent
 returns-in-Silent c =
     let line = ap reading (sym c.as_slice.ensures.value) ∙ sym c.in-Ok.ensures ∙ ap reading_of c.in-Silent.is in
     record {
-      answers = record { text = []; goes = goes_silent (point_of c.args.self.now) line; answers = sym (append-nil _); };
+      answers = record { text = []; goes = goes_silent (point_of c.args.self.now) line; answers = sym (append-nil _) };
       lines = refl;
     }
 

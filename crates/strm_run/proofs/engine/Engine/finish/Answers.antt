@@ -1,4 +1,4 @@
-use Rattle.std.proofs.Common.{◌≡◌, ◌<◌, [], length, sym, ap, ◌∙◌, arith}
+use Rattle.std.proofs.Common.{length, sym, ap, ◌∙◌, arith}
 use Rattle.std.proofs.lemmas.Bool.{eqb-true, eqb-false}
 use Rattle.std.proofs.lemmas.List.{nil_from_length}
 use Rattle.strm_run.proofs.EngineSteps.{finished_none, finished_last}
@@ -13,4 +13,4 @@ pub returns : goal.returns
 returns c =
     let some = eqb-false _ 0 (sym c.is_empty.ensures ∙ c.if-is_empty.false) in
     finished_last c.args.self.now c.end_line.new.self c.end_line.result
-      (λ none. some (c.args.self.now.line.ok.0 ∙ ap length none)) c.end_line.ensures.steps c.end_line.ensures.fresh
+    (λ none. some (c.args.self.now.line.ok.0 ∙ ap length none)) c.end_line.ensures.steps c.end_line.ensures.fresh

@@ -1,7 +1,5 @@
-use Rattle.std.proofs.Common.{◌≡◌, ◌≤◌, refl, sym, ap, ◌∙◌, append-nil, [], ◌∷◌, ◌++◌, length, arith}
+use Rattle.std.proofs.Common.{◌≤◌, refl, sym, ◌∙◌, length, arith}
 use Rattle.std.proofs.lemmas.Bool.{cond-true}
-use Rattle.strm_run.specs.Steps.{point_of}
-use Rattle.strm_run.proofs.Ways.{goes_byte}
 use Rattle.strm_run.proofs.EngineSteps.{fails_none, refused_long, took_byte}
 use Rattle.strm_run.proofs.engine.Engine.take_byte.Goals as goal
 
@@ -13,7 +11,7 @@ returns-then-len-ge-LINE_MAX-clause-steps c =
 pub returns-then-is_ok-clause-steps : goal.returns-then-is_ok-clause-steps
 returns-then-is_ok-clause-steps c =
     took_byte c.args.self.now _ c.args.byte refl refl refl refl
-      (c.push.ensures.items ∙ cond-true _ _ _ (sym c.is_ok.ensures.value ∙ c.if-is_ok.true)) c.if-byte-eq10.false
+    (c.push.ensures.items ∙ cond-true _ _ _ (sym c.is_ok.ensures.value ∙ c.if-is_ok.true)) c.if-byte-eq10.false
 
 pub returns-else-is_ok-clause-steps : goal.returns-else-is_ok-clause-steps
 returns-else-is_ok-clause-steps c = fails_none _ _ _ refl refl
