@@ -6,3 +6,5 @@ pub mod Supplies
 pub mod Known
 pub mod Whole
 pub mod PlainTexts
+pub mod Grammar
+pub mod Spellings

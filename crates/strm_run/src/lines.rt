@@ -1,8 +1,10 @@
 //! What a line of a script says. Each command has a reader of its own.
 
-ghost use Rattle.std.specs.Prelude.{◌≡◌, IfOk, option_map};
-ghost use Rattle.strm_types.specs.ScriptReading.{open_in, unlock_in, slave_in, write_in, read_in, turn_in, run_in, command_in, reading};
-ghost use Rattle.strm_run.specs.Commands.{command_of, commands_of, reading_of};
+ghost use Rattle.std.specs.Prelude.{◌≡◌, ◌≤◌, IfOk, length};
+ghost use Rattle.strm_types.specs.Script as script;
+ghost use Rattle.strm_types.specs.Script.{IsSpelled};
+ghost use Rattle.strm_types.specs.ScriptReading.{open_in, unlock_in, slave_in, write_in, read_in, turn_in, run_in, command_in, reading, Spoken};
+ghost use Rattle.strm_run.specs.Commands.{commands_of, reading_of};
 
 use crate::commands::{Command, Reading};
 use crate::numbers::number;
@@ -125,9 +127,9 @@ fn command(alloc: Global, line: &[u8]) -> Result<Option<Command>, AllocError>
     Ok(run(line))
 }
 
-/// What a line says, without its LF. Only want of memory is an `Err`.
+/// What a line says, by its length, its first byte and its command.
 #[tactic(auto, unfolding(strm_types::specs::ScriptReading::reading))]
-pub fn reading(alloc: Global, line: &[u8]) -> Result<Reading, AllocError>
+fn said(alloc: Global, line: &[u8]) -> Result<Reading, AllocError>
     ensures { IfOk result (λ found. reading_of found ≡ reading line.now) }
 {
     if line.len() > LINE_MAX {
@@ -140,4 +142,17 @@ pub fn reading(alloc: Global, line: &[u8]) -> Result<Reading, AllocError>
         Some(command) => Ok(Reading::Spoken(command)),
         None => Ok(Reading::Malformed),
     }
+}
+
+/// What a line says, without its LF. Only want of memory is an `Err`.
+pub fn reading(alloc: Global, line: &[u8]) -> Result<Reading, AllocError>
+    ensures same { IfOk result (λ found. reading_of found ≡ reading line.now) }
+    // What is read is spelled so.
+    ensures found { IfOk result (λ found. (command : script.Command) → reading_of found ≡ Spoken command
+        → IsSpelled command line.now) }
+    // What is spelled so is read.
+    ensures only { IfOk result (λ found. (command : script.Command) → IsSpelled command line.now
+        → length line.now ≤ 4096 → reading_of found ≡ Spoken command) }
+{
+    said(alloc, line)
 }

@@ -41,7 +41,7 @@ way_name Down = codes "w"
 
 -- the name of a queue, as `m.drv.w`
 abbrev pub queue_name : QueueName → List ℕ
-queue_name name = side_name name.side ++ codes "." ++ place_name name.place ++ codes "." ++ way_name name.way
+queue_name name = side_name name.side ++ (codes "." ++ (place_name name.place ++ (codes "." ++ way_name name.way)))
 
 -- the value of a decimal digit
 unfoldable pub digit_of : ℕ → Option ℕ
@@ -93,7 +93,7 @@ IsWithNumber word n line = (digits : List ℕ) × IsNumber digits n × (line ≡
 
 -- a word, and behind it a text in quotes
 abbrev pub IsWithText : List ℕ → List ℕ → List ℕ → Type 0
-IsWithText word text line = (spelled : List ℕ) × IsText spelled text × (line ≡ word ++ codes "\"" ++ spelled ++ codes "\"")
+IsWithText word text line = (spelled : List ℕ) × IsText spelled text × (line ≡ word ++ (codes "\"" ++ (spelled ++ codes "\"")))
 
 -- how a command is spelled
 abbrev pub IsSpelled : Command → List ℕ → Type 0
@@ -101,8 +101,8 @@ IsSpelled (Open None) line = line ≡ codes "open"
 IsSpelled (Open (Some n)) line = IsWithNumber (codes "open ") n line
 IsSpelled Unlock line = line ≡ codes "unlock"
 IsSpelled OpenSlave line = line ≡ codes "slave"
-IsSpelled (Write side text) line = IsWithText (codes "write " ++ side_name side ++ codes " ") text line
-IsSpelled (Read side n) line = IsWithNumber (codes "read " ++ side_name side ++ codes " ") n line
+IsSpelled (Write side text) line = IsWithText (codes "write " ++ (side_name side ++ codes " ")) text line
+IsSpelled (Read side n) line = IsWithNumber (codes "read " ++ (side_name side ++ codes " ")) n line
 IsSpelled (Turn name) line = line ≡ codes "turn " ++ queue_name name
 IsSpelled (Run n) line = IsWithNumber (codes "run ") n line
 
