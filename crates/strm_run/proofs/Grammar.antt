@@ -1,15 +1,8 @@
 -- What is read is spelled so, and what is spelled so is read.
-use Rattle.std.proofs.Common.{◌≡◌, ℕ, ◌+◌, ◌*◌, ◌<◌, ◌≤◌, Bool, true, false, cond, eqb, leb, ltb, List, [], ◌∷◌, ◌++◌, length, Option, None, Some, option_map, refl, arith, sym, ap, ◌∙◌, inl, inr, ◌⊎◌, append_assoc, append-nil, length-append, codes, subst, ◌&&◌}
-use Rattle.std.proofs.lemmas.Bool.{cond-true, cond-false, eq-eqb, ne_eqb, leb-true, le-leb, lt-ltb, le-ltb, ltb-true, cases_Bool, and_parts, false≢true}
+use Rattle.std.proofs.Common.{◌≡◌, ℕ, ◌+◌, ◌*◌, ◌≤◌, false, eqb, leb, ltb, List, [], ◌∷◌, ◌++◌, length, Option, None, Some, option_map, refl, arith, sym, ap, ◌∙◌, inl, inr, append_assoc, codes, subst, ◌&&◌}
+use Rattle.std.proofs.lemmas.Bool.{cond-true, cond-false, eq-eqb, ne_eqb, leb-true, le-leb, lt-ltb, ltb-true, cases_Bool, and_parts}
 use Rattle.std.proofs.lemmas.Bool.Decides.{eqb_tells, leb_tells}
-use Rattle.strm_types.specs.declared.names.Side.{Side}
-use Rattle.strm_types.specs.declared.names.Side.TheVariants.{Master, Slave}
-use Rattle.strm_types.specs.declared.names.Place.{Place}
-use Rattle.strm_types.specs.declared.names.Place.TheVariants.{Head, Ldterm, Driver}
-use Rattle.strm_types.specs.declared.names.Way.{Way}
-use Rattle.strm_types.specs.declared.names.Way.TheVariants.{Up, Down}
-use Rattle.strm_types.specs.declared.names.QueueName.{QueueName}
-use Rattle.strm_types.specs.Script.{Command, number_max, digit_of, hex_of, escaped, HasValue, IsNumber, IsPiece, Itself, Named, Coded, IsText}
+use Rattle.strm_types.specs.Script.{digit_of, hex_of, escaped, HasValue, IsNumber, IsPiece, Itself, Named, Coded, IsText}
 use Rattle.strm_types.specs.ScriptReading as readings
 use Rattle.strm_types.specs.ScriptReading.{and_then, after, at_end, whole, Front, before, number_from, number_in, Mode, moved_by, with_front, text_from, text_in}
 use Rattle.strm_run.proofs.Readings.{number_none, number_over, number_more, text_breaks, text_goes, text_gives}
@@ -22,7 +15,7 @@ pub record Found {A B : Type 0} (f : A → Option B) (o : Option A) (y : B) : Ty
 
 pub and_then-found : {A B : Type 0} (f : A → Option B) (o : Option A) (y : B) → and_then f o ≡ Some y → Found f o y
 and_then-found f None y h = absurd cc
-and_then-found f (Some x) y h = record { value = x; first = refl; second = h; }
+and_then-found f (Some x) y h = record { value = x; first = refl; second = h }
 
 pub record Mapped {A B : Type 0} (f : A → B) (o : Option A) (y : B) : Type 0 where
   pub value : A
@@ -31,16 +24,17 @@ pub record Mapped {A B : Type 0} (f : A → B) (o : Option A) (y : B) : Type 0 w
 
 pub option_map-found : {A B : Type 0} (f : A → B) (o : Option A) (y : B) → option_map f o ≡ Some y → Mapped f o y
 option_map-found f None y h = absurd cc
-option_map-found f (Some x) y h = record { value = x; first = refl; second = cc; }
+option_map-found f (Some x) y h = record { value = x; first = refl; second = cc }
 
 pub after-found : (word line rest : List ℕ) → after word line ≡ Some rest → line ≡ word ++ rest
 after-found [] line rest h = cc
 after-found (w ∷ word) [] rest h = absurd cc
 after-found (w ∷ word) (b ∷ line) rest h = elim (eqb_tells w b) [
-    inl e ↦
+  | inl e ↦
       let tail : line ≡ word ++ rest = after-found word line rest (sym (cond-true (eqb w b) (after word line) None e.0) ∙ h) in
       (λ i. sym e.1 i ∷ tail i)
-  | inr e ↦ let none : None ≡ Some rest = sym (cond-false (eqb w b) (after word line) None e.0) ∙ h in absurd cc ]
+  | inr e ↦ let none : None ≡ Some rest = sym (cond-false (eqb w b) (after word line) None e.0) ∙ h in absurd cc
+]
 
 pub after-only : (word rest : List ℕ) → after word (word ++ rest) ≡ Some rest
 after-only [] rest = refl
@@ -51,8 +45,9 @@ number-step : (v b n : ℕ) (digits : List ℕ) (o : Option ℕ) → digit_of b 
     → (d : ℕ) × (digit_of b ≡ Some d) × (10 * v + d ≤ 4294967295) × (number_from (10 * v + d) digits ≡ Some n)
 number-step v b n digits None e h = let none : None ≡ Some n = sym (number_none v b digits e) ∙ h in absurd cc
 number-step v b n digits (Some d) e h = elim (leb_tells (10 * v + d) 4294967295) [
-    inl fits ↦ (d, e, fits.1, sym (number_more v b d digits e fits.1) ∙ h)
-  | inr over ↦ let none : None ≡ Some n = sym (number_over v b d digits e over.1) ∙ h in absurd cc ]
+  | inl fits ↦ (d, e, fits.1, sym (number_more v b d digits e fits.1) ∙ h)
+  | inr over ↦ let none : None ≡ Some n = sym (number_over v b d digits e over.1) ∙ h in absurd cc
+]
 
 number_from-found : (v : ℕ) (digits : List ℕ) (n : ℕ) → v ≤ 4294967295 → number_from v digits ≡ Some n → HasValue v digits n × (n ≤ 4294967295)
 unfolding number_from
@@ -75,11 +70,12 @@ number_from-only v (b ∷ digits) n h fits =
 pub number-found : (digits : List ℕ) (n : ℕ) → number_in digits ≡ Some n → IsNumber digits n
 unfolding number_in
 number-found digits n h = elim (cases_Bool (ltb 0 (length digits) && leb (length digits) 10)) [
-    inl e ↦
+  | inl e ↦
       let parts = and_parts _ _ e in
       let found = number_from-found 0 digits n (omega arith) (sym (cond-true _ (number_from 0 digits) None e) ∙ h) in
-      record { some = ltb-true _ _ parts.0; most = leb-true _ _ parts.1; value = found.0; fits = found.1; }
-  | inr e ↦ let none : None ≡ Some n = sym (cond-false _ (number_from 0 digits) None e) ∙ h in absurd cc ]
+      record { some = ltb-true _ _ parts.0; most = leb-true _ _ parts.1; value = found.0; fits = found.1 }
+  | inr e ↦ let none : None ≡ Some n = sym (cond-false _ (number_from 0 digits) None e) ∙ h in absurd cc
+]
 
 pub number-only : (digits : List ℕ) (n : ℕ) → IsNumber digits n → number_in digits ≡ Some n
 unfolding number_in
@@ -118,22 +114,25 @@ Reads-all bytes = (mode : Mode) (text : List ℕ) → text_from mode bytes ≡ S
 
 inside-found : (b : ℕ) (rest text : List ℕ) → Reads-all rest → text_from readings.Inside (b ∷ rest) ≡ Some text → Quoted (b ∷ rest) text
 inside-found b rest text later h = elim (eqb_tells b 34) [
-    inl q ↦
+  | inl q ↦
       let goes : moved_by readings.Inside b ≡ readings.Goes readings.Closed = rw (q.0) refl in
       let end = later readings.Closed text (sym (text_goes readings.Inside readings.Closed b rest goes) ∙ h) in
-      record { spelled = []; bytes_are = (λ i. q.1 i ∷ end.0 i); spells = rw (end.1) refl; }
+      record { spelled = []; bytes_are = (λ i. q.1 i ∷ end.0 i); spells = rw (end.1) refl }
   | inr q ↦ elim (eqb_tells b 92) [
-      inl s ↦
+    | inl s ↦
         let goes : moved_by readings.Inside b ≡ readings.Goes readings.Escaped = rw (q.0, s.0) refl in
         subst (λ k. Quoted (k ∷ rest) text) (sym s.1) (later readings.Escaped text (sym (text_goes readings.Inside readings.Escaped b rest goes) ∙ h))
     | inr s ↦ elim (eqb_tells b 10) [
-        inl n ↦
+      | inl n ↦
           let breaks : moved_by readings.Inside b ≡ readings.Breaks = rw (q.0, s.0, n.0) refl in
           let none : None ≡ Some text = sym (text_breaks readings.Inside b rest breaks) ∙ h in
           absurd cc
       | inr n ↦
           let gives : moved_by readings.Inside b ≡ readings.Gives b = rw (q.0, s.0, n.0) refl in
-          gives-found (b ∷ []) b rest text (Itself b q.1 s.1 n.1) (later readings.Inside) (sym (text_gives readings.Inside b b rest gives) ∙ h) ] ] ]
+          gives-found (b ∷ []) b rest text (Itself b q.1 s.1 n.1) (later readings.Inside) (sym (text_gives readings.Inside b b rest gives) ∙ h)
+    ]
+  ]
+]
 
 escaped-by : (b : ℕ) (rest text : List ℕ) (o : Option ℕ) → escaped b ≡ o → eqb b 120 ≡ false → Reads-all rest → text_from readings.Escaped (b ∷ rest) ≡ Some text → Quoted (92 ∷ b ∷ rest) text
 escaped-by b rest text None e x later h =
@@ -146,10 +145,11 @@ escaped-by b rest text (Some c) e x later h =
 
 escaped-found : (b : ℕ) (rest text : List ℕ) (o : Option ℕ) → escaped b ≡ o → Reads-all rest → text_from readings.Escaped (b ∷ rest) ≡ Some text → Quoted (92 ∷ b ∷ rest) text
 escaped-found b rest text o e later h = elim (eqb_tells b 120) [
-    inl x ↦
+  | inl x ↦
       let goes : moved_by readings.Escaped b ≡ readings.Goes readings.Coded = rw (x.0) refl in
       subst (λ k. Quoted (92 ∷ k ∷ rest) text) (sym x.1) (later readings.Coded text (sym (text_goes readings.Escaped readings.Coded b rest goes) ∙ h))
-  | inr x ↦ escaped-by b rest text o e x.0 later h ]
+  | inr x ↦ escaped-by b rest text o e x.0 later h
+]
 
 coded-found : (b : ℕ) (rest text : List ℕ) (o : Option ℕ) → hex_of b ≡ o → Reads-all rest → text_from readings.Coded (b ∷ rest) ≡ Some text → Quoted (92 ∷ 120 ∷ b ∷ rest) text
 coded-found b rest text None e later h =
@@ -169,7 +169,7 @@ half-found high b rest text None e later read h x =
 half-found high b rest text (Some low) e later read h x =
     let gives : moved_by (readings.HalfCoded high) b ≡ readings.Gives (16 * high + low) = rw (e, moved_by) refl in
     gives-found (92 ∷ 120 ∷ h ∷ b ∷ []) (16 * high + low) rest text (Coded h b high low x e) (later readings.Inside)
-      (sym (text_gives (readings.HalfCoded high) b (16 * high + low) rest gives) ∙ read)
+    (sym (text_gives (readings.HalfCoded high) b (16 * high + low) rest gives) ∙ read)
 
 text_from-found : (bytes : List ℕ) → Reads-all bytes
 unfolding text_from

@@ -1,6 +1,6 @@
 -- Each command is read where it is spelled, and only there.
-use Rattle.std.proofs.Common.{◌≡◌, ℕ, ◌+◌, ◌<◌, ◌≤◌, Bool, true, false, cond, List, [], ◌∷◌, ◌++◌, length, Option, None, Some, option_map, refl, arith, sym, ap, ◌∙◌, inl, inr, ◌⊎◌, append_assoc, append-nil, codes, subst, ltb}
-use Rattle.std.proofs.lemmas.Bool.{cond-true, cond-false, lt-ltb, le-ltb, ltb-false, cases_Bool}
+use Rattle.std.proofs.Common.{◌≡◌, ℕ, ◌≤◌, false, List, [], ◌∷◌, ◌++◌, length, Option, None, Some, option_map, refl, sym, ap, ◌∙◌, inl, inr, ◌⊎◌, append_assoc, append-nil, codes, subst, ltb}
+use Rattle.std.proofs.lemmas.Bool.{cond-true, cond-false, le-ltb, cases_Bool}
 use Rattle.strm_types.specs.declared.names.Side.{Side}
 use Rattle.strm_types.specs.declared.names.Side.TheVariants.{Master, Slave}
 use Rattle.strm_types.specs.declared.names.Place.{Place}
@@ -8,9 +8,9 @@ use Rattle.strm_types.specs.declared.names.Place.TheVariants.{Head, Ldterm, Driv
 use Rattle.strm_types.specs.declared.names.Way.{Way}
 use Rattle.strm_types.specs.declared.names.Way.TheVariants.{Up, Down}
 use Rattle.strm_types.specs.declared.names.QueueName.{QueueName}
-use Rattle.strm_types.specs.Script.{Command, Open, Unlock, OpenSlave, Write, Read, Turn, Run, line_max, side_name, place_name, way_name, queue_name, is_silent, IsSpelled, IsWithNumber, IsWithText}
-use Rattle.strm_types.specs.ScriptReading.{Reading, Silent, Malformed, Spoken, spoken, reading, either_of, and_then, after, at_end, whole, Front, before, number_in, text_in, side_in, place_in, way_in, queue_in, placed_in, sided_in, behind_side, open_in, unlock_in, slave_in, write_in, read_in, turn_in, run_in, command_in}
-use Rattle.strm_run.proofs.Grammar.{Found, and_then-found, Mapped, option_map-found, after-found, after-only, number-found, number-only, text-found, text-only}
+use Rattle.strm_types.specs.Script.{Command, Open, Unlock, OpenSlave, Write, Read, Turn, Run, side_name, place_name, way_name, queue_name, is_silent, IsSpelled}
+use Rattle.strm_types.specs.ScriptReading.{Silent, Malformed, Spoken, spoken, reading, either_of, and_then, after, at_end, whole, Front, before, number_in, text_in, side_in, place_in, way_in, queue_in, placed_in, sided_in, behind_side, open_in, unlock_in, slave_in, write_in, read_in, turn_in, run_in, command_in}
+use Rattle.strm_run.proofs.Grammar.{and_then-found, option_map-found, after-found, number-found, number-only, text-found, text-only}
 
 -- the one or the other found it
 either-found : {A : Type 0} (a b : Option A) (y : A) → either_of a b ≡ Some y → (a ≡ Some y) ⊎ (b ≡ Some y)
@@ -34,27 +34,31 @@ pub record Stands {A : Type 0} (name : A → List ℕ) (line : List ℕ) (found 
 before-found : {A : Type 0} (name : A → List ℕ) (x : A) (line : List ℕ) (found : Front A) → before (name x) x line ≡ Some found → Stands name line found
 before-found name x line found h =
     let m = option_map-found (λ rest. record { value = x; rest = rest }) (after (name x) line) found h in
-    record { line_is = after-found (name x) line m.value m.first ∙ ap (λ (f : Front _). name f.value ++ f.rest) m.second; }
+    record { line_is = after-found (name x) line m.value m.first ∙ ap (λ (f : Front _). name f.value ++ f.rest) m.second }
 
 side-found : (line : List ℕ) (found : Front Side) → side_in line ≡ Some found → Stands side_name line found
 unfolding side_in
 side-found line found h = elim (either-found _ _ found h) [
-    inl a ↦ before-found side_name Master line found a
-  | inr b ↦ before-found side_name Slave line found b ]
+  | inl a ↦ before-found side_name Master line found a
+  | inr b ↦ before-found side_name Slave line found b
+]
 
 place-found : (line : List ℕ) (found : Front Place) → place_in line ≡ Some found → Stands place_name line found
 unfolding place_in
 place-found line found h = elim (either-found _ _ found h) [
-    inl a ↦ before-found place_name Head line found a
+  | inl a ↦ before-found place_name Head line found a
   | inr b ↦ elim (either-found _ _ found b) [
-      inl c ↦ before-found place_name Ldterm line found c
-    | inr d ↦ before-found place_name Driver line found d ] ]
+    | inl c ↦ before-found place_name Ldterm line found c
+    | inr d ↦ before-found place_name Driver line found d
+  ]
+]
 
 way-found : (line : List ℕ) (way : Way) → way_in line ≡ Some way → line ≡ way_name way
 unfolding way_in
 way-found line way h = elim (either-found _ _ way h) [
-    inl a ↦ let w = whole-found (codes "r") Up way line a in w.1 ∙ ap way_name w.0
-  | inr b ↦ let w = whole-found (codes "w") Down way line b in w.1 ∙ ap way_name w.0 ]
+  | inl a ↦ let w = whole-found (codes "r") Up way line a in w.1 ∙ ap way_name w.0
+  | inr b ↦ let w = whole-found (codes "w") Down way line b in w.1 ∙ ap way_name w.0
+]
 
 placed-found : (side : Side) (place : Place) (line : List ℕ) (name : QueueName) → placed_in side place line ≡ Some name
     → (way : Way) × (line ≡ 46 ∷ way_name way) × (name ≡ record { side = side; place = place; way = way })
@@ -68,11 +72,13 @@ sided-found : (side : Side) (line : List ℕ) (name : QueueName) → sided_in si
 sided-found side line name h =
     let dot = and_then-found (λ rest. and_then (λ (place : Front Place). placed_in side place.value place.rest) (place_in rest)) (after (codes ".") line) name h in
     let place = and_then-found (λ (place : Front Place). placed_in side place.value place.rest) (place_in dot.value) name dot.second in
-    let last = placed-found side place.value.value place.value.rest name place.second in
-    (place.value.value, last.0,
+    let last = placed-found side place.value.value place.value.rest name place.second in (
+      place.value.value,
+      last.0,
       after-found (codes ".") line dot.value dot.first
-        ∙ ap (λ k. 46 ∷ k) ((place-found dot.value place.value place.first).line_is ∙ ap (λ k. place_name place.value.value ++ k) last.1),
-      last.2)
+          ∙ ap (λ k. 46 ∷ k) ((place-found dot.value place.value place.first).line_is ∙ ap (λ k. place_name place.value.value ++ k) last.1),
+      last.2,
+    )
 
 queue-found : (line : List ℕ) (name : QueueName) → queue_in line ≡ Some name → line ≡ queue_name name
 unfolding queue_in
@@ -106,21 +112,24 @@ behind-found : (inside : Side → List ℕ → Option Command) (line : List ℕ)
     → (side : Side) × (rest : List ℕ) × (line ≡ side_name side ++ 32 ∷ rest) × (inside side rest ≡ Some command)
 behind-found inside line command h =
     let side = and_then-found (λ (side : Front Side). and_then (inside side.value) (after (codes " ") side.rest)) (side_in line) command h in
-    let gap = and_then-found (inside side.value.value) (after (codes " ") side.value.rest) command side.second in
-    (side.value.value, gap.value,
+    let gap = and_then-found (inside side.value.value) (after (codes " ") side.value.rest) command side.second in (
+      side.value.value,
+      gap.value,
       (side-found line side.value side.first).line_is ∙ ap (λ k. side_name side.value.value ++ k) (after-found (codes " ") side.value.rest gap.value gap.first),
-      gap.second)
+      gap.second,
+    )
 
 -- each command is read only where it is spelled
 open-found : (line : List ℕ) (command : Command) → open_in line ≡ Some command → IsSpelled command line
 unfolding open_in
 open-found line command h = elim (either-found _ _ command h) [
-    inl a ↦ let w = whole-found (codes "open") (Open None) command line a in subst (λ c. IsSpelled c line) w.0 w.1
+  | inl a ↦ let w = whole-found (codes "open") (Open None) command line a in subst (λ c. IsSpelled c line) w.0 w.1
   | inr b ↦
       let digits = and_then-found (λ digits. option_map (λ n. Open (Some n)) (number_in digits)) (after (codes "open ") line) command b in
       let n = option_map-found (λ n. Open (Some n)) (number_in digits.value) command digits.second in
       subst (λ c. IsSpelled c line) n.second
-        (digits.value, number-found digits.value n.value n.first, after-found (codes "open ") line digits.value digits.first) ]
+      (digits.value, number-found digits.value n.value n.first, after-found (codes "open ") line digits.value digits.first)
+]
 
 unlock-found : (line : List ℕ) (command : Command) → unlock_in line ≡ Some command → IsSpelled command line
 unfolding unlock_in
@@ -137,11 +146,13 @@ write-found line command h =
     let side = behind-found (λ side rest. option_map (λ text. Write side text) (text_in rest)) rest.value command rest.second in
     let text = option_map-found (λ text. Write side.0 text) (text_in side.1) command side.3 in
     let spelled = text-found side.1 text.value text.first in
-    subst (λ c. IsSpelled c line) text.second
-      (spelled.0, spelled.1,
-        after-found (codes "write ") line rest.value rest.first
-        ∙ ap (λ k. codes "write " ++ k) (side.2 ∙ ap (λ k. side_name side.0 ++ 32 ∷ k) spelled.2
-          ∙ sym (append_assoc (side_name side.0) (codes " ") (34 ∷ spelled.0 ++ 34 ∷ []))))
+    subst (λ c. IsSpelled c line) text.second (
+      spelled.0,
+      spelled.1,
+      after-found (codes "write ") line rest.value rest.first
+          ∙ ap (λ k. codes "write " ++ k) (side.2 ∙ ap (λ k. side_name side.0 ++ 32 ∷ k) spelled.2
+          ∙ sym (append_assoc (side_name side.0) (codes " ") (34 ∷ spelled.0 ++ 34 ∷ []))),
+    )
 
 read-found : (line : List ℕ) (command : Command) → read_in line ≡ Some command → IsSpelled command line
 unfolding read_in
@@ -149,10 +160,12 @@ read-found line command h =
     let rest = and_then-found (behind_side (λ side rest. option_map (λ n. Read side n) (number_in rest))) (after (codes "read ") line) command h in
     let side = behind-found (λ side rest. option_map (λ n. Read side n) (number_in rest)) rest.value command rest.second in
     let n = option_map-found (λ n. Read side.0 n) (number_in side.1) command side.3 in
-    subst (λ c. IsSpelled c line) n.second
-      (side.1, number-found side.1 n.value n.first,
-        after-found (codes "read ") line rest.value rest.first
-        ∙ ap (λ k. codes "read " ++ k) (side.2 ∙ sym (append_assoc (side_name side.0) (codes " ") side.1)))
+    subst (λ c. IsSpelled c line) n.second (
+      side.1,
+      number-found side.1 n.value n.first,
+      after-found (codes "read ") line rest.value rest.first
+          ∙ ap (λ k. codes "read " ++ k) (side.2 ∙ sym (append_assoc (side_name side.0) (codes " ") side.1)),
+    )
 
 turn-found : (line : List ℕ) (command : Command) → turn_in line ≡ Some command → IsSpelled command line
 unfolding turn_in
@@ -160,7 +173,7 @@ turn-found line command h =
     let rest = and_then-found (λ rest. option_map (λ name. Turn name) (queue_in rest)) (after (codes "turn ") line) command h in
     let name = option_map-found (λ name. Turn name) (queue_in rest.value) command rest.second in
     subst (λ c. IsSpelled c line) name.second
-      (after-found (codes "turn ") line rest.value rest.first ∙ ap (λ k. codes "turn " ++ k) (queue-found rest.value name.value name.first))
+    (after-found (codes "turn ") line rest.value rest.first ∙ ap (λ k. codes "turn " ++ k) (queue-found rest.value name.value name.first))
 
 run-found : (line : List ℕ) (command : Command) → run_in line ≡ Some command → IsSpelled command line
 unfolding run_in
@@ -168,23 +181,29 @@ run-found line command h =
     let rest = and_then-found (λ rest. option_map (λ n. Run n) (number_in rest)) (after (codes "run ") line) command h in
     let n = option_map-found (λ n. Run n) (number_in rest.value) command rest.second in
     subst (λ c. IsSpelled c line) n.second
-      (rest.value, number-found rest.value n.value n.first, after-found (codes "run ") line rest.value rest.first)
+    (rest.value, number-found rest.value n.value n.first, after-found (codes "run ") line rest.value rest.first)
 
 command-found : (line : List ℕ) (command : Command) → command_in line ≡ Some command → IsSpelled command line
 unfolding command_in
 command-found line command h = elim (either-found _ _ command h) [
-    inl a ↦ open-found line command a
+  | inl a ↦ open-found line command a
   | inr b ↦ elim (either-found _ _ command b) [
-      inl a ↦ unlock-found line command a
+    | inl a ↦ unlock-found line command a
     | inr b ↦ elim (either-found _ _ command b) [
-        inl a ↦ slave-found line command a
+      | inl a ↦ slave-found line command a
       | inr b ↦ elim (either-found _ _ command b) [
-          inl a ↦ write-found line command a
+        | inl a ↦ write-found line command a
         | inr b ↦ elim (either-found _ _ command b) [
-            inl a ↦ read-found line command a
+          | inl a ↦ read-found line command a
           | inr b ↦ elim (either-found _ _ command b) [
-              inl a ↦ turn-found line command a
-            | inr b ↦ run-found line command b ] ] ] ] ] ]
+            | inl a ↦ turn-found line command a
+            | inr b ↦ run-found line command b
+          ]
+        ]
+      ]
+    ]
+  ]
+]
 
 -- each command is read where it is spelled
 command-only : (command : Command) (line : List ℕ) → IsSpelled command line → command_in line ≡ Some command
@@ -224,7 +243,9 @@ spoken-found (Some c) command h = cc
 pub reading-found : (line : List ℕ) (command : Command) → reading line ≡ Spoken command → IsSpelled command line
 unfolding reading
 reading-found line command h = elim (cases_Bool (ltb 4096 (length line))) [
-    inl long ↦ let no : Malformed ≡ Spoken command = sym (cond-true _ _ _ long) ∙ h in absurd cc
+  | inl long ↦ let no : Malformed ≡ Spoken command = sym (cond-true _ _ _ long) ∙ h in absurd cc
   | inr short ↦ elim (cases_Bool (is_silent line)) [
-      inl silent ↦ let no : Silent ≡ Spoken command = sym (cond-true _ _ _ silent) ∙ sym (cond-false _ _ _ short) ∙ h in absurd cc
-    | inr said ↦ command-found line command (spoken-found (command_in line) command (sym (cond-false _ _ _ said) ∙ sym (cond-false _ _ _ short) ∙ h)) ] ]
+    | inl silent ↦ let no : Silent ≡ Spoken command = sym (cond-true _ _ _ silent) ∙ sym (cond-false _ _ _ short) ∙ h in absurd cc
+    | inr said ↦ command-found line command (spoken-found (command_in line) command (sym (cond-false _ _ _ said) ∙ sym (cond-false _ _ _ short) ∙ h))
+  ]
+]

@@ -11,7 +11,7 @@ returns-in_default-clause-answers c = fails_none _ _ _ refl refl
 
 pub returns-in-Silent : goal.returns-in-Silent
 returns-in-Silent c =
-    let line = ap reading (sym c.as_slice.ensures.value) ∙ sym c.in-Ok.ensures ∙ ap reading_of c.in-Silent.is in
+    let line = ap reading (sym c.as_slice.ensures.value) ∙ sym c.in-Ok.ensures.same ∙ ap reading_of c.in-Silent.is in
     record {
       answers = record { text = []; goes = goes_silent (point_of c.args.self.now) line; answers = sym (append-nil _) };
       lines = refl;
@@ -19,10 +19,10 @@ returns-in-Silent c =
 
 pub returns-in-Malformed-clause-answers : goal.returns-in-Malformed-clause-answers
 returns-in-Malformed-clause-answers c =
-    let line = ap reading (sym c.as_slice.ensures.value) ∙ sym c.in-Ok.ensures ∙ ap reading_of c.in-Malformed.is in
+    let line = ap reading (sym c.as_slice.ensures.value) ∙ sym c.in-Ok.ensures.same ∙ ap reading_of c.in-Malformed.is in
     refused_line _ _ _ c.refuse.ensures.refused line
 
 pub returns-in-Spoken-clause-answers : goal.returns-in-Spoken-clause-answers
 returns-in-Spoken-clause-answers c =
-    let line = ap reading (sym c.as_slice.ensures.value) ∙ sym c.in-Ok.ensures ∙ ap reading_of c.in-Spoken.is in
+    let line = ap reading (sym c.as_slice.ensures.value) ∙ sym c.in-Ok.ensures.same ∙ ap reading_of c.in-Spoken.is in
     obeyed_line _ _ _ c.obey.result c.obey.ensures.obeyed c.obey.ensures.lines line
