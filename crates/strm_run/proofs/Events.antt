@@ -1,0 +1,284 @@
+-- The calls and turns of a pair, as the plain session has them.
+use Rattle.std.proofs.Common.{◌≡◌, ℕ, zero, suc, ◌+◌, ◌-◌, ◌<◌, ◌≤◌, Bool, true, false, List, [], ◌∷◌, ◌++◌, Option, None, Some, Result, Ok, Err, IsOk, IfOk, MatchOption, slice_get, refl, arith, sym, ap, ◌∙◌, inl, inr, append_assoc, ◌⊎◌, leb, ◌&&◌}
+use Rattle.strm_types.specs.declared.answers.Answer.{Answer}
+use Rattle.strm_types.specs.declared.answers.Turn.{Turn}
+use Rattle.strm_types.specs.declared.events.Caller.{Caller}
+use Rattle.strm_types.specs.declared.names.QueueName.{QueueName}
+use Rattle.strm_types.specs.declared.refusals.Refusal.{Refusal}
+use Rattle.strm_types.specs.Calls.{Request, Reply, reply}
+use Rattle.strm_types.specs.Journal.{Called, Turned}
+use Rattle.strm_types.specs.Refused.{enough, blocks_asked, turn_blocks_asked}
+use Rattle.strm_types.specs.Pair.{PairState, call_refused, queue_refused, AddsEntry}
+use Rattle.strm_types.specs.ScriptAnswers.{Ran, reply_line, turn_line}
+use Rattle.strm_types.specs.ScriptRun as script
+use Rattle.strm_types.specs.ScriptRun.{Supply, Enough, TooFew, is_enough, PlainPair, Happened, call_refusal, turn_refusal, call_happens, turn_happens, call_of, turn_of, is_short, is_enosr, Turns, no_turns, counted, turns_of, by_call, by_turn, by_run, by_open, unanswered, new_plain, next_of, rest_of}
+use Rattle.std.proofs.lemmas.Bool.{le-leb, lt-leb}
+use Rattle.strm_types.specs.Calls as calls
+use Rattle.strm_types.specs.declared.names.Side.TheVariants.{Master}
+use Rattle.strm_types.specs.declared.refusals.Refusal.TheVariants.{Einval}
+use Rattle.strm_run.specs.declared.answers.Line.TheVariants as lines
+use Rattle.strm_run.specs.Plain.{plain}
+use Rattle.strm_run.specs.Lines.{line_of}
+use Rattle.strm_run.specs.Outcomes.{LeadsTo, answered_as}
+use Rattle.strm_run.specs.declared.session.Answered.{Answered}
+
+-- what the pool had, by whether it had enough
+supply_of : Bool → Supply
+supply_of true = Enough
+supply_of false = TooFew
+
+is_enough-supply_of : (b : Bool) → is_enough (supply_of b) ≡ b
+unfolding supply_of
+is_enough-supply_of true = refl
+is_enough-supply_of false = refl
+
+-- the answer of a call, with its bytes
+abbrev pub replied : Result Answer Refusal → Result (Reply ℕ) Refusal
+replied (Ok answer) = Ok (reply answer)
+replied (Err refusal) = Err refusal
+
+-- a call of the code, and a turn, happen as they do to the plain pair
+pub record CallHappens (old new : PairState) (caller : Caller) (asked : Request ℕ) (r : Result Answer Refusal) : Type 0 where
+  pub supply : Supply
+  pub same : call_of supply (plain old) caller asked ≡ record { answer = replied r; pair = plain new }
+
+pub record TurnHappens (old new : PairState) (name : QueueName) (r : Result Turn Refusal) : Type 0 where
+  pub supply : Supply
+  pub same : turn_of supply (plain old) name ≡ record { answer = r; pair = plain new }
+
+call_as : (o : Option Refusal) (old new : PairState) (caller : Caller) (asked : Request ℕ) (r : Result Answer Refusal)
+    → MatchOption o (IsOk r) (λ x. (r ≡ Err x) × (new ≡ old))
+    → IfOk r (λ answer. AddsEntry old new (Called caller asked (reply answer)))
+    → call_happens o (plain old) caller asked ≡ record { answer = replied r; pair = plain new }
+call_as (Some refusal) old new caller asked r h adds =
+    λ i. record { answer = replied (sym h.0 i); pair = plain (sym h.1 i) }
+call_as None old new caller asked (Err x) h adds = cc
+call_as None old new caller asked (Ok answer) h adds =
+    (λ i. record {
+      answer = Ok (adds.step.answered i);
+      pair = record {
+        state = adds.step.leads i;
+        journal = old.journal ++ Called caller asked (adds.step.answered i) ∷ [];
+        limits = old.limits;
+      };
+    })
+    ∙ (λ i. record {
+      answer = Ok (reply answer);
+      pair = record { state = new.state; journal = sym adds.journal i; limits = sym adds.limits i };
+    })
+
+pub CallHappens-from : (old new : PairState) (caller : Caller) (asked : Request ℕ) (r : Result Answer Refusal)
+    → MatchOption (call_refused old caller asked) (IsOk r) (λ x. (r ≡ Err x) × (new ≡ old))
+    → IfOk r (λ answer. AddsEntry old new (Called caller asked (reply answer)))
+    → CallHappens old new caller asked r
+unfolding call_of
+CallHappens-from old new caller asked r h adds = record {
+  supply = supply_of (enough (blocks_asked asked) old.free);
+  same = rw (is_enough-supply_of (enough (blocks_asked asked) old.free)) (call_as (call_refused old caller asked) old new caller asked r h adds);
+}
+
+turn_as : (o : Option Refusal) (old new : PairState) (name : QueueName) (r : Result Turn Refusal)
+    → MatchOption o (IsOk r) (λ x. (r ≡ Err x) × (new ≡ old))
+    → IfOk r (λ turn. AddsEntry old new (Turned name turn))
+    → turn_happens o (plain old) name ≡ record { answer = r; pair = plain new }
+turn_as (Some refusal) old new name r h adds = λ i. record { answer = sym h.0 i; pair = plain (sym h.1 i) }
+turn_as None old new name (Err x) h adds = cc
+turn_as None old new name (Ok turn) h adds =
+    (λ i. record {
+      answer = Ok (adds.step.answered i);
+      pair = record {
+        state = adds.step.leads i;
+        journal = old.journal ++ Turned name (adds.step.answered i) ∷ [];
+        limits = old.limits;
+      };
+    })
+    ∙ (λ i. record {
+      answer = Ok turn;
+      pair = record { state = new.state; journal = sym adds.journal i; limits = sym adds.limits i };
+    })
+
+pub TurnHappens-from : (old new : PairState) (name : QueueName) (r : Result Turn Refusal)
+    → MatchOption (queue_refused old name) (IsOk r) (λ x. (r ≡ Err x) × (new ≡ old))
+    → IfOk r (λ turn. AddsEntry old new (Turned name turn))
+    → TurnHappens old new name r
+unfolding turn_of
+TurnHappens-from old new name r h adds = record {
+  supply = supply_of (enough turn_blocks_asked old.free);
+  same = rw (is_enough-supply_of (enough turn_blocks_asked old.free)) (turn_as (queue_refused old name) old new name r h adds);
+}
+
+-- the answer of a command that makes a call, and of one that gives a turn
+pub answers_call : (old new : PairState) (caller : Caller) (asked : Request ℕ) (r : Result Answer Refusal) (found : Answered)
+    → CallHappens old new caller asked r → line_of found.line ≡ reply_line (replied r) → found.short ≡ is_short (replied r)
+    → LeadsTo (λ account. by_call caller asked account (plain old)) found (Some (plain new))
+unfolding by_call
+answers_call old new caller asked r found h line short = record {
+  events = h.supply ∷ [];
+  leads = λ account.
+      ap (λ (happened : Happened (Reply ℕ)). record {
+        line = reply_line happened.answer;
+        pair = Some happened.pair;
+        account = account;
+        is_short = is_short happened.answer;
+      }) h.same
+      ∙ (λ i. record { line = sym line i; pair = Some (plain new); account = account; is_short = sym short i });
+}
+
+pub answers_turn : (old new : PairState) (name : QueueName) (r : Result Turn Refusal) (found : Answered)
+    → TurnHappens old new name r → line_of found.line ≡ turn_line r → found.short ≡ is_short r
+    → LeadsTo (λ account. by_turn name account (plain old)) found (Some (plain new))
+unfolding by_turn
+answers_turn old new name r found h line short = record {
+  events = h.supply ∷ [];
+  leads = λ account.
+      ap (λ (happened : Happened Turn). record {
+        line = turn_line happened.answer;
+        pair = Some happened.pair;
+        account = account;
+        is_short = is_short happened.answer;
+      }) h.same
+      ∙ (λ i. record { line = sym line i; pair = Some (plain new); account = account; is_short = sym short i });
+}
+
+-- where no queue is enabled, no turn is taken
+pub turns_none : (n : ℕ) (account : List Supply) (p : PlainPair) → slice_get p.state.enabled 0 ≡ None → turns_of n account p ≡ no_turns false account p
+unfolding turns_of
+turns_none zero account p h = refl
+turns_none (suc n) account p h = rw (h, turns_of) refl
+
+-- one that is refused ends the turns, and one that isn't counts
+pub turns_err : (n : ℕ) (account : List Supply) (p after : PlainPair) (name : QueueName) (refusal : Refusal)
+    → slice_get p.state.enabled 0 ≡ Some name → turn_of (next_of account) p name ≡ record { answer = Err refusal; pair = after }
+    → turns_of (suc n) account p ≡ no_turns (is_enosr refusal) (rest_of account) after
+unfolding turns_of
+turns_err n account p after name refusal first h =
+    rw (first, turns_of, h) (ap (λ (x : Happened Turn). no_turns (is_enosr refusal) (rest_of account) x.pair) h)
+
+pub turns_ok : (n : ℕ) (account : List Supply) (p after : PlainPair) (name : QueueName) (turn : Turn)
+    → slice_get p.state.enabled 0 ≡ Some name → turn_of (next_of account) p name ≡ record { answer = Ok turn; pair = after }
+    → turns_of (suc n) account p ≡ counted (turns_of n (rest_of account) after)
+unfolding turns_of
+turns_ok n account p after name turn first h =
+    rw (first, turns_of, h) (ap (λ (x : Happened Turn). counted (turns_of n (rest_of account) x.pair)) h)
+
+-- so many turns before others
+abbrev pub counted_by : ℕ → Turns → Turns
+counted_by n turns = record { count = n + turns.count; pair = turns.pair; account = turns.account; is_short = turns.is_short }
+
+-- turns of which so many are taken, on a pair that began as another
+pub record RunsTo (turns taken : ℕ) (begun now : PlainPair) : Type 0 where
+  pub events : List Supply
+  pub leads : (account : List Supply) → turns_of turns (events ++ account) begun ≡ counted_by taken (turns_of (turns - taken) account now)
+
+pub turns_zero : (account : List Supply) (p : PlainPair) → turns_of 0 account p ≡ no_turns false account p
+unfolding turns_of
+turns_zero account p = refl
+
+pub RunsTo-start : (turns : ℕ) (p : PlainPair) → RunsTo turns 0 p p
+RunsTo-start turns p = record {
+  events = [];
+  leads = λ account.
+      let all : turns ≡ turns - 0 = omega arith in
+      ap (λ n. turns_of n account p) all
+      ∙ (let rest = turns_of (turns - 0) account p in
+      let count : rest.count ≡ 0 + rest.count = omega arith in
+      λ i. record { count = count i; pair = rest.pair; account = rest.account; is_short = rest.is_short });
+}
+
+pub RunsTo-more : (turns taken : ℕ) (begun : PlainPair) (old new : PairState) (name : QueueName) (turn : Turn) (r : Result Turn Refusal)
+    → taken < turns → RunsTo turns taken begun (plain old) → slice_get old.state.enabled 0 ≡ Some name
+    → TurnHappens old new name r → r ≡ Ok turn → RunsTo turns (taken + 1) begun (plain new)
+RunsTo-more turns taken begun old new name turn r below so first h e = record {
+  events = so.events ++ h.supply ∷ [];
+  leads = λ account.
+      ap (λ events. turns_of turns events begun) (append_assoc so.events (h.supply ∷ []) account)
+      ∙ so.leads (h.supply ∷ account)
+      ∙ (let left : turns - taken ≡ suc (turns - (taken + 1)) = omega arith in
+      let rest = turns_of (turns - (taken + 1)) account (plain new) in
+      let count : taken + suc rest.count ≡ taken + 1 + rest.count = omega arith in
+      ap (λ n. counted_by taken (turns_of n (h.supply ∷ account) (plain old))) left
+      ∙ ap (counted_by taken) (turns_ok (turns - (taken + 1)) (h.supply ∷ account) (plain old) (plain new) name turn first
+      (h.same ∙ ap (λ x. record { answer = x; pair = plain new }) e))
+      ∙ (λ i. record { count = count i; pair = rest.pair; account = rest.account; is_short = rest.is_short }));
+}
+
+-- the turns end here
+pub run_ends : (turns taken : ℕ) (begun : PlainPair) (now after : PlainPair) (found : Answered) (front : List Supply) (short : Bool)
+    → RunsTo turns taken begun now → ((account : List Supply) → turns_of (turns - taken) (front ++ account) now ≡ no_turns short account after)
+    → line_of found.line ≡ Ran taken → found.short ≡ short
+    → LeadsTo (λ account. by_run turns account begun) found (Some after)
+unfolding by_run
+run_ends turns taken begun now after found front short so ends line same = record {
+  events = so.events ++ front;
+  leads = λ account.
+      let all = ap (λ events. turns_of turns events begun) (append_assoc so.events front account)
+      ∙ so.leads (front ++ account) ∙ ap (counted_by taken) (ends account) in
+      let count : taken + 0 ≡ taken = omega arith in
+      ap (λ (t : Turns). record { line = Ran t.count; pair = Some t.pair; account = t.account; is_short = t.is_short }) all
+      ∙ (λ i. record { line = Ran (count i); pair = Some after; account = account; is_short = short })
+      ∙ (λ i. record { line = sym line i; pair = Some after; account = account; is_short = sym same i });
+}
+
+pub run_none : (turns taken : ℕ) (begun : PlainPair) (old : PairState) (found : Answered)
+    → RunsTo turns taken begun (plain old) → slice_get old.state.enabled 0 ≡ None
+    → line_of found.line ≡ Ran taken → found.short ≡ false
+    → LeadsTo (λ account. by_run turns account begun) found (Some (plain old))
+run_none turns taken begun old found so none line short =
+    run_ends turns taken begun (plain old) (plain old) found [] false so (λ account. turns_none (turns - taken) account (plain old) none) line short
+
+pub run_refused : (turns taken : ℕ) (begun : PlainPair) (old new : PairState) (name : QueueName) (refusal : Refusal) (r : Result Turn Refusal) (found : Answered)
+    → taken < turns → RunsTo turns taken begun (plain old) → slice_get old.state.enabled 0 ≡ Some name
+    → TurnHappens old new name r → r ≡ Err refusal
+    → line_of found.line ≡ Ran taken → found.short ≡ is_enosr refusal
+    → LeadsTo (λ account. by_run turns account begun) found (Some (plain new))
+run_refused turns taken begun old new name refusal r found below so first h e line short =
+    run_ends turns taken begun (plain old) (plain new) found (h.supply ∷ []) (is_enosr refusal) so
+    (λ account.
+    let left : turns - taken ≡ suc (turns - (taken + 1)) = omega arith in
+    ap (λ n. turns_of n (h.supply ∷ account) (plain old)) left
+    ∙ turns_err (turns - (taken + 1)) (h.supply ∷ account) (plain old) (plain new) name refusal first
+    (h.same ∙ ap (λ x. record { answer = x; pair = plain new }) e))
+    line short
+
+pub run_all : (turns : ℕ) (begun : PlainPair) (old : PairState) (found : Answered) (taken : ℕ) → turns ≤ taken
+    → RunsTo turns taken begun (plain old) → line_of found.line ≡ Ran taken → found.short ≡ false
+    → LeadsTo (λ account. by_run turns account begun) found (Some (plain old))
+run_all turns begun old found taken past so line short =
+    run_ends turns taken begun (plain old) (plain old) found [] false so
+    (λ account.
+    let none : turns - taken ≡ 0 = omega arith in
+    ap (λ n. turns_of n account (plain old)) none ∙ turns_zero account (plain old))
+    line short
+
+-- a command that no call answers
+pub leads_unanswered : (command : List Supply → script.Answered) (refusal : Refusal) (pair : Option PlainPair) (found : Answered)
+    → found ≡ record { line = lines.Refused refusal; short = false }
+    → ((account : List Supply) → command account ≡ unanswered refusal pair account)
+    → LeadsTo command found pair
+leads_unanswered command refusal pair found e same = record {
+  events = [];
+  leads = λ account. same account ∙ ap (λ x. answered_as x pair account) (sym e);
+}
+
+-- the same command
+pub leads_same : (command said : List Supply → script.Answered) (pair : Option PlainPair) (found : Answered)
+    → ((account : List Supply) → command account ≡ said account) → LeadsTo said found pair → LeadsTo command found pair
+leads_same command said pair found same h = record {
+  events = h.events;
+  leads = λ account. same (h.events ++ account) ∙ h.leads account;
+}
+
+and_none : (b : Bool) → (b && false) ≡ false
+and_none true = refl
+and_none false = refl
+
+-- an `open`, by its number of blocks
+pub open_refused : (blocks : ℕ) (account : List Supply) → (blocks ≡ 0) ⊎ (4096 < blocks) → by_open blocks account ≡ unanswered Einval None account
+unfolding by_open
+open_refused blocks account (inl e) = rw (e) refl
+open_refused blocks account (inr h) = rw (lt-leb blocks 4096 h, and_none (leb 1 blocks)) refl
+
+pub open_made : (blocks : ℕ) (account : List Supply) → 0 < blocks → blocks ≤ 4096
+    → by_open blocks account ≡ by_call (record { side = Master }) calls.OpenMaster account (new_plain blocks)
+unfolding by_open
+open_made blocks account some most = rw (le-leb 1 blocks some, le-leb blocks 4096 most) refl

@@ -1,0 +1,10 @@
+pub mod Readings
+pub mod Events
+pub mod Ways
+pub mod EngineSteps
+pub mod Supplies
+pub mod Known
+pub mod Whole
+pub mod PlainTexts
+pub mod Grammar
+pub mod Spellings

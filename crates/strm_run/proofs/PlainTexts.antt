@@ -1,0 +1,245 @@
+-- Events that aren't short are answered as if all events had the blocks that they ask for.
+use Rattle.std.proofs.Common.{◌≡◌, ℕ, zero, suc, ◌-◌, ◌≤◌, Bool, true, false, List, [], ◌∷◌, ◌++◌, take, Option, None, Some, Result, Ok, Err, refl, sym, ap, ◌∙◌, slice_get, arith, append_assoc, inl, inr, nat_le, ◌&&◌, unwrap_or, ◌⊎◌}
+use Rattle.std.proofs.lemmas.Bool.{cases_Bool, false≢true}
+use Rattle.strm_types.specs.declared.answers.Turn.{Turn}
+use Rattle.strm_types.specs.declared.events.Caller.{Caller}
+use Rattle.strm_types.specs.declared.names.QueueName.{QueueName}
+use Rattle.strm_types.specs.declared.refusals.Refusal.{Refusal}
+use Rattle.strm_types.specs.declared.refusals.Refusal.TheVariants.{Einval, Enosr}
+use Rattle.strm_types.specs.declared.names.Side.TheVariants.{Master, Slave}
+use Rattle.strm_types.specs.Names.{is_enabled}
+use Rattle.strm_types.specs.Calls as calls
+use Rattle.strm_types.specs.Calls.{Request, Reply}
+use Rattle.strm_types.specs.Refused.{or_else, unless, refused_at_once, refused_by_state}
+use Rattle.strm_types.specs.Script.{Command, Open, Unlock, OpenSlave, Write, Read, Turn as TurnOf, Run}
+use Rattle.strm_types.specs.ScriptReading.{Reading, Silent, Malformed, Spoken, reading}
+use Rattle.strm_types.specs.ScriptAnswers.{printed_line, reply_line, turn_line, Ran, Wrong}
+use Rattle.strm_types.specs.ScriptRun as script
+use Rattle.strm_types.specs.ScriptRun.{Supply, Enough, TooFew, next_of, rest_of, PlainPair, Happened, call_refusal, turn_refusal, call_happens, turn_happens, call_of, turn_of, is_short, is_enosr, turns_of, by_call, by_turn, by_run, by_open, answered, told_from, told_after, first_of, line_if, Told, new_plain}
+use Rattle.strm_run.proofs.Supplies.{is_want, call_happens-short, turn_happens-short, answered-enough}
+use Rattle.strm_run.proofs.Events.{turns_none, turns_err, turns_ok, turns_zero}
+
+-- what isn't refused for want of blocks doesn't depend on them
+same_refusal : (a b c d : Option Refusal) → is_want (or_else a (or_else b (Some Enosr))) ≡ false → or_else a (or_else b c) ≡ or_else a (or_else b d)
+unfolding is_want
+same_refusal (Some r) b c d h = refl
+same_refusal None (Some r) c d h = refl
+same_refusal None None c d h = absurd (false≢true (sym h))
+
+call-same : (supply : Supply) (p : PlainPair) (caller : Caller) (asked : Request ℕ) → is_short (call_of supply p caller asked).answer ≡ false
+    → call_of supply p caller asked ≡ call_of Enough p caller asked
+unfolding call_of
+call-same Enough p caller asked h = refl
+call-same TooFew p caller asked h =
+    ap (λ o. call_happens o p caller asked)
+    (same_refusal (refused_at_once p.state caller asked) _ (Some Enosr) (refused_by_state p.state caller asked)
+    (sym (call_happens-short (call_refusal TooFew p caller asked) p caller asked) ∙ h))
+
+turn-same : (supply : Supply) (p : PlainPair) (name : QueueName) → is_short (turn_of supply p name).answer ≡ false
+    → turn_of supply p name ≡ turn_of Enough p name
+unfolding turn_of
+turn-same Enough p name h = refl
+turn-same TooFew p name h =
+    ap (λ o. turn_happens o p name)
+    (same_refusal (unless (is_enabled name p.state.enabled) Einval) _ (Some Enosr) None
+    (sym (turn_happens-short (turn_refusal TooFew p name) p name) ∙ h))
+
+-- turns that end alike
+record SameTurns (t u : script.Turns) : Type 0 where
+  count : t.count ≡ u.count
+  pair : t.pair ≡ u.pair
+
+same_turns : (t t' u u' : script.Turns) → t ≡ t' → u ≡ u' → SameTurns t' u' → SameTurns t u
+same_turns t t' u u' e f h = record {
+  count = ap (λ (x : script.Turns). x.count) e ∙ h.count ∙ ap (λ (x : script.Turns). x.count) (sym f);
+  pair = ap (λ (x : script.Turns). x.pair) e ∙ h.pair ∙ ap (λ (x : script.Turns). x.pair) (sym f);
+}
+
+abbrev Same-at : ℕ → Type 0
+Same-at n = (account : List Supply) (p : PlainPair) → (turns_of n account p).is_short ≡ false → SameTurns (turns_of n account p) (turns_of n [] p)
+
+turns-one : (n : ℕ) → Same-at n → (account : List Supply) (p : PlainPair) (name : QueueName) → slice_get p.state.enabled 0 ≡ Some name → (r : Result Turn Refusal) (after : PlainPair)
+    → turn_of (next_of account) p name ≡ record { answer = r; pair = after } → (turns_of (suc n) account p).is_short ≡ false
+    → SameTurns (turns_of (suc n) account p) (turns_of (suc n) [] p)
+turns-one n later account p name e (Err refusal) after h short =
+    let all = turns_err n account p after name refusal e h in
+    let not_short = ap (λ (x : Happened Turn). is_short x.answer) h ∙ sym (ap (λ (t : script.Turns). t.is_short) all) ∙ short in
+    let none = turns_err n [] p after name refusal e (sym (turn-same (next_of account) p name not_short) ∙ h) in
+    same_turns _ _ _ _ all none (record { count = refl; pair = refl })
+turns-one n later account p name e (Ok turn) after h short =
+    let all = turns_ok n account p after name turn e h in
+    let not_short = ap (λ (x : Happened Turn). is_short x.answer) h in
+    let none = turns_ok n [] p after name turn e (sym (turn-same (next_of account) p name not_short) ∙ h) in
+    let rest = later (rest_of account) after (sym (ap (λ (t : script.Turns). t.is_short) all) ∙ short) in
+    same_turns _ _ _ _ all none (record { count = ap suc rest.count; pair = rest.pair })
+
+turns-first : (n : ℕ) → Same-at n → (account : List Supply) (p : PlainPair) (o : Option QueueName) → slice_get p.state.enabled 0 ≡ o
+    → (turns_of (suc n) account p).is_short ≡ false → SameTurns (turns_of (suc n) account p) (turns_of (suc n) [] p)
+turns-first n later account p None e short =
+    same_turns _ _ _ _ (turns_none (suc n) account p e) (turns_none (suc n) [] p e) (record { count = refl; pair = refl })
+turns-first n later account p (Some name) e short =
+    turns-one n later account p name e (turn_of (next_of account) p name).answer (turn_of (next_of account) p name).pair refl short
+
+turns-same : (n : ℕ) → Same-at n
+turns-same zero account p short = same_turns _ _ _ _ (turns_zero account p) (turns_zero [] p) (record { count = refl; pair = refl })
+turns-same (suc n) account p short = turns-first n (turns-same n) account p (slice_get p.state.enabled 0) refl short
+
+-- commands that are answered alike
+record SameAnswer (a b : script.Answered) : Type 0 where
+  line : a.line ≡ b.line
+  pair : a.pair ≡ b.pair
+
+call_answer : (supply : Supply) (p : PlainPair) (caller : Caller) (asked : Request ℕ) (account : List Supply)
+    → is_short (call_of (next_of account) p caller asked).answer ≡ false → SameAnswer (by_call caller asked account p) (by_call caller asked [] p)
+unfolding by_call
+call_answer supply p caller asked account h =
+    let same = call-same (next_of account) p caller asked h in
+    record { line = ap (λ (x : Happened (Reply ℕ)). reply_line x.answer) same; pair = ap (λ (x : Happened (Reply ℕ)). Some x.pair) same }
+
+open-same : (blocks : ℕ) (account : List Supply) → (by_open blocks account).is_short ≡ false → SameAnswer (by_open blocks account) (by_open blocks [])
+unfolding by_open by_call
+open-same blocks account h = elim (cases_Bool (nat_le 1 blocks && nat_le blocks 4096)) [
+  | inl e ↦ rw (e) (call_answer Enough (new_plain blocks) (record { side = Master }) calls.OpenMaster account (rw (e) at h))
+  | inr e ↦ rw (e) (record { line = refl; pair = refl })
+]
+
+answered-same : (command : Command) (account : List Supply) (pair : Option PlainPair) → (answered command account pair).is_short ≡ false
+    → SameAnswer (answered command account pair) (answered command [] pair)
+unfolding answered by_call by_turn by_run
+answered-same (Open blocks) account None h = open-same (unwrap_or blocks 256) account h
+answered-same (Open blocks) account (Some p) h = record { line = refl; pair = refl }
+answered-same Unlock account None h = record { line = refl; pair = refl }
+answered-same Unlock account (Some p) h = call_answer Enough p (record { side = Master }) calls.Unlock account h
+answered-same OpenSlave account None h = record { line = refl; pair = refl }
+answered-same OpenSlave account (Some p) h = call_answer Enough p (record { side = Slave }) calls.OpenSlave account h
+answered-same (Write side bytes) account None h = record { line = refl; pair = refl }
+answered-same (Write side bytes) account (Some p) h = call_answer Enough p (record { side = side }) (calls.Write bytes) account h
+answered-same (Read side n) account None h = record { line = refl; pair = refl }
+answered-same (Read side n) account (Some p) h = call_answer Enough p (record { side = side }) (calls.Read n) account h
+answered-same (TurnOf name) account None h = record { line = refl; pair = refl }
+answered-same (TurnOf name) account (Some p) h =
+    let same = turn-same (next_of account) p name h in
+    record { line = ap (λ (x : Happened Turn). turn_line x.answer) same; pair = ap (λ (x : Happened Turn). Some x.pair) same }
+answered-same (Run n) account None h = record { line = refl; pair = refl }
+answered-same (Run n) account (Some p) h =
+    let same = turns-same n account p h in
+    record { line = ap Ran same.count; pair = ap Some same.pair }
+
+-- a line with a command, and the same line where the events get their blocks
+told_spoken : (n : ℕ) (account : List Supply) (pair : Option PlainPair) (line : List ℕ) (lines : List (List ℕ)) (command : Command) → reading line ≡ Spoken command
+    → told_from n account pair (line ∷ lines)
+    ≡ told_after (printed_line (answered command account pair).line) (line_if (answered command account pair).is_short n)
+    (told_from (suc n) (answered command account pair).account (answered command account pair).pair lines)
+unfolding told_from
+told_spoken n account pair line lines command e = rw (e, told_from) refl
+
+told_plain : (n : ℕ) (account : List Supply) (pair : Option PlainPair) (line : List ℕ) (lines : List (List ℕ)) (command : Command) → reading line ≡ Spoken command
+    → (answered command account pair).is_short ≡ false
+    → told_from n [] pair (line ∷ lines)
+    ≡ told_after (printed_line (answered command account pair).line) None (told_from (suc n) [] (answered command account pair).pair lines)
+told_plain n account pair line lines command e h =
+    let same = answered-same command account pair h in
+    let enough = answered-enough command pair in
+    told_spoken n [] pair line lines command e
+    ∙ (λ i. told_after (printed_line (sym same.line i)) (line_if (enough.not_short i) n) (told_from (suc n) (enough.none_left i) (sym same.pair i) lines))
+
+told_silent : (n : ℕ) (account : List Supply) (pair : Option PlainPair) (line : List ℕ) (lines : List (List ℕ)) → reading line ≡ Silent
+    → told_from n account pair (line ∷ lines) ≡ told_from (suc n) account pair lines
+unfolding told_from
+told_silent n account pair line lines e = rw (e, told_from) refl
+
+told_malformed : (n : ℕ) (account : List Supply) (pair : Option PlainPair) (line : List ℕ) (lines : List (List ℕ)) → reading line ≡ Malformed
+    → told_from n account pair (line ∷ lines) ≡ record { text = printed_line (Wrong n); short = None; fault = Some n }
+unfolding told_from
+told_malformed n account pair line lines e = rw (e, told_from) refl
+
+told_end : (n : ℕ) (account : List Supply) (pair : Option PlainPair) → told_from n account pair [] ≡ record { text = []; short = None; fault = None }
+unfolding told_from
+told_end n account pair = refl
+
+-- a first short line that isn't there
+no_first : (b : Bool) (n : ℕ) (later : Option ℕ) → first_of (line_if b n) later ≡ None → (b ≡ false) × (later ≡ None)
+no_first true n later h = absurd cc
+no_first false n later h = (refl, h)
+
+-- what lines come to that have no short line
+abbrev Plain-behind : ℕ → List (List ℕ) → Type 0
+Plain-behind n lines = (account : List Supply) (pair : Option PlainPair) → (told_from n account pair lines).short ≡ None → told_from n account pair lines ≡ told_from n [] pair lines
+
+told-line : (n : ℕ) (account : List Supply) (pair : Option PlainPair) (line : List ℕ) (lines : List (List ℕ)) (r : Reading) → reading line ≡ r → Plain-behind (suc n) lines
+    → (told_from n account pair (line ∷ lines)).short ≡ None → told_from n account pair (line ∷ lines) ≡ told_from n [] pair (line ∷ lines)
+told-line n account pair line lines Silent e later h =
+    let all = told_silent n account pair line lines e in
+    all ∙ later account pair (ap (λ (t : Told). t.short) (sym all) ∙ h) ∙ sym (told_silent n [] pair line lines e)
+told-line n account pair line lines Malformed e later h = told_malformed n account pair line lines e ∙ sym (told_malformed n [] pair line lines e)
+told-line n account pair line lines (Spoken command) e later h =
+    let here = answered command account pair in
+    let all = told_spoken n account pair line lines command e in
+    let none = no_first here.is_short n _ (ap (λ (t : Told). t.short) (sym all) ∙ h) in
+    all
+    ∙ (λ i. told_after (printed_line here.line) (line_if (none.0 i) n) (later here.account here.pair none.1 i))
+    ∙ sym (told_plain n account pair line lines command e none.0)
+
+pub told-same : (n : ℕ) (lines : List (List ℕ)) → Plain-behind n lines
+told-same n [] account pair h = told_end n account pair ∙ sym (told_end n [] pair)
+told-same n (line ∷ lines) account pair h = told-line n account pair line lines (reading line) refl (told-same (suc n) lines) h
+
+-- what lines come to before their first short line
+pub record BeginsPlain (n k : ℕ) (pair : Option PlainPair) (lines : List (List ℕ)) (text : List ℕ) : Type 0 where
+  pub rest : List ℕ
+  pub above : n ≤ k
+  pub text_is : text ≡ (told_from n [] pair (take (k - n) lines)).text ++ rest
+
+abbrev Front-behind : ℕ → ℕ → List (List ℕ) → Type 0
+Front-behind k n lines = (account : List Supply) (pair : Option PlainPair) → (told_from n account pair lines).short ≡ Some k → BeginsPlain n k pair lines (told_from n account pair lines).text
+
+-- the first short line is this one, or a later one
+first_cases : (b : Bool) (n k : ℕ) (later : Option ℕ) → first_of (line_if b n) later ≡ Some k → ((b ≡ true) × (n ≡ k)) ⊎ ((b ≡ false) × (later ≡ Some k))
+first_cases true n k later h = inl (refl, cc)
+first_cases false n k later h = inr (refl, h)
+
+front-line : (k n : ℕ) (account : List Supply) (pair : Option PlainPair) (line : List ℕ) (lines : List (List ℕ)) (r : Reading) → reading line ≡ r → Front-behind k (suc n) lines
+    → (told_from n account pair (line ∷ lines)).short ≡ Some k → BeginsPlain n k pair (line ∷ lines) (told_from n account pair (line ∷ lines)).text
+front-line k n account pair line lines Silent e later h =
+    let all = told_silent n account pair line lines e in
+    let x = later account pair (ap (λ (t : Told). t.short) (sym all) ∙ h) in
+    let left : k - n ≡ suc (k - suc n) = omega (arith, x.above) in
+    record {
+      rest = x.rest;
+      above = omega (arith, x.above);
+      text_is = ap (λ (t : Told). t.text) all ∙ x.text_is
+          ∙ ap (λ (t : Told). t.text ++ x.rest) (sym (ap (λ m. told_from n [] pair (take m (line ∷ lines))) left ∙ told_silent n [] pair line (take (k - suc n) lines) e));
+    }
+front-line k n account pair line lines Malformed e later h =
+    let all = told_malformed n account pair line lines e in
+    let no : None ≡ Some k = ap (λ (t : Told). t.short) (sym all) ∙ h in
+    absurd cc
+front-line k n account pair line lines (Spoken command) e later h =
+    let here = answered command account pair in
+    let all = told_spoken n account pair line lines command e in
+    elim (first_cases here.is_short n k _ (ap (λ (t : Told). t.short) (sym all) ∙ h)) [
+      | inl now ↦
+          let left : k - n ≡ 0 = omega (arith, now.1) in
+          record {
+            rest = (told_from n account pair (line ∷ lines)).text;
+            above = omega (arith, now.1);
+            text_is = ap (λ (t : Told). t.text ++ (told_from n account pair (line ∷ lines)).text)
+                (sym (ap (λ m. told_from n [] pair (take m (line ∷ lines))) left ∙ told_end n [] pair));
+          }
+      | inr then ↦
+          let x = later here.account here.pair then.1 in
+          let left : k - n ≡ suc (k - suc n) = omega (arith, x.above) in
+          let plain = ap (λ m. told_from n [] pair (take m (line ∷ lines))) left ∙ told_plain n account pair line (take (k - suc n) lines) command e then.0 in
+          record {
+            rest = x.rest;
+            above = omega (arith, x.above);
+            text_is = ap (λ (t : Told). t.text) all ∙ ap (λ t. printed_line here.line ++ t) x.text_is
+                ∙ sym (append_assoc (printed_line here.line) _ x.rest) ∙ ap (λ (t : Told). t.text ++ x.rest) (sym plain);
+          }
+    ]
+
+pub told-front : (k n : ℕ) (lines : List (List ℕ)) → Front-behind k n lines
+told-front k n [] account pair h =
+    let no : None ≡ Some k = ap (λ (t : Told). t.short) (sym (told_end n account pair)) ∙ h in
+    absurd cc
+told-front k n (line ∷ lines) account pair h = front-line k n account pair line lines (reading line) refl (told-front k (suc n) lines) h

@@ -1,0 +1,95 @@
+-- What the small readers of words and numbers do, step by step.
+use Rattle.std.proofs.Common.{◌≡◌, ℕ, ◌+◌, ◌*◌, ◌<◌, ◌≤◌, true, false, cond, eqb, List, [], ◌∷◌, length, take, drop, get_or, Option, None, Some, refl, arith, sym, ap, ◌∙◌, inl, inr, ◌++◌, append_assoc, append-nil}
+use Rattle.std.proofs.lemmas.List.{at_drop_more, at_drop_all}
+use Rattle.std.proofs.lemmas.Bool.Decides.{nat_tests, eqb_tells}
+use Rattle.std.proofs.lemmas.Bool.{cond-true, cond-false, eq-eqb}
+use Rattle.strm_types.specs.Script.{digit_of}
+use Rattle.strm_types.specs.ScriptReading.{after, number_from, Mode, Inside, Breaks, Goes, Gives, moved_by, text_from, with_front, is_closed}
+
+-- a word that stands at the front, and one that doesn't
+pub after_front : (word line : List ℕ) → take (length word) line ≡ word → after word line ≡ Some (drop (length word) line)
+after_front [] line h = refl
+after_front (w ∷ word) [] h = cc
+after_front (w ∷ word) (b ∷ line) h =
+    let heads : w ≡ b = cc in
+    let tails : take (length word) line ≡ word = cc in
+    cond-true (eqb w b) (after word line) None (eq-eqb w b heads) ∙ after_front word line tails
+
+pub after_none : (word line : List ℕ) → (take (length word) line ≡ word → ⊥) → after word line ≡ None
+after_none [] line h = absurd (h refl)
+after_none (w ∷ word) [] h = refl
+after_none (w ∷ word) (b ∷ line) h =
+    elim (eqb_tells w b) [
+      | inl e ↦ cond-true (eqb w b) (after word line) None e.0 ∙ after_none word line (λ same. h (ap (λ x. x ∷ take (length word) line) (sym e.1) ∙ ap (λ l. w ∷ l) same))
+      | inr e ↦ cond-false (eqb w b) (after word line) None e.0
+    ]
+
+pub number_none : (v b : ℕ) (digits : List ℕ) → digit_of b ≡ None → number_from v (b ∷ digits) ≡ None
+unfolding number_from
+number_none v b digits h = rw (h, number_from) refl
+
+pub number_over : (v b d : ℕ) (digits : List ℕ) → digit_of b ≡ Some d → 4294967295 < 10 * v + d → number_from v (b ∷ digits) ≡ None
+unfolding number_from
+number_over v b d digits h over = rw (h, number_from) (grind (arith, nat_tests))
+
+pub number_more : (v b d : ℕ) (digits : List ℕ) → digit_of b ≡ Some d → 10 * v + d ≤ 4294967295 → number_from v (b ∷ digits) ≡ number_from (10 * v + d) digits
+unfolding number_from
+number_more v b d digits h fits = rw (h, number_from) (grind (arith, nat_tests))
+
+pub number_end : (v i : ℕ) (digits : List ℕ) → length digits ≤ i → number_from v (drop i digits) ≡ Some v
+unfolding number_from
+number_end v i digits h = at_drop_all (number_from v) digits i h
+
+-- what a byte does to the text that bytes go on to spell
+pub text_breaks : (mode : Mode) (b : ℕ) (spelled : List ℕ) → moved_by mode b ≡ Breaks → text_from mode (b ∷ spelled) ≡ None
+unfolding text_from
+text_breaks mode b spelled h = rw (h, text_from) refl
+
+pub text_goes : (mode next : Mode) (b : ℕ) (spelled : List ℕ) → moved_by mode b ≡ Goes next → text_from mode (b ∷ spelled) ≡ text_from next spelled
+unfolding text_from
+text_goes mode next b spelled h = rw (h, text_from) refl
+
+pub text_gives : (mode : Mode) (b c : ℕ) (spelled : List ℕ) → moved_by mode b ≡ Gives c → text_from mode (b ∷ spelled) ≡ with_front (c ∷ []) (text_from Inside spelled)
+unfolding text_from
+text_gives mode b c spelled h = rw (h, text_from) refl
+
+pub text_ends : (mode : Mode) → text_from mode [] ≡ cond (is_closed mode) (Some []) None
+unfolding text_from
+text_ends mode = refl
+
+-- bytes in front of a text, and more behind them
+pub with_front-more : (front more : List ℕ) (text : Option (List ℕ)) → with_front (front ++ more) text ≡ with_front front (with_front more text)
+with_front-more front more None = refl
+with_front-more front more (Some text) = ap Some (append_assoc front more text)
+
+-- a text whose spelling is read up to a place
+pub record TextTo (mode : Mode) (front : List ℕ) (i : ℕ) (bytes : List ℕ) : Type 0 where
+  pub reads : with_front front (text_from mode (drop i bytes)) ≡ text_from Inside bytes
+
+pub TextTo-breaks : (mode : Mode) (front : List ℕ) (i b : ℕ) (bytes : List ℕ) → i < length bytes → TextTo mode front i bytes → moved_by mode (get_or bytes i 0) ≡ Breaks → None ≡ text_from Inside bytes
+TextTo-breaks mode front i b bytes within so h =
+    sym (ap (with_front front) (at_drop_more (text_from mode) bytes i 0 within ∙ text_breaks mode (get_or bytes i 0) (drop (i + 1) bytes) h)) ∙ so.reads
+
+pub TextTo-goes : (mode next : Mode) (front : List ℕ) (i : ℕ) (bytes : List ℕ) → i < length bytes → TextTo mode front i bytes → moved_by mode (get_or bytes i 0) ≡ Goes next → TextTo next front (i + 1) bytes
+TextTo-goes mode next front i bytes within so h = record {
+  reads = sym (ap (with_front front) (at_drop_more (text_from mode) bytes i 0 within ∙ text_goes mode next (get_or bytes i 0) (drop (i + 1) bytes) h)) ∙ so.reads;
+}
+
+pub TextTo-gives : (mode : Mode) (front : List ℕ) (i c : ℕ) (bytes : List ℕ) → i < length bytes → TextTo mode front i bytes → moved_by mode (get_or bytes i 0) ≡ Gives c → TextTo Inside (front ++ c ∷ []) (i + 1) bytes
+TextTo-gives mode front i c bytes within so h = record {
+  reads =
+      with_front-more front (c ∷ []) (text_from Inside (drop (i + 1) bytes))
+      ∙ (sym (ap (with_front front) (at_drop_more (text_from mode) bytes i 0 within ∙ text_gives mode (get_or bytes i 0) c (drop (i + 1) bytes) h)) ∙ so.reads);
+}
+
+TextTo-ends : (mode : Mode) (front : List ℕ) (i : ℕ) (bytes : List ℕ) → length bytes ≤ i → TextTo mode front i bytes → with_front front (cond (is_closed mode) (Some []) None) ≡ text_from Inside bytes
+TextTo-ends mode front i bytes past so =
+    ap (with_front front) (sym (at_drop_all (text_from mode) bytes i past ∙ text_ends mode)) ∙ so.reads
+
+pub TextTo-closed : (mode : Mode) (front : List ℕ) (i : ℕ) (bytes : List ℕ) → length bytes ≤ i → TextTo mode front i bytes → is_closed mode ≡ true → Some front ≡ text_from Inside bytes
+TextTo-closed mode front i bytes past so h =
+    ap Some (sym (append-nil front)) ∙ (ap (with_front front) (sym (cond-true (is_closed mode) (Some []) None h)) ∙ TextTo-ends mode front i bytes past so)
+
+pub TextTo-open : (mode : Mode) (front : List ℕ) (i : ℕ) (bytes : List ℕ) → length bytes ≤ i → TextTo mode front i bytes → is_closed mode ≡ false → None ≡ text_from Inside bytes
+TextTo-open mode front i bytes past so h =
+    ap (with_front front) (sym (cond-false (is_closed mode) (Some []) None h)) ∙ TextTo-ends mode front i bytes past so

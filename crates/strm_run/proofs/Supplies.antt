@@ -1,0 +1,151 @@
+-- Events that get the blocks that they ask for: none of them is short.
+use Rattle.std.proofs.Common.{◌≡◌, ℕ, zero, suc, Bool, true, false, List, [], ◌∷◌, Option, None, Some, Result, Ok, Err, refl, sym, ap, ◌∙◌, slice_get, inl, inr, unwrap_or, nat_le, ◌&&◌}
+use Rattle.std.proofs.lemmas.Bool.{cases_Bool}
+use Rattle.strm_types.specs.declared.answers.Turn.{Turn}
+use Rattle.strm_types.specs.declared.events.Caller.{Caller}
+use Rattle.strm_types.specs.declared.names.QueueName.{QueueName}
+use Rattle.strm_types.specs.declared.refusals.Refusal.{Refusal}
+use Rattle.strm_types.specs.declared.refusals.Refusal.TheVariants.{Einval, Eagain, Enxio, JournalFull}
+use Rattle.strm_types.specs.State.{State}
+use Rattle.strm_types.specs.Calls as calls
+use Rattle.strm_types.specs.Calls.{Request, Reply}
+use Rattle.strm_types.specs.Refused.{or_else, unless, refused_at_once, refused_by_state}
+use Rattle.strm_types.specs.Script.{Command, Open, Unlock, OpenSlave, Write, Read, Turn as TurnOf, Run}
+use Rattle.strm_types.specs.ScriptReading.{Reading, Silent, Malformed, Spoken, reading}
+use Rattle.strm_types.specs.ScriptRun as script
+use Rattle.strm_types.specs.ScriptRun.{Supply, Enough, TooFew, PlainPair, Happened, call_refusal, turn_refusal, call_happens, turn_happens, call_of, turn_of, is_short, is_enosr, turns_of, no_turns, counted, by_call, by_turn, by_run, by_open, answered, told_from, new_plain}
+use Rattle.strm_run.proofs.Events.{turns_none, turns_err, turns_ok, turns_zero}
+
+-- a refusal is for want of blocks
+unfoldable pub is_want : Option Refusal → Bool
+is_want None = false
+is_want (Some refusal) = is_enosr refusal
+
+or_else-want : (a b : Option Refusal) → is_want a ≡ false → is_want b ≡ false → is_want (or_else a b) ≡ false
+or_else-want None b x y = y
+or_else-want (Some r) b x y = x
+
+unless-want : (condition : Bool) (r : Refusal) → is_enosr r ≡ false → is_want (unless condition r) ≡ false
+unfolding is_want
+unless-want true r h = refl
+unless-want false r h = h
+
+none-want : is_want None ≡ false
+unfolding is_want
+none-want = refl
+
+at_once-want : (s : State ℕ) (caller : Caller) (asked : Request ℕ) → is_want (refused_at_once s caller asked) ≡ false
+at_once-want s caller calls.OpenMaster = none-want
+at_once-want s caller calls.Unlock = or_else-want _ _ (unless-want _ Enxio refl) (unless-want _ Einval refl)
+at_once-want s caller calls.OpenSlave = unless-want _ Enxio refl
+at_once-want s caller (calls.Write cells) = unless-want _ Enxio refl
+at_once-want s caller (calls.Read n) = unless-want _ Enxio refl
+
+by_state-want : (s : State ℕ) (caller : Caller) (asked : Request ℕ) → is_want (refused_by_state s caller asked) ≡ false
+by_state-want s caller calls.OpenMaster = unless-want _ Einval refl
+by_state-want s caller calls.Unlock = none-want
+by_state-want s caller calls.OpenSlave = or_else-want _ _ (unless-want _ Einval refl) (unless-want _ Eagain refl)
+by_state-want s caller (calls.Write cells) = unless-want _ Eagain refl
+by_state-want s caller (calls.Read n) = unless-want _ Eagain refl
+
+pub call_happens-short : (o : Option Refusal) (p : PlainPair) (caller : Caller) (asked : Request ℕ) → is_short (call_happens o p caller asked).answer ≡ is_want o
+unfolding is_want
+call_happens-short None p caller asked = refl
+call_happens-short (Some r) p caller asked = refl
+
+pub turn_happens-short : (o : Option Refusal) (p : PlainPair) (name : QueueName) → is_short (turn_happens o p name).answer ≡ is_want o
+unfolding is_want
+turn_happens-short None p name = refl
+turn_happens-short (Some r) p name = refl
+
+pub call-enough : (p : PlainPair) (caller : Caller) (asked : Request ℕ) → is_short (call_of Enough p caller asked).answer ≡ false
+unfolding call_of
+call-enough p caller asked =
+    call_happens-short (call_refusal Enough p caller asked) p caller asked
+    ∙ or_else-want (refused_at_once p.state caller asked) _ (at_once-want p.state caller asked)
+    (or_else-want _ _ (unless-want _ JournalFull refl) (by_state-want p.state caller asked))
+
+pub turn-enough : (p : PlainPair) (name : QueueName) → is_short (turn_of Enough p name).answer ≡ false
+unfolding turn_of
+turn-enough p name =
+    turn_happens-short (turn_refusal Enough p name) p name
+    ∙ or_else-want _ _ (unless-want _ Einval refl) (or_else-want _ _ (unless-want _ JournalFull refl) none-want)
+
+-- turns that get their blocks
+pub record AllEnough (short : Bool) (account : List Supply) : Type 0 where
+  pub not_short : short ≡ false
+  pub none_left : account ≡ []
+
+-- what holds of so many turns on any pair
+abbrev Enough-at : ℕ → Type 0
+Enough-at n = (p : PlainPair) → AllEnough (turns_of n [] p).is_short (turns_of n [] p).account
+
+turns-one : (n : ℕ) → Enough-at n → (p : PlainPair) (name : QueueName) → slice_get p.state.enabled 0 ≡ Some name → (r : Result Turn Refusal) (after : PlainPair)
+    → turn_of Enough p name ≡ record { answer = r; pair = after } → AllEnough (turns_of (suc n) [] p).is_short (turns_of (suc n) [] p).account
+turns-one n later p name e (Err refusal) after h =
+    let all = turns_err n [] p after name refusal e h in
+    record {
+      not_short = ap (λ (t : script.Turns). t.is_short) all ∙ ap (λ (x : Happened Turn). is_short x.answer) (sym h) ∙ turn-enough p name;
+      none_left = ap (λ (t : script.Turns). t.account) all;
+    }
+turns-one n later p name e (Ok turn) after h =
+    let all = turns_ok n [] p after name turn e h in
+    record {
+      not_short = ap (λ (t : script.Turns). t.is_short) all ∙ (later after).not_short;
+      none_left = ap (λ (t : script.Turns). t.account) all ∙ (later after).none_left;
+    }
+
+turns-first : (n : ℕ) → Enough-at n → (p : PlainPair) (o : Option QueueName) → slice_get p.state.enabled 0 ≡ o → AllEnough (turns_of (suc n) [] p).is_short (turns_of (suc n) [] p).account
+turns-first n later p None e = record {
+  not_short = ap (λ (t : script.Turns). t.is_short) (turns_none (suc n) [] p e);
+  none_left = ap (λ (t : script.Turns). t.account) (turns_none (suc n) [] p e);
+}
+turns-first n later p (Some name) e = turns-one n later p name e (turn_of Enough p name).answer (turn_of Enough p name).pair refl
+
+pub turns-enough : (n : ℕ) → Enough-at n
+turns-enough zero p = record {
+  not_short = ap (λ (t : script.Turns). t.is_short) (turns_zero [] p);
+  none_left = ap (λ (t : script.Turns). t.account) (turns_zero [] p);
+}
+turns-enough (suc n) p = turns-first n (turns-enough n) p (slice_get p.state.enabled 0) refl
+
+-- an `open`
+open-enough : (blocks : ℕ) → AllEnough (by_open blocks []).is_short (by_open blocks []).account
+unfolding by_open by_call
+open-enough blocks = elim (cases_Bool (nat_le 1 blocks && nat_le blocks 4096)) [
+  | inl e ↦ rw (e) (record { not_short = call-enough (new_plain blocks) _ calls.OpenMaster; none_left = refl })
+  | inr e ↦ rw (e) (record { not_short = refl; none_left = refl })
+]
+
+-- a command whose events get their blocks
+pub answered-enough : (command : Command) (pair : Option PlainPair) → AllEnough (answered command [] pair).is_short (answered command [] pair).account
+unfolding answered by_call by_turn by_run by_open
+answered-enough (Open blocks) None = open-enough (unwrap_or blocks 256)
+answered-enough (Open blocks) (Some p) = record { not_short = refl; none_left = refl }
+answered-enough Unlock None = record { not_short = refl; none_left = refl }
+answered-enough Unlock (Some p) = record { not_short = call-enough p _ calls.Unlock; none_left = refl }
+answered-enough OpenSlave None = record { not_short = refl; none_left = refl }
+answered-enough OpenSlave (Some p) = record { not_short = call-enough p _ calls.OpenSlave; none_left = refl }
+answered-enough (Write side bytes) None = record { not_short = refl; none_left = refl }
+answered-enough (Write side bytes) (Some p) = record { not_short = call-enough p _ (calls.Write bytes); none_left = refl }
+answered-enough (Read side n) None = record { not_short = refl; none_left = refl }
+answered-enough (Read side n) (Some p) = record { not_short = call-enough p _ (calls.Read n); none_left = refl }
+answered-enough (TurnOf name) None = record { not_short = refl; none_left = refl }
+answered-enough (TurnOf name) (Some p) = record { not_short = turn-enough p name; none_left = refl }
+answered-enough (Run n) None = record { not_short = refl; none_left = refl }
+answered-enough (Run n) (Some p) = turns-enough n p
+
+-- a script whose events get their blocks has no short line
+told-line : (n : ℕ) (pair : Option PlainPair) (line : List ℕ) (lines : List (List ℕ)) (r : Reading) → reading line ≡ r
+    → ((later : Option PlainPair) → (told_from (suc n) [] later lines).short ≡ None) → (told_from n [] pair (line ∷ lines)).short ≡ None
+unfolding told_from
+told-line n pair line lines Silent e later = rw (e, told_from) (later pair)
+told-line n pair line lines Malformed e later = rw (e, told_from) refl
+told-line n pair line lines (Spoken command) e later =
+    let one = answered-enough command pair in
+    rw (e, told_from, one.not_short, one.none_left) (later (answered command [] pair).pair)
+
+pub told-enough : (n : ℕ) (pair : Option PlainPair) (lines : List (List ℕ)) → (told_from n [] pair lines).short ≡ None
+unfolding told_from
+told-enough n pair [] = refl
+told-enough n pair (line ∷ lines) = told-line n pair line lines (reading line) refl (λ later. told-enough (suc n) later lines)

@@ -1,0 +1,9 @@
+use Rattle.std.proofs.Common.{◌∷◌, take}
+use Rattle.std.specs.List.{flat_map}
+use Rattle.std.specs.Fmt.{HasWritten, IsPlainFormatter}
+use Rattle.strm_types.specs.ScriptAnswers.{printed}
+use Rattle.strm_run.proofs.answers.QuotedDisplay.fmt.Given as goal
+
+abbrev pub invariant-loop-byte : goal.invariant-loop-byte
+invariant-loop-byte g l =
+    IsPlainFormatter l.fn.f → HasWritten g.W.Write.write_str_gives l.fn.f (34 ∷ flat_map printed (take l.byte-index l.byte-items)) l.f

@@ -1,0 +1,15 @@
+use Rattle.std.proofs.Common.{ap, sym, ◌∙◌}
+use Rattle.strm_types.specs.ScriptAnswers.{reply_line}
+use Rattle.strm_types.specs.ScriptRun.{is_short}
+use Rattle.strm_run.proofs.Events.{CallHappens-from, answers_call, replied}
+use Rattle.strm_run.proofs.session.call.Goals as goal
+
+pub returns-in-Ok : goal.returns-in-Ok
+returns-in-Ok c =
+    let h = CallHappens-from c.args.pair.now c.apply.new.self _ _ c.apply.result c.apply.ensures.refused c.apply.ensures.adds in
+    answers_call _ _ _ _ _ _ h (ap (λ r. reply_line (replied r)) (sym c.in-Ok.is)) (ap (λ r. is_short (replied r)) (sym c.in-Ok.is))
+
+pub returns-in-Err : goal.returns-in-Err
+returns-in-Err c =
+    let h = CallHappens-from c.args.pair.now c.apply.new.self _ _ c.apply.result c.apply.ensures.refused c.apply.ensures.adds in
+    answers_call _ _ _ _ _ _ h (ap (λ r. reply_line (replied r)) (sym c.in-Err.is)) (c.is_short.ensures ∙ ap (λ r. is_short (replied r)) (sym c.in-Err.is))

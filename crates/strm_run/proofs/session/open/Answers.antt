@@ -1,0 +1,26 @@
+use Rattle.std.proofs.Common.{◌<◌, ◌≤◌, None, inl, inr, arith, ap, sym, ◌∙◌}
+use Rattle.strm_types.specs.ScriptRun.{by_open, by_call}
+use Rattle.strm_types.specs.Calls.{OpenMaster}
+use Rattle.strm_types.specs.Pair.{new_pair}
+use Rattle.strm_types.specs.declared.names.Side.TheVariants.{Master}
+use Rattle.strm_run.specs.Plain.{plain}
+use Rattle.strm_types.specs.declared.refusals.Refusal.TheVariants.{Einval}
+use Rattle.strm_run.proofs.Events.{leads_unanswered, leads_same, open_refused, open_made}
+use Rattle.strm_run.proofs.session.open.Goals as goal
+
+pub returns-then-blocks-eq0-clause-ok : goal.returns-then-blocks-eq0-clause-ok
+returns-then-blocks-eq0-clause-ok c =
+    rw c.requires
+    (leads_unanswered (λ account. by_open c.args.blocks account) Einval None c.refused.result c.refused.ensures
+    (λ account. open_refused c.args.blocks account (elim c.then-blocks-eq0.either [ inl e ↦ inl e | inr h ↦ inr h.1 ])))
+
+pub returns-clause-ok : goal.returns-clause-ok
+returns-clause-ok c =
+    let blocks = c.args.blocks in
+    let some : 0 < blocks = omega arith in
+    let most : blocks ≤ 4096 = omega arith in
+    let made = c.in_ok-fresh.ensures ∙ ap new_pair c.limits.ensures in
+    leads_same (λ account. by_open blocks account) _ _ _
+    (λ account. open_made blocks account some most
+    ∙ ap (λ p. by_call (record { side = Master }) OpenMaster account (plain p)) (sym made))
+    c.call-answered.ensures

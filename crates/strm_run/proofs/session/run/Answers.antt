@@ -1,0 +1,36 @@
+use Rattle.std.proofs.Common.{◌≡◌, refl, ap, sym, ◌∙◌, arith, ◌≤◌}
+use Rattle.strm_types.specs.ScriptAnswers.{Ran}
+use Rattle.strm_run.specs.Plain.{plain}
+use Rattle.strm_run.proofs.Events.{RunsTo-start, RunsTo-more, run_none, run_refused, run_all, TurnHappens-from}
+use Rattle.strm_run.proofs.session.run.Goals as goal
+
+pub loop-taken-init : goal.loop-taken-init
+loop-taken-init c = RunsTo-start c.args.turns (plain c.args.pair.now)
+
+pub returns-in_default : goal.returns-in_default
+returns-in_default c =
+    let l = c.loop-taken in
+    run_none c.args.turns l.taken (plain c.args.pair.now) l.pair _ l.invariant (sym c.first_enabled.ensures ∙ c.in_default.is) refl refl
+
+pub returns-in-Err : goal.returns-in-Err
+returns-in-Err c =
+    let l = c.loop-taken in
+    run_refused c.args.turns l.taken (plain c.args.pair.now) l.pair c.turn.new.self c.in-Some.name c.in-Err.refusal c.turn.result _
+    c.loop-taken-test.true l.invariant (sym c.first_enabled.ensures ∙ c.in-Some.is)
+    (TurnHappens-from l.pair c.turn.new.self c.in-Some.name c.turn.result c.turn.ensures.refused c.turn.ensures.adds)
+    c.in-Err.is refl c.is_short.ensures
+
+pub loop-taken-preserved : goal.loop-taken-preserved
+loop-taken-preserved c =
+    let l = c.loop-taken in
+    RunsTo-more c.args.turns l.taken (plain c.args.pair.now) l.pair c.turn.new.self c.in-Some.name c.in_default-turn.field-0 c.turn.result
+    c.loop-taken-test.true l.invariant (sym c.first_enabled.ensures ∙ c.in-Some.is)
+    (TurnHappens-from l.pair c.turn.new.self c.in-Some.name c.turn.result c.turn.ensures.refused c.turn.ensures.adds)
+    c.in_default-turn.is
+
+pub returns : goal.returns
+returns c =
+    let l = c.loop-taken in
+    let done : c.args.turns ≤ l.taken = omega arith in
+    let all : l.taken ≡ c.args.turns = omega arith in
+    run_all c.args.turns (plain c.args.pair.now) l.pair _ l.taken done l.invariant (ap Ran (sym all)) refl

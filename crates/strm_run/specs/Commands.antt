@@ -1,0 +1,25 @@
+-- The commands and readings of the code, as the definitions of script text have them.
+use Rattle.std.specs.Prelude.{Option, option_map}
+use Rattle.strm_types.specs.Script as script
+use Rattle.strm_types.specs.ScriptReading as readings
+use Rattle.strm_run.specs.declared.commands.Command.{Command}
+use Rattle.strm_run.specs.declared.commands.Command.TheVariants.{Open, Unlock, OpenSlave, Write, Read, Turn, Run}
+use Rattle.strm_run.specs.declared.commands.Reading.{Reading}
+use Rattle.strm_run.specs.declared.commands.Reading.TheVariants.{Silent, Malformed, Spoken}
+
+abbrev pub command_of : Command → script.Command
+command_of (Open blocks) = script.Open blocks
+command_of Unlock = script.Unlock
+command_of OpenSlave = script.OpenSlave
+command_of (Write side bytes) = script.Write side bytes.items
+command_of (Read side n) = script.Read side n
+command_of (Turn name) = script.Turn name
+command_of (Run turns) = script.Run turns
+
+abbrev pub commands_of : Option Command → Option script.Command
+commands_of found = option_map command_of found
+
+abbrev pub reading_of : Reading → readings.Reading
+reading_of Silent = readings.Silent
+reading_of Malformed = readings.Malformed
+reading_of (Spoken command) = readings.Spoken (command_of command)

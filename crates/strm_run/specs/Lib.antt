@@ -1,0 +1,11 @@
+pub mod Views
+pub mod Commands
+pub mod Modes
+pub mod Lines
+pub mod Plain
+pub mod Outcomes
+pub mod Points
+pub mod Steps
+pub mod Output
+pub mod Runs
+pub mod Serving

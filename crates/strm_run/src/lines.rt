@@ -1,0 +1,158 @@
+//! What a line of a script says. Each command has a reader of its own.
+
+ghost use Rattle.std.specs.Prelude.{◌≡◌, ◌≤◌, IfOk, length};
+ghost use Rattle.strm_types.specs.Script as script;
+ghost use Rattle.strm_types.specs.Script.{IsSpelled};
+ghost use Rattle.strm_types.specs.ScriptReading.{open_in, unlock_in, slave_in, write_in, read_in, turn_in, run_in, command_in, reading, Spoken};
+ghost use Rattle.strm_run.specs.Commands.{commands_of, reading_of};
+
+use crate::commands::{Command, Reading};
+use crate::numbers::number;
+use crate::texts::text;
+use crate::words::{after, queue, side};
+use std::alloc::{AllocError, Global};
+
+/// The most bytes of a line, without its LF.
+pub const LINE_MAX: usize = 4096;
+
+/// `open`, or `open N`.
+#[tactic(auto, unfolding(strm_types::specs::ScriptReading::open_in))]
+fn open(line: &[u8]) -> Option<Command>
+    ensures { commands_of result ≡ open_in line.now }
+{
+    match line {
+        b"open" => Some(Command::Open { blocks: None }),
+        _ => {
+            let blocks = number(after(line, b"open ")?)?;
+            Some(Command::Open {
+                blocks: Some(blocks),
+            })
+        }
+    }
+}
+
+/// `unlock`.
+#[tactic(auto, unfolding(strm_types::specs::ScriptReading::unlock_in))]
+fn unlock(line: &[u8]) -> Option<Command>
+    ensures { commands_of result ≡ unlock_in line.now }
+{
+    match line {
+        b"unlock" => Some(Command::Unlock),
+        _ => None,
+    }
+}
+
+/// `slave`.
+#[tactic(auto, unfolding(strm_types::specs::ScriptReading::slave_in))]
+fn slave(line: &[u8]) -> Option<Command>
+    ensures { commands_of result ≡ slave_in line.now }
+{
+    match line {
+        b"slave" => Some(Command::OpenSlave),
+        _ => None,
+    }
+}
+
+/// `write X TEXT`.
+#[tactic(auto, unfolding(strm_types::specs::ScriptReading::write_in))]
+fn write(alloc: Global, line: &[u8]) -> Result<Option<Command>, AllocError>
+    ensures { IfOk result (λ found. commands_of found ≡ write_in line.now) }
+{
+    let Some(rest) = after(line, b"write ") else {
+        return Ok(None);
+    };
+    let Some((side, rest)) = side(rest) else {
+        return Ok(None);
+    };
+    let Some(rest) = after(rest, b" ") else {
+        return Ok(None);
+    };
+    match text(alloc, rest)? {
+        Some(bytes) => Ok(Some(Command::Write { side, bytes })),
+        None => Ok(None),
+    }
+}
+
+/// `read X N`.
+#[tactic(auto, unfolding(strm_types::specs::ScriptReading::read_in))]
+fn read(line: &[u8]) -> Option<Command>
+    ensures { commands_of result ≡ read_in line.now }
+{
+    let (side, rest) = side(after(line, b"read ")?)?;
+    let n = number(after(rest, b" ")?)?;
+    Some(Command::Read { side, n })
+}
+
+/// `turn QUEUE`.
+#[tactic(auto, unfolding(strm_types::specs::ScriptReading::turn_in))]
+fn turn(line: &[u8]) -> Option<Command>
+    ensures { commands_of result ≡ turn_in line.now }
+{
+    let name = queue(after(line, b"turn ")?)?;
+    Some(Command::Turn { name })
+}
+
+/// `run N`.
+#[tactic(auto, unfolding(strm_types::specs::ScriptReading::run_in))]
+fn run(line: &[u8]) -> Option<Command>
+    ensures { commands_of result ≡ run_in line.now }
+{
+    let turns = number(after(line, b"run ")?)?;
+    Some(Command::Run { turns })
+}
+
+/// The command that a line spells.
+#[tactic(auto, unfolding(strm_types::specs::ScriptReading::command_in))]
+fn command(alloc: Global, line: &[u8]) -> Result<Option<Command>, AllocError>
+    ensures { IfOk result (λ found. commands_of found ≡ command_in line.now) }
+{
+    if let Some(command) = open(line) {
+        return Ok(Some(command));
+    }
+    if let Some(command) = unlock(line) {
+        return Ok(Some(command));
+    }
+    if let Some(command) = slave(line) {
+        return Ok(Some(command));
+    }
+    if let Some(command) = write(alloc, line)? {
+        return Ok(Some(command));
+    }
+    if let Some(command) = read(line) {
+        return Ok(Some(command));
+    }
+    if let Some(command) = turn(line) {
+        return Ok(Some(command));
+    }
+    Ok(run(line))
+}
+
+/// What a line says, by its length, its first byte and its command.
+#[tactic(auto, unfolding(strm_types::specs::ScriptReading::reading))]
+fn said(alloc: Global, line: &[u8]) -> Result<Reading, AllocError>
+    ensures { IfOk result (λ found. reading_of found ≡ reading line.now) }
+{
+    if line.len() > LINE_MAX {
+        return Ok(Reading::Malformed);
+    }
+    if line.is_empty() || line[0] == b'#' {
+        return Ok(Reading::Silent);
+    }
+    match command(alloc, line)? {
+        Some(command) => Ok(Reading::Spoken(command)),
+        None => Ok(Reading::Malformed),
+    }
+}
+
+/// What a line says, without its LF. Only want of memory is an `Err`.
+pub fn reading(alloc: Global, line: &[u8]) -> Result<Reading, AllocError>
+    ensures same { IfOk result (λ found. reading_of found ≡ reading line.now) }
+    // What is read is spelled so.
+    ensures found { IfOk result (λ found. (command : script.Command) → reading_of found ≡ Spoken command
+        → IsSpelled command line.now) }
+    // What is spelled so is read.
+    ensures only { IfOk result (λ found. (command : script.Command) → IsSpelled command line.now
+        → length line.now ≤ 4096 → reading_of found ≡ Spoken command) }
+{
+    said(alloc, line)
+}

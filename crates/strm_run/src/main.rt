@@ -1,0 +1,27 @@
+//! Scripts of calls on a pair: reads commands from standard input, one a line, and writes an answer line for each to
+//! standard output. `run_script` does the work; its contract says what is written, by the definitions of script text
+//! in `strm_types/specs`.
+#![tactic(auto)]
+
+mod answers;
+mod commands;
+mod engine;
+mod lines;
+mod numbers;
+mod output;
+mod script;
+mod session;
+#[cfg(test)]
+mod tests;
+mod texts;
+mod words;
+
+use crate::script::run_script;
+use std::io;
+use std::process::ExitCode;
+
+/// Runs the script on standard input, and ends with its status. Arguments are ignored.
+fn main(rt: HostRuntime) -> ExitCode {
+    let end = run_script(rt.alloc(), &mut rt.reader(), &mut io::writer(&rt));
+    ExitCode::from(end.status)
+}

@@ -1,0 +1,97 @@
+//! A script from its first byte to its last answer.
+
+ghost use Rattle.std.specs.Prelude.{◌≡◌, ◌+◌, ◌<◌, ◌≤◌, ◌^◌, []};
+ghost use Rattle.strm_run.specs.Runs.{IsRun};
+ghost use Rattle.strm_run.specs.Output.{Writes};
+ghost use Rattle.strm_run.specs.Serving.{Serves, Ended, status_of};
+ghost use Rattle.strm_run.specs.Steps.{Ready, point_of};
+
+use crate::engine::{Engine, Stop};
+use crate::output::send;
+use std::alloc::Global;
+use std::io::{ErrorKind, Read, Write};
+
+/// How a script ended.
+#[derive(Clone, Copy, Debug, PartialEq, Eq)]
+pub struct ScriptEnd {
+    /// 0 where the input ended and all was written; 1 where a line was malformed, and the text says so; 2 where the
+    /// reader or the writer failed, memory was refused, or 2^32 - 1 reads were made.
+    pub status: u8,
+    /// The first line in which a call or a turn got ENOSR.
+    pub short: Option<u64>,
+}
+
+/// How many bytes of input are asked for at once.
+const CHUNK: usize = 4096;
+
+/// Writes the answers that aren't written yet; whether that went well.
+fn send_answers<W: Write>(engine: &mut Engine, writer: &mut W) -> bool
+    ensures sent { Writes (W.contents writer.old) (W.contents writer.new) engine.old.answers.items result }
+    ensures point { point_of engine.new ≡ point_of engine.old }
+    ensures none_left { engine.new.answers.items ≡ [] }
+{
+    let well = send(writer, engine.answers.as_slice());
+    engine.answers.clear();
+    well
+}
+
+/// The status of a script that stopped, once its answers are written.
+fn stopped<W: Write>(stop: Stop, engine: &mut Engine, writer: &mut W) -> u8
+    ensures ended { Ended (W.contents writer.old) (W.contents writer.new) engine.old.answers.items result (status_of stop) }
+    ensures short { engine.new.short ≡ engine.old.short }
+{
+    let well = send_answers(engine, writer);
+    match stop {
+        Stop::Malformed if well => 1,
+        _ => 2,
+    }
+}
+
+/// Takes all input, and writes the answers to each piece of it before the next one is read; the status of the script.
+fn serve<R: Read, W: Write>(
+    alloc: Global,
+    engine: &mut Engine,
+    reader: &mut R,
+    writer: &mut W,
+) -> u8
+    requires { Ready engine.old }
+    ensures { IsRun (R.remaining reader.old) (W.contents writer.old) (W.contents writer.new) result engine.new.short }
+{
+    let mut chunk = [0u8; CHUNK];
+    for turn in 0..u32::MAX {
+        if !send_answers(engine, writer) {
+            return 2;
+        }
+        match reader.read(&mut chunk) {
+            Ok(0) => match engine.finish(alloc) {
+                Ok(()) => return if send_answers(engine, writer) { 0 } else { 2 },
+                Err(stop) => return stopped(stop, engine, writer),
+            },
+            Ok(n) => {
+                if let Err(stop) = engine.take(alloc, &chunk[..n]) {
+                    return stopped(stop, engine, writer);
+                }
+            }
+            Err(error) => {
+                if error.kind() != ErrorKind::Interrupted {
+                    return 2;
+                }
+            }
+        }
+    }
+    2
+}
+
+/// Runs a script: reads commands, one a line, and writes an answer line for each. What it writes, up to a fault, is the
+/// text that the script's bytes say, for some account of which calls and turns the pool had enough blocks for; before
+/// the line `short`, and where there is none in all of it, the pool had enough.
+pub fn run_script<R: Read, W: Write>(alloc: Global, reader: &mut R, writer: &mut W) -> ScriptEnd
+    ensures { IsRun (R.remaining reader.old) (W.contents writer.old) (W.contents writer.new) result.status result.short }
+{
+    let mut engine = Engine::new(alloc);
+    let status = serve(alloc, &mut engine, reader, writer);
+    ScriptEnd {
+        status,
+        short: engine.short,
+    }
+}

@@ -1,0 +1,179 @@
+//! What commands lead to on the pair of a script.
+
+ghost use Rattle.std.specs.Prelude.{◌≡◌, false, Some, None, IfOk, OnErr, option_map};
+ghost use Rattle.strm_types.specs.Calls.{request};
+ghost use Rattle.strm_types.specs.ScriptAnswers as script;
+ghost use Rattle.strm_types.specs.ScriptRun.{by_call, by_turn, by_run, by_open, answered, unanswered, script_limits, is_enosr};
+ghost use Rattle.strm_run.specs.Commands.{command_of};
+ghost use Rattle.strm_run.specs.Plain.{plain};
+ghost use Rattle.strm_run.specs.Outcomes.{LeadsTo};
+
+use crate::answers::Line;
+use crate::commands::Command;
+use std::alloc::{AllocError, Global};
+use strm_pair::Pair;
+use strm_types::{Caller, Config, Event, QueueName, Refusal, Side};
+
+/// How many blocks of each kind a pair gets where a script names no number.
+const USUAL_BLOCKS: u32 = 256;
+
+/// The most blocks of each kind that a script can ask for.
+const BLOCKS_MAX: u32 = 4096;
+
+/// How many entries the journal of a script's pair holds.
+const JOURNAL_EVENTS: usize = 8192;
+
+/// How many bytes the journal of a script's pair holds.
+const JOURNAL_BYTES: usize = 262144;
+
+/// What a command leads to.
+#[derive(Debug, Drop)]
+pub struct Answered {
+    /// The line that answers it.
+    pub line: Line,
+    /// Whether a call or a turn got ENOSR.
+    pub short: bool,
+}
+
+/// A command that is refused before any call.
+fn refused(refusal: Refusal) -> Answered
+    ensures { result ≡ record { line = Line.Refused refusal; short = false } }
+{
+    Answered {
+        line: Line::Refused(refusal),
+        short: false,
+    }
+}
+
+/// Whether a refusal is for want of blocks.
+fn is_short(refusal: Refusal) -> bool
+    ensures { result ≡ is_enosr refusal }
+{
+    match refusal {
+        Refusal::Enosr => true,
+        _ => false,
+    }
+}
+
+/// A call by a command.
+fn call(pair: &mut Pair, side: Side, event: &Event<'_>) -> Answered
+    ensures { LeadsTo (λ account. by_call (record { side = side }) (request event.now) account (plain pair.old))
+        result (Some (plain pair.new)) }
+{
+    match pair.apply(Caller { side }, event) {
+        Ok(answer) => Answered {
+            line: Line::Done(answer),
+            short: false,
+        },
+        Err(refusal) => Answered {
+            line: Line::Refused(refusal),
+            short: is_short(refusal),
+        },
+    }
+}
+
+/// A turn by a command.
+fn turn(pair: &mut Pair, name: QueueName) -> Answered
+    ensures { LeadsTo (λ account. by_turn name account (plain pair.old)) result (Some (plain pair.new)) }
+{
+    match pair.turn(name) {
+        Ok(turn) => Answered {
+            line: Line::Turned(turn),
+            short: false,
+        },
+        Err(refusal) => Answered {
+            line: Line::Refused(refusal),
+            short: is_short(refusal),
+        },
+    }
+}
+
+/// Turns of the first enabled queue, so many at most. They end where none is enabled, and where one is refused.
+fn run(pair: &mut Pair, turns: u32) -> Answered
+    ensures { LeadsTo (λ account. by_run turns account (plain pair.old)) result (Some (plain pair.new)) }
+{
+    for taken in 0..turns {
+        let Some(name) = pair.first_enabled() else {
+            return Answered {
+                line: Line::Ran(taken),
+                short: false,
+            };
+        };
+        if let Err(refusal) = pair.turn(name) {
+            return Answered {
+                line: Line::Ran(taken),
+                short: is_short(refusal),
+            };
+        }
+    }
+    Answered {
+        line: Line::Ran(turns),
+        short: false,
+    }
+}
+
+/// A command where the pair is there.
+fn on_pair(pair: &mut Pair, command: &Command) -> Answered
+    ensures { LeadsTo (λ account. answered (command_of command.now) account (Some (plain pair.old)))
+        result (Some (plain pair.new)) }
+{
+    match command {
+        Command::Open { blocks: _ } => refused(Refusal::Einval),
+        Command::Unlock => call(pair, Side::Master, &Event::Unlock),
+        Command::OpenSlave => call(pair, Side::Slave, &Event::OpenSlave),
+        Command::Write { side, bytes } => {
+            let bytes = bytes.as_slice();
+            call(pair, *side, &Event::Write { bytes })
+        }
+        Command::Read { side, n } => call(pair, *side, &Event::Read { n: *n }),
+        Command::Turn { name } => turn(pair, *name),
+        Command::Run { turns } => run(pair, *turns),
+    }
+}
+
+/// The sizes of a script's pair.
+fn limits(blocks: u32) -> Config
+    ensures { result ≡ script_limits blocks }
+{
+    Config {
+        mblks: blocks as usize,
+        dblks: blocks as usize,
+        journal_events: JOURNAL_EVENTS,
+        journal_bytes: JOURNAL_BYTES,
+    }
+}
+
+/// Makes the pair and opens its master, where the number of blocks is from 1 to 4096. Want of memory changes nothing.
+fn open(alloc: Global, pair: &mut Option<Pair>, blocks: u32) -> Result<Answered, AllocError>
+    requires { pair.old ≡ None }
+    ensures ok { IfOk result (λ found. LeadsTo (λ account. by_open blocks account) found (option_map plain pair.new)) }
+    ensures err { OnErr result (pair.new ≡ pair.old) }
+{
+    if blocks == 0 || blocks > BLOCKS_MAX {
+        return Ok(refused(Refusal::Einval));
+    }
+    let mut fresh = Pair::new(alloc, limits(blocks))?;
+    let answered = call(&mut fresh, Side::Master, &Event::OpenMaster);
+    *pair = Some(fresh);
+    Ok(answered)
+}
+
+/// What a command leads to. Want of memory changes nothing.
+pub fn answer(
+    alloc: Global,
+    pair: &mut Option<Pair>,
+    command: &Command,
+) -> Result<Answered, AllocError>
+    ensures ok { IfOk result (λ found. LeadsTo
+        (λ account. answered (command_of command.now) account (option_map plain pair.old))
+        found (option_map plain pair.new)) }
+    ensures err { OnErr result (pair.new ≡ pair.old) }
+{
+    if let Some(pair) = pair {
+        return Ok(on_pair(pair, command));
+    }
+    match command {
+        Command::Open { blocks } => open(alloc, pair, blocks.unwrap_or(USUAL_BLOCKS)),
+        _ => Ok(refused(Refusal::Enxio)),
+    }
+}

@@ -1,0 +1,341 @@
+//! Scripts and their answers, a file of titled scenes for each subject. A scene begins with a line of `!` and its title.
+//! Its commands stand at the margin, and the answer to each stands under it, indented by two spaces. Where a script
+//! doesn't end with status 0, or a line of it got ENOSR, a line of `=` says so.
+
+/// How a pair is made and opened.
+pub const OPENING: &str = r#"
+!A pair is opened, unlocked, and its slave is opened
+open
+  ok
+unlock
+  ok
+slave
+  ok
+
+!The slave waits for the unlocking
+open
+  ok
+slave
+  err EAGAIN
+unlock
+  ok
+slave
+  ok
+
+!Unlocking twice does no harm
+open
+  ok
+unlock
+  ok
+unlock
+  ok
+
+!There is one pair, and its slave is opened once
+open
+  ok
+open
+  err EINVAL
+open 0
+  err EINVAL
+unlock
+  ok
+slave
+  ok
+slave
+  err EINVAL
+
+!Nothing is there before the opening
+unlock
+  err ENXIO
+slave
+  err ENXIO
+write m "a"
+  err ENXIO
+read s 1
+  err ENXIO
+turn m.drv.w
+  err ENXIO
+run 1
+  err ENXIO
+
+!A pair has 1 to 4096 blocks of each kind
+open 0
+  err EINVAL
+open 4097
+  err EINVAL
+open 4294967295
+  err EINVAL
+open 0000004096
+  ok
+
+!The slave's stream isn't open before the slave is
+open
+  ok
+write s "a"
+  err ENXIO
+read s 1
+  err ENXIO
+"#;
+
+/// What goes from one side to the other.
+pub const WRITING_AND_READING: &str = r#"
+!What is written to the master is read from the slave, after a turn
+open
+  ok
+unlock
+  ok
+slave
+  ok
+write m "abc"
+  ok 3
+read s 10
+  err EAGAIN
+run 10
+  ran 1
+read s 10
+  data 3 "abc"
+
+!The other direction is the same
+open
+  ok
+unlock
+  ok
+slave
+  ok
+write s "ls"
+  ok 2
+run 10
+  ran 1
+read m 10
+  data 2 "ls"
+
+!A read takes a part, and the rest stays
+open
+  ok
+unlock
+  ok
+slave
+  ok
+write m "hello"
+  ok 5
+run 10
+  ran 1
+read s 2
+  data 2 "he"
+read s 0
+  data 0 ""
+read s 100
+  data 3 "llo"
+read s 1
+  err EAGAIN
+
+!An empty write sends a message of no bytes, which a read takes away
+open
+  ok
+unlock
+  ok
+slave
+  ok
+write m ""
+  ok 0
+run 10
+  ran 1
+read s 10
+  data 0 ""
+read s 10
+  err EAGAIN
+
+!A write goes in chunks, until the driver's queue is full
+open
+  ok
+unlock
+  ok
+slave
+  ok
+write m "zzzzzzzzzzzzzzzzzzzzzzzzzzzzzzzzzzzzzzzzzzzzzzzzzzzzzzzzzzzzzzzzzzzzzzzzzzzzzzzzzzzzzzzzzzzzzzzzzzzzzzzzzzzzzzzzzzzzzzzzzzzzzzzzzzzzzzzzzzzzzzzzzzzzzzzzzzzzzzzzzzzzzzzzzzzzzzzzzzzzzzzzzzzzzzzzzzzzzzzzzzzzzzzzzzzzzzzzzzzzzzzzzzzzzzzzzzzzzzzzzzzzzzzzzzzzzzzzzzzzzzzzzzzzzzzzzzzzzzzzzzzzzzzzzzzzzzzzzzzzzzzzzzzzzzzzzzzzzzzzzzzzzzzzzzzzzzzzzzzzzzzzzzzzzzzzzzzzzzzzzzzzzzzzzzzzzzzzzzzzzzzzzzzzzzzzzzzzzzzzzzzzzzzzzzzzzzzzzzzzzzzzzzzzzzzzzzzzzzzzzzzzzzzzzzzzzzzzzzzzzzzzzzzzzzzzzzzzzzzzzzzzzzzzzzzzzzzzzzzzzzzzzzzzzzzzzzzzzzzzzzzzzzzzzzzzzzzzzzzzzzzzzzzzzzzzzzzzzzzzzzzzzzzzzzzzzzzzzzzzzzzzzzzzzzzzzzzzzzzz"
+  ok 512
+write m "z"
+  err EAGAIN
+turn m.drv.w
+  ok 256
+write m "z"
+  ok 1
+
+!A write needs 32 blocks of each kind more than it makes
+open 32
+  ok
+unlock
+  ok
+slave
+  ok
+write m "a"
+  err ENOSR
+= short 4
+
+!With one block more it goes
+open 33
+  ok
+unlock
+  ok
+slave
+  ok
+write m "a"
+  ok 1
+"#;
+
+/// What the service procedures do, and when.
+pub const TURNS: &str = r#"
+!A turn of a queue that isn't enabled is refused
+open
+  ok
+turn m.drv.w
+  err EINVAL
+turn s.head.r
+  err EINVAL
+turn m.ldterm.w
+  err EINVAL
+
+!Nothing runs where nothing is enabled, or where no turn is asked for
+open
+  ok
+unlock
+  ok
+run 10
+  ran 0
+write m "a"
+  ok 1
+run 0
+  ran 0
+
+!A message waits until the slave is open
+open
+  ok
+unlock
+  ok
+write m "a"
+  ok 1
+turn m.drv.w
+  blocked
+run 10
+  ran 0
+slave
+  ok
+run 10
+  ran 1
+read s 10
+  data 1 "a"
+
+!Each turn takes one message
+open
+  ok
+unlock
+  ok
+slave
+  ok
+write m "a"
+  ok 1
+write m "b"
+  ok 1
+run 1
+  ran 1
+read s 10
+  data 1 "a"
+run 10
+  ran 1
+read s 10
+  data 1 "b"
+"#;
+
+/// How a script is spelled.
+pub const LINES_AND_TEXTS: &str = r#"
+!Comments and empty lines give no answer, and count as lines
+open
+  ok
+
+# a remark
+
+write m "a\q"
+  err line 5
+= status 1
+
+!A malformed line ends the script, before `open` too
+shut
+  err line 1
+= status 1
+
+!Words are parted by one space
+open  1
+  err line 1
+= status 1
+
+!A line has nothing behind its command
+open 
+  err line 1
+= status 1
+
+!A number has 1 to 10 digits
+open 00000000001
+  err line 1
+= status 1
+
+!The largest number is 4294967295
+open 4294967296
+  err line 1
+= status 1
+
+!A text wants both its quotes
+open
+  ok
+write m "a
+  err line 2
+= status 1
+
+!A text is one text
+open
+  ok
+write m "a"b"
+  err line 2
+= status 1
+
+!Escapes are read, and printed
+open
+  ok
+unlock
+  ok
+slave
+  ok
+write m "\n\r\t\"\\\x41\x7f\xfF"
+  ok 8
+run 1
+  ran 1
+read s 100
+  data 8 "\n\r\t\"\\A\x7f\xff"
+
+!An escape has two digits
+open
+  ok
+write m "\x4"
+  err line 2
+= status 1
+
+!Only the small x is an escape
+open
+  ok
+write m "\X41"
+  err line 2
+= status 1
+
+!A side is m or s
+open
+  ok
+read t 1
+  err line 2
+= status 1
+
+!A queue is named by side, place and way
+open
+  ok
+turn m.drv
+  err line 2
+= status 1
+"#;

@@ -1,0 +1,121 @@
+-- The commands of a script, and how each is spelled: one command a line, words parted by one space.
+use Rattle.std.specs.Prelude.{◌≡◌, ◌≢◌, ℕ, ◌≤◌, ◌<◌, ◌+◌, ◌-◌, ◌*◌, nat_lt, nat_le, ◌==◌, ◌&&◌, ◌||◌, Bool, true, false, if◌then◌else◌, List, [], ◌∷◌, ◌++◌, length, codes, Option, None, Some}
+use Rattle.strm_types.specs.declared.names.Side.{Side}
+use Rattle.strm_types.specs.declared.names.Side.TheVariants.{Master, Slave}
+use Rattle.strm_types.specs.declared.names.Way.{Way}
+use Rattle.strm_types.specs.declared.names.Way.TheVariants.{Up, Down}
+use Rattle.strm_types.specs.declared.names.Place.{Place}
+use Rattle.strm_types.specs.declared.names.Place.TheVariants.{Head, Ldterm, Driver}
+use Rattle.strm_types.specs.declared.names.QueueName.{QueueName}
+
+-- a command
+pub data Command : Type 0 where
+  Open : Option ℕ → Command        -- with so many blocks of each kind, or as many as is usual
+  Unlock : Command
+  OpenSlave : Command
+  Write : Side → List ℕ → Command
+  Read : Side → ℕ → Command
+  Turn : QueueName → Command
+  Run : ℕ → Command                -- so many turns at most
+
+-- the most bytes of a line, without its LF
+abbrev pub line_max : ℕ
+line_max = 4096
+
+-- the largest number that a script can name
+abbrev pub number_max : ℕ
+number_max = 4294967295
+
+abbrev pub side_name : Side → List ℕ
+side_name Master = codes "m"
+side_name Slave = codes "s"
+
+abbrev pub place_name : Place → List ℕ
+place_name Head = codes "head"
+place_name Ldterm = codes "ldterm"
+place_name Driver = codes "drv"
+
+abbrev pub way_name : Way → List ℕ
+way_name Up = codes "r"
+way_name Down = codes "w"
+
+-- the name of a queue, as `m.drv.w`
+abbrev pub queue_name : QueueName → List ℕ
+queue_name name = side_name name.side ++ (codes "." ++ (place_name name.place ++ (codes "." ++ way_name name.way)))
+
+-- the value of a decimal digit
+unfoldable pub digit_of : ℕ → Option ℕ
+digit_of b = if nat_le 48 b && nat_le b 57 then Some (b - 48) else None
+
+-- digits of this value, the first of them behind those of another value
+abbrev pub HasValue : ℕ → List ℕ → ℕ → Type 0
+HasValue before [] n = n ≡ before
+HasValue before (b ∷ digits) n = (d : ℕ) × (digit_of b ≡ Some d) × HasValue (10 * before + d) digits n
+
+-- the spelling of a number: 1 to 10 decimal digits, of which the first may be zeros
+pub record IsNumber (digits : List ℕ) (n : ℕ) : Type 0 where
+  pub some : 0 < length digits
+  pub most : length digits ≤ 10
+  pub value : HasValue 0 digits n
+  pub fits : n ≤ number_max
+
+-- the value of a hexadecimal digit, in either case
+unfoldable pub hex_of : ℕ → Option ℕ
+hex_of b =
+    if nat_le 48 b && nat_le b 57 then Some (b - 48)
+    else (if nat_le 97 b && nat_le b 102 then Some (b - 87)
+    else (if nat_le 65 b && nat_le b 70 then Some (b - 55) else None))
+
+-- the byte that an escape of one letter stands for: \n \r \t \" \\
+unfoldable pub escaped : ℕ → Option ℕ
+escaped b =
+    if b == 110 then Some 10
+    else (if b == 114 then Some 13
+    else (if b == 116 then Some 9
+    else (if b == 34 then Some 34
+    else (if b == 92 then Some 92 else None))))
+
+-- A byte is spelled as itself, unless it is a quote, a backslash or LF, or by an escape: of one letter, or \x and two
+-- hexadecimal digits.
+pub data IsPiece : List ℕ → ℕ → Type 0 where
+  Itself : (b : ℕ) → b ≢ 34 → b ≢ 92 → b ≢ 10 → IsPiece (b ∷ []) b
+  Named : (c b : ℕ) → escaped c ≡ Some b → IsPiece (92 ∷ c ∷ []) b
+  Coded : (h l high low : ℕ) → hex_of h ≡ Some high → hex_of l ≡ Some low → IsPiece (92 ∷ 120 ∷ h ∷ l ∷ []) (16 * high + low)
+
+-- the spelling of a text, without its quotes: a piece for each byte
+abbrev pub IsText : List ℕ → List ℕ → Type 0
+IsText spelled [] = spelled ≡ []
+IsText spelled (b ∷ text) = (piece rest : List ℕ) × IsPiece piece b × (spelled ≡ piece ++ rest) × IsText rest text
+
+-- a word, and behind it a number
+abbrev pub IsWithNumber : List ℕ → ℕ → List ℕ → Type 0
+IsWithNumber word n line = (digits : List ℕ) × IsNumber digits n × (line ≡ word ++ digits)
+
+-- a word, and behind it a text in quotes
+abbrev pub IsWithText : List ℕ → List ℕ → List ℕ → Type 0
+IsWithText word text line = (spelled : List ℕ) × IsText spelled text × (line ≡ word ++ (codes "\"" ++ (spelled ++ codes "\"")))
+
+-- how a command is spelled
+abbrev pub IsSpelled : Command → List ℕ → Type 0
+IsSpelled (Open None) line = line ≡ codes "open"
+IsSpelled (Open (Some n)) line = IsWithNumber (codes "open ") n line
+IsSpelled Unlock line = line ≡ codes "unlock"
+IsSpelled OpenSlave line = line ≡ codes "slave"
+IsSpelled (Write side text) line = IsWithText (codes "write " ++ (side_name side ++ codes " ")) text line
+IsSpelled (Read side n) line = IsWithNumber (codes "read " ++ (side_name side ++ codes " ")) n line
+IsSpelled (Turn name) line = line ≡ codes "turn " ++ queue_name name
+IsSpelled (Run n) line = IsWithNumber (codes "run ") n line
+
+-- a line that asks for nothing: an empty one, and a comment
+abbrev pub is_silent : List ℕ → Bool
+is_silent [] = true
+is_silent (b ∷ _) = b == 35
+
+-- the lines of a script: each ends with LF, which the last may lack
+abbrev pub begun_with : ℕ → List (List ℕ) → List (List ℕ)
+begun_with b [] = (b ∷ []) ∷ []
+begun_with b (line ∷ lines) = (b ∷ line) ∷ lines
+
+unfoldable pub lines_of : List ℕ → List (List ℕ)
+lines_of [] = []
+lines_of (b ∷ bytes) = if b == 10 then [] ∷ lines_of bytes else begun_with b (lines_of bytes)

@@ -1,0 +1,82 @@
+-- The answer lines of a script.
+use Rattle.std.specs.Prelude.{ℕ, ◌/◌, ◌%◌, ◌+◌, nat_lt, nat_le, ◌==◌, ◌&&◌, if◌then◌else◌, List, [], ◌∷◌, ◌++◌, length, codes, Result, Ok, Err}
+use Rattle.std.specs.List.{flat_map}
+use Rattle.std.specs.Fmt.{decimal}
+use Rattle.strm_types.specs.declared.answers.Turn.{Turn}
+use Rattle.strm_types.specs.declared.answers.Turn.TheVariants.{Moved, Blocked, Idle}
+use Rattle.strm_types.specs.declared.refusals.Refusal.{Refusal}
+use Rattle.strm_types.specs.declared.refusals.Refusal.TheVariants.{Einval, Eagain, Enxio, Ebadmsg, Enosr, Erange, JournalFull, NoMinor, NoMemory, StillShared}
+use Rattle.strm_types.specs.Calls.{Reply, Done, Count, Bytes}
+
+-- an answer line, without its LF
+pub data Line : Type 0 where
+  Plain : Line
+  Number : ℕ → Line
+  Text : List ℕ → Line
+  Held : Line
+  Empty : Line
+  Ran : ℕ → Line
+  Refused : Refusal → Line
+  Wrong : ℕ → Line
+
+-- a hexadecimal digit, in lower case
+abbrev pub hex_digit : ℕ → ℕ
+hex_digit d = if nat_lt d 10 then 48 + d else 87 + d
+
+-- How a byte of a text is printed: 0x20 to 0x7e as they are but for the quote and the backslash, then the named
+-- escapes, else by its two hexadecimal digits.
+abbrev pub printed : ℕ → List ℕ
+printed b =
+    if b == 10 then codes "\\n"
+    else (if b == 13 then codes "\\r"
+    else (if b == 9 then codes "\\t"
+    else (if b == 34 then codes "\\\""
+    else (if b == 92 then codes "\\\\"
+    else (if nat_le 32 b && nat_le b 126 then b ∷ []
+    else codes "\\x" ++ hex_digit (b / 16) ∷ hex_digit (b % 16) ∷ [])))))
+
+-- a text as it is printed, in quotes
+abbrev pub quoted : List ℕ → List ℕ
+quoted bytes = codes "\"" ++ flat_map printed bytes ++ codes "\""
+
+-- the name by which a refusal is printed
+abbrev pub refusal_name : Refusal → List ℕ
+refusal_name Einval = codes "EINVAL"
+refusal_name Eagain = codes "EAGAIN"
+refusal_name Enxio = codes "ENXIO"
+refusal_name Ebadmsg = codes "EBADMSG"
+refusal_name Enosr = codes "ENOSR"
+refusal_name Erange = codes "ERANGE"
+refusal_name JournalFull = codes "JournalFull"
+refusal_name NoMinor = codes "NoMinor"
+refusal_name NoMemory = codes "NoMemory"
+refusal_name StillShared = codes "StillShared"
+
+-- the text of an answer line
+unfoldable pub line_text : Line → List ℕ
+line_text Plain = codes "ok"
+line_text (Number n) = codes "ok " ++ decimal n
+line_text (Text bytes) = codes "data " ++ decimal (length bytes) ++ codes " " ++ quoted bytes
+line_text Held = codes "blocked"
+line_text Empty = codes "idle"
+line_text (Ran n) = codes "ran " ++ decimal n
+line_text (Refused refusal) = codes "err " ++ refusal_name refusal
+line_text (Wrong n) = codes "err line " ++ decimal n
+
+-- the line with its LF
+abbrev pub printed_line : Line → List ℕ
+printed_line line = line_text line ++ 10 ∷ []
+
+-- what a call is answered by
+abbrev pub reply_line : Result (Reply ℕ) Refusal → Line
+reply_line (Ok Done) = Plain
+reply_line (Ok (Count n)) = Number n
+reply_line (Ok (Bytes bytes)) = Text bytes
+reply_line (Err refusal) = Refused refusal
+
+-- what a turn is answered by
+abbrev pub turn_line : Result Turn Refusal → Line
+turn_line (Ok (Moved n)) = Number n
+turn_line (Ok Blocked) = Held
+turn_line (Ok Idle) = Empty
+turn_line (Err refusal) = Refused refusal

@@ -1,0 +1,182 @@
+-- What a line of a script says, computed. `IsSpelled` says the same without an order of reading; that the two agree is
+-- the contract of public functions of the crate that reads scripts.
+use Rattle.std.specs.Prelude.{ℕ, ◌+◌, ◌*◌, nat_lt, nat_le, ◌==◌, ◌&&◌, Bool, true, false, not, if◌then◌else◌, List, [], ◌∷◌, ◌++◌, length, codes, Option, None, Some, option_map}
+use Rattle.strm_types.specs.declared.names.Side.{Side}
+use Rattle.strm_types.specs.declared.names.Side.TheVariants.{Master, Slave}
+use Rattle.strm_types.specs.declared.names.Way.{Way}
+use Rattle.strm_types.specs.declared.names.Way.TheVariants.{Up, Down}
+use Rattle.strm_types.specs.declared.names.Place.{Place}
+use Rattle.strm_types.specs.declared.names.Place.TheVariants.{Head, Ldterm, Driver}
+use Rattle.strm_types.specs.declared.names.QueueName.{QueueName}
+use Rattle.strm_types.specs.Script.{Command, Open, Unlock, OpenSlave, Write, Read, Turn, Run, line_max, number_max, digit_of, hex_of, escaped, is_silent}
+
+-- what a line says
+pub data Reading : Type 0 where
+  Silent : Reading
+  Malformed : Reading
+  Spoken : Command → Reading
+
+-- the second step on what the first found
+abbrev pub and_then : {A B : Type 0} → (A → Option B) → Option A → Option B
+and_then f None = None
+and_then f (Some x) = f x
+
+-- the first that is there
+abbrev pub either_of : {A : Type 0} → Option A → Option A → Option A
+either_of None second = second
+either_of (Some first) second = Some first
+
+-- what follows a word at the front of a text
+abbrev pub after : List ℕ → List ℕ → Option (List ℕ)
+after [] line = Some line
+after (w ∷ word) [] = None
+after (w ∷ word) (b ∷ line) = if w == b then after word line else None
+
+-- a value, where nothing follows
+abbrev pub at_end : {A : Type 0} → A → List ℕ → Option A
+at_end x [] = Some x
+at_end x (_ ∷ _) = None
+
+-- a value, where the line is a word and no more
+abbrev pub whole : {A : Type 0} → List ℕ → A → List ℕ → Option A
+whole word x line = and_then (at_end x) (after word line)
+
+-- a value and what follows it
+pub record Front (A : Type 0) : Type 0 where
+  pub value : A
+  pub rest : List ℕ
+
+abbrev pub before : {A : Type 0} → List ℕ → A → List ℕ → Option (Front A)
+before word x line = option_map (λ rest. record { value = x; rest = rest }) (after word line)
+
+-- the number that digits go on to spell, behind those of another value
+unfoldable pub number_from : ℕ → List ℕ → Option ℕ
+number_from value [] = Some value
+number_from value (b ∷ digits) =
+    elim (digit_of b) [
+      None ↦ None
+    | Some d ↦ if nat_le (10 * value + d) number_max then number_from (10 * value + d) digits else None ]
+
+-- the number that a text of 1 to 10 digits spells
+unfoldable pub number_in : List ℕ → Option ℕ
+number_in digits = if nat_lt 0 (length digits) && nat_le (length digits) 10 then number_from 0 digits else None
+
+-- how far the spelling of a text has come
+pub data Mode : Type 0 where
+  Inside : Mode          -- between two pieces
+  Escaped : Mode         -- behind a backslash
+  Coded : Mode           -- behind \x
+  HalfCoded : ℕ → Mode   -- behind \x and a digit of this value
+  Closed : Mode          -- behind the quote at the end
+
+-- what a byte does to a spelling
+pub data Move : Type 0 where
+  Breaks : Move             -- no text is spelled so
+  Goes : Mode → Move
+  Gives : ℕ → Move          -- a piece ends, which spells this byte
+
+abbrev pub moved_by : Mode → ℕ → Move
+moved_by Inside b = if b == 34 then Goes Closed else (if b == 92 then Goes Escaped else (if b == 10 then Breaks else Gives b))
+moved_by Escaped b = if b == 120 then Goes Coded else elim (escaped b) [ None ↦ Breaks | Some c ↦ Gives c ]
+moved_by Coded b = elim (hex_of b) [ None ↦ Breaks | Some high ↦ Goes (HalfCoded high) ]
+moved_by (HalfCoded high) b = elim (hex_of b) [ None ↦ Breaks | Some low ↦ Gives (16 * high + low) ]
+moved_by Closed b = Breaks
+
+abbrev pub is_closed : Mode → Bool
+is_closed Closed = true
+is_closed _ = false
+
+-- the text with bytes in front, if it is one
+abbrev pub with_front : List ℕ → Option (List ℕ) → Option (List ℕ)
+with_front front text = option_map (λ rest. front ++ rest) text
+
+-- the text that bytes go on to spell, up to the quote at their end
+unfoldable pub text_from : Mode → List ℕ → Option (List ℕ)
+text_from mode [] = if is_closed mode then Some [] else None
+text_from mode (b ∷ spelled) =
+    elim (moved_by mode b) [
+      Breaks ↦ None
+    | Goes next ↦ text_from next spelled
+    | Gives c ↦ with_front (c ∷ []) (text_from Inside spelled) ]
+
+-- the text in quotes that the bytes spell
+unfoldable pub text_in : List ℕ → Option (List ℕ)
+text_in line = and_then (text_from Inside) (after (codes "\"") line)
+
+-- a side, a place or a way, at the front
+unfoldable pub side_in : List ℕ → Option (Front Side)
+side_in line = either_of (before (codes "m") Master line) (before (codes "s") Slave line)
+
+unfoldable pub place_in : List ℕ → Option (Front Place)
+place_in line =
+    either_of (before (codes "head") Head line)
+    (either_of (before (codes "ldterm") Ldterm line)
+    (before (codes "drv") Driver line))
+
+unfoldable pub way_in : List ℕ → Option Way
+way_in line = either_of (whole (codes "r") Up line) (whole (codes "w") Down line)
+
+-- a way behind a dot; a place and a way behind another
+abbrev pub placed_in : Side → Place → List ℕ → Option QueueName
+placed_in side place line =
+    and_then (λ rest. option_map (λ way. record { side = side; place = place; way = way }) (way_in rest)) (after (codes ".") line)
+
+abbrev pub sided_in : Side → List ℕ → Option QueueName
+sided_in side line =
+    and_then (λ rest. and_then (λ place. placed_in side place.value place.rest) (place_in rest)) (after (codes ".") line)
+
+-- the name of a queue
+unfoldable pub queue_in : List ℕ → Option QueueName
+queue_in line = and_then (λ side. sided_in side.value side.rest) (side_in line)
+
+-- each command where the line spells it
+unfoldable pub open_in : List ℕ → Option Command
+open_in line =
+    either_of (whole (codes "open") (Open None) line)
+    (and_then (λ digits. option_map (λ n. Open (Some n)) (number_in digits)) (after (codes "open ") line))
+
+unfoldable pub unlock_in : List ℕ → Option Command
+unlock_in line = whole (codes "unlock") Unlock line
+
+unfoldable pub slave_in : List ℕ → Option Command
+slave_in line = whole (codes "slave") OpenSlave line
+
+-- what stands behind a side and a space
+abbrev pub behind_side : (Side → List ℕ → Option Command) → List ℕ → Option Command
+behind_side inside line = and_then (λ side. and_then (inside side.value) (after (codes " ") side.rest)) (side_in line)
+
+unfoldable pub write_in : List ℕ → Option Command
+write_in line =
+    and_then (behind_side (λ side rest. option_map (λ text. Write side text) (text_in rest))) (after (codes "write ") line)
+
+unfoldable pub read_in : List ℕ → Option Command
+read_in line =
+    and_then (behind_side (λ side rest. option_map (λ n. Read side n) (number_in rest))) (after (codes "read ") line)
+
+unfoldable pub turn_in : List ℕ → Option Command
+turn_in line = and_then (λ rest. option_map (λ name. Turn name) (queue_in rest)) (after (codes "turn ") line)
+
+unfoldable pub run_in : List ℕ → Option Command
+run_in line = and_then (λ rest. option_map (λ n. Run n) (number_in rest)) (after (codes "run ") line)
+
+-- the command that a line spells
+unfoldable pub command_in : List ℕ → Option Command
+command_in line =
+    either_of (open_in line)
+    (either_of (unlock_in line)
+    (either_of (slave_in line)
+    (either_of (write_in line)
+    (either_of (read_in line)
+    (either_of (turn_in line)
+    (run_in line))))))
+
+-- the command, if the line is well formed
+abbrev pub spoken : Option Command → Reading
+spoken None = Malformed
+spoken (Some command) = Spoken command
+
+-- what a line says: one above the limit is malformed, whatever it begins with
+unfoldable pub reading : List ℕ → Reading
+reading line =
+    if nat_lt line_max (length line) then Malformed
+    else (if is_silent line then Silent else spoken (command_in line))

@@ -1,0 +1,245 @@
+-- What a script writes: its answers, in the order of its lines.
+use Rattle.std.specs.Prelude.{ℕ, zero, suc, ◌+◌, nat_lt, nat_le, ◌&&◌, Bool, true, false, if◌then◌else◌, List, [], ◌∷◌, ◌++◌, length, Option, None, Some, Result, Ok, Err, unwrap_or, slice_get}
+use Rattle.strm_types.specs.declared.limits.Config.{Config}
+use Rattle.strm_types.specs.declared.answers.Turn.{Turn}
+use Rattle.strm_types.specs.declared.events.Caller.{Caller}
+use Rattle.strm_types.specs.declared.names.Side.{Side}
+use Rattle.strm_types.specs.declared.names.Side.TheVariants.{Master, Slave}
+use Rattle.strm_types.specs.declared.names.QueueName.{QueueName}
+use Rattle.strm_types.specs.declared.refusals.Refusal.{Refusal}
+use Rattle.strm_types.specs.declared.refusals.Refusal.TheVariants.{Einval, Enxio, Enosr, JournalFull}
+use Rattle.strm_types.specs.Names.{is_enabled}
+use Rattle.strm_types.specs.State.{State, opening}
+use Rattle.strm_types.specs.Turns.{turned}
+use Rattle.strm_types.specs.Calls as calls
+use Rattle.strm_types.specs.Calls.{Request, Reply, called}
+use Rattle.strm_types.specs.Journal.{PlainEntry, Called, Turned, payload_of, content_max}
+use Rattle.strm_types.specs.Refused.{or_else, unless, has_room, refused_at_once, refused_by_state}
+use Rattle.strm_types.specs.Script.{Command, Open, Unlock, OpenSlave, Write, Read, Turn as TurnOf, Run, lines_of}
+use Rattle.strm_types.specs.ScriptReading.{Reading, Silent, Malformed, Spoken, reading}
+use Rattle.strm_types.specs.ScriptAnswers.{Line, Refused, Wrong, Ran, Plain, printed_line, reply_line, turn_line}
+
+-- What the pool of blocks had for an event. An account says it of each call and each turn of a script, in their order;
+-- behind its end the pool has enough.
+pub data Supply : Type 0 where
+  Enough : Supply
+  TooFew : Supply
+
+abbrev pub is_enough : Supply → Bool
+is_enough Enough = true
+is_enough TooFew = false
+
+-- the supply of the next event, and the account of those behind it
+abbrev pub next_of : List Supply → Supply
+next_of [] = Enough
+next_of (supply ∷ _) = supply
+
+abbrev pub rest_of : List Supply → List Supply
+rest_of [] = []
+rest_of (_ ∷ account) = account
+
+-- a pair whose blocks nobody counts: its plain state, its journal and its sizes
+pub record PlainPair : Type 0 where
+  pub state : State ℕ
+  pub journal : List (PlainEntry ℕ)
+  pub limits : Config
+
+-- the blocks of each kind that a pair gets where a script names no number
+abbrev pub usual_blocks : ℕ
+usual_blocks = 256
+
+-- the sizes of a script's pair
+abbrev pub script_limits : ℕ → Config
+script_limits blocks = record { mblks = blocks; dblks = blocks; journal_events = 8192; journal_bytes = 262144 }
+
+abbrev pub new_plain : ℕ → PlainPair
+new_plain blocks = record { state = opening; journal = []; limits = script_limits blocks }
+
+-- what an event was answered, and the pair behind it
+pub record Happened (A : Type 0) : Type 0 where
+  pub answer : Result A Refusal
+  pub pair : PlainPair
+
+-- why a call or a turn is refused, with this supply of blocks
+abbrev pub call_refusal : Supply → PlainPair → Caller → Request ℕ → Option Refusal
+call_refusal supply p caller asked =
+    or_else (refused_at_once p.state caller asked)
+    (or_else (unless (has_room p.journal p.limits (length (payload_of asked) + content_max asked)) JournalFull)
+    (or_else (unless (is_enough supply) Enosr)
+    (refused_by_state p.state caller asked)))
+
+abbrev pub turn_refusal : Supply → PlainPair → QueueName → Option Refusal
+turn_refusal supply p name =
+    or_else (unless (is_enabled name p.state.enabled) Einval)
+    (or_else (unless (has_room p.journal p.limits 0) JournalFull)
+    (unless (is_enough supply) Enosr))
+
+-- the pair with one more entry, in another state
+abbrev pub stepped : PlainPair → PlainEntry ℕ → State ℕ → PlainPair
+stepped p entry state = record p { state = state; journal = p.journal ++ entry ∷ [] }
+
+-- a call that is refused, if it is, or carried out
+abbrev pub call_happens : Option Refusal → PlainPair → Caller → Request ℕ → Happened (Reply ℕ)
+call_happens (Some refusal) p caller asked = record { answer = Err refusal; pair = p }
+call_happens None p caller asked =
+    let outcome = called caller asked p.state in
+    record { answer = Ok outcome.answer; pair = stepped p (Called caller asked outcome.answer) outcome.state }
+
+-- a call
+unfoldable pub call_of : Supply → PlainPair → Caller → Request ℕ → Happened (Reply ℕ)
+call_of supply p caller asked = call_happens (call_refusal supply p caller asked) p caller asked
+
+abbrev pub turn_happens : Option Refusal → PlainPair → QueueName → Happened Turn
+turn_happens (Some refusal) p name = record { answer = Err refusal; pair = p }
+turn_happens None p name =
+    let outcome = turned name p.state in
+    record { answer = Ok outcome.turn; pair = stepped p (Turned name outcome.turn) outcome.state }
+
+-- a turn of a queue
+unfoldable pub turn_of : Supply → PlainPair → QueueName → Happened Turn
+turn_of supply p name = turn_happens (turn_refusal supply p name) p name
+
+-- whether an event got ENOSR
+abbrev pub is_enosr : Refusal → Bool
+is_enosr Enosr = true
+is_enosr _ = false
+
+abbrev pub is_short : {A : Type 0} → Result A Refusal → Bool
+is_short (Ok _) = false
+is_short (Err refusal) = is_enosr refusal
+
+-- what a line leads to: its answer, the pair behind it, what is left of the account, and whether an event got ENOSR
+pub record Answered : Type 0 where
+  pub line : Line
+  pub pair : Option PlainPair
+  pub account : List Supply
+  pub is_short : Bool
+
+-- a command that no pair answers
+abbrev pub unanswered : Refusal → Option PlainPair → List Supply → Answered
+unanswered refusal pair account = record { line = Refused refusal; pair = pair; account = account; is_short = false }
+
+-- a call by a command
+unfoldable pub by_call : Caller → Request ℕ → List Supply → PlainPair → Answered
+by_call caller asked account p =
+    let happened = call_of (next_of account) p caller asked in
+    record {
+      line = reply_line happened.answer;
+      pair = Some happened.pair;
+      account = rest_of account;
+      is_short = is_short happened.answer;
+    }
+
+-- a turn by a command
+unfoldable pub by_turn : QueueName → List Supply → PlainPair → Answered
+by_turn name account p =
+    let happened = turn_of (next_of account) p name in
+    record {
+      line = turn_line happened.answer;
+      pair = Some happened.pair;
+      account = rest_of account;
+      is_short = is_short happened.answer;
+    }
+
+-- turns by a command: how many were taken, and what they led to
+pub record Turns : Type 0 where
+  pub count : ℕ
+  pub pair : PlainPair
+  pub account : List Supply
+  pub is_short : Bool
+
+-- turns that end before the first
+abbrev pub no_turns : Bool → List Supply → PlainPair → Turns
+no_turns short account p = record { count = 0; pair = p; account = account; is_short = short }
+
+-- one more turn before others
+abbrev pub counted : Turns → Turns
+counted turns = record turns { count = suc turns.count }
+
+-- Turns of the first enabled queue, so many at most. They end where none is enabled, and where one is refused.
+unfoldable pub turns_of : ℕ → List Supply → PlainPair → Turns
+turns_of zero account p = no_turns false account p
+turns_of (suc n) account p =
+    elim (slice_get p.state.enabled 0) [
+      None ↦ no_turns false account p
+    | Some name ↦
+        let happened = turn_of (next_of account) p name in
+        elim happened.answer [
+          Err refusal ↦ no_turns (is_enosr refusal) (rest_of account) happened.pair
+        | Ok turn ↦ counted (turns_of n (rest_of account) happened.pair) ] ]
+
+unfoldable pub by_run : ℕ → List Supply → PlainPair → Answered
+by_run n account p =
+    let turns = turns_of n account p in
+    record { line = Ran turns.count; pair = Some turns.pair; account = turns.account; is_short = turns.is_short }
+
+-- the pair is made and its master opened, once, with 1 to 4096 blocks of each kind
+unfoldable pub by_open : ℕ → List Supply → Answered
+by_open blocks account =
+    if nat_le 1 blocks && nat_le blocks 4096
+    then by_call (record { side = Master }) calls.OpenMaster account (new_plain blocks)
+    else unanswered Einval None account
+
+-- where a pair is needed
+abbrev pub with_pair : (List Supply → PlainPair → Answered) → List Supply → Option PlainPair → Answered
+with_pair answer account None = unanswered Enxio None account
+with_pair answer account (Some p) = answer account p
+
+-- what a command leads to
+unfoldable pub answered : Command → List Supply → Option PlainPair → Answered
+answered (Open blocks) account None = by_open (unwrap_or blocks usual_blocks) account
+answered (Open blocks) account (Some p) = unanswered Einval (Some p) account
+answered Unlock account pair = with_pair (by_call (record { side = Master }) calls.Unlock) account pair
+answered OpenSlave account pair = with_pair (by_call (record { side = Slave }) calls.OpenSlave) account pair
+answered (Write side bytes) account pair = with_pair (by_call (record { side = side }) (calls.Write bytes)) account pair
+answered (Read side n) account pair = with_pair (by_call (record { side = side }) (calls.Read n)) account pair
+answered (TurnOf name) account pair = with_pair (by_turn name) account pair
+answered (Run n) account pair = with_pair (by_run n) account pair
+
+-- What lines lead to: the text, the first line in which an event got ENOSR, and the first malformed line, at which the
+-- script ends.
+pub record Told : Type 0 where
+  pub text : List ℕ
+  pub short : Option ℕ
+  pub fault : Option ℕ
+
+-- the first that is there
+abbrev pub first_of : Option ℕ → Option ℕ → Option ℕ
+first_of None second = second
+first_of (Some first) second = Some first
+
+-- a line's number, where the condition holds
+abbrev pub line_if : Bool → ℕ → Option ℕ
+line_if true n = Some n
+line_if false n = None
+
+-- what lines lead to behind a text, with the first short line before them, if any
+abbrev pub told_after : List ℕ → Option ℕ → Told → Told
+told_after text short later =
+    record { text = text ++ later.text; short = first_of short later.short; fault = later.fault }
+
+-- lines from one of this number on, for this account, on this pair
+unfoldable pub told_from : ℕ → List Supply → Option PlainPair → List (List ℕ) → Told
+told_from n account pair [] = record { text = []; short = None; fault = None }
+told_from n account pair (line ∷ lines) =
+    elim (reading line) [
+      Silent ↦ told_from (suc n) account pair lines
+    | Malformed ↦ record { text = printed_line (Wrong n); short = None; fault = Some n }
+    | Spoken command ↦
+        let here = answered command account pair in
+        told_after (printed_line here.line) (line_if here.is_short n) (told_from (suc n) here.account here.pair lines) ]
+
+-- a script, for an account of which events got too few blocks
+abbrev pub told : List Supply → List ℕ → Told
+told account bytes = told_from 1 account None (lines_of bytes)
+
+-- the text of a script
+abbrev pub script_lines : List Supply → List ℕ → List ℕ
+script_lines account bytes = (told account bytes).text
+
+-- the text of lines whose events all had the blocks that they asked for, and of a whole script
+abbrev pub plain_lines : List (List ℕ) → List ℕ
+plain_lines lines = (told_from 1 [] None lines).text
+
+abbrev pub plain_text : List ℕ → List ℕ
+plain_text bytes = plain_lines (lines_of bytes)
