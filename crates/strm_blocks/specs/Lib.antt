@@ -1,0 +1,4 @@
+pub mod Blocks
+pub mod Outcomes
+pub mod Pool
+pub mod DataBlocks

@@ -1,0 +1,9 @@
+//! Message blocks and data blocks: the trait [`Blocks`] of stores of them, and the plain store [`TableStore`].
+#![tactic(auto)]
+
+mod asked;
+mod blocks;
+mod data;
+
+pub use asked::{FlushWhat, NoBlocks, Peek};
+pub use blocks::Blocks;
