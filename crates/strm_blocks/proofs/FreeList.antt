@@ -115,3 +115,20 @@ IsFreeList-new free count all len = record {
 
 pub bounded-zeros : (count n : ℕ) → get_or (replicate count 0) n 0 ≤ 255
 bounded-zeros count n = let z = get_or-zeros count n in omega arith
+
+-- all counts, where one goes up by one, and where it goes down by one
+pub count-more : (counts : List ℕ) (d v : ℕ) → d < length counts → v ≡ get_or counts d 0 + 1 → (n : ℕ) → get_or (set counts d v) n 0 ≡ get_or counts n 0 + cond (eqb d n) 1 0
+count-more counts d v within more n =
+    elim (eqb d n) as (λ b. (eqb d n ≡ b) → get_or (set counts d v) n 0 ≡ get_or counts n 0 + cond b 1 0) [
+      true ↦ (λ e. let same : n ≡ d = grind (arith, nat_tests) in let g = set_at counts d v n same within in let u : get_or counts n 0 ≡ get_or counts d 0 = ap (λ k. get_or counts k 0) same in omega arith)
+    | false ↦ (λ e. let g = get_or-set_other counts d n v 0 (grind (arith, nat_tests)) in omega arith) ] refl
+
+pub count-fewer : (counts : List ℕ) (d v : ℕ) → d < length counts → v + 1 ≡ get_or counts d 0 → (n : ℕ) → get_or (set counts d v) n 0 + cond (eqb d n) 1 0 ≡ get_or counts n 0
+count-fewer counts d v within fewer n =
+    elim (eqb d n) as (λ b. (eqb d n ≡ b) → get_or (set counts d v) n 0 + cond b 1 0 ≡ get_or counts n 0) [
+      true ↦ (λ e. let same : n ≡ d = grind (arith, nat_tests) in let g = set_at counts d v n same within in let u : get_or counts n 0 ≡ get_or counts d 0 = ap (λ k. get_or counts k 0) same in omega arith)
+    | false ↦ (λ e. let g = get_or-set_other counts d n v 0 (grind (arith, nat_tests)) in omega arith) ] refl
+
+-- a count that goes from none to one
+pub count-taken : (counts : List ℕ) (d : ℕ) → d < length counts → get_or counts d 0 ≡ 0 → (n : ℕ) → get_or (set counts d 1) n 0 ≡ get_or counts n 0 + cond (eqb d n) 1 0
+count-taken counts d within none = count-more counts d 1 within (omega arith)

@@ -1,2 +1,9 @@
 pub mod FreeList
 pub mod Shown
+pub mod ListParts
+pub mod Nodes
+pub mod Values
+pub mod Stores
+pub mod Moves
+pub mod Frame
+pub mod Calls

@@ -2,3 +2,5 @@ pub mod Blocks
 pub mod Outcomes
 pub mod Pool
 pub mod DataBlocks
+pub mod Message
+pub mod Table

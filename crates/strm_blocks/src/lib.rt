@@ -4,6 +4,9 @@
 mod asked;
 mod blocks;
 mod data;
+mod message;
+mod table;
 
 pub use asked::{FlushWhat, NoBlocks, Peek};
 pub use blocks::Blocks;
+pub use table::{InHand, TableStore};
