@@ -4,3 +4,4 @@ pub mod Pool
 pub mod DataBlocks
 pub mod Message
 pub mod Table
+pub mod Parts

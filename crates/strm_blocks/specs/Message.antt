@@ -1,8 +1,10 @@
 -- Lists of messages as the store's fields have them.
-use Rattle.std.specs.Prelude.{ℕ, suc, ◌+◌, ◌-◌, ◌==◌, if◌then◌else◌, List, [], ◌∷◌, ◌++◌, length, take, drop, count_by, sum_by, slice_index_or}
+use Rattle.std.specs.Prelude.{ℕ, suc, Bool, option_map, ◌+◌, ◌-◌, ◌==◌, if◌then◌else◌, List, [], ◌∷◌, ◌++◌, length, take, drop, count_by, sum_by, slice_index_or}
 use Rattle.std.specs.List.{position_or_len}
 use Rattle.strm_types.specs.Message.{is_high_priority}
+use Rattle.strm_types.specs.Flush.{is_flushed}
 use Rattle.strm_types.specs.declared.kinds.MsgKind.TheVariants as kinds
+use Rattle.strm_blocks.specs.declared.asked.FlushWhat.{FlushWhat}
 use Rattle.strm_blocks.specs.declared.message.Message.{Message}
 use Rattle.strm_blocks.specs.declared.message.MessageBlock.{MessageBlock}
 
@@ -60,3 +62,7 @@ askew m = sum_by (λ b. (b.start - b.end) + (b.end - 256)) m.blocks
 -- the sum of a number over all messages, on the lists and in hand
 abbrev pub weigh : (Message → ℕ) → List (List Message) → List Message → ℕ
 weigh g lists hand = sum_by (λ q. sum_by g q) lists + sum_by g hand
+
+-- whether a flush takes a message
+abbrev pub flushes_message : FlushWhat → Message → Bool
+flushes_message what m = is_flushed what.all (option_map (λ b. b.0) what.band) (row_at 0 m.blocks).kind (row_at 0 m.blocks).band

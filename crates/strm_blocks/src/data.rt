@@ -130,6 +130,18 @@ impl DataBlocks {
         block[at..at + bytes.len()].copy_from_slice(bytes);
     }
 
+    /// Copies the bytes of a data block from one place to another to the front of another data block.
+    pub(crate) fn copy(&mut self, from: usize, start: usize, end: usize, to: usize)
+        requires from_there { from < length self.old.references }
+        requires to_there { to < length self.old.references }
+        requires ordered { start ≤ end }
+        requires within { end ≤ 256 }
+        ensures { WritesBytes self.old self.new to 0 (slice_range (slice_index_or self.old.bytes from []) start end) }
+    {
+        let block = self.bytes[from];
+        self.write(to, 0, &block[start..end]);
+    }
+
     /// Takes all references away, so that all data blocks are free.
     pub(crate) fn reset(&mut self)
         ensures { self.new ≡ record self.old { references = replicate (length self.old.references) 0 } }

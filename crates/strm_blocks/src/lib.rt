@@ -4,7 +4,10 @@
 mod asked;
 mod blocks;
 mod data;
+mod kinds;
 mod message;
+mod parts;
+mod release;
 mod table;
 
 pub use asked::{FlushWhat, NoBlocks, Peek};

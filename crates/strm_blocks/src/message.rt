@@ -155,3 +155,19 @@ pub(crate) fn replace_block(list: &mut LinkedList<Message>, name: usize, at: usi
     set_block(&mut none, at, block);
     swap_blocks(list, place, &mut none);
 }
+
+/// The first block of a chain. For a chain of no block, one of M_DATA and band 0.
+pub(crate) fn first_block(chain: &LinkedList<MessageBlock>) -> MessageBlock
+    ensures { result ≡ row_at 0 chain.now }
+{
+    match chain.front() {
+        Some(block) => *block,
+        None => MessageBlock {
+            kind: MsgKind::Data,
+            band: 0,
+            number: 0,
+            start: 0,
+            end: 0,
+        },
+    }
+}
