@@ -6,4 +6,5 @@ pub mod Values
 pub mod Stores
 pub mod Moves
 pub mod Frame
+pub mod Found
 pub mod Calls
