@@ -1,5 +1,5 @@
 -- The outcomes of the calls that take blocks, from what is done to a store's fields.
-use Rattle.std.proofs.Common.{ℕ, zero, suc, ◌≡◌, ◌≢◌, ◌≤◌, ◌<◌, ◌+◌, ◌-◌, Bool, true, false, cond, eqb, List, [], ◌∷◌, ◌++◌, length, take, drop, get_or, map, refl, sym, ap, ◌∙◌, arith, inl, inr}
+use Rattle.std.proofs.Common.{ℕ, zero, suc, ◌≡◌, ◌≢◌, ◌≤◌, ◌<◌, ◌+◌, ◌-◌, Bool, true, false, cond, eqb, List, [], ◌∷◌, ◌++◌, length, take, drop, get_or, map, refl, sym, ap, ◌∙◌, arith, inl, inr, subst}
 use Rattle.std.proofs.Math.ListN.{set, length-set}
 use Rattle.std.specs.Prelude.{sum_by, count_by, slice_range}
 use Rattle.std.proofs.lemmas.List.{get_or-set_same}
@@ -14,6 +14,11 @@ use Rattle.strm_blocks.proofs.Stores.{value, free_m-value, free_d-value, counted
 use Rattle.strm_blocks.proofs.Values.{times-value}
 use Rattle.strm_blocks.proofs.Moves.{idle-some, idle-fresh}
 use Rattle.strm_blocks.proofs.Frame.{lists-other, hand-other}
+
+-- an outcome, of values that are equal to these
+pub carried : {A B C D : Type 0} (P : A → B → C → D → Type 0) {a a' : A} {b b' : B} {c c' : C} {d d' : D} → a ≡ a' → b' ≡ b → c' ≡ c → d' ≡ d → P a b c d → P a' b' c' d'
+carried P {a} {a'} {b} {b'} {c} {c'} {d} {d'} ea eb ec ed h =
+    subst (λ x. P x b' c' d') ea (subst (λ x. P a x c' d') (sym eb) (subst (λ x. P a b x d') (sym ec) (subst (λ x. P a b c x) (sym ed) h)))
 
 module _ {mblks : ℕ} {lists : List (List Message)} {hand idle : List Message} {spare : List MessageBlock} {counts : List ℕ} (bytes : List (List ℕ)) (is : IsTable mblks lists hand idle spare counts) where
   abbrev pub old : StoreValue

@@ -64,6 +64,10 @@ module _ {mblks : ℕ} {lists : List (List Message)} {hand idle : List Message} 
   pub row-there : (n : ℕ) → n < length (message_at p hand).blocks → (row_at n (message_at p hand).blocks).number < length counts
   row-there n within = named-within counts _ (row-named n within)
 
+  -- its blocks have their places in order
+  pub message-straight : sum_by askew_row (message_at p hand).blocks ≡ 0
+  message-straight = let w = weigh-in_hand askew lists hand p there in let s = is.straight in omega arith
+
   -- its places are in order, within the data block
   pub row-straight : (n : ℕ) → n < length (message_at p hand).blocks → askew_row (row_at n (message_at p hand).blocks) ≡ 0
   row-straight n within =

@@ -7,4 +7,6 @@ pub mod Stores
 pub mod Moves
 pub mod Frame
 pub mod Found
+pub mod Edits
+pub mod Lists
 pub mod Calls
