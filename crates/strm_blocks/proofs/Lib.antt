@@ -9,4 +9,5 @@ pub mod Frame
 pub mod Found
 pub mod Edits
 pub mod Lists
+pub mod Chains
 pub mod Calls
