@@ -10,4 +10,5 @@ pub mod Found
 pub mod Edits
 pub mod Lists
 pub mod Chains
+pub mod Appends
 pub mod Calls

@@ -148,6 +148,7 @@ impl Blocks for TableStore {
         let Some(number) = self.data.take() else {
             return Err(NoBlocks);
         };
+        self.data.audit();
         self.data.copy(block.number, block.start, block.end, number);
         let copied = MessageBlock {
             kind: block.kind,
@@ -197,6 +198,7 @@ impl Blocks for TableStore {
         if self.data.references(block.number) > 1 {
             return 0;
         }
+        self.data.audit();
         let count = bytes.len().min(BLOCK_SIZE - block.end);
         self.data.write(block.number, block.end, &bytes[..count]);
         block.end += count;
