@@ -101,7 +101,7 @@ zeros-replicate : (count : ℕ) → count_by (λ r. eqb r 0) (replicate count 0)
 zeros-replicate zero = refl
 zeros-replicate (suc count) = sum_by-cons (λ r. cond (eqb r 0) 1 0) 0 (replicate count 0) ∙ (let z = zeros-replicate count in omega arith)
 
-get_or-zeros : (count n : ℕ) → get_or {A = ℕ} (replicate count 0) n 0 ≡ 0
+pub get_or-zeros : (count n : ℕ) → get_or {A = ℕ} (replicate count 0) n 0 ≡ 0
 get_or-zeros zero n = refl
 get_or-zeros (suc count) zero = refl
 get_or-zeros (suc count) (suc n) = get_or-zeros count n

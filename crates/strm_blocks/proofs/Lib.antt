@@ -11,4 +11,6 @@ pub mod Edits
 pub mod Lists
 pub mod Chains
 pub mod Appends
+pub mod Fresh
+pub mod Peeks
 pub mod Calls

@@ -280,6 +280,7 @@ impl Blocks for TableStore {
 
     fn peek(&self, list: usize) -> Option<Peek> {
         let message = self.lists[list].front()?;
+        self.data.audit();
         let block = first_block(&message.blocks);
         Some(Peek {
             kind: block.kind,
