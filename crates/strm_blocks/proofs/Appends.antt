@@ -1,13 +1,13 @@
 -- Bytes that are written behind a message in hand.
-use Rattle.std.proofs.Common.{ℕ, zero, suc, ◌≡◌, ◌≤◌, ◌<◌, ◌+◌, ◌-◌, Bool, true, false, cond, eqb, ltb, List, [], ◌∷◌, ◌++◌, length, take, drop, get_or, map, min, refl, sym, ap, ◌∙◌, arith}
-use Rattle.std.proofs.Math.ListN.{set, length-set}
-use Rattle.std.specs.Prelude.{sum_by, count_by, slice_range, ◌==◌}
+use Rattle.std.proofs.Common.{ℕ, ◌≡◌, ◌≤◌, ◌<◌, ◌+◌, ◌-◌, Bool, true, false, cond, eqb, ltb, List, [], ◌∷◌, ◌++◌, length, get_or, map, min, refl, sym, ap, ◌∙◌, arith}
+use Rattle.std.proofs.Math.ListN.{set}
+use Rattle.std.specs.Prelude.{sum_by, slice_range, ◌==◌}
 use Rattle.std.proofs.lemmas.Bool.Decides.{nat_tests}
 use Rattle.std.proofs.lemmas.List.{append-nil, set-get_or, get_or-set_same}
 use Rattle.std.proofs.lemmas.List.Sums.{get_or-le-sum_by}
-use Rattle.strm_blocks.specs.Blocks.{Block, Held, StoreValue, IsInHand, in_hand, block_at, no_block, changed, with_block, with_chain, chain_in, written, extended, last_of, taken_by, references}
-use Rattle.strm_blocks.specs.Message.{message_at, no_message, row_at, no_row, with_blocks, place_in, weigh, naming}
-use Rattle.strm_blocks.specs.Table.{shown, chain_of, held_of, lists_of, hand_of, value_of, IsTable, IsTableStore}
+use Rattle.strm_blocks.specs.Blocks.{Block, Held, StoreValue, IsInHand, in_hand, no_block, changed, with_block, with_chain, chain_in, written, extended, last_of, taken_by, references}
+use Rattle.strm_blocks.specs.Message.{no_message, row_at, no_row, with_blocks, place_in, naming}
+use Rattle.strm_blocks.specs.Table.{shown, hand_of, value_of, IsTableStore}
 use Rattle.strm_blocks.specs.declared.table.TableStore.TheInside.{Inside}
 use Rattle.strm_blocks.specs.declared.message.Message.{Message}
 use Rattle.strm_blocks.specs.declared.message.MessageBlock.{MessageBlock}
@@ -17,14 +17,15 @@ use Rattle.strm_blocks.proofs.Stores.{value, value-same, counted}
 use Rattle.strm_blocks.proofs.Frame.{is_of, lists-other, hand-set, blocks-set}
 use Rattle.strm_blocks.proofs.Found.{found, chain-is, chain-len, some-block}
 use Rattle.strm_blocks.proofs.Found.{within as found-within}
-use Rattle.strm_blocks.proofs.Edits.{row-is, named-count, there}
+use Rattle.strm_blocks.proofs.Edits.{row-is}
 
 -- a hand with the chain that it has
 with_chain-same : (i : ℕ) (hand : List Held) → with_chain i (chain_in i hand) hand ≡ hand
 with_chain-same i [] = refl
 with_chain-same i (h ∷ hand) = elim (h.name == i) as (λ b. cond b (record h { chain = cond b h.chain (chain_in i hand) } ∷ hand) (h ∷ with_chain i (cond b h.chain (chain_in i hand)) hand) ≡ h ∷ hand) [
-    true ↦ refl
-  | false ↦ ap (λ rest. h ∷ rest) (with_chain-same i hand) ]
+  | true ↦ refl
+  | false ↦ ap (λ rest. h ∷ rest) (with_chain-same i hand)
+]
 
 -- a store of lists and a hand that are equal to these
 made-of : (mblks dblks : ℕ) {lists lists' : List (List (List Block))} {hand hand' : List Held} → lists ≡ lists' → hand ≡ hand' → ◌≡◌ {A = StoreValue} (record { lists = lists; hand = hand; mblks = mblks; dblks = dblks }) (record { lists = lists'; hand = hand'; mblks = mblks; dblks = dblks })

@@ -1,13 +1,13 @@
 -- The outcomes of the calls that take blocks, from what is done to a store's fields.
-use Rattle.std.proofs.Common.{ℕ, zero, suc, ◌≡◌, ◌≢◌, ◌≤◌, ◌<◌, ◌+◌, ◌-◌, Bool, true, false, cond, eqb, List, [], ◌∷◌, ◌++◌, length, take, drop, get_or, map, refl, sym, ap, ◌∙◌, arith, inl, inr, subst}
-use Rattle.std.proofs.Math.ListN.{set, length-set}
-use Rattle.std.specs.Prelude.{sum_by, count_by, slice_range}
+use Rattle.std.proofs.Common.{ℕ, ◌≡◌, ◌<◌, ◌-◌, eqb, List, [], ◌∷◌, length, get_or, refl, sym, ◌∙◌, arith, inl, inr, subst}
+use Rattle.std.proofs.Math.ListN.{set}
+use Rattle.std.specs.Prelude.{count_by, slice_range}
 use Rattle.std.proofs.lemmas.List.{get_or-set_same}
 use Rattle.strm_types.specs.declared.kinds.MsgKind.{MsgKind}
-use Rattle.strm_blocks.specs.Blocks.{Block, StoreValue, free_m, free_d, references, new_block, copy_of, held}
+use Rattle.strm_blocks.specs.Blocks.{StoreValue, free_m, free_d}
 use Rattle.strm_blocks.specs.Outcomes.{Allocated, Duplicated, Copied, NoneFree, NoneShared}
-use Rattle.strm_blocks.specs.Message.{message_at, with_blocks, weigh, naming}
-use Rattle.strm_blocks.specs.Table.{shown, chain_of, lists_of, hand_of, held_of, IsTable}
+use Rattle.strm_blocks.specs.Message.{message_at, with_blocks}
+use Rattle.strm_blocks.specs.Table.{shown, IsTable}
 use Rattle.strm_blocks.specs.declared.message.Message.{Message}
 use Rattle.strm_blocks.specs.declared.message.MessageBlock.{MessageBlock}
 use Rattle.strm_blocks.proofs.Stores.{value, free_m-value, free_d-value, counted}

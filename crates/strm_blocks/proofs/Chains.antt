@@ -1,21 +1,21 @@
 -- Messages in hand that are linked and parted.
-use Rattle.std.proofs.Common.{ℕ, zero, suc, ◌≡◌, ◌≢◌, ◌≤◌, ◌<◌, ◌+◌, ◌-◌, Bool, true, false, cond, eqb, List, [], ◌∷◌, ◌++◌, length, take, drop, get_or, map, refl, sym, ap, ◌∙◌, arith}
-use Rattle.std.proofs.Math.ListN.{set, length-set}
-use Rattle.std.specs.Prelude.{sum_by, count_by, ◌==◌}
+use Rattle.std.proofs.Common.{ℕ, ◌≡◌, ◌≢◌, ◌≤◌, ◌<◌, ◌+◌, true, false, cond, List, [], ◌∷◌, ◌++◌, length, take, drop, map, refl, sym, ap, ◌∙◌, arith}
+use Rattle.std.proofs.Math.ListN.{set}
+use Rattle.std.specs.Prelude.{◌==◌}
 use Rattle.std.proofs.lemmas.Bool.Decides.{nat_tests}
-use Rattle.std.proofs.lemmas.List.{map-append, length-map, length-append, take-append-drop, take_all, set-get_or, length-drop, nil_from_length}
+use Rattle.std.proofs.lemmas.List.{map-append, length-map, take-append-drop, take_all, set-get_or, length-drop}
 use Rattle.std.proofs.lemmas.List.Sums.{get_or-le-sum_by, passes_at_first}
 use Rattle.strm_blocks.specs.Blocks.{Block, Held, StoreValue, IsInHand, in_hand, held, dropped, changed, chain_in, without, with_chain, times_in}
 use Rattle.strm_blocks.specs.Outcomes.{Unlinked, UnlinkedLast}
-use Rattle.strm_blocks.specs.Message.{message_at, no_message, row_at, without_at, with_blocks, place_in, weigh, named, block_count}
-use Rattle.strm_blocks.specs.Table.{shown, chain_of, held_of, hand_of, value_of, IsTable, IsTableStore}
+use Rattle.strm_blocks.specs.Message.{message_at, no_message, row_at, without_at, with_blocks, place_in, named, block_count}
+use Rattle.strm_blocks.specs.Table.{shown, chain_of, hand_of, value_of, IsTable, IsTableStore}
 use Rattle.strm_blocks.specs.declared.table.TableStore.TheInside.{Inside}
 use Rattle.strm_blocks.specs.declared.message.Message.{Message}
 use Rattle.strm_blocks.specs.declared.message.MessageBlock.{MessageBlock}
-use Rattle.strm_blocks.proofs.Nodes.{sum-without, place-within, weigh-in_hand}
+use Rattle.strm_blocks.proofs.Nodes.{sum-without, place-within}
 use Rattle.strm_blocks.proofs.Values.{blocks-value, without-value, changed-value, times-value}
 use Rattle.strm_blocks.proofs.Stores.{value}
-use Rattle.strm_blocks.proofs.Moves.{idle-fresh, idle-for-rest, hand-few, IsTable-linked, IsTable-unlinked}
+use Rattle.strm_blocks.proofs.Moves.{idle-fresh, idle-for-rest, IsTable-linked, IsTable-unlinked}
 use Rattle.strm_blocks.proofs.Found.{found, chain-is, chain-len, some-block}
 use Rattle.strm_blocks.proofs.Found.{within as found-within}
 
@@ -27,8 +27,9 @@ found-name i q within = let p = passes_at_first (λ (m : Message). m.name == i) 
 chain-without : (a b : ℕ) → a ≢ b → (hand : List Held) → chain_in a (without b hand) ≡ chain_in a hand
 chain-without a b apart [] = refl
 chain-without a b apart (h ∷ hand) = elim (h.name == b) as (λ t. (h.name == b) ≡ t → chain_in a (cond t hand (h ∷ without b hand)) ≡ chain_in a (h ∷ hand)) [
-    true ↦ (λ e. let other : (h.name == a) ≡ false = grind (arith, nat_tests) in rw other refl)
-  | false ↦ (λ e. elim (h.name == a) as (λ u. cond u h.chain (chain_in a (without b hand)) ≡ cond u h.chain (chain_in a hand)) [ true ↦ refl | false ↦ chain-without a b apart hand ]) ] refl
+  | true ↦ (λ e. let other : (h.name == a) ≡ false = grind (arith, nat_tests) in rw other refl)
+  | false ↦ (λ e. elim (h.name == a) as (λ u. cond u h.chain (chain_in a (without b hand)) ≡ cond u h.chain (chain_in a hand)) [ true ↦ refl | false ↦ chain-without a b apart hand ])
+] refl
 
 -- the first block of a chain, and the rest
 take-first : (blocks : List MessageBlock) → 0 < length blocks → take 1 blocks ≡ row_at 0 blocks ∷ []

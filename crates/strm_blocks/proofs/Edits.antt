@@ -1,24 +1,20 @@
 -- A block of a message in hand that is put in place of another one.
-use Rattle.std.proofs.Common.{ℕ, zero, suc, ◌≡◌, ◌≤◌, ◌<◌, ◌+◌, ◌-◌, Bool, true, false, cond, eqb, List, [], ◌∷◌, ◌++◌, length, take, drop, get_or, map, refl, sym, ap, ◌∙◌, arith, subst}
+use Rattle.std.proofs.Common.{ℕ, ◌≡◌, ◌≤◌, ◌<◌, ◌+◌, ◌-◌, cond, eqb, List, [], ◌∷◌, length, get_or, refl, sym, ap, ◌∙◌, arith}
 use Rattle.std.proofs.Math.ListN.{set, length-set}
-use Rattle.std.specs.Prelude.{sum_by, count_by, slice_range}
-use Rattle.std.proofs.lemmas.Bool.Decides.{nat_tests}
-use Rattle.std.proofs.lemmas.List.{map-set, get_or-set_same, length-map}
+use Rattle.std.proofs.lemmas.List.{map-set}
 use Rattle.std.proofs.lemmas.List.Sums.{sum_by-set}
-use Rattle.strm_blocks.specs.Blocks.{Block, Held, StoreValue, IsInHand, in_hand, block_at, changed, with_block, with_chain, written, trimmed_head, trimmed_tail, banded}
-use Rattle.strm_blocks.specs.Message.{message_at, row_at, no_row, with_blocks, place_in, weigh, naming}
-use Rattle.strm_blocks.specs.Pool.{WritesBytes}
-use Rattle.strm_blocks.specs.Table.{shown, chain_of, held_of, lists_of, hand_of, value_of, IsTable, IsTableStore}
+use Rattle.strm_blocks.specs.Blocks.{Block, Held, StoreValue, IsInHand, in_hand, block_at, changed, with_block, trimmed_head, trimmed_tail, banded}
+use Rattle.strm_blocks.specs.Message.{message_at, row_at, no_row, with_blocks, place_in, naming}
+use Rattle.strm_blocks.specs.Table.{shown, value_of, IsTable, IsTableStore}
 use Rattle.strm_blocks.specs.declared.table.TableStore.TheInside.{Inside}
 use Rattle.strm_blocks.specs.declared.message.Message.{Message}
 use Rattle.strm_blocks.specs.declared.message.MessageBlock.{MessageBlock}
-use Rattle.strm_blocks.proofs.Values.{changed-value, set-value}
-use Rattle.strm_blocks.proofs.Stores.{value, value-same}
+use Rattle.strm_blocks.proofs.Values.{changed-value}
+use Rattle.strm_blocks.proofs.Stores.{value}
 use Rattle.strm_blocks.proofs.Moves.{askew_row, IsTable-edited}
 use Rattle.strm_blocks.proofs.Found.{found, chain-is, block-is, block-within, row-straight, row-there, message-straight, row-named}
 use Rattle.strm_blocks.proofs.Found.{within as found-within}
 use Rattle.strm_blocks.proofs.Shown.{length-range, shown-head, shown-tail}
-use Rattle.strm_blocks.proofs.Frame.{is_of, lists-other, hand-set, blocks-set}
 
 module _ {mblks : ℕ} {lists : List (List Message)} {hand idle : List Message} {spare : List MessageBlock} {counts : List ℕ} (is : IsTable mblks lists hand idle spare counts) (p n : ℕ) (row : MessageBlock) (there : p < length hand) (within : n < length (message_at p hand).blocks) where
   -- what holds of the fields still holds

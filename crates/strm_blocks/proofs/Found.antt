@@ -1,11 +1,11 @@
 -- A message in hand, found by its name: where it is, and what its blocks are.
-use Rattle.std.proofs.Common.{ℕ, zero, suc, ◌≡◌, ◌≤◌, ◌<◌, ◌+◌, ◌-◌, Bool, true, false, cond, eqb, List, [], ◌∷◌, length, get_or, map, refl, sym, ap, ◌∙◌, arith, subst}
-use Rattle.std.specs.Prelude.{sum_by, count_by}
+use Rattle.std.proofs.Common.{ℕ, ◌≡◌, ◌<◌, cond, eqb, List, length, get_or, map, sym, ap, ◌∙◌, arith}
+use Rattle.std.specs.Prelude.{sum_by}
 use Rattle.std.proofs.lemmas.Bool.Decides.{nat_tests}
 use Rattle.std.proofs.lemmas.List.{length-map, get_or-map}
-use Rattle.std.proofs.lemmas.List.Sums.{get_or-le-sum_by, sum_by-cons}
-use Rattle.strm_blocks.specs.Blocks.{Block, Held, StoreValue, IsInHand, in_hand, block_at, no_block, times_in}
-use Rattle.strm_blocks.specs.Message.{message_at, row_at, no_row, place_in, weigh, named, naming, lacking, askew}
+use Rattle.std.proofs.lemmas.List.Sums.{get_or-le-sum_by}
+use Rattle.strm_blocks.specs.Blocks.{StoreValue, IsInHand, in_hand, block_at, no_block, times_in}
+use Rattle.strm_blocks.specs.Message.{message_at, row_at, no_row, place_in, naming, lacking, askew}
 use Rattle.strm_blocks.specs.Table.{shown, chain_of, hand_of, value_of, IsTable}
 use Rattle.strm_blocks.specs.declared.table.TableStore.TheInside.{Inside}
 use Rattle.strm_blocks.specs.declared.message.Message.{Message}

@@ -1,17 +1,17 @@
 -- The lists of a store, with messages that are put on them or taken off.
-use Rattle.std.proofs.Common.{ℕ, zero, suc, ◌≡◌, ◌≤◌, ◌<◌, ◌+◌, ◌-◌, Bool, true, false, not, cond, filter, List, [], ◌∷◌, ◌++◌, length, take, drop, get_or, map, refl, sym, ap, ◌∙◌, arith}
+use Rattle.std.proofs.Common.{ℕ, ◌≡◌, ◌≤◌, ◌<◌, ◌+◌, true, false, not, cond, filter, List, [], ◌∷◌, ◌++◌, length, take, drop, get_or, map, refl, sym, ap, ◌∙◌, arith}
 use Rattle.std.proofs.Math.ListN.{set, length-set}
 use Rattle.std.specs.Prelude.{sum_by, nat_le, nat_lt}
 use Rattle.std.specs.List.{prefix_len}
 use Rattle.std.proofs.lemmas.List.{map-set, get_or-map, get_or_default}
-use Rattle.std.proofs.lemmas.List.Sums.{sum_by-cons, get_or-le-sum_by, prefix_len-le-length}
+use Rattle.std.proofs.lemmas.List.Sums.{sum_by-cons, get_or-le-sum_by}
 use Rattle.strm_blocks.specs.Blocks.{Block, Held, StoreValue, in_hand, list_at, held, dropped, placed, put, put_back, times_in}
 use Rattle.strm_blocks.specs.Outcomes.{Popped, flushes, flushed}
-use Rattle.strm_blocks.specs.Message.{message_at, no_message, without_at, place_in, rank_in, weigh, named, flushes_message}
-use Rattle.strm_blocks.specs.Table.{shown, chain_of, held_of, lists_of, hand_of, value_of, IsTable, IsTableStore}
+use Rattle.strm_blocks.specs.Message.{message_at, without_at, place_in, rank_in, weigh, named, flushes_message}
+use Rattle.strm_blocks.specs.Table.{shown, chain_of, lists_of, value_of, IsTable, IsTableStore}
 use Rattle.strm_blocks.specs.declared.table.TableStore.TheInside.{Inside}
 use Rattle.strm_blocks.specs.declared.message.Message.{Message}
-use Rattle.strm_blocks.proofs.Nodes.{ones, sum-without, sum-put, sum-first, weigh-list}
+use Rattle.strm_blocks.proofs.Nodes.{ones, sum-without, sum-put, weigh-list}
 use Rattle.strm_blocks.proofs.Values.{without-value, put-value, put_back-value, times-value}
 use Rattle.strm_blocks.proofs.Stores.{value, value-same}
 use Rattle.strm_blocks.proofs.ListParts.{sum-filter}
@@ -52,8 +52,9 @@ filter-value bytes what [] = refl
 filter-value bytes what (m ∷ q) =
     let here : not (flushes what (chain_of bytes m)) ≡ not (flushes_message what m) = ap not (flushes-value bytes what m) in
     rw here (elim (not (flushes_message what m)) as (λ b. map (chain_of bytes) (cond b (m ∷ filter (λ m. not (flushes_message what m)) q) (filter (λ m. not (flushes_message what m)) q)) ≡ cond b (chain_of bytes m ∷ flushed what (map (chain_of bytes) q)) (flushed what (map (chain_of bytes) q))) [
-        true ↦ ap (λ (rest : List (List Block)). chain_of bytes m ∷ rest) (filter-value bytes what q)
-      | false ↦ filter-value bytes what q ])
+      | true ↦ ap (λ (rest : List (List Block)). chain_of bytes m ∷ rest) (filter-value bytes what q)
+      | false ↦ filter-value bytes what q
+    ])
 
 module _ (t : Inside) {s : StoreValue} (is : value_of t ≡ s) (holds : IsTableStore t) (k : ℕ) (eight : k < 8) where
   abbrev pub list : List Message

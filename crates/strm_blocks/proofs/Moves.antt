@@ -1,12 +1,12 @@
 -- What holds of a store's fields still holds where messages and blocks move.
-use Rattle.std.proofs.Common.{ℕ, zero, suc, ◌≡◌, ◌≢◌, ◌≤◌, ◌<◌, ◌+◌, ◌-◌, Bool, true, false, cond, eqb, List, [], ◌∷◌, ◌++◌, length, take, drop, get_or, refl, sym, ap, ◌∙◌, arith}
-use Rattle.std.proofs.Math.ListN.{set, length-set}
+use Rattle.std.proofs.Common.{ℕ, ◌≡◌, ◌≤◌, ◌<◌, ◌+◌, ◌-◌, cond, eqb, List, [], ◌∷◌, ◌++◌, length, drop, get_or, sym, ap, ◌∙◌, arith}
+use Rattle.std.proofs.Math.ListN.{set}
 use Rattle.std.specs.Prelude.{sum_by, count_by, replicate}
 use Rattle.strm_blocks.proofs.ListParts.{sums-empty}
 use Rattle.std.proofs.lemmas.Bool.Decides.{nat_tests}
 use Rattle.std.proofs.lemmas.List.{length-drop, length-append}
 use Rattle.std.proofs.lemmas.List.Sums.{sum_by-cons, sum_by-append}
-use Rattle.strm_blocks.specs.Message.{message_at, no_message, row_at, without_at, with_blocks, place_in, weigh, named, naming, lacking, block_count, askew}
+use Rattle.strm_blocks.specs.Message.{message_at, without_at, with_blocks, weigh, named, naming, lacking, block_count, askew}
 use Rattle.strm_blocks.specs.Table.{IsTable}
 use Rattle.strm_blocks.specs.declared.message.Message.{Message}
 use Rattle.strm_blocks.specs.declared.message.MessageBlock.{MessageBlock}

@@ -1,13 +1,13 @@
 -- What is seen of a message on a list.
-use Rattle.std.proofs.Common.{ℕ, zero, suc, ◌≡◌, ◌≤◌, ◌<◌, ◌+◌, ◌-◌, ◌*◌, ◌^◌, Bool, true, false, cond, eqb, List, [], ◌∷◌, length, get_or, map, filter, Option, None, Some, unwrap_or, refl, sym, ap, ◌∙◌, arith, take}
-use Rattle.std.specs.Prelude.{sum_by, take_while, slice_range}
-use Rattle.std.specs.List.{AllByRecursion, prefix_len}
+use Rattle.std.proofs.Common.{ℕ, zero, suc, ◌≡◌, ◌≤◌, ◌<◌, ◌+◌, ◌-◌, ◌*◌, ◌^◌, true, false, cond, eqb, List, [], ◌∷◌, length, get_or, map, filter, Option, None, Some, refl, sym, ap, ◌∙◌, arith}
+use Rattle.std.specs.Prelude.{sum_by, take_while}
+use Rattle.std.specs.List.{AllByRecursion}
 use Rattle.std.proofs.lemmas.List.Sums.{sum_by-cons, get_or-le-sum_by, take_while-cons}
-use Rattle.strm_blocks.specs.Blocks.{Block, StoreValue, block_at, list_at}
-use Rattle.strm_blocks.specs.Outcomes.{Peeked, PeekedFirst, part_len, control_len, body_len, is_control_kind, is_body_kind}
+use Rattle.strm_blocks.specs.Blocks.{Block, StoreValue, block_at}
+use Rattle.strm_blocks.specs.Outcomes.{PeekedFirst, part_len, control_len, body_len, is_control_kind, is_body_kind}
 use Rattle.strm_blocks.specs.Parts.{with_len, control_run, body_run}
 use Rattle.strm_blocks.specs.Message.{message_at, no_message, row_at, no_row, without_at, weigh, naming, block_count, askew}
-use Rattle.strm_blocks.specs.Table.{shown, chain_of, value_of, IsTable, IsTableStore}
+use Rattle.strm_blocks.specs.Table.{shown, chain_of, value_of, IsTableStore}
 use Rattle.strm_blocks.specs.declared.asked.Peek.{Peek}
 use Rattle.strm_blocks.specs.declared.table.TableStore.TheInside.{Inside}
 use Rattle.strm_blocks.specs.declared.message.Message.{Message}
@@ -29,6 +29,15 @@ lens blocks = sum_by (λ b. b.end - b.start) blocks
 abbrev pub lens_of : Message → ℕ
 lens_of m = lens m.blocks
 
+abbrev pub control_of : Message → Option ℕ
+control_of m = control_run None m.blocks
+
+abbrev pub body_of : Message → Option ℕ
+body_of m = body_run None m.blocks
+
+abbrev pub first_row : Message → MessageBlock
+first_row m = row_at 0 m.blocks
+
 abbrev shown_lens : List Block → ℕ
 shown_lens chain = sum_by (λ x. length x.bytes) chain
 
@@ -37,46 +46,50 @@ control-from : (bytes : List (List ℕ)) (n : ℕ) (blocks : List MessageBlock) 
 control-from bytes n [] all = let e : n ≡ n + 0 = omega arith in ap (λ (k : ℕ). Some k) e
 control-from bytes n (b ∷ blocks) all =
     rw (take_while-cons (λ (x : Block). is_control_kind x.kind) (shown bytes b) (map (shown bytes) blocks)) (elim (is_control_kind b.kind) as (λ t. cond t (control_run (with_len (Some n) b) blocks) (Some n) ≡ Some (n + shown_lens (cond t (shown bytes b ∷ take_while (λ x. is_control_kind x.kind) (map (shown bytes) blocks)) []))) [
-        true ↦ (let rest = take_while (λ (x : Block). is_control_kind x.kind) (map (shown bytes) blocks) in
-            let s = sum_by-cons (λ (x : Block). length x.bytes) (shown bytes b) rest in
-            let l = all.0 in
-            let e : n + (b.end - b.start) + shown_lens rest ≡ n + shown_lens (shown bytes b ∷ rest) = omega arith in
-            control-from bytes (n + (b.end - b.start)) blocks all.1 ∙ ap (λ (k : ℕ). Some k) e)
-      | false ↦ (let e : n ≡ n + 0 = omega arith in ap (λ (k : ℕ). Some k) e) ])
+      | true ↦ (let rest = take_while (λ (x : Block). is_control_kind x.kind) (map (shown bytes) blocks) in
+          let s = sum_by-cons (λ (x : Block). length x.bytes) (shown bytes b) rest in
+          let l = all.0 in
+          let e : n + (b.end - b.start) + shown_lens rest ≡ n + shown_lens (shown bytes b ∷ rest) = omega arith in
+          control-from bytes (n + (b.end - b.start)) blocks all.1 ∙ ap (λ (k : ℕ). Some k) e)
+      | false ↦ (let e : n ≡ n + 0 = omega arith in ap (λ (k : ℕ). Some k) e)
+    ])
 
 pub control-value : (bytes : List (List ℕ)) (blocks : List MessageBlock) → AllByRecursion (IsLong bytes) blocks → control_run None blocks ≡ control_len (map (shown bytes) blocks)
 control-value bytes [] all = refl
 control-value bytes (b ∷ blocks) all =
     rw (take_while-cons (λ (x : Block). is_control_kind x.kind) (shown bytes b) (map (shown bytes) blocks)) (elim (is_control_kind b.kind) as (λ t. cond t (control_run (with_len None b) blocks) None ≡ part_len (cond t (shown bytes b ∷ take_while (λ x. is_control_kind x.kind) (map (shown bytes) blocks)) [])) [
-        true ↦ (let rest = take_while (λ (x : Block). is_control_kind x.kind) (map (shown bytes) blocks) in
-            let s = sum_by-cons (λ (x : Block). length x.bytes) (shown bytes b) rest in
-            let l = all.0 in
-            let e : 0 + (b.end - b.start) + shown_lens rest ≡ shown_lens (shown bytes b ∷ rest) = omega arith in
-            control-from bytes (0 + (b.end - b.start)) blocks all.1 ∙ ap (λ (k : ℕ). Some k) e)
-      | false ↦ refl ])
+      | true ↦ (let rest = take_while (λ (x : Block). is_control_kind x.kind) (map (shown bytes) blocks) in
+          let s = sum_by-cons (λ (x : Block). length x.bytes) (shown bytes b) rest in
+          let l = all.0 in
+          let e : 0 + (b.end - b.start) + shown_lens rest ≡ shown_lens (shown bytes b ∷ rest) = omega arith in
+          control-from bytes (0 + (b.end - b.start)) blocks all.1 ∙ ap (λ (k : ℕ). Some k) e)
+      | false ↦ refl
+    ])
 
 -- and along the data part
 body-from : (bytes : List (List ℕ)) (n : ℕ) (blocks : List MessageBlock) → AllByRecursion (IsLong bytes) blocks → body_run (Some n) blocks ≡ Some (n + shown_lens (filter (λ b. is_body_kind b.kind) (map (shown bytes) blocks)))
 body-from bytes n [] all = let e : n ≡ n + 0 = omega arith in ap (λ (k : ℕ). Some k) e
 body-from bytes n (b ∷ blocks) all =
     elim (is_body_kind b.kind) as (λ t. body_run (cond t (with_len (Some n) b) (Some n)) blocks ≡ Some (n + shown_lens (cond t (shown bytes b ∷ filter (λ x. is_body_kind x.kind) (map (shown bytes) blocks)) (filter (λ x. is_body_kind x.kind) (map (shown bytes) blocks))))) [
-        true ↦ (let rest = filter (λ (x : Block). is_body_kind x.kind) (map (shown bytes) blocks) in
-            let s = sum_by-cons (λ (x : Block). length x.bytes) (shown bytes b) rest in
-            let l = all.0 in
-            let e : n + (b.end - b.start) + shown_lens rest ≡ n + shown_lens (shown bytes b ∷ rest) = omega arith in
-            body-from bytes (n + (b.end - b.start)) blocks all.1 ∙ ap (λ (k : ℕ). Some k) e)
-      | false ↦ body-from bytes n blocks all.1 ]
+      | true ↦ (let rest = filter (λ (x : Block). is_body_kind x.kind) (map (shown bytes) blocks) in
+          let s = sum_by-cons (λ (x : Block). length x.bytes) (shown bytes b) rest in
+          let l = all.0 in
+          let e : n + (b.end - b.start) + shown_lens rest ≡ n + shown_lens (shown bytes b ∷ rest) = omega arith in
+          body-from bytes (n + (b.end - b.start)) blocks all.1 ∙ ap (λ (k : ℕ). Some k) e)
+      | false ↦ body-from bytes n blocks all.1
+    ]
 
 pub body-value : (bytes : List (List ℕ)) (blocks : List MessageBlock) → AllByRecursion (IsLong bytes) blocks → body_run None blocks ≡ body_len (map (shown bytes) blocks)
 body-value bytes [] all = refl
 body-value bytes (b ∷ blocks) all =
     elim (is_body_kind b.kind) as (λ t. body_run (cond t (with_len None b) None) blocks ≡ part_len (cond t (shown bytes b ∷ filter (λ x. is_body_kind x.kind) (map (shown bytes) blocks)) (filter (λ x. is_body_kind x.kind) (map (shown bytes) blocks)))) [
-        true ↦ (let rest = filter (λ (x : Block). is_body_kind x.kind) (map (shown bytes) blocks) in
-            let s = sum_by-cons (λ (x : Block). length x.bytes) (shown bytes b) rest in
-            let l = all.0 in
-            let e : 0 + (b.end - b.start) + shown_lens rest ≡ shown_lens (shown bytes b ∷ rest) = omega arith in
-            body-from bytes (0 + (b.end - b.start)) blocks all.1 ∙ ap (λ (k : ℕ). Some k) e)
-      | false ↦ body-value bytes blocks all.1 ]
+      | true ↦ (let rest = filter (λ (x : Block). is_body_kind x.kind) (map (shown bytes) blocks) in
+          let s = sum_by-cons (λ (x : Block). length x.bytes) (shown bytes b) rest in
+          let l = all.0 in
+          let e : 0 + (b.end - b.start) + shown_lens rest ≡ shown_lens (shown bytes b ∷ rest) = omega arith in
+          body-from bytes (0 + (b.end - b.start)) blocks all.1 ∙ ap (λ (k : ℕ). Some k) e)
+      | false ↦ body-value bytes blocks all.1
+    ]
 
 -- what holds at each place of a chain
 by-place : (P : MessageBlock → Type 0) (blocks : List MessageBlock) → ((n : ℕ) → n < length blocks → P (row_at n blocks)) → AllByRecursion P blocks

@@ -6,8 +6,8 @@ use crate::asked::{FlushWhat, NoBlocks, Peek};
 use crate::blocks::Blocks;
 use crate::data::{BLOCK_SIZE, DataBlocks};
 use crate::message::{
-    Message, MessageBlock, block_at, blocks_of, chain_with, first_block, gather, hold, join_blocks, name_of, part_blocks, place_of,
-    put_node, replace_block, swap_blocks, take_node,
+    Message, MessageBlock, block_at, blocks_of, chain_with, first_block, gather, hold, join_blocks,
+    name_of, part_blocks, place_of, put_node, replace_block, swap_blocks, take_node,
 };
 use crate::parts::{body_len, control_len, place_before, place_behind, rank_of};
 use crate::release::{give_back, sift};

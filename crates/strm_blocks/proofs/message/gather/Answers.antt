@@ -1,6 +1,5 @@
-use Rattle.std.proofs.Common.{arith, ℕ, ◌≡◌, ◌<◌, ◌^◌, [], List, length, get_or, rules, refl, sym, ap, ◌∙◌}
+use Rattle.std.proofs.Common.{arith, [], List, length, get_or, ap, ◌∙◌}
 use Rattle.std.specs.Prelude.{sum_by}
-use Rattle.std.proofs.lemmas.Grind.{common_steps}
 use Rattle.std.proofs.lemmas.List.Sums.{get_or-le-sum_by}
 use Rattle.std.proofs.lemmas.List.{get_or_default}
 use Rattle.strm_blocks.specs.declared.message.Message.{Message}

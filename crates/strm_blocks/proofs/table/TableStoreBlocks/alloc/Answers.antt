@@ -1,4 +1,4 @@
-use Rattle.std.proofs.Common.{arith, refl, ◌≡◌, ◌<◌, ℕ, length, ap, ◌∙◌, ◌∷◌, sym, subst}
+use Rattle.std.proofs.Common.{arith, refl, ◌≡◌, ◌<◌, length, ap, ◌∙◌, ◌∷◌, sym, subst}
 use Rattle.std.proofs.Math.ListN.{length-set}
 use Rattle.std.proofs.lemmas.Bool.Decides.{nat_tests}
 use Rattle.strm_blocks.specs.Pool.{Pool}

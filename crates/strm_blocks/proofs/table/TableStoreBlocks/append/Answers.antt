@@ -1,13 +1,13 @@
-use Rattle.std.proofs.Common.{arith, ℕ, ◌≡◌, ◌<◌, ◌≤◌, ◌+◌, ◌-◌, ◌∙◌, [], List, sym, ap, length, take, min, refl}
+use Rattle.std.proofs.Common.{arith, ℕ, ◌≡◌, ◌+◌, ◌-◌, ◌∙◌, List, sym, ap, length, take}
 use Rattle.std.proofs.Math.ListN.{set}
 use Rattle.std.specs.Prelude.{slice_range}
 use Rattle.std.proofs.lemmas.List.{length-take-le}
-use Rattle.strm_blocks.specs.Blocks.{StoreValue, in_hand, changed, extended}
-use Rattle.strm_blocks.specs.Message.{row_at, with_blocks, message_at, place_in}
+use Rattle.strm_blocks.specs.Blocks.{in_hand}
+use Rattle.strm_blocks.specs.Message.{row_at, with_blocks, place_in}
 use Rattle.strm_blocks.specs.Pool.{Pool}
 use Rattle.strm_blocks.specs.declared.message.MessageBlock.{MessageBlock}
 use Rattle.strm_blocks.proofs.Found as found
-use Rattle.strm_blocks.proofs.Edits.{IsTable-replaced, in-order, there, number-is}
+use Rattle.strm_blocks.proofs.Edits.{IsTable-replaced, in-order, there}
 use Rattle.strm_blocks.proofs.Appends.{extended-none, last-within, taken-none, taken-some, appended-value, shown-after}
 use Rattle.strm_blocks.proofs.table.TableStoreBlocks.append.Goals as goal
 

@@ -1,4 +1,4 @@
-use Rattle.std.proofs.Common.{arith, ◌≡◌, ◌<◌, ◌∙◌, sym, ap, length, refl}
+use Rattle.std.proofs.Common.{arith, ◌∙◌, sym, ap, length}
 use Rattle.strm_blocks.specs.Blocks.{Block}
 use Rattle.strm_blocks.specs.Message.{row_at}
 use Rattle.strm_blocks.specs.Table.{shown}

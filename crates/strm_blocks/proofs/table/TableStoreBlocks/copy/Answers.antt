@@ -1,18 +1,15 @@
-use Rattle.std.proofs.Common.{arith, ℕ, ◌≡◌, ◌<◌, ◌+◌, ◌-◌, ◌∙◌, ◌∷◌, [], List, sym, ap, length, get_or, refl, subst}
+use Rattle.std.proofs.Common.{arith, ℕ, ◌≡◌, ◌<◌, ◌+◌, ◌-◌, ◌∙◌, ◌∷◌, [], List, sym, ap, length, get_or, refl}
 use Rattle.std.proofs.Math.ListN.{set, length-set}
 use Rattle.std.specs.Prelude.{slice_range}
 use Rattle.std.proofs.lemmas.Bool.Decides.{nat_tests}
-use Rattle.strm_blocks.specs.Blocks.{Block, StoreValue}
 use Rattle.strm_blocks.specs.Message.{row_at, with_blocks, message_at}
-use Rattle.strm_blocks.specs.Outcomes.{Copied, NoneFree}
+use Rattle.strm_blocks.specs.Outcomes.{Copied}
 use Rattle.strm_blocks.specs.Pool.{Pool}
-use Rattle.strm_blocks.specs.Table.{shown}
-use Rattle.strm_blocks.specs.declared.message.MessageBlock.{MessageBlock}
 use Rattle.strm_blocks.proofs.Calls.{carried, NoneFree-messages, NoneFree-data, Copied-value}
 use Rattle.strm_blocks.proofs.Edits.{in-order, there, row-is}
 use Rattle.strm_blocks.proofs.Found as found
 use Rattle.strm_blocks.proofs.FreeList.{count-taken}
-use Rattle.strm_blocks.proofs.Moves.{askew_row, idle-some, hand-few, IsTable-added}
+use Rattle.strm_blocks.proofs.Moves.{idle-some, hand-few, IsTable-added}
 use Rattle.strm_blocks.proofs.Shown.{length-range}
 use Rattle.strm_blocks.proofs.Stores.{value-same}
 use Rattle.strm_blocks.proofs.table.TableStoreBlocks.copy.Goals as goal

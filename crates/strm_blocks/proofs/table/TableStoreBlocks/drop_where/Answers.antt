@@ -1,4 +1,4 @@
-use Rattle.std.proofs.Common.{arith, ℕ, ◌≡◌, ◌<◌, ◌∙◌, List, filter, not, sym, ap, refl}
+use Rattle.std.proofs.Common.{arith, ◌∙◌, List, filter, not, ap}
 use Rattle.std.proofs.Math.ListN.{set, length-set}
 use Rattle.strm_blocks.specs.Message.{flushes_message}
 use Rattle.strm_blocks.specs.declared.message.Message.{Message}

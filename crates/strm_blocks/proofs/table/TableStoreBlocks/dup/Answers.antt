@@ -1,7 +1,7 @@
-use Rattle.std.proofs.Common.{arith, ℕ, ◌≡◌, ◌<◌, ◌+◌, ◌∙◌, ◌∷◌, sym, ap, length, get_or, refl, subst}
+use Rattle.std.proofs.Common.{arith, ◌≡◌, ◌<◌, ◌∙◌, ◌∷◌, sym, ap, length, get_or, refl, subst}
 use Rattle.std.proofs.Math.ListN.{length-set}
 use Rattle.std.proofs.lemmas.Bool.Decides.{nat_tests}
-use Rattle.strm_blocks.specs.Blocks.{Block, StoreValue}
+use Rattle.strm_blocks.specs.Blocks.{Block}
 use Rattle.strm_blocks.specs.Message.{row_at, with_blocks, message_at}
 use Rattle.strm_blocks.specs.Outcomes.{Duplicated, NoneShared}
 use Rattle.strm_blocks.specs.Pool.{Pool}

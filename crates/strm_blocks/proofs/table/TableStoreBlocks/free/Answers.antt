@@ -1,4 +1,4 @@
-use Rattle.std.proofs.Common.{arith, ℕ, ◌≡◌, ◌<◌, ◌∙◌, ◌∷◌, [], List, sym, ap, refl}
+use Rattle.std.proofs.Common.{arith, ◌∙◌, ◌∷◌, [], List, ap, refl}
 use Rattle.strm_blocks.specs.Blocks.{Held, StoreValue, dropped}
 use Rattle.strm_blocks.specs.Message.{message_at, without_at, place_in}
 use Rattle.strm_blocks.specs.Table.{value_of}

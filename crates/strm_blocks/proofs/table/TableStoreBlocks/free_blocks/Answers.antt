@@ -1,4 +1,4 @@
-use Rattle.std.proofs.Common.{arith, ◌∙◌, sym, ap, refl}
+use Rattle.std.proofs.Common.{◌∙◌, sym, ap, refl}
 use Rattle.strm_blocks.specs.Blocks.{StoreValue, free_m, free_d}
 use Rattle.strm_blocks.proofs.Stores.{free_m-value, free_d-value}
 use Rattle.strm_blocks.proofs.table.TableStoreBlocks.free_blocks.Goals as goal

@@ -1,4 +1,4 @@
-use Rattle.std.proofs.Common.{arith, ℕ, ◌≡◌, ◌<◌, ◌∙◌, ◌++◌, ◌∷◌, [], List, sym, ap, length, take, drop, refl}
+use Rattle.std.proofs.Common.{arith, ℕ, ◌∙◌, ◌++◌, ◌∷◌, [], List, ap, length, take, drop}
 use Rattle.std.specs.Prelude.{nat_le}
 use Rattle.std.specs.List.{prefix_len}
 use Rattle.std.proofs.lemmas.List.Sums.{prefix_len-le-length}

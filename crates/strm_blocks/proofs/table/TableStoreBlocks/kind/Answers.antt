@@ -1,7 +1,6 @@
-use Rattle.std.proofs.Common.{arith, ◌≡◌, ◌<◌, ◌∙◌, sym, ap, length, refl}
+use Rattle.std.proofs.Common.{arith, ◌∙◌, sym, ap, length}
 use Rattle.strm_blocks.specs.Blocks.{Block}
 use Rattle.strm_blocks.specs.Message.{row_at}
-use Rattle.strm_blocks.specs.Table.{shown}
 use Rattle.strm_blocks.specs.declared.message.MessageBlock.{MessageBlock}
 use Rattle.strm_blocks.proofs.Found as found
 use Rattle.strm_blocks.proofs.table.TableStoreBlocks.kind.Goals as goal

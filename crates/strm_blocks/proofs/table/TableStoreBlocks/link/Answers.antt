@@ -1,4 +1,4 @@
-use Rattle.std.proofs.Common.{arith, ◌≡◌, ◌<◌, ◌∙◌, ◌∷◌, ◌++◌, [], List, sym, ap, length}
+use Rattle.std.proofs.Common.{arith, ◌∙◌, ◌∷◌, ◌++◌, [], List, ap, length}
 use Rattle.std.proofs.Math.ListN.{set}
 use Rattle.strm_blocks.specs.Message.{message_at, without_at, with_blocks, place_in}
 use Rattle.strm_blocks.specs.declared.message.Message.{Message}

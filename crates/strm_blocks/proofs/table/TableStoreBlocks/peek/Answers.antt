@@ -1,11 +1,10 @@
-use Rattle.std.proofs.Common.{arith, ◌≡◌, ◌<◌, ◌∙◌, List, ap, length, get_or, None, refl}
+use Rattle.std.proofs.Common.{arith, ◌<◌, ◌∙◌, List, ap, length, get_or, refl}
 use Rattle.std.proofs.lemmas.List.{get_or_default}
-use Rattle.strm_blocks.specs.Message.{message_at, no_message, row_at}
-use Rattle.strm_blocks.specs.Parts.{control_run, body_run}
+use Rattle.strm_blocks.specs.Message.{message_at, no_message}
 use Rattle.strm_blocks.specs.declared.message.Message.{Message}
 use Rattle.strm_blocks.specs.declared.message.MessageBlock.{MessageBlock}
 use Rattle.strm_blocks.proofs.Lists.{list, list-read}
-use Rattle.strm_blocks.proofs.Peeks.{lens_of, first-few, peeked-value}
+use Rattle.strm_blocks.proofs.Peeks.{lens_of, control_of, body_of, first_row, first-few, peeked-value}
 use Rattle.strm_blocks.proofs.table.TableStoreBlocks.peek.Goals as goal
 
 pub control_len-requires : goal.control_len-requires
@@ -43,9 +42,9 @@ returns c =
     let has = c.in_ok-message.ensures.variant.0 refl in
     let some : 0 < length (list t c.self.view_is c.self.invariant k c.requires) = omega arith in
     let first = c.in_ok-message.ensures.lookup ∙ get_or_default (get_or t.lists k c.index-self-list.result) 0 c.in_ok-message.message.now no_message has ∙ ap (λ (q : List Message). message_at 0 q) read in
-    let block = c.first_block-block.ensures ∙ ap (λ (m : Message). row_at 0 m.blocks) first in
+    let block = c.first_block-block.ensures ∙ ap first_row first in
     let kind = ap (λ (b : MessageBlock). b.kind) block in
     let band = ap (λ (b : MessageBlock). b.band) block in
-    let control = c.control_len.ensures ∙ ap (λ (m : Message). control_run None m.blocks) first in
-    let body = c.body_len.ensures ∙ ap (λ (m : Message). body_run None m.blocks) first in
+    let control = c.control_len.ensures ∙ ap control_of first in
+    let body = c.body_len.ensures ∙ ap body_of first in
     peeked-value t c.self.view_is c.self.invariant k c.requires some _ kind band control body c.audit.ensures.sized

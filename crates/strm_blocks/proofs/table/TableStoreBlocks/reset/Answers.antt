@@ -1,6 +1,4 @@
-use Rattle.std.proofs.Common.{arith, ◌∙◌, ap, length}
-use Rattle.std.specs.Prelude.{replicate}
-use Rattle.strm_blocks.specs.declared.message.Message.{Message}
+use Rattle.std.proofs.Common.{arith, ap, length}
 use Rattle.strm_blocks.proofs.Moves as moves
 use Rattle.strm_blocks.proofs.table.TableStoreBlocks.reset.Goals as goal
 

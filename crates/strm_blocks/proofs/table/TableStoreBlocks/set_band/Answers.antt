@@ -1,4 +1,4 @@
-use Rattle.std.proofs.Common.{arith, ℕ, ◌≡◌, ◌<◌, ◌∙◌, sym, ap, length, refl}
+use Rattle.std.proofs.Common.{arith, ◌∙◌, sym, ap, length}
 use Rattle.strm_blocks.specs.Blocks.{Block, changed, with_block, in_hand}
 use Rattle.strm_blocks.specs.Message.{row_at}
 use Rattle.strm_blocks.specs.declared.message.MessageBlock.{MessageBlock}

@@ -1,8 +1,6 @@
-use Rattle.std.proofs.Common.{arith, ℕ, ◌≡◌, ◌<◌, ◌≤◌, ◌+◌, ◌-◌, ◌∙◌, sym, ap, length, refl}
-use Rattle.strm_blocks.specs.Blocks.{Block, changed, with_block, in_hand, trimmed_tail}
+use Rattle.std.proofs.Common.{arith, ◌-◌, ◌∙◌, ap, length}
+use Rattle.strm_blocks.specs.Blocks.{Block, changed, with_block, in_hand}
 use Rattle.strm_blocks.specs.Message.{row_at}
-use Rattle.strm_blocks.specs.Table.{shown}
-use Rattle.strm_blocks.specs.declared.message.MessageBlock.{MessageBlock}
 use Rattle.strm_blocks.proofs.Edits.{IsTable-replaced, replaced-value, bytes-len, in-order, number-is, tail-is}
 use Rattle.strm_blocks.proofs.Found as found
 use Rattle.strm_blocks.proofs.table.TableStoreBlocks.trim_tail.Goals as goal
