@@ -1,5 +1,5 @@
 -- The calls on a pair: what each one does where nothing refuses it.
-use Rattle.std.specs.Prelude.{ℕ, Bool, true, false, not, min, ◌==◌, ◌||◌, if◌then◌else◌, List, [], ◌∷◌, map}
+use Rattle.std.specs.Prelude.{ℕ, Bool, true, false, not, min, ◌==◌, if◌then◌else◌, List, [], map}
 use Rattle.strm_types.specs.declared.answers.TheConstants.{READ_MAX}
 use Rattle.strm_types.specs.declared.answers.Answer.{Answer}
 use Rattle.strm_types.specs.declared.answers.Answer.TheVariants as answers
@@ -9,9 +9,9 @@ use Rattle.strm_types.specs.declared.events.Caller.{Caller}
 use Rattle.strm_types.specs.declared.names.Side.{Side}
 use Rattle.strm_types.specs.Names.{other, driver_of, enable_if}
 use Rattle.strm_types.specs.Queue.{Queue, left_with, relieved, relieves}
-use Rattle.strm_types.specs.State.{State, Stream, stream, with_stream, with_driver_queue, with_head_queue, new_head}
+use Rattle.strm_types.specs.State.{State, stream, with_stream, with_driver_queue, with_head_queue, new_head}
 use Rattle.strm_types.specs.Head.{Taken, head_read}
-use Rattle.strm_types.specs.Write.{Sent, written}
+use Rattle.strm_types.specs.Write.{written}
 use Rattle.strm_types.specs.Turns.{is_none_left}
 
 -- a call with its bytes

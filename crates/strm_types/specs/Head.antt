@@ -1,8 +1,7 @@
 -- What a read takes from a stream head (read(2), streamio(7I): byte-stream mode, RNORM).
-use Rattle.std.specs.Prelude.{ℕ, Bool, true, false, ◌==◌, ◌||◌, ◌-◌, nat_lt, if◌then◌else◌, List, [], ◌∷◌, ◌++◌, take, drop, Option, None, Some}
-use Rattle.strm_types.specs.Message.{Message, cells_of, size_of, data_message}
+use Rattle.std.specs.Prelude.{ℕ, ◌==◌, ◌||◌, ◌-◌, nat_lt, if◌then◌else◌, List, [], ◌∷◌, ◌++◌, take, drop, None, Some}
+use Rattle.strm_types.specs.Message.{Message, cells_of, size_of}
 use Rattle.strm_types.specs.Queue.{put_back}
-use Rattle.strm_types.specs.declared.answers.TheConstants.{READ_MAX}
 
 -- the cells that a read gives, and the messages that it leaves
 pub record Taken (C : Type 0) : Type 0 where
@@ -21,8 +20,8 @@ module _ {C : Type 0} where
   gathered n (m ∷ q) =
       if n == 0 || size_of m == 0 then record { given = []; left = m ∷ q }
       else (if nat_lt n (size_of m)
-          then record { given = take n (cells_of m); left = put_back (rest_of n m) q }
-          else (let more = gathered (n - size_of m) q in record { given = cells_of m ++ more.given; left = more.left }))
+      then record { given = take n (cells_of m); left = put_back (rest_of n m) q }
+      else (let more = gathered (n - size_of m) q in record { given = cells_of m ++ more.given; left = more.left }))
 
   -- A read of up to n cells. Nothing is taken for none. A zero-length message that stands first is removed, and no cell
   -- is given.

@@ -11,3 +11,5 @@ pub mod Calls
 pub mod Refused
 pub mod Journal
 pub mod Step
+pub mod Pair
+pub mod Numbers

@@ -1,7 +1,7 @@
 -- A message as its users see it: without blocks (STREAMS Programming Guide, "Messages").
 use Rattle.std.specs.Prelude.{ℕ, Bool, true, false, List, [], ◌++◌, length, ◌+◌, map, if◌then◌else◌, Option, None, Some, unwrap_or, option_map, count_by}
 use Rattle.strm_types.specs.declared.kinds.MsgKind.{MsgKind}
-use Rattle.strm_types.specs.declared.kinds.MsgKind.TheVariants.{Data, Proto, Sig, Ctl, Ioctl, Setopts, Iocack, Iocnak, Pcproto, Pcsig, Read, Flush, Stop, Start, Hangup, Error}
+use Rattle.strm_types.specs.declared.kinds.MsgKind.TheVariants.{Data, Proto, Sig, Ctl, Ioctl, Setopts}
 
 -- A message of cells: bytes, or bytes with their origin. Its control part and its data part are each absent or a list
 -- of cells. The bytes of kinds that no ledger books (all but M_DATA, M_PROTO, M_PCPROTO) are no cells: they are `plain`.

@@ -1,5 +1,5 @@
 -- Names of queues, and lists of them in which each stands once.
-use Rattle.std.specs.Prelude.{ℕ, Bool, true, false, ◌&&◌, ◌||◌, not, if◌then◌else◌, List, [], ◌∷◌, ◌++◌, filter}
+use Rattle.std.specs.Prelude.{ℕ, ◌+◌, ◌≤◌, Bool, true, false, ◌&&◌, not, if◌then◌else◌, List, [], ◌∷◌, ◌++◌, filter}
 use Rattle.std.specs.List.{list_any}
 use Rattle.strm_types.specs.declared.names.Side.{Side}
 use Rattle.strm_types.specs.declared.names.Side.TheVariants.{Master, Slave}
@@ -60,3 +60,12 @@ enable_if condition name names = if condition then enable name names else names
 -- the names without one of them
 abbrev pub without : QueueName → List QueueName → List QueueName
 without name names = filter (λ n. not (same_queue n name)) names
+
+-- how often a name stands in a list
+abbrev pub times : QueueName → List QueueName → ℕ
+times name [] = 0
+times name (n ∷ names) = (if same_queue n name then 1 else 0) + times name names
+
+-- each name stands there at most once
+abbrev pub IsOnce : List QueueName → Type 0
+IsOnce names = (name : QueueName) → times name names ≤ 1

@@ -1,13 +1,13 @@
 -- Queues: their order, their counts and flow control (putq(9F), getq(9F), STREAMS Programming Guide, "Flow Control").
-use Rattle.std.specs.Prelude.{ℕ, zero, suc, Bool, true, false, not, ◌&&◌, ◌||◌, ◌==◌, nat_le, nat_lt, if◌then◌else◌, List, [], ◌∷◌, map, sum_by, replicate, slice_index_or}
+use Rattle.std.specs.Prelude.{ℕ, zero, suc, Bool, true, false, not, ◌&&◌, ◌||◌, ◌==◌, nat_le, nat_lt, if◌then◌else◌, List, [], ◌∷◌, map, sum_by, replicate, slice_index_or, Option, None, Some}
 use Rattle.strm_types.specs.Ranked as ranked
 use Rattle.strm_types.specs.Message.{Message, rank_of, band_of, size_of, weight_of, is_high_priority, map_message}
 
 -- the flow control of one band of a queue
 pub record Flow : Type 0 where
-  pub high : ℕ          -- the high-water mark: a count from it on is full
-  pub low : ℕ           -- the low-water mark: a count down to it lets writers go on
-  pub want_write : Bool -- a service procedure found the band full
+  pub high : ℕ  -- the high-water mark: a count from it on is full
+  pub low : ℕ  -- the low-water mark: a count down to it lets writers go on
+  pub want_write : Bool  -- a service procedure found the band full
 
 -- A queue: its messages, the first one first, the flow control of its bands from 0 up, and its flags.
 pub record Queue (C : Type 0) : Type 0 where
@@ -32,6 +32,20 @@ module _ {C : Type 0} where
   -- putbq(9F): in front of all messages of at most this rank
   abbrev pub put_back : Message C → List (Message C) → List (Message C)
   put_back = ranked.put_back rank_of
+
+  -- getq(9F): the first message, and the rest
+  abbrev pub take_first : List (Message C) → Option (Message C × List (Message C))
+  take_first [] = None
+  take_first (first ∷ rest) = Some (first, rest)
+
+  -- several messages put one after the other
+  abbrev pub put_all : List (Message C) → List (Message C) → List (Message C)
+  put_all [] q = q
+  put_all (m ∷ more) q = put_all more (put m q)
+
+  -- the lanes from a rank down to 0, joined
+  abbrev pub lanes_down : ℕ → List (Message C) → List (Message C)
+  lanes_down = ranked.lanes_down rank_of
 
   -- how many bytes count in a band
   abbrev pub count_of : ℕ → List (Message C) → ℕ

@@ -1,9 +1,8 @@
 -- Which refusal a call or a turn meets: the first whose condition holds, in this order. A side that isn't open; an
 -- argument; a full journal; too few free blocks; what the state says.
-use Rattle.std.specs.Prelude.{ℕ, Bool, true, false, not, ◌&&◌, ◌||◌, ◌==◌, nat_lt, nat_le, ◌+◌, List, [], ◌∷◌, length, Option, None, Some}
+use Rattle.std.specs.Prelude.{ℕ, Bool, true, false, not, ◌&&◌, ◌||◌, ◌==◌, nat_lt, nat_le, ◌+◌, ◌-◌, List, length, Option, None, Some}
 use Rattle.strm_types.specs.declared.limits.Config.{Config}
 use Rattle.strm_types.specs.declared.events.Caller.{Caller}
-use Rattle.strm_types.specs.declared.names.Side.{Side}
 use Rattle.strm_types.specs.declared.names.QueueName.{QueueName}
 use Rattle.strm_types.specs.declared.refusals.Refusal.{Refusal}
 use Rattle.strm_types.specs.declared.refusals.Refusal.TheVariants.{Einval, Eagain, Enxio, Enosr, JournalFull}
@@ -20,6 +19,10 @@ pub record Free : Type 0 where
   pub mblks : ℕ
   pub dblks : ℕ
 
+-- the blocks that are free, where so many are used of each kind
+abbrev pub free_beside : ℕ → Config → Free
+free_beside used limits = record { mblks = limits.mblks - used; dblks = limits.dblks - used }
+
 -- the first refusal, else the second
 abbrev pub or_else : Option Refusal → Option Refusal → Option Refusal
 or_else None second = second
@@ -34,7 +37,12 @@ unless false refusal = Some refusal
 abbrev pub enough : ℕ → Free → Bool
 enough need free = nat_le need free.mblks && nat_le need free.dblks
 
--- how many blocks of each kind have to be free for a call, whatever it then takes of them
+-- how many blocks of each kind a call may take: a write one for each of its messages
+abbrev pub blocks_taken : {C : Type 0} → Request C → ℕ
+blocks_taken (Write cells) = chunk_count (length cells)
+blocks_taken _ = 0
+
+-- how many blocks of each kind have to be free for a call: a write wants 32 more than it may take
 abbrev pub blocks_asked : {C : Type 0} → Request C → ℕ
 blocks_asked (Write cells) = 32 + chunk_count (length cells)
 blocks_asked _ = 0

@@ -8,7 +8,7 @@ use Rattle.strm_types.specs.declared.names.Place.TheVariants.{Head, Ldterm, Driv
 use Rattle.strm_types.specs.declared.names.QueueName.{QueueName}
 use Rattle.strm_types.specs.Message.{Message, size_of, band_of, is_held}
 use Rattle.strm_types.specs.Queue.{Queue, is_full, put_on, relieved, with_writer_at}
-use Rattle.strm_types.specs.Names.{other, driver_of, without, enable, enable_if}
+use Rattle.strm_types.specs.Names.{other, driver_of, without, enable_if}
 use Rattle.strm_types.specs.State.{State, Stream, stream, with_stream, with_driver_queue, with_head_queue}
 
 -- what a turn of a driver's queue does: its answer, the stream that it is of, and the other side's
@@ -49,16 +49,16 @@ module _ {C : Type 0} where
   driver_serves (m ∷ rest) from to =
       if not to.is_open then record { turn = Blocked; from = with_driver_queue (held_back from.driver.queue) from; to = to }
       else (if is_stopped m to.head.queue
-          then record {
-            turn = Blocked;
-            from = with_driver_queue (held_back from.driver.queue) from;
-            to = with_head_queue (record to.head.queue { flows = with_writer_at (band_of m) to.head.queue.flows }) to;
-          }
-          else record {
-            turn = Moved (size_of m);
-            from = with_driver_queue (moved_on (size_of m) rest from.driver.queue) from;
-            to = with_head_queue (put_on m to.head.queue) to;
-          })
+      then record {
+        turn = Blocked;
+        from = with_driver_queue (held_back from.driver.queue) from;
+        to = with_head_queue (record to.head.queue { flows = with_writer_at (band_of m) to.head.queue.flows }) to;
+      }
+      else record {
+        turn = Moved (size_of m);
+        from = with_driver_queue (moved_on (size_of m) rest from.driver.queue) from;
+        to = with_head_queue (put_on m to.head.queue) to;
+      })
 
   -- whether a turn put its queue back among the enabled ones: it moved a message, and more stand there
   abbrev pub goes_on : Turn → Queue C → Bool

@@ -1,11 +1,11 @@
 -- What a write sends down a stream (write(2), streamio(7I)).
-use Rattle.std.specs.Prelude.{ℕ, zero, suc, Bool, true, false, not, ◌||◌, ◌+◌, ◌/◌, max, if◌then◌else◌, List, [], ◌∷◌, length, take, drop}
-use Rattle.strm_types.specs.Message.{Message, data_message}
+use Rattle.std.specs.Prelude.{ℕ, zero, suc, Bool, false, ◌||◌, ◌+◌, ◌/◌, max, if◌then◌else◌, List, [], ◌∷◌, length, take, drop}
+use Rattle.strm_types.specs.Message.{data_message}
 use Rattle.strm_types.specs.Queue.{Queue, is_full, put_on, put_enables}
 
 -- how many messages a write of so many bytes makes: one for each begun 256 bytes, at least one
 unfoldable pub chunk_count : ℕ → ℕ
-chunk_count bytes = max 1 ((bytes + 255) / 256)
+chunk_count bytes = max ((bytes + 255) / 256) 1
 
 -- what a write has sent: the bytes that it took, the queue below, and whether that was enabled
 pub record Sent (C : Type 0) : Type 0 where
@@ -25,8 +25,8 @@ module _ {C : Type 0} where
   sent (chunk ∷ chunks) q =
       if is_full 0 q then record { taken = 0; queue = q; enables = false }
       else (let m = data_message chunk in
-            let more = sent chunks (put_on m q) in
-            record { taken = length chunk + more.taken; queue = more.queue; enables = put_enables m q || more.enables })
+      let more = sent chunks (put_on m q) in
+      record { taken = length chunk + more.taken; queue = more.queue; enables = put_enables m q || more.enables })
 
   -- a write of these bytes
   abbrev pub written : List C → Queue C → Sent C

@@ -33,5 +33,8 @@ pub enum Entry {
         event: EventShape,
         answer: AnswerShape,
     },
-    Turned { queue: QueueName, turn: Turn },
+    Turned {
+        queue: QueueName,
+        turn: Turn,
+    },
 }

@@ -7,6 +7,7 @@ mod answers;
 mod entries;
 mod events;
 mod kinds;
+pub mod laws;
 mod limits;
 mod names;
 mod refusals;

@@ -1,5 +1,8 @@
 //! Why a call is refused.
 
+ghost use Rattle.std.specs.Prelude.{◌≡◌};
+ghost use Rattle.strm_types.specs.Numbers.{number_of};
+
 use thiserror::Error;
 
 /// Why a call is refused. A refused call changes nothing. Each refusal has a number, from 1.
@@ -30,6 +33,7 @@ pub enum Refusal {
 impl Refusal {
     /// The number of the refusal, from 1 for EINVAL to 10 for StillShared.
     pub fn number(self) -> u8
+        ensures { result ≡ number_of self }
     {
         self as u8
     }

@@ -1,0 +1,9 @@
+-- The room that is asked for is room in the buffers.
+use Rattle.strm_pair.specs.Pairs.{journal_of}
+use Rattle.strm_pair.proofs.JournalLemmas.{room-means}
+use Rattle.strm_pair.proofs.journal.Journal.add_turn.Goals as goal
+
+pub add-requires-clause-room_entries : goal.add-requires-clause-room_entries
+unfolding journal_of
+add-requires-clause-room_entries c =
+    let j = c.args.self.now in (room-means j.entries.items j.bytes.items j.most_entries j.most_bytes _ j.stored.lengths c.requires.room).0

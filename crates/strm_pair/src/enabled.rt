@@ -1,0 +1,89 @@
+//! The list of enabled queues.
+
+ghost use Rattle.std.specs.Prelude.{◌≡◌, [], length};
+ghost use Rattle.strm_types.specs.Names.{is_enabled, enable, enable_if, without, same_queue};
+
+use arrayvec::ArrayVec;
+use std::marker::Model;
+use strm_types::QueueName;
+
+/// The enabled queues, in order of enabling, each once. Contracts see their names as a list.
+#[derive(Drop)]
+pub(crate) struct Enabled {
+    names: ArrayVec<QueueName, 12>,
+}
+
+impl Model for Enabled {
+    ghost use Rattle.std.specs.Prelude.{List};
+    ghost use Rattle.strm_types.specs.declared.names.QueueName.{QueueName};
+    ghost use Rattle.strm_types.specs.Names.{IsOnce};
+
+    ghost Value = { List QueueName };
+
+    ghost view = { λ e. e.names.items };
+
+    ghost invariant = { λ e. IsOnce e.names.items };
+}
+
+// Whether two names are of one queue.
+fn is_same(a: QueueName, b: QueueName) -> bool
+    ensures { result ≡ same_queue a b }
+{
+    a == b
+}
+
+impl Enabled {
+    /// No queue.
+    pub fn new() -> Enabled
+        ensures { result ≡ [] }
+    {
+        Enabled {
+            names: ArrayVec::new(),
+        }
+    }
+
+    /// The names, in order of enabling.
+    pub fn as_slice(&self) -> &[QueueName]
+        ensures { result.now ≡ self.now }
+    {
+        self.names.as_slice()
+    }
+
+    /// Whether a queue is enabled.
+    pub fn contains(&self, name: QueueName) -> bool
+        ensures { result ≡ is_enabled name self.now }
+    {
+        self.names.as_slice().contains(&name)
+    }
+
+    /// Enables a queue, behind all others, unless it is enabled.
+    pub fn enable(&mut self, name: QueueName)
+        ensures { self.new ≡ enable name self.old }
+    {
+        if !self.contains(name) {
+            self.names.push(name);
+        }
+    }
+
+    /// Enables a queue on a condition.
+    pub fn enable_if(&mut self, condition: bool, name: QueueName)
+        ensures { self.new ≡ enable_if condition name self.old }
+    {
+        if condition {
+            self.enable(name);
+        }
+    }
+
+    /// Takes a queue off the list.
+    pub fn remove(&mut self, name: QueueName)
+        ensures { self.new ≡ without name self.old }
+    {
+        let mut rest = ArrayVec::new();
+        for other in self.names.as_slice() {
+            if !is_same(*other, name) {
+                rest.push(*other);
+            }
+        }
+        self.names = rest;
+    }
+}

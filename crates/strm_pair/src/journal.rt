@@ -1,0 +1,137 @@
+//! The journal of a pair.
+
+ghost use Rattle.std.specs.Prelude.{◌≡◌, ◌+◌, ◌≤◌, ◌<◌, [], ◌∷◌, ◌++◌, length, vec_capacity, true, IfOk};
+ghost use Rattle.strm_types.specs.Journal.{entry_in, entry_len, payload_of, content_of, Called, Turned};
+ghost use Rattle.strm_types.specs.Calls.{request, reply};
+ghost use Rattle.strm_pair.specs.Journals.{IsStored, IsEventShape, IsAnswerShape, has_room_for};
+
+use std::alloc::{AllocError, Global};
+use strm_types::{Answer, AnswerShape, Caller, Entry, Event, EventShape, QueueName, Turn};
+
+/// All that was carried out on a pair, in order: the entries, and their bytes in a buffer. Both have their room from
+/// the beginning.
+#[derive(Drop)]
+pub(crate) struct Journal {
+    pub entries: Vec<Entry>,
+    pub bytes: Vec<u8>,
+    pub most_entries: usize,
+    pub most_bytes: usize,
+    pub ghost stored: { IsStored entries.items bytes.items (vec_capacity entries) (vec_capacity bytes) most_entries most_bytes },
+}
+
+// A call without its bytes.
+fn event_shape(event: &Event<'_>) -> EventShape
+    ensures { IsEventShape result (request event.now) }
+{
+    match event {
+        Event::OpenMaster => EventShape::OpenMaster,
+        Event::Unlock => EventShape::Unlock,
+        Event::OpenSlave => EventShape::OpenSlave,
+        Event::Write { bytes } => EventShape::Write { len: bytes.len() },
+        Event::Read { n } => EventShape::Read { n: *n },
+    }
+}
+
+// An answer without its bytes.
+fn answer_shape(answer: &Answer) -> AnswerShape
+    ensures { IsAnswerShape result (reply answer.now) }
+{
+    match answer {
+        Answer::Done => AnswerShape::Done,
+        Answer::Count(n) => AnswerShape::Count(*n),
+        Answer::Bytes(bytes) => AnswerShape::Bytes { len: bytes.len() },
+    }
+}
+
+/// The bytes of a call that the journal keeps.
+pub(crate) fn payload<'a>(event: &Event<'a>) -> &'a [u8]
+    ensures { result.now ≡ payload_of (request event.now) }
+{
+    match event {
+        Event::Write { bytes } => bytes,
+        Event::OpenMaster | Event::Unlock | Event::OpenSlave | Event::Read { .. } => &[],
+    }
+}
+
+// The bytes of an answer that the journal keeps.
+fn content(answer: &Answer) -> &[u8]
+    ensures { result.now ≡ content_of (reply answer.now) }
+{
+    match answer {
+        Answer::Bytes(bytes) => bytes.as_slice(),
+        Answer::Done | Answer::Count(_) => &[],
+    }
+}
+
+// Adds bytes to a buffer that has room for them.
+fn append(buffer: &mut Vec<u8>, bytes: &[u8])
+    requires { length buffer.old.items + length bytes.now ≤ vec_capacity buffer.old }
+    ensures items { buffer.new.items ≡ buffer.old.items ++ bytes.now }
+    ensures capacity { vec_capacity buffer.old ≤ vec_capacity buffer.new }
+{
+    buffer.extend_from_slice(bytes).unwrap();
+}
+
+impl Journal {
+    ghost use Rattle.strm_pair.specs.Pairs.{journal_of};
+
+    /// An empty journal with room for so many entries, and for so many of their bytes.
+    pub fn new(alloc: Global, most_entries: usize, most_bytes: usize) -> Result<Journal, AllocError>
+        ensures empty { IfOk result (λ j. journal_of j ≡ []) }
+        ensures most_entries { IfOk result (λ j. j.most_entries ≡ most_entries) }
+        ensures most_bytes { IfOk result (λ j. j.most_bytes ≡ most_bytes) }
+    {
+        Ok(Journal {
+            entries: Vec::with_capacity(alloc, most_entries)?,
+            bytes: Vec::with_capacity(alloc, most_bytes)?,
+            most_entries,
+            most_bytes,
+        })
+    }
+
+    /// Whether one more entry with so many bytes fits.
+    pub fn has_room(&self, bytes: usize) -> bool
+        ensures { result ≡ has_room_for (journal_of self.now) self.now.most_entries self.now.most_bytes bytes }
+    {
+        self.entries.len() < self.most_entries && bytes <= self.most_bytes - self.bytes.len()
+    }
+
+    // Adds an entry with its bytes.
+    fn add(&mut self, entry: Entry, payload: &[u8], content: &[u8])
+        requires lengths { entry_len entry ≡ length payload.now + length content.now }
+        requires room_entries { length self.old.entries.items < self.old.most_entries }
+        requires room_bytes { length self.old.bytes.items + (length payload.now + length content.now) ≤ self.old.most_bytes }
+        ensures added { journal_of self.new ≡ journal_of self.old ++ entry_in entry (payload.now ++ content.now) ∷ [] }
+        ensures most_entries { self.new.most_entries ≡ self.old.most_entries }
+        ensures most_bytes { self.new.most_bytes ≡ self.old.most_bytes }
+    {
+        self.entries.push_reserved(entry);
+        append(&mut self.bytes, payload);
+        append(&mut self.bytes, content);
+    }
+
+    /// Adds a call with its answer.
+    pub fn add_call(&mut self, caller: Caller, event: &Event<'_>, answer: &Answer)
+        requires room { has_room_for (journal_of self.old) self.old.most_entries self.old.most_bytes (length (payload_of (request event.now)) + length (content_of (reply answer.now))) ≡ true }
+        ensures added { journal_of self.new ≡ journal_of self.old ++ Called caller (request event.now) (reply answer.now) ∷ [] }
+        ensures most_entries { self.new.most_entries ≡ self.old.most_entries }
+        ensures most_bytes { self.new.most_bytes ≡ self.old.most_bytes }
+    {
+        let entry = Entry::Called {
+            caller,
+            event: event_shape(event),
+            answer: answer_shape(answer),
+        };
+        self.add(entry, payload(event), content(answer));
+    }
+
+    /// Adds a turn with its answer.
+    pub fn add_turn(&mut self, queue: QueueName, turn: Turn)
+        requires room { has_room_for (journal_of self.old) self.old.most_entries self.old.most_bytes 0 ≡ true }
+        ensures added { journal_of self.new ≡ journal_of self.old ++ Turned queue turn ∷ [] }
+        ensures most_entries { self.new.most_entries ≡ self.old.most_entries }
+        ensures most_bytes { self.new.most_bytes ≡ self.old.most_bytes }
+    {
+        self.add(Entry::Turned { queue, turn }, &[], &[]);
+    }
+}

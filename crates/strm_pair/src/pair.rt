@@ -1,0 +1,183 @@
+//! The pair: calls, turns, and the journal of what was carried out.
+
+ghost use Rattle.std.specs.Prelude.{◌≡◌, ◌≤◌, ◌<◌, ◌+◌, length, MatchOption, IsOk, Err, IfOk, slice_get};
+ghost use Rattle.strm_types.specs.Calls.{request, reply};
+ghost use Rattle.strm_types.specs.Pair.{new_pair, call_refused, queue_refused, AddsEntry};
+ghost use Rattle.strm_types.specs.Journal.{Called, Turned, entries_in};
+ghost use Rattle.strm_types.specs.Refused.{enough, has_room};
+ghost use Rattle.strm_types.specs.Step.{replay, IsLegal};
+ghost use Rattle.strm_types.specs.State.{AreOrdered, messages_in};
+ghost use Rattle.strm_types.specs.Refused.{free_beside};
+
+use crate::journal::{Journal, payload};
+use crate::refusals::{blocks_asked, content_most};
+use crate::streams::Streams;
+use std::alloc::{AllocError, Global};
+use std::marker::Model;
+use strm_types::{Answer, Caller, Config, Entry, Event, QueueName, Refusal, Turn};
+
+/// A pair of a master and a slave. Contracts see it as its plain state, its journal with the state that it began at, the
+/// sizes that it was made with, and the numbers of free blocks.
+#[derive(Drop)]
+pub struct Pair {
+    streams: Streams,
+    journal: Journal,
+    limits: Config,
+}
+
+/// What a pair's journal holds: its entries, and their bytes in order.
+#[derive(Clone, Copy)]
+pub struct Recorded<'a> {
+    pub entries: &'a [Entry],
+    pub bytes: &'a [u8],
+}
+
+impl Model for Pair {
+    ghost use Rattle.strm_types.specs.Pair.{PairState};
+
+    ghost Value = { PairState };
+
+    ghost use Rattle.strm_pair.specs.PairViews.{pair_of, IsKept};
+
+    ghost view = { pair_of };
+
+    ghost invariant = { IsKept };
+}
+
+impl Pair {
+    /// A pair with these sizes, which nobody opened: all of its memory is reserved here, and no later call takes any.
+    pub fn new(alloc: Global, limits: Config) -> Result<Pair, AllocError>
+        requires mblks { limits.mblks ≤ 65536 }
+        requires dblks { limits.dblks ≤ 65536 }
+        ensures { IfOk result (λ p. p ≡ new_pair limits) }
+    {
+        Ok(Pair {
+            streams: Streams::new(alloc, limits.mblks)?,
+            journal: Journal::new(alloc, limits.journal_events, limits.journal_bytes)?,
+            limits,
+        })
+    }
+
+    /// The queues that are enabled, in order of enabling.
+    pub fn enabled(&self) -> &[QueueName]
+        ensures { result.now ≡ self.now.state.enabled }
+    {
+        self.streams.enabled.as_slice()
+    }
+
+    /// The queue that was enabled first.
+    pub fn first_enabled(&self) -> Option<QueueName>
+        ensures { result ≡ slice_get self.now.state.enabled 0 }
+    {
+        self.streams.enabled.as_slice().first().copied()
+    }
+
+    /// How many message blocks and data blocks are free.
+    pub fn free_blocks(&self) -> (usize, usize)
+        ensures mblks { result.0 ≡ self.now.free.mblks }
+        ensures dblks { result.1 ≡ self.now.free.dblks }
+    {
+        let used = self.streams.used();
+        (
+            self.limits.mblks.saturating_sub(used),
+            self.limits.dblks.saturating_sub(used),
+        )
+    }
+
+    // Whether so many blocks of each kind are free.
+    fn has_blocks(&self, need: usize) -> bool
+        ensures { result ≡ enough need self.now.free }
+    {
+        let (mblks, dblks) = self.free_blocks();
+        need <= mblks && need <= dblks
+    }
+
+    // Whether the journal takes one more entry with so many bytes.
+    fn has_room(&self, bytes: usize) -> bool
+        ensures { result ≡ has_room self.now.journal self.now.limits bytes }
+    {
+        self.journal.has_room(bytes)
+    }
+
+    // The refusal of a call, if any.
+    fn refusal(&self, caller: Caller, event: &Event<'_>) -> Option<Refusal>
+        ensures { result ≡ call_refused self.now caller (request event.now) }
+    {
+        if let Some(refusal) = self.streams.refused_at_once(caller, event) {
+            return Some(refusal);
+        }
+        if !self.has_room(payload(event).len() + content_most(event)) {
+            return Some(Refusal::JournalFull);
+        }
+        if !self.has_blocks(blocks_asked(event)) {
+            return Some(Refusal::Enosr);
+        }
+        self.streams.refused_by_state(caller, event)
+    }
+
+    // The refusal of a turn, if any.
+    fn turn_refusal(&self, name: QueueName) -> Option<Refusal>
+        ensures { result ≡ queue_refused self.now name }
+    {
+        if !self.streams.enabled.contains(name) {
+            return Some(Refusal::Einval);
+        }
+        if !self.has_room(0) {
+            return Some(Refusal::JournalFull);
+        }
+        if !self.has_blocks(8) {
+            return Some(Refusal::Enosr);
+        }
+        None
+    }
+
+    /// Makes a call. It is refused for the first of: its side isn't open (ENXIO); an argument is wrong (EINVAL); the
+    /// journal is full; too few blocks are free (ENOSR); the state doesn't allow it (EAGAIN, EINVAL). A refused call
+    /// changes nothing. Else the call is carried out, and the journal gains it with its answer.
+    ///
+    /// The cost is in proportion to the bytes that the call moves. No memory is taken.
+    pub fn apply(&mut self, caller: Caller, event: &Event<'_>) -> Result<Answer, Refusal>
+        ensures refused { MatchOption (call_refused self.old caller (request event.now)) (IsOk result) (λ r. (result ≡ Err r) × (self.new ≡ self.old)) }
+        ensures adds { IfOk result (λ answer. AddsEntry self.old self.new (Called caller (request event.now) (reply answer))) }
+    {
+        if let Some(refusal) = self.refusal(caller, event) {
+            return Err(refusal);
+        }
+        let answer = self.streams.carry_out(caller, event);
+        self.journal.add_call(caller, event, &answer);
+        Ok(answer)
+    }
+
+    /// Makes a turn of an enabled queue's service procedure. It is refused where the queue isn't enabled (EINVAL), the
+    /// journal is full, or fewer than 8 blocks of a kind are free (ENOSR), and then changes nothing. Else the journal
+    /// gains the turn with its answer.
+    ///
+    /// The cost is that of one message. No memory is taken.
+    pub fn turn(&mut self, name: QueueName) -> Result<Turn, Refusal>
+        ensures refused { MatchOption (queue_refused self.old name) (IsOk result) (λ r. (result ≡ Err r) × (self.new ≡ self.old)) }
+        ensures adds { IfOk result (λ turn. AddsEntry self.old self.new (Turned name turn)) }
+    {
+        if let Some(refusal) = self.turn_refusal(name) {
+            return Err(refusal);
+        }
+        let turn = self.streams.turn(name);
+        self.journal.add_turn(name, turn);
+        Ok(turn)
+    }
+
+    /// All that was carried out, in order. The state is that to which it leads from the state that it began at, each
+    /// entry is a legal step with the answer that it stores, each queue is in order of rank, and the blocks that are
+    /// free are those that the messages on the queues leave.
+    pub fn journal(&self) -> Recorded<'_>
+        ensures entries { entries_in result.entries.now result.bytes.now ≡ self.now.journal }
+        ensures replayed { self.now.state ≡ replay self.now.base self.now.journal }
+        ensures legal { IsLegal self.now.base self.now.journal }
+        ensures ordered { AreOrdered self.now.state }
+        ensures blocks { self.now.free ≡ free_beside (messages_in self.now.state) self.now.limits }
+    {
+        Recorded {
+            entries: self.journal.entries.as_slice(),
+            bytes: self.journal.bytes.as_slice(),
+        }
+    }
+}

@@ -1,0 +1,102 @@
+//! What a call is refused for, by the streams alone.
+
+ghost use Rattle.std.specs.Prelude.{◌≡◌, ◌+◌, ◌≤◌, ◌<◌, ◌^◌};
+ghost use Rattle.strm_types.specs.Calls.{request};
+ghost use Rattle.strm_types.specs.Journal.{content_max};
+ghost use Rattle.strm_types.specs.Refused.{refused_at_once, refused_by_state, blocks_asked, unless, or_else};
+ghost use Rattle.strm_types.specs.State.{stream};
+
+use crate::ends::End;
+use crate::streams::{Streams, chunk_count};
+use strm_types::{Caller, Event, READ_MAX, Refusal, Side};
+
+// A refusal unless a condition holds.
+fn unless(condition: bool, refusal: Refusal) -> Option<Refusal>
+    ensures { result ≡ unless condition refusal }
+{
+    if condition { None } else { Some(refusal) }
+}
+
+// The first refusal, else the second.
+fn or_else(first: Option<Refusal>, second: Option<Refusal>) -> Option<Refusal>
+    ensures { result ≡ or_else first second }
+{
+    match first {
+        Some(refusal) => Some(refusal),
+        None => second,
+    }
+}
+
+/// How many blocks of each kind have to be free for a call.
+pub(crate) fn blocks_asked(event: &Event<'_>) -> usize
+    ensures { result ≡ blocks_asked (request event.now) }
+{
+    match event {
+        Event::Write { bytes } => 32 + chunk_count(bytes.len()),
+        Event::OpenMaster | Event::Unlock | Event::OpenSlave | Event::Read { .. } => 0,
+    }
+}
+
+/// The most bytes that the answer of a call can have.
+pub(crate) fn content_most(event: &Event<'_>) -> usize
+    ensures value { result ≡ content_max (request event.now) }
+    ensures small { result ≤ 4096 }
+{
+    match event {
+        Event::Read { n } => (*n as usize).min(READ_MAX),
+        Event::OpenMaster | Event::Unlock | Event::OpenSlave | Event::Write { .. } => 0,
+    }
+}
+
+impl Streams {
+    ghost use Rattle.strm_pair.specs.Streams.{stream_of};
+    ghost use Rattle.strm_pair.specs.Pairs.{state_of};
+
+    // The stream of a side.
+    fn end(&self, side: Side) -> &End
+        ensures { stream_of result.now ≡ stream side (state_of self.now) }
+    {
+        match side {
+            Side::Master => &self.master,
+            Side::Slave => &self.slave,
+        }
+    }
+
+    /// What a call is refused for before all else: its side, and then its arguments.
+    pub fn refused_at_once(&self, caller: Caller, event: &Event<'_>) -> Option<Refusal>
+        ensures { result ≡ refused_at_once (state_of self.now) caller (request event.now) }
+    {
+        match event {
+            Event::OpenMaster => None,
+            Event::Unlock => or_else(
+                unless(self.end(caller.side).is_open, Refusal::Enxio),
+                unless(matches!(caller.side, Side::Master), Refusal::Einval),
+            ),
+            Event::OpenSlave => unless(self.master.is_open, Refusal::Enxio),
+            Event::Write { .. } | Event::Read { .. } => {
+                unless(self.end(caller.side).is_open, Refusal::Enxio)
+            }
+        }
+    }
+
+    /// What a call is refused for after all else: what the state says.
+    pub fn refused_by_state(&self, caller: Caller, event: &Event<'_>) -> Option<Refusal>
+        ensures { result ≡ refused_by_state (state_of self.now) caller (request event.now) }
+    {
+        match event {
+            Event::OpenMaster => unless(!self.master.is_open, Refusal::Einval),
+            Event::Unlock => None,
+            Event::OpenSlave => or_else(
+                unless(!self.slave.is_open, Refusal::Einval),
+                unless(!self.locked, Refusal::Eagain),
+            ),
+            Event::Write { .. } => {
+                unless(!self.end(caller.side).driver.is_full(), Refusal::Eagain)
+            }
+            Event::Read { n } => unless(
+                *n == 0 || !self.end(caller.side).head.is_empty(),
+                Refusal::Eagain,
+            ),
+        }
+    }
+}

@@ -1,0 +1,130 @@
+-- Forgetting the origins of cells commutes with what is done to them.
+use Rattle.std.proofs.Common.{ℕ, zero, suc, ◌≡◌, ◌+◌, ◌-◌, Bool, true, false, cond, List, [], ◌∷◌, ◌++◌, length, map, take, drop, refl, sym, ap, ◌∙◌, arith}
+use Rattle.std.specs.Prelude.{if◌then◌else◌, ◌==◌, ◌||◌, nat_le, nat_lt, Option, None, Some, option_map}
+use Rattle.std.proofs.lemmas.List.{take-map, drop-map, length-map, map-append}
+use Rattle.std.proofs.lemmas.List.Sums.{sum_by-cons}
+use Rattle.strm_types.specs.Message.{Message, part, rank_of, band_of, cells_of, size_of, data_message, map_message}
+use Rattle.strm_types.specs.Queue.{Queue, put, put_back, put_on, put_enables, count_of, is_full, flow_of, map_messages, map_queue}
+use Rattle.strm_types.specs.Write.{Sent, sent, written, chunks_of, chunk_count}
+use Rattle.strm_types.specs.Head.{Taken, rest_of, gathered, head_read}
+
+module _ {C D : Type 0} (f : C → D) where
+  rank-forgets : (m : Message C) → rank_of (map_message f m) ≡ rank_of m
+  unfolding rank_of map_message
+  rank-forgets m = refl
+
+  band-forgets : (m : Message C) → band_of (map_message f m) ≡ band_of m
+  unfolding band_of map_message
+  band-forgets m = refl
+
+  part-forgets : (o : Option (List C)) → part (option_map (map f) o) ≡ map f (part o)
+  part-forgets None = refl
+  part-forgets (Some cells) = refl
+
+  cells-forget : (m : Message C) → cells_of (map_message f m) ≡ map f (cells_of m)
+  unfolding cells_of map_message
+  cells-forget m = rw (part-forgets m.control, part-forgets m.body) (sym (map-append f (part m.control) (part m.body)))
+
+  plain-forgets : (m : Message C) → length (map_message f m).plain ≡ length m.plain
+  unfolding map_message
+  plain-forgets m = refl
+
+  size-forgets : (m : Message C) → size_of (map_message f m) ≡ size_of m
+  unfolding size_of
+  size-forgets m = omega (arith, ap length (cells-forget m), length-map (cells_of m) f, plain-forgets m)
+
+  data-forgets : (cells : List C) → map_message f (data_message cells) ≡ data_message (map f cells)
+  unfolding map_message data_message
+  data-forgets cells = refl
+
+  rest-forgets : (n : ℕ) (m : Message C) → map_message f (rest_of n m) ≡ rest_of n (map_message f m)
+  unfolding map_message
+  rest-forgets n m = ap (λ xs. record { kind = m.kind; band = m.band; control = None; body = Some xs; plain = m.plain }) (sym (drop-map f n (cells_of m)) ∙ ap (λ xs. drop n xs) (sym (cells-forget m)))
+
+  put-at : (m x : Message C) (q : List (Message C)) (b : Bool) → map_messages f (put m q) ≡ put (map_message f m) (map_messages f q)
+      → map_messages f (cond b (x ∷ put m q) (m ∷ x ∷ q)) ≡ cond b (map_message f x ∷ put (map_message f m) (map_messages f q)) (map_message f m ∷ map_message f x ∷ map_messages f q)
+  put-at m x q true ih = ap (λ xs. map_message f x ∷ xs) ih
+  put-at m x q false ih = refl
+
+  pub put-forgets : (m : Message C) (q : List (Message C)) → map_messages f (put m q) ≡ put (map_message f m) (map_messages f q)
+  put-forgets m [] = refl
+  put-forgets m (x ∷ q) = rw (rank-forgets m, rank-forgets x) (put-at m x q (nat_le (rank_of m) (rank_of x)) (put-forgets m q))
+
+  put_back-at : (m x : Message C) (q : List (Message C)) (b : Bool) → map_messages f (put_back m q) ≡ put_back (map_message f m) (map_messages f q)
+      → map_messages f (cond b (x ∷ put_back m q) (m ∷ x ∷ q)) ≡ cond b (map_message f x ∷ put_back (map_message f m) (map_messages f q)) (map_message f m ∷ map_message f x ∷ map_messages f q)
+  put_back-at m x q true ih = ap (λ xs. map_message f x ∷ xs) ih
+  put_back-at m x q false ih = refl
+
+  pub put_back-forgets : (m : Message C) (q : List (Message C)) → map_messages f (put_back m q) ≡ put_back (map_message f m) (map_messages f q)
+  put_back-forgets m [] = refl
+  put_back-forgets m (x ∷ q) = rw (rank-forgets m, rank-forgets x) (put_back-at m x q (nat_lt (rank_of m) (rank_of x)) (put_back-forgets m q))
+
+  count-forgets : (band : ℕ) (q : List (Message C)) → count_of band (map_messages f q) ≡ count_of band q
+  count-forgets band [] = refl
+  count-forgets band (m ∷ q) =
+      let here : (if band_of (map_message f m) == band then size_of (map_message f m) else 0) ≡ (if band_of m == band then size_of m else 0) = rw (band-forgets m, size-forgets m) refl in
+      omega (arith, here, count-forgets band q, sum_by-cons (λ x. if band_of x == band then size_of x else 0) (map_message f m) (map_messages f q), sum_by-cons (λ x. if band_of x == band then size_of x else 0) m q)
+
+  full-forgets : (band : ℕ) (q : Queue C) → is_full band (map_queue f q) ≡ is_full band q
+  full-forgets band q = ap (λ n. nat_le (flow_of band q).high n) (count-forgets band q.messages)
+
+  -- what a write sends, of other cells
+  abbrev pub map_sent : Sent C → Sent D
+  map_sent s = record { taken = s.taken; queue = map_queue f s.queue; enables = s.enables }
+
+  put_on-forgets : (cells : List C) (q : Queue C) → map_queue f (put_on (data_message cells) q) ≡ put_on (data_message (map f cells)) (map_queue f q)
+  put_on-forgets cells q = ap (λ ms. record { messages = ms; flows = q.flows; want_read = q.want_read; no_enable = q.no_enable }) (put-forgets (data_message cells) q.messages ∙ ap (λ m. put m (map_messages f q.messages)) (data-forgets cells))
+
+  enables-forgets : (cells : List C) (q : Queue C) → put_enables (data_message (map f cells)) (map_queue f q) ≡ put_enables (data_message cells) q
+  unfolding data_message band_of
+  enables-forgets cells q = refl
+
+  sent-forgets : (count : ℕ) (cells : List C) (q : Queue C) → map_sent (sent (chunks_of count cells) q) ≡ sent (chunks_of count (map f cells)) (map_queue f q)
+  sent-forgets zero cells q = refl
+  sent-forgets (suc count) cells q =
+      sent-at (is_full 0 q) (sent-forgets count (drop 256 cells) (put_on (data_message (take 256 cells)) q))
+      ∙ rw (full-forgets 0 q, take-map f 256 cells, drop-map f 256 cells) refl
+    where
+      sent-at : (b : Bool) → map_sent (sent (chunks_of count (drop 256 cells)) (put_on (data_message (take 256 cells)) q)) ≡ sent (chunks_of count (map f (drop 256 cells))) (map_queue f (put_on (data_message (take 256 cells)) q))
+          → map_sent (cond b (record { taken = 0; queue = q; enables = false }) (let more = sent (chunks_of count (drop 256 cells)) (put_on (data_message (take 256 cells)) q) in record { taken = length (take 256 cells) + more.taken; queue = more.queue; enables = put_enables (data_message (take 256 cells)) q || more.enables }))
+          ≡ cond b (record { taken = 0; queue = map_queue f q; enables = false }) (let more = sent (chunks_of count (map f (drop 256 cells))) (put_on (data_message (map f (take 256 cells))) (map_queue f q)) in record { taken = length (map f (take 256 cells)) + more.taken; queue = more.queue; enables = put_enables (data_message (map f (take 256 cells))) (map_queue f q) || more.enables })
+      sent-at true ih = refl
+      sent-at false ih =
+          let whole = ih ∙ ap (λ r. sent (chunks_of count (map f (drop 256 cells))) r) (put_on-forgets (take 256 cells) q) in
+          ap (λ (s : Sent D). record { taken = length (take 256 cells) + s.taken; queue = s.queue; enables = put_enables (data_message (take 256 cells)) q || s.enables }) whole
+          ∙ rw (length-map (take 256 cells) f, enables-forgets (take 256 cells) q) refl
+
+  pub written-forgets : (cells : List C) (q : Queue C) → map_sent (written cells q) ≡ written (map f cells) (map_queue f q)
+  written-forgets cells q = sent-forgets (chunk_count (length cells)) cells q ∙ ap (λ n. sent (chunks_of (chunk_count n) (map f cells)) (map_queue f q)) (sym (length-map cells f))
+
+  -- what a read takes, of other cells
+  abbrev pub map_taken : Taken C → Taken D
+  map_taken t = record { given = map f t.given; left = map_messages f t.left }
+
+  gathered-at : (n : ℕ) (m : Message C) (q : List (Message C)) (stop shorter : Bool)
+      → map_taken (gathered (n - size_of m) q) ≡ gathered (n - size_of m) (map_messages f q)
+      → map_taken (cond stop (record { given = []; left = m ∷ q }) (cond shorter (record { given = take n (cells_of m); left = put_back (rest_of n m) q }) (record { given = cells_of m ++ (gathered (n - size_of m) q).given; left = (gathered (n - size_of m) q).left })))
+      ≡ cond stop (record { given = []; left = map_message f m ∷ map_messages f q }) (cond shorter (record { given = take n (cells_of (map_message f m)); left = put_back (rest_of n (map_message f m)) (map_messages f q) }) (record { given = cells_of (map_message f m) ++ (gathered (n - size_of m) (map_messages f q)).given; left = (gathered (n - size_of m) (map_messages f q)).left }))
+  gathered-at n m q true shorter ih = refl
+  gathered-at n m q false true ih =
+      let cells = sym (take-map f n (cells_of m)) ∙ ap (λ xs. take n xs) (sym (cells-forget m)) in
+      let rest = put_back-forgets (rest_of n m) q ∙ ap (λ r. put_back r (map_messages f q)) (rest-forgets n m) in
+      ap (λ xs. record { given = xs; left = map_messages f (put_back (rest_of n m) q) }) cells ∙ ap (λ xs. record { given = take n (cells_of (map_message f m)); left = xs }) rest
+  gathered-at n m q false false ih =
+      let cells = map-append f (cells_of m) (gathered (n - size_of m) q).given ∙ ap (λ xs. xs ++ map f (gathered (n - size_of m) q).given) (sym (cells-forget m)) in
+      ap (λ xs. record { given = xs; left = map_messages f (gathered (n - size_of m) q).left }) cells ∙ ap (λ (t : Taken D). record { given = cells_of (map_message f m) ++ t.given; left = t.left }) ih
+
+  gathered-forgets : (n : ℕ) (q : List (Message C)) → map_taken (gathered n q) ≡ gathered n (map_messages f q)
+  gathered-forgets n [] = refl
+  gathered-forgets n (m ∷ q) = gathered-at n m q (n == 0 || size_of m == 0) (nat_lt n (size_of m)) (gathered-forgets (n - size_of m) q) ∙ rw (size-forgets m) refl
+
+  head_read-at : (n : ℕ) (m : Message C) (q : List (Message C)) (none empty : Bool)
+      → map_taken (cond none (record { given = []; left = m ∷ q }) (cond empty (record { given = []; left = q }) (gathered n (m ∷ q))))
+      ≡ cond none (record { given = []; left = map_message f m ∷ map_messages f q }) (cond empty (record { given = []; left = map_messages f q }) (gathered n (map_message f m ∷ map_messages f q)))
+  head_read-at n m q true empty = refl
+  head_read-at n m q false true = refl
+  head_read-at n m q false false = gathered-forgets n (m ∷ q)
+
+  pub head_read-forgets : (n : ℕ) (q : List (Message C)) → map_taken (head_read n q) ≡ head_read n (map_messages f q)
+  head_read-forgets n [] = refl
+  head_read-forgets n (m ∷ q) = head_read-at n m q (n == 0) (size_of m == 0) ∙ rw (size-forgets m) refl

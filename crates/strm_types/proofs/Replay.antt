@@ -1,0 +1,68 @@
+-- Replaying longer journals, and what a call or a turn that isn't refused is.
+use Rattle.std.proofs.Common.{◌≡◌, Bool, true, false, List, [], ◌∷◌, ◌++◌, length, refl, sym, ap, subst, ◌∙◌}
+use Rattle.std.specs.Prelude.{Option, None, Some, ◌+◌}
+use Rattle.strm_types.specs.declared.events.Caller.{Caller}
+use Rattle.strm_types.specs.declared.limits.Config.{Config}
+use Rattle.strm_types.specs.declared.names.QueueName.{QueueName}
+use Rattle.strm_types.specs.declared.refusals.Refusal.{Refusal}
+use Rattle.strm_types.specs.declared.refusals.Refusal.TheVariants.{Einval, Enosr, JournalFull}
+use Rattle.strm_types.specs.Names.{is_enabled}
+use Rattle.strm_types.specs.State.{State}
+use Rattle.strm_types.specs.Calls.{Request}
+use Rattle.strm_types.specs.Journal.{PlainEntry, Called, Turned, payload_of, content_max}
+use Rattle.strm_types.specs.Refused.{Free, or_else, unless, enough, has_room, blocks_asked, refused, refused_at_once, refused_by_state, turn_refused}
+use Rattle.strm_types.specs.Step.{Step, after, replay, IsLegal}
+
+module _ {C : Type 0} where
+  -- a longer journal goes on from where the shorter one leads
+  pub replay-append : (s : State C) (es fs : List (PlainEntry C)) → replay s (es ++ fs) ≡ replay (replay s es) fs
+  replay-append s [] fs = refl
+  replay-append s (e ∷ es) fs = replay-append (after s e) es fs
+
+  -- a step leads to the state behind its entry
+  pub after-step : (s t : State C) (e : PlainEntry C) → Step s e t → after s e ≡ t
+  after-step s t (Called caller asked answer) step = step.leads
+  after-step s t (Turned name turn) step = step.leads
+
+  -- a legal journal stays legal with one more step
+  pub legal-push : (s : State C) (es : List (PlainEntry C)) (e : PlainEntry C) → IsLegal s es → Step (replay s es) e (after (replay s es) e) → IsLegal s (es ++ e ∷ [])
+  legal-push s [] e legal step = (step, tt)
+  legal-push s (f ∷ es) e legal step = (legal.0, legal-push (after s f) es e legal.1 step)
+
+  -- one more step after a legal journal: what it leads to is the replay, which is legal
+  pub kept-replayed : (base s t : State C) (es : List (PlainEntry C)) (e : PlainEntry C) → s ≡ replay base es → Step s e t → t ≡ replay base (es ++ e ∷ [])
+  kept-replayed base s t es e is step =
+      sym (after-step s t e step) ∙ ap (λ q. after q e) is ∙ sym (replay-append base es (e ∷ []))
+
+  pub kept-legal : (base s t : State C) (es : List (PlainEntry C)) (e : PlainEntry C) → s ≡ replay base es → Step s e t → IsLegal base es → IsLegal base (es ++ e ∷ [])
+  kept-legal base s t es e is step legal =
+      legal-push base es e legal (subst (λ q. Step q e (after q e)) is (subst (λ u. Step s e u) (sym (after-step s t e step)) step))
+
+-- a refusal that doesn't come
+unless-none : (b : Bool) (r : Refusal) → unless b r ≡ None → b ≡ true
+unless-none true r h = refl
+unless-none false r h = absurd (cc)
+
+or_else-none : (a b : Option Refusal) → or_else a b ≡ None → (a ≡ None) × (b ≡ None)
+or_else-none None b h = (refl, h)
+or_else-none (Some r) b h = absurd (cc)
+
+module _ {C : Type 0} where
+  -- a call that isn't refused: nothing refuses it at once or by the state, the journal has room, blocks are free
+  pub call-allowed : (s : State C) (es : List (PlainEntry C)) (limits : Config) (free : Free) (caller : Caller) (asked : Request C) → refused s es limits free caller asked ≡ None
+      → (or_else (refused_at_once s caller asked) (refused_by_state s caller asked) ≡ None)
+      × (has_room es limits (length (payload_of asked) + content_max asked) ≡ true)
+      × (enough (blocks_asked asked) free ≡ true)
+  call-allowed s es limits free caller asked h =
+      let first = or_else-none (refused_at_once s caller asked) _ h in
+      let second = or_else-none (unless (has_room es limits (length (payload_of asked) + content_max asked)) JournalFull) _ first.1 in
+      let third = or_else-none (unless (enough (blocks_asked asked) free) Enosr) _ second.1 in
+      (ap (λ r. or_else r (refused_by_state s caller asked)) first.0 ∙ third.1, unless-none _ _ second.0, unless-none _ _ third.0)
+
+  -- a turn that isn't refused: its queue is enabled, and the journal has room
+  pub turn-allowed : (s : State C) (es : List (PlainEntry C)) (limits : Config) (free : Free) (name : QueueName) → turn_refused s es limits free name ≡ None
+      → (is_enabled name s.enabled ≡ true) × (has_room es limits 0 ≡ true)
+  turn-allowed s es limits free name h =
+      let first = or_else-none (unless (is_enabled name s.enabled) Einval) _ h in
+      let second = or_else-none (unless (has_room es limits 0) JournalFull) _ first.1 in
+      (unless-none _ _ first.0, unless-none _ _ second.0)

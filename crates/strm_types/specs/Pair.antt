@@ -1,0 +1,45 @@
+-- A pair as its callers see it, and what a call or a turn adds to it.
+use Rattle.std.specs.Prelude.{◌≡◌, ℕ, List, [], ◌∷◌, ◌++◌, Option}
+use Rattle.strm_types.specs.declared.limits.Config.{Config}
+use Rattle.strm_types.specs.declared.events.Caller.{Caller}
+use Rattle.strm_types.specs.declared.names.QueueName.{QueueName}
+use Rattle.strm_types.specs.declared.refusals.Refusal.{Refusal}
+use Rattle.strm_types.specs.State.{State, opening}
+use Rattle.strm_types.specs.Calls.{Request}
+use Rattle.strm_types.specs.Journal.{PlainEntry}
+use Rattle.strm_types.specs.Refused.{Free, refused, turn_refused}
+use Rattle.strm_types.specs.Step.{Step}
+
+-- A pair: its plain state, the state that its journal began at, the journal, the sizes that it was made with, and how
+-- many blocks are free.
+pub record PairState : Type 0 where
+  pub state : State ℕ
+  pub base : State ℕ
+  pub journal : List (PlainEntry ℕ)
+  pub limits : Config
+  pub free : Free
+
+-- a pair as it is made
+abbrev pub new_pair : Config → PairState
+new_pair limits = record {
+  state = opening;
+  base = opening;
+  journal = [];
+  limits = limits;
+  free = record { mblks = limits.mblks; dblks = limits.dblks };
+}
+
+-- the refusal of a call on a pair, if any
+abbrev pub call_refused : PairState → Caller → Request ℕ → Option Refusal
+call_refused p caller asked = refused p.state p.journal p.limits p.free caller asked
+
+-- the refusal of a turn of a pair's queue, if any
+abbrev pub queue_refused : PairState → QueueName → Option Refusal
+queue_refused p name = turn_refused p.state p.journal p.limits p.free name
+
+-- The pair took a step, and its journal has gained the entry of it. The base and the sizes stay.
+pub record AddsEntry (old new : PairState) (entry : PlainEntry ℕ) : Type 0 where
+  pub journal : new.journal ≡ old.journal ++ entry ∷ []
+  pub step : Step old.state entry new.state
+  pub base : new.base ≡ old.base
+  pub limits : new.limits ≡ old.limits

@@ -1,0 +1,74 @@
+//! What follows from the definitions of `specs/`, in the words of the manual pages. Each law is the contract of a function
+//! that does nothing. A law over all kinds of cells holds of bytes and of bytes with their origin alike.
+
+ghost use Rattle.std.specs.Prelude.{◌≡◌, ℕ, ◌+◌, ◌≤◌, ◌<◌, ◌==◌, List, [], ◌∷◌, ◌++◌, map, Some, if◌then◌else◌, count_by, take, Bool};
+ghost use Rattle.std.specs.List.{AllByRecursion};
+ghost use Rattle.strm_types.specs.Message.{Message, rank_of, weight_of, map_message};
+ghost use Rattle.strm_types.specs.Queue.{Queue, lane, lanes_down, IsOrdered, put, put_back, put_all, take_first, count_of, bytes_of, weight, map_messages, map_queue};
+ghost use Rattle.strm_types.specs.State.{State};
+ghost use Rattle.strm_types.specs.Write.{written, Sent};
+ghost use Rattle.strm_types.specs.Head.{head_read, Taken};
+ghost use Rattle.strm_types.specs.Journal.{PlainEntry};
+ghost use Rattle.strm_types.specs.Step.{replay};
+
+/// putq(9F): in an ordered queue the lane of the message's rank has it at its end, no other lane changes, and the queue
+/// stays in order.
+pub fn put_joins_its_lane<C>()
+    ensures lanes { (m : Message C) (q : List (Message C)) (r : ℕ) → IsOrdered q → lane r (put m q) ≡ (if rank_of m == r then lane r q ++ m ∷ [] else lane r q) }
+    ensures order { (m : Message C) (q : List (Message C)) → IsOrdered q → IsOrdered (put m q) }
+{}
+
+/// putbq(9F): the lane of the message's rank has it in front, no other lane changes, and the queue stays in order.
+pub fn put_back_leads_its_lane<C>()
+    ensures lanes { (m : Message C) (q : List (Message C)) (r : ℕ) → lane r (put_back m q) ≡ (if rank_of m == r then m ∷ lane r q else lane r q) }
+    ensures order { (m : Message C) (q : List (Message C)) → IsOrdered q → IsOrdered (put_back m q) }
+{}
+
+/// getq(9F): the message that is taken has the highest rank, it was the first of its lane, no other lane changes, and
+/// the queue stays in order.
+pub fn take_is_the_first<C>()
+    ensures highest { (m : Message C) (q rest : List (Message C)) → IsOrdered q → take_first q ≡ Some (m, rest) → AllByRecursion (λ later. rank_of later ≤ rank_of m) rest }
+    ensures lanes { (m : Message C) (q rest : List (Message C)) (r : ℕ) → take_first q ≡ Some (m, rest) → lane r q ≡ (if rank_of m == r then m ∷ lane r rest else lane r rest) }
+    ensures order { (m : Message C) (q rest : List (Message C)) → IsOrdered q → take_first q ≡ Some (m, rest) → IsOrdered rest }
+{}
+
+/// An ordered queue is its lanes, joined from the highest rank down.
+pub fn queue_is_its_lanes<C>()
+    ensures { (top : ℕ) (q : List (Message C)) → IsOrdered q → AllByRecursion (λ m. rank_of m ≤ top) q → lanes_down top q ≡ q }
+{}
+
+/// Within a rank, what comes first is first: messages put one after the other stand in their lane in that order, behind
+/// what stood there.
+pub fn first_come_first<C>()
+    ensures { (r : ℕ) (ms q : List (Message C)) → IsOrdered q → lane r (put_all ms q) ≡ lane r q ++ lane r ms }
+{}
+
+/// Band 0 counts the bytes of high priority and of band 0, and each other band the bytes of its own lane.
+pub fn count_is_that_of_its_lanes<C>()
+    ensures zero { (q : List (Message C)) → AllByRecursion (λ m. m.band < 256) q → count_of 0 q ≡ bytes_of (lane 256 q) + bytes_of (lane 0 q) }
+    ensures others { (band : ℕ) (q : List (Message C)) → AllByRecursion (λ m. m.band < 256) q → 0 < band → band < 256 → count_of band q ≡ bytes_of (lane band q) }
+{}
+
+/// A longer journal goes on from where the shorter one leads.
+pub fn replay_goes_on<C>()
+    ensures { (s : State C) (es fs : List (PlainEntry C)) → replay s (es ++ fs) ≡ replay (replay s es) fs }
+{}
+
+/// Forgetting the origins of bytes commutes with putq(9F), putbq(9F), getq(9F), a write and a read.
+pub fn forgetting_commutes<C, D>()
+    ensures put { (f : C → D) (m : Message C) (q : List (Message C)) → map_messages f (put m q) ≡ put (map_message f m) (map_messages f q) }
+    ensures put_back { (f : C → D) (m : Message C) (q : List (Message C)) → map_messages f (put_back m q) ≡ put_back (map_message f m) (map_messages f q) }
+    ensures taken { (f : C → D) (m : Message C) (q rest : List (Message C)) → take_first q ≡ Some (m, rest) → take_first (map_messages f q) ≡ Some (map_message f m, map_messages f rest) }
+    ensures write { (f : C → D) (cells : List C) (q : Queue C) → written (map f cells) (map_queue f q) ≡ record { taken = (written cells q).taken; queue = map_queue f (written cells q).queue; enables = (written cells q).enables } }
+    ensures read { (f : C → D) (n : ℕ) (q : List (Message C)) → head_read n (map_messages f q) ≡ record { given = map f (head_read n q).given; left = map_messages f (head_read n q).left } }
+{}
+
+/// Nothing is lost or made: whatever test on bytes is chosen, as 'is this very byte', a put adds what the message has, a
+/// take takes it away, a write adds the bytes that it takes, and a read gives what leaves the queue.
+pub fn bytes_are_kept<C>()
+    ensures put { (p : C → Bool) (m : Message C) (q : List (Message C)) → weight p (put m q) ≡ weight_of p m + weight p q }
+    ensures put_back { (p : C → Bool) (m : Message C) (q : List (Message C)) → weight p (put_back m q) ≡ weight_of p m + weight p q }
+    ensures taken { (p : C → Bool) (m : Message C) (q rest : List (Message C)) → take_first q ≡ Some (m, rest) → weight p q ≡ weight_of p m + weight p rest }
+    ensures write { (p : C → Bool) (cells : List C) (q : Queue C) → weight p (written cells q).queue.messages ≡ count_by p (take (written cells q).taken cells) + weight p q.messages }
+    ensures read { (p : C → Bool) (n : ℕ) (q : List (Message C)) → count_by p (head_read n q).given + weight p (head_read n q).left ≡ weight p q }
+{}
