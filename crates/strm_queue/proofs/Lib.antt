@@ -1,0 +1,4 @@
+pub mod Bounds
+pub mod Counted
+pub mod Stored
+pub mod Flushed
