@@ -2,11 +2,13 @@
 use Rattle.std.proofs.Common.{ℕ, zero, suc, ◌≡◌, ◌≢◌, ◌≤◌, ◌<◌, ◌+◌, ◌-◌, Bool, true, false, cond, eqb, List, [], ◌∷◌, length, take, get_or, set, refl, sym, ap, subst, ◌∙◌, arith, get_or-set_same, get_or-set_other, length-set}
 use Rattle.std.specs.Prelude.{sum_by, slice_index_or, slice_set, if◌then◌else◌, ◌==◌, ◌&&◌, not, nat_le, filter}
 use Rattle.std.proofs.lemmas.Bool.Decides.{nat_tests}
+use Rattle.std.proofs.lemmas.List.{set_past}
+use Rattle.std.proofs.Math.Decide.{dec_lt}
 use Rattle.std.proofs.lemmas.List.Sums.{sum_by-cons}
 use Rattle.strm_blocks.specs.Blocks.{Block, StoreValue}
 use Rattle.strm_queue.specs.declared.flow.Flow.{Flow}
 use Rattle.strm_queue.specs.Flows.{count_in, IsMarked, marked, added_to, removed_from, flushed_of, marked_with}
-use Rattle.strm_queue.specs.Kept.{bytes_of, band_of, is_data, data_share, other_share, count_of, flow_at, no_flow, IsCounted, AreCounted}
+use Rattle.strm_queue.specs.Kept.{bytes_of, band_of, is_data, data_share, other_share, count_of, flow_at, no_flow, IsCounted, AreCounted, FewBytes}
 
 -- flows with another one at a band
 pub flow-same : (flows : List Flow) (band : ℕ) (f : Flow) → band < length flows → flow_at band (slice_set flows band f) ≡ f
@@ -121,3 +123,15 @@ counted-removed flows q r chain low sums is = record {
             (still band (flow_at band flows) q r (is.each band lt)
                 (sym (sums (data_share band) ∙ ap (λ n. n + sum_by (data_share band) r) (data-else band chain apart) ∙ omega arith))
                 (sym (sums (other_share band) ∙ ap (λ n. n + sum_by (other_share band) r) (other-else band chain apart) ∙ omega arith)))
+
+-- the counts stay few where one is changed to a small one
+pub few-set : (flows : List Flow) (i : ℕ) (f : Flow) → FewBytes flows → count_in f ≤ 16777216 → FewBytes (slice_set flows i f)
+few-set flows i f few small = λ band. at band (band == i) refl (dec_lt i (length flows))
+  where
+    at : (band : ℕ) (b : Bool) → (band == i) ≡ b → Dec (i < length flows) → count_in (flow_at band (slice_set flows i f)) ≤ 16777216
+    at band true same (yes lt) =
+        let e : i ≡ band = grind (arith, nat_tests) in
+        subst (λ k. count_in (flow_at k (slice_set flows i f)) ≤ 16777216) e (rw (flow-same flows i f lt) small)
+    at band true same (no ge) =
+        let e : slice_set flows i f ≡ flows = set_past flows i f (omega arith) in rw e (few band)
+    at band false apart d = rw (flow-other flows i band f (λ e. grind (arith, nat_tests))) (few band)

@@ -60,3 +60,7 @@ enables chain want_read no_enable = is_high_priority (block_at 0 chain).kind || 
 -- each message counts in a band that a queue has
 abbrev pub AllBands : List (List Block) → Type 0
 AllBands q = AllByRecursion (λ chain. band_of chain < 8) q
+
+-- the counts are small enough to add: a store has 65536 blocks of 256 bytes at most
+abbrev pub FewBytes : List Flow → Type 0
+FewBytes flows = (band : ℕ) → count_in (flow_at band flows) ≤ 16777216

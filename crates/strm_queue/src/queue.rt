@@ -4,7 +4,7 @@ ghost use Rattle.std.specs.Prelude.{◌≡◌, ◌<◌, ◌≤◌, ◌+◌, ◌^
 ghost use Rattle.strm_types.specs.Message.{is_high_priority};
 ghost use Rattle.strm_blocks.specs.Blocks.{IsInHand, in_hand, list_at, placed, dropped, put, put_back, block_at};
 ghost use Rattle.strm_blocks.specs.Outcomes.{Popped, Unpopped, flushed};
-ghost use Rattle.strm_queue.specs.Kept.{AreCounted, count_of, band_of, enables, flow_at, is_full, AllBands};
+ghost use Rattle.strm_queue.specs.Kept.{AreCounted, count_of, band_of, enables, flow_at, is_full, AllBands, FewBytes};
 ghost use Rattle.strm_blocks.specs.Blocks.{Block};
 ghost use Rattle.strm_queue.specs.Flows.{count_in, added_to, removed_from, flushed_of, marked_with, relieves, relieved};
 
@@ -25,6 +25,7 @@ pub struct Queue {
     pub want_read: bool,
     pub no_enable: bool,
     pub ghost on_list: { list < 8 },
+    pub ghost few: { FewBytes flows },
 }
 
 impl Queue {
@@ -52,7 +53,7 @@ impl Queue {
     // Counts a message in.
     fn count_in(&mut self, share: Share)
         requires band { share.band < length self.old.flows }
-        requires few { count_in (flow_at share.band self.old.flows) + share.bytes < 2 ^ 64 }
+        requires few { count_in (flow_at share.band self.old.flows) + share.bytes ≤ 16777216 }
         ensures flows { self.new.flows ≡ slice_set self.old.flows share.band (added_to share.is_data share.bytes (flow_at share.band self.old.flows)) }
         ensures others { OnlyCounts self.old self.new }
     {
@@ -63,7 +64,6 @@ impl Queue {
     // Counts a message out.
     fn count_out(&mut self, share: Share)
         requires band { share.band < length self.old.flows }
-        requires few { count_in (flow_at share.band self.old.flows) < 2 ^ 64 }
         requires has { share.bytes ≤ (if share.is_data then (flow_at share.band self.old.flows).data_bytes else (flow_at share.band self.old.flows).other_bytes) }
         ensures flows { self.new.flows ≡ slice_set self.old.flows share.band (removed_from share.is_data share.bytes (flow_at share.band self.old.flows)) }
         ensures others { OnlyCounts self.old self.new }
@@ -130,8 +130,7 @@ impl Queue {
 
     /// How many bytes count in a band: all of its messages', and in band 0 those of high priority too.
     pub fn count(&self, band: Band) -> usize
-        requires band { band.0 < 8 }
-        requires few { count_in (flow_at band.0 self.now.flows) < 2 ^ 64 }
+        requires { band.0 < 8 }
         ensures kept { result ≡ count_in (flow_at band.0 self.now.flows) }
         ensures count { (q : List (List Block)) → AreCounted self.now.flows q → result ≡ count_of band.0 q }
     {
@@ -150,7 +149,6 @@ impl Queue {
 
     // Counts out what a flush of all messages, or of those of data, has taken.
     fn count_flush(&mut self, all: bool)
-        requires { (band : ℕ) → band < 8 → count_in (flow_at band self.old.flows) < 2 ^ 64 }
         ensures flows { (band : ℕ) → band < 8 → flow_at band self.new.flows ≡ flushed_of all (flow_at band self.old.flows) }
         ensures eight { length self.new.flows ≡ length self.old.flows }
         ensures others { OnlyCounts self.old self.new }
@@ -219,8 +217,7 @@ impl Queue {
 
     // Counts out what a flush of data of one band has taken.
     fn count_band_flush(&mut self, band: usize)
-        requires band { band < length self.old.flows }
-        requires few { count_in (flow_at band self.old.flows) < 2 ^ 64 }
+        requires { band < length self.old.flows }
         ensures flows { self.new.flows ≡ slice_set self.old.flows band (flushed_of false (flow_at band self.old.flows)) }
         ensures others { OnlyCounts self.old self.new }
     {
@@ -233,7 +230,6 @@ impl Queue {
         requires band { band.0 < 8 }
         requires some { 1 ≤ high }
         requires order { low ≤ high }
-        requires few { count_in (flow_at band.0 self.old.flows) < 2 ^ 64 }
         ensures marks { self.new.flows ≡ slice_set self.old.flows band.0 (marked_with high low (flow_at band.0 self.old.flows)) }
         ensures counted { (q : List (List Block)) → AreCounted self.old.flows q → AreCounted self.new.flows q }
         ensures others { OnlyCounts self.old self.new }
@@ -246,7 +242,6 @@ impl Queue {
     /// Lets the waiting writers of each band go whose count is at or below its low-water mark: want-write is cleared, and
     /// the answer says for which bands. The nearest earlier queue that has service is then to be enabled.
     pub fn back_enable(&mut self) -> [bool; 8]
-        requires { (band : ℕ) → band < 8 → count_in (flow_at band self.old.flows) < 2 ^ 64 }
         ensures went { (band : ℕ) → band < 8 → slice_index_or result band false ≡ relieves (flow_at band self.old.flows) }
         ensures flows { (band : ℕ) → band < 8 → flow_at band self.new.flows ≡ relieved (flow_at band self.old.flows) }
         ensures counted { (q : List (List Block)) → AreCounted self.old.flows q → AreCounted self.new.flows q }

@@ -7,11 +7,6 @@ use Rattle.strm_queue.proofs.Stored.{count-fits, list-placed}
 use Rattle.strm_queue.proofs.Flushed.{counted-band-flushed}
 use Rattle.strm_queue.proofs.queue.Queue.flushband.Goals as goal
 
-pub count_band_flush-requires-clause-few : goal.count_band_flush-requires-clause-few
-count_band_flush-requires-clause-few g c =
-    let s = g.B.Blocks.value c.args.store.now in
-    rw c.from.ensures (omega (arith, count-fits s c.args.self.now.list 0 c.args.band.0 c.args.self.now.flows c.audit.ensures c.requires.counted c.requires.band))
-
 pub returns-clause-counted : goal.returns-clause-counted
 returns-clause-counted g c =
     let s = g.B.Blocks.value c.args.store.now in

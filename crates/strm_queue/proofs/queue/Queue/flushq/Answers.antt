@@ -7,11 +7,6 @@ use Rattle.strm_queue.proofs.Stored.{count-fits, list-placed}
 use Rattle.strm_queue.proofs.Flushed.{counted-flushed}
 use Rattle.strm_queue.proofs.queue.Queue.flushq.Goals as goal
 
-pub count_flush-requires : goal.count_flush-requires
-count_flush-requires g c = λ band lt.
-    let s = g.B.Blocks.value c.args.store.now in
-    omega (arith, count-fits s c.args.self.now.list 0 band c.args.self.now.flows c.audit.ensures c.requires lt)
-
 pub returns-clause-counted : goal.returns-clause-counted
 returns-clause-counted g c =
     let s = g.B.Blocks.value c.args.store.now in

@@ -5,17 +5,6 @@ use Rattle.strm_queue.specs.Kept.{bytes_of, band_of, is_data, flow_at, AreCounte
 use Rattle.strm_queue.proofs.Stored.{count-fits, held-chain, take-counted, list-placed}
 use Rattle.strm_queue.proofs.queue.Queue.getq.Goals as goal
 
-pub count_out-requires-clause-few : goal.count_out-requires-clause-few
-count_out-requires-clause-few g c =
-    let s = g.B.Blocks.value c.args.store.now in
-    let k = c.args.self.now.list in
-    let p = c.in_ok-message.ensures in
-    let i = g.B.Blocks.name c.in_ok-message.message in
-    let chain_is = ap (λ v. in_hand v i) p.after ∙ held-chain (placed s k p.rest) i p.message in
-    let band_is = c.share_of-share.ensures.band ∙ ap band_of chain_is in
-    let low = (subst AllBands p.joined c.requires.bands).0 in
-    rw band_is (omega (arith, count-fits s k 0 (band_of p.message) c.args.self.now.flows c.audit.ensures c.requires.counted low))
-
 pub returns-clause-counted : goal.returns-clause-counted
 returns-clause-counted g c =
     let s = g.B.Blocks.value c.args.store.now in
