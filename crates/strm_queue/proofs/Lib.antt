@@ -2,3 +2,4 @@ pub mod Bounds
 pub mod Counted
 pub mod Stored
 pub mod Flushed
+pub mod Serving

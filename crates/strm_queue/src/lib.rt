@@ -3,8 +3,10 @@
 #![tactic(auto)]
 
 mod flow;
+mod order;
 mod queue;
 mod share;
 
 pub use flow::Flow;
+pub use order::serves_in_order;
 pub use queue::Queue;
