@@ -1,19 +1,24 @@
 -- The outcomes of the calls that take blocks, from what is done to a store's fields.
-use Rattle.std.proofs.Common.{ℕ, zero, suc, ◌≡◌, ◌≢◌, ◌≤◌, ◌<◌, ◌+◌, ◌-◌, Bool, true, false, cond, eqb, List, [], ◌∷◌, ◌++◌, length, take, drop, get_or, map, refl, sym, ap, ◌∙◌, arith, inl, inr}
-use Rattle.std.proofs.Math.ListN.{set, length-set}
-use Rattle.std.specs.Prelude.{sum_by, count_by, slice_range}
+use Rattle.std.proofs.Common.{ℕ, ◌≡◌, ◌<◌, ◌-◌, eqb, List, [], ◌∷◌, length, get_or, refl, sym, ◌∙◌, arith, inl, inr, subst}
+use Rattle.std.proofs.Math.ListN.{set}
+use Rattle.std.specs.Prelude.{count_by, slice_range}
 use Rattle.std.proofs.lemmas.List.{get_or-set_same}
 use Rattle.strm_types.specs.declared.kinds.MsgKind.{MsgKind}
-use Rattle.strm_blocks.specs.Blocks.{Block, StoreValue, free_m, free_d, references, new_block, copy_of, held}
+use Rattle.strm_blocks.specs.Blocks.{StoreValue, free_m, free_d}
 use Rattle.strm_blocks.specs.Outcomes.{Allocated, Duplicated, Copied, NoneFree, NoneShared}
-use Rattle.strm_blocks.specs.Message.{message_at, with_blocks, weigh, naming}
-use Rattle.strm_blocks.specs.Table.{shown, chain_of, lists_of, hand_of, held_of, IsTable}
+use Rattle.strm_blocks.specs.Message.{message_at, with_blocks}
+use Rattle.strm_blocks.specs.Table.{shown, IsTable}
 use Rattle.strm_blocks.specs.declared.message.Message.{Message}
 use Rattle.strm_blocks.specs.declared.message.MessageBlock.{MessageBlock}
 use Rattle.strm_blocks.proofs.Stores.{value, free_m-value, free_d-value, counted}
 use Rattle.strm_blocks.proofs.Values.{times-value}
 use Rattle.strm_blocks.proofs.Moves.{idle-some, idle-fresh}
 use Rattle.strm_blocks.proofs.Frame.{lists-other, hand-other}
+
+-- an outcome, of values that are equal to these
+pub carried : {A B C D : Type 0} (P : A → B → C → D → Type 0) {a a' : A} {b b' : B} {c c' : C} {d d' : D} → a ≡ a' → b' ≡ b → c' ≡ c → d' ≡ d → P a b c d → P a' b' c' d'
+carried P {a} {a'} {b} {b'} {c} {c'} {d} {d'} ea eb ec ed h =
+    subst (λ x. P x b' c' d') ea (subst (λ x. P a x c' d') (sym eb) (subst (λ x. P a b x d') (sym ec) (subst (λ x. P a b c x) (sym ed) h)))
 
 module _ {mblks : ℕ} {lists : List (List Message)} {hand idle : List Message} {spare : List MessageBlock} {counts : List ℕ} (bytes : List (List ℕ)) (is : IsTable mblks lists hand idle spare counts) where
   abbrev pub old : StoreValue

@@ -1,7 +1,7 @@
 -- The list of free data blocks: what taking one, giving one back and other changes of a count do to it.
-use Rattle.std.proofs.Common.{ℕ, zero, suc, ◌≡◌, ◌≢◌, ◌≤◌, ◌<◌, ◌+◌, ◌-◌, Bool, true, false, cond, eqb, ltb, List, [], ◌∷◌, ◌++◌, length, get_or, refl, sym, ap, ◌∙◌, arith, rules}
+use Rattle.std.proofs.Common.{ℕ, zero, suc, ◌≡◌, ◌≢◌, ◌≤◌, ◌<◌, ◌+◌, Bool, true, false, cond, eqb, ltb, List, [], ◌∷◌, ◌++◌, length, get_or, refl, ap, ◌∙◌, arith}
 use Rattle.std.proofs.Math.ListN.{set, length-set}
-use Rattle.std.specs.Prelude.{sum_by, count_by, replicate}
+use Rattle.std.specs.Prelude.{count_by, replicate}
 use Rattle.std.proofs.lemmas.Bool.Decides.{nat_tests}
 use Rattle.std.proofs.lemmas.List.{get_or-set_same, get_or-set_other, get_or_past, length_push, length-replicate}
 use Rattle.std.proofs.lemmas.List.Sums.{sum_by_push, sum_by-cons, sum_by-set, count_by-le-length}
@@ -40,9 +40,10 @@ IsFreeList-taken free references d v some is =
     let unnamed = free-unnamed free references d is in
     record {
       listed = λ n. (let t = times-push n d free in let l = is.listed n in let s = length-set references d v in
-        elim (eqb d n) as (λ b. (eqb d n ≡ b) → times n free + is_named (set references d v) n ≡ is_there (set references d v) n) [
-          true ↦ (λ e. let same : n ≡ d = grind (arith, nat_tests) in let g = set_at references d v n same within in let u : get_or references n 0 ≡ 0 = ap (λ k. get_or references k 0) same ∙ unnamed in grind (arith, nat_tests))
-        | false ↦ (λ e. let other : n ≢ d = grind (arith, nat_tests) in let g = get_or-set_other references d n v 0 other in grind (arith, nat_tests)) ] refl);
+          elim (eqb d n) as (λ b. (eqb d n ≡ b) → times n free + is_named (set references d v) n ≡ is_there (set references d v) n) [
+            | true ↦ (λ e. let same : n ≡ d = grind (arith, nat_tests) in let g = set_at references d v n same within in let u : get_or references n 0 ≡ 0 = ap (λ k. get_or references k 0) same ∙ unnamed in grind (arith, nat_tests))
+            | false ↦ (λ e. let other : n ≢ d = grind (arith, nat_tests) in let g = get_or-set_other references d n v 0 other in grind (arith, nat_tests))
+          ] refl);
       counted = let z = zeros-set references d v within in let l = length_push free d in let c = is.counted in grind (arith, nat_tests);
     }
 
@@ -52,9 +53,10 @@ IsFreeList-released free references d some is =
     let within = named-within references d some in
     record {
       listed = λ n. (let t = times-push n d free in let l = is.listed n in let s = length-set references d 0 in
-        elim (eqb d n) as (λ b. (eqb d n ≡ b) → times n (free ++ d ∷ []) + is_named (set references d 0) n ≡ is_there (set references d 0) n) [
-          true ↦ (λ e. let same : n ≡ d = grind (arith, nat_tests) in let g = set_at references d 0 n same within in let u : get_or references n 0 ≡ get_or references d 0 = ap (λ k. get_or references k 0) same in grind (arith, nat_tests))
-        | false ↦ (λ e. let other : n ≢ d = grind (arith, nat_tests) in let g = get_or-set_other references d n 0 0 other in grind (arith, nat_tests)) ] refl);
+          elim (eqb d n) as (λ b. (eqb d n ≡ b) → times n (free ++ d ∷ []) + is_named (set references d 0) n ≡ is_there (set references d 0) n) [
+            | true ↦ (λ e. let same : n ≡ d = grind (arith, nat_tests) in let g = set_at references d 0 n same within in let u : get_or references n 0 ≡ get_or references d 0 = ap (λ k. get_or references k 0) same in grind (arith, nat_tests))
+            | false ↦ (λ e. let other : n ≢ d = grind (arith, nat_tests) in let g = get_or-set_other references d n 0 0 other in grind (arith, nat_tests))
+          ] refl);
       counted = let z = zeros-set references d 0 within in let l = length_push free d in let c = is.counted in grind (arith, nat_tests);
     }
 
@@ -64,9 +66,10 @@ IsFreeList-kept free references d v some more is =
     let within = named-within references d some in
     record {
       listed = λ n. (let l = is.listed n in let s = length-set references d v in
-        elim (eqb d n) as (λ b. (eqb d n ≡ b) → times n free + is_named (set references d v) n ≡ is_there (set references d v) n) [
-          true ↦ (λ e. let same : n ≡ d = grind (arith, nat_tests) in let g = set_at references d v n same within in let u : get_or references n 0 ≡ get_or references d 0 = ap (λ k. get_or references k 0) same in grind (arith, nat_tests))
-        | false ↦ (λ e. let other : n ≢ d = grind (arith, nat_tests) in let g = get_or-set_other references d n v 0 other in grind (arith, nat_tests)) ] refl);
+          elim (eqb d n) as (λ b. (eqb d n ≡ b) → times n free + is_named (set references d v) n ≡ is_there (set references d v) n) [
+            | true ↦ (λ e. let same : n ≡ d = grind (arith, nat_tests) in let g = set_at references d v n same within in let u : get_or references n 0 ≡ get_or references d 0 = ap (λ k. get_or references k 0) same in grind (arith, nat_tests))
+            | false ↦ (λ e. let other : n ≢ d = grind (arith, nat_tests) in let g = get_or-set_other references d n v 0 other in grind (arith, nat_tests))
+          ] refl);
       counted = let z = zeros-set references d v within in let c = is.counted in grind (arith, nat_tests);
     }
 
@@ -88,10 +91,12 @@ free-fewer free references d some is =
 pub bounded-set : (references : List ℕ) (d v m : ℕ) → v ≤ m → ((n : ℕ) → get_or references n 0 ≤ m) → (n : ℕ) → get_or (set references d v) n 0 ≤ m
 bounded-set references d v m le all n =
     elim (eqb d n) as (λ b. (eqb d n ≡ b) → get_or (set references d v) n 0 ≤ m) [
-      true ↦ (λ e. elim (ltb d (length references)) as (λ b. (ltb d (length references) ≡ b) → get_or (set references d v) n 0 ≤ m) [
-          true ↦ (λ w. let g = set_at references d v n (grind (arith, nat_tests)) (grind (arith, nat_tests)) in omega arith)
-        | false ↦ (λ w. let g = get_or_past (set references d v) n 0 (let s = length-set references d v in grind (arith, nat_tests)) in omega arith) ] refl)
-    | false ↦ (λ e. let g = get_or-set_other references d n v 0 (grind (arith, nat_tests)) in let a = all n in omega arith) ] refl
+      | true ↦ (λ e. elim (ltb d (length references)) as (λ b. (ltb d (length references) ≡ b) → get_or (set references d v) n 0 ≤ m) [
+        | true ↦ (λ w. let g = set_at references d v n (grind (arith, nat_tests)) (grind (arith, nat_tests)) in omega arith)
+        | false ↦ (λ w. let g = get_or_past (set references d v) n 0 (let s = length-set references d v in grind (arith, nat_tests)) in omega arith)
+      ] refl)
+      | false ↦ (λ e. let g = get_or-set_other references d n v 0 (grind (arith, nat_tests)) in let a = all n in omega arith)
+    ] refl
 
 -- one more number in a list that has each below it once
 pub times-next : (free : List ℕ) (k : ℕ) → ((n : ℕ) → times n free ≡ cond (ltb n k) 1 0) → (n : ℕ) → times n (free ++ k ∷ []) ≡ cond (ltb n (k + 1)) 1 0
@@ -101,7 +106,7 @@ zeros-replicate : (count : ℕ) → count_by (λ r. eqb r 0) (replicate count 0)
 zeros-replicate zero = refl
 zeros-replicate (suc count) = sum_by-cons (λ r. cond (eqb r 0) 1 0) 0 (replicate count 0) ∙ (let z = zeros-replicate count in omega arith)
 
-get_or-zeros : (count n : ℕ) → get_or {A = ℕ} (replicate count 0) n 0 ≡ 0
+pub get_or-zeros : (count n : ℕ) → get_or {A = ℕ} (replicate count 0) n 0 ≡ 0
 get_or-zeros zero n = refl
 get_or-zeros (suc count) zero = refl
 get_or-zeros (suc count) (suc n) = get_or-zeros count n
@@ -120,14 +125,16 @@ bounded-zeros count n = let z = get_or-zeros count n in omega arith
 pub count-more : (counts : List ℕ) (d v : ℕ) → d < length counts → v ≡ get_or counts d 0 + 1 → (n : ℕ) → get_or (set counts d v) n 0 ≡ get_or counts n 0 + cond (eqb d n) 1 0
 count-more counts d v within more n =
     elim (eqb d n) as (λ b. (eqb d n ≡ b) → get_or (set counts d v) n 0 ≡ get_or counts n 0 + cond b 1 0) [
-      true ↦ (λ e. let same : n ≡ d = grind (arith, nat_tests) in let g = set_at counts d v n same within in let u : get_or counts n 0 ≡ get_or counts d 0 = ap (λ k. get_or counts k 0) same in omega arith)
-    | false ↦ (λ e. let g = get_or-set_other counts d n v 0 (grind (arith, nat_tests)) in omega arith) ] refl
+      | true ↦ (λ e. let same : n ≡ d = grind (arith, nat_tests) in let g = set_at counts d v n same within in let u : get_or counts n 0 ≡ get_or counts d 0 = ap (λ k. get_or counts k 0) same in omega arith)
+      | false ↦ (λ e. let g = get_or-set_other counts d n v 0 (grind (arith, nat_tests)) in omega arith)
+    ] refl
 
 pub count-fewer : (counts : List ℕ) (d v : ℕ) → d < length counts → v + 1 ≡ get_or counts d 0 → (n : ℕ) → get_or (set counts d v) n 0 + cond (eqb d n) 1 0 ≡ get_or counts n 0
 count-fewer counts d v within fewer n =
     elim (eqb d n) as (λ b. (eqb d n ≡ b) → get_or (set counts d v) n 0 + cond b 1 0 ≡ get_or counts n 0) [
-      true ↦ (λ e. let same : n ≡ d = grind (arith, nat_tests) in let g = set_at counts d v n same within in let u : get_or counts n 0 ≡ get_or counts d 0 = ap (λ k. get_or counts k 0) same in omega arith)
-    | false ↦ (λ e. let g = get_or-set_other counts d n v 0 (grind (arith, nat_tests)) in omega arith) ] refl
+      | true ↦ (λ e. let same : n ≡ d = grind (arith, nat_tests) in let g = set_at counts d v n same within in let u : get_or counts n 0 ≡ get_or counts d 0 = ap (λ k. get_or counts k 0) same in omega arith)
+      | false ↦ (λ e. let g = get_or-set_other counts d n v 0 (grind (arith, nat_tests)) in omega arith)
+    ] refl
 
 -- a count that goes from none to one
 pub count-taken : (counts : List ℕ) (d : ℕ) → d < length counts → get_or counts d 0 ≡ 0 → (n : ℕ) → get_or (set counts d 1) n 0 ≡ get_or counts n 0 + cond (eqb d n) 1 0

@@ -1,11 +1,12 @@
 -- What holds of a store's fields still holds where messages and blocks move.
-use Rattle.std.proofs.Common.{ℕ, zero, suc, ◌≡◌, ◌≢◌, ◌≤◌, ◌<◌, ◌+◌, ◌-◌, Bool, true, false, cond, eqb, List, [], ◌∷◌, ◌++◌, length, take, drop, get_or, refl, sym, ap, ◌∙◌, arith}
-use Rattle.std.proofs.Math.ListN.{set, length-set}
-use Rattle.std.specs.Prelude.{sum_by, count_by}
+use Rattle.std.proofs.Common.{ℕ, ◌≡◌, ◌≤◌, ◌<◌, ◌+◌, ◌-◌, cond, eqb, List, [], ◌∷◌, ◌++◌, length, drop, get_or, sym, ap, ◌∙◌, arith}
+use Rattle.std.proofs.Math.ListN.{set}
+use Rattle.std.specs.Prelude.{sum_by, count_by, replicate}
+use Rattle.strm_blocks.proofs.ListParts.{sums-empty}
 use Rattle.std.proofs.lemmas.Bool.Decides.{nat_tests}
 use Rattle.std.proofs.lemmas.List.{length-drop, length-append}
 use Rattle.std.proofs.lemmas.List.Sums.{sum_by-cons, sum_by-append}
-use Rattle.strm_blocks.specs.Message.{message_at, no_message, row_at, without_at, with_blocks, place_in, weigh, named, naming, lacking, block_count, askew}
+use Rattle.strm_blocks.specs.Message.{message_at, without_at, with_blocks, weigh, named, naming, lacking, block_count, askew}
 use Rattle.strm_blocks.specs.Table.{IsTable}
 use Rattle.strm_blocks.specs.declared.message.Message.{Message}
 use Rattle.strm_blocks.specs.declared.message.MessageBlock.{MessageBlock}
@@ -84,17 +85,45 @@ module _ {mblks : ℕ} {lists : List (List Message)} {hand idle : List Message} 
       }
 
   -- messages that are taken out and give back their blocks
-  pub IsTable-freed : (lists' : List (List Message)) (hand' taken idle' : List Message) (spare' : List MessageBlock) (counts' : List ℕ) → length lists' ≡ 8 → ((g : Message → ℕ) → weigh g lists' hand' + sum_by g taken ≡ weigh g lists hand) → length spare' ≡ length spare + sum_by block_count taken → length idle' ≡ length idle + sum_by (λ (m : Message). 1) taken → ((i : ℕ) → sum_by (named i) idle' ≡ sum_by (named i) idle + sum_by (named i) taken) → ((d : ℕ) → get_or counts' d 0 + sum_by (naming d) taken ≡ get_or counts d 0) → IsTable mblks lists' hand' idle' spare' counts'
+  pub IsTable-freed : (lists' : List (List Message)) (hand' taken idle' : List Message) (spare' : List MessageBlock) (counts' : List ℕ) → length lists' ≡ 8 → ((g : Message → ℕ) → weigh g lists' hand' + sum_by g taken ≡ weigh g lists hand) → length spare' ≡ length spare + sum_by block_count taken → length idle' ≡ length idle + length taken → ((i : ℕ) → sum_by (named i) idle' ≡ sum_by (named i) idle + sum_by (named i) taken) → ((d : ℕ) → get_or counts' d 0 + sum_by (naming d) taken ≡ get_or counts d 0) → IsTable mblks lists' hand' idle' spare' counts'
   IsTable-freed lists' hand' taken idle' spare' counts' eight same rows nodes names fewer = record {
     eight = eight;
     few = is.few;
     blocks = let s = same block_count in let b = is.blocks in omega arith;
-    messages = let s = same (λ m. 1) in let b = is.messages in omega arith;
+    messages = let s = same (λ m. 1) in let b = is.messages in let o = ones taken in omega arith;
     filled = let s = same lacking in let b = is.filled in omega arith;
     apart = λ i. (let s = same (named i) in let b = is.apart i in let n = names i in omega arith);
     referenced = λ d. (let s = same (naming d) in let b = is.referenced d in let f = fewer d in omega arith);
     straight = let s = same askew in let b = is.straight in omega arith;
   }
+
+  -- what is taken out has no more blocks than there are references to give up, and there is room for all of it
+  pub freed-named : (lists' : List (List Message)) (hand' taken : List Message) → ((g : Message → ℕ) → weigh g lists' hand' + sum_by g taken ≡ weigh g lists hand) → (d : ℕ) → sum_by (naming d) taken ≤ get_or counts d 0
+  freed-named lists' hand' taken same d = let s = same (naming d) in let b = is.referenced d in omega arith
+
+  pub freed-messages : (lists' : List (List Message)) (hand' taken : List Message) → ((g : Message → ℕ) → weigh g lists' hand' + sum_by g taken ≡ weigh g lists hand) → length idle + length taken ≤ 65536
+  freed-messages lists' hand' taken same = let s = same (λ m. 1) in let m = is.messages in let f = is.few in let o = ones taken in omega arith
+
+  pub freed-blocks : (lists' : List (List Message)) (hand' taken : List Message) → ((g : Message → ℕ) → weigh g lists' hand' + sum_by g taken ≡ weigh g lists hand) → length spare + sum_by block_count taken ≤ 65536
+  freed-blocks lists' hand' taken same = let s = same block_count in let m = is.blocks in let f = is.few in omega arith
+
+  -- a message of the hand taken out
+  pub freed-one : (p : ℕ) (hand' taken : List Message) → p < length hand → hand' ≡ without_at p hand → taken ≡ message_at p hand ∷ [] → (g : Message → ℕ) → weigh g lists hand' + sum_by g taken ≡ weigh g lists hand
+  freed-one p hand' taken within eh et g =
+      let w = sum-without g hand p within in
+      let a = ap (λ (q : List Message). sum_by g q) eh in
+      let b = ap (λ (q : List Message). sum_by g q) et in
+      let o = sum_by-cons g (message_at p hand) [] in
+      omega arith
+
+  -- all messages taken out
+  pub freed-all : (lists' : List (List Message)) (hand' none taken : List Message) → lists' ≡ replicate 8 [] → hand' ≡ [] → none ≡ [] → ((g : Message → ℕ) → sum_by g taken ≡ sum_by g none + weigh g lists hand) → (g : Message → ℕ) → weigh g lists' hand' + sum_by g taken ≡ weigh g lists hand
+  freed-all lists' hand' none taken el eh en all g =
+      let l = ap (λ (lists : List (List Message)). sum_by (λ q. sum_by g q) lists) el ∙ sums-empty g 8 in
+      let h = ap (λ (q : List Message). sum_by g q) eh in
+      let n = ap (λ (q : List Message). sum_by g q) en in
+      let a = all g in
+      omega arith
 
   -- two messages in hand that become one
   pub IsTable-linked : (p r : ℕ) → p < length hand → r < length (without_at p hand) → IsTable mblks lists (set (without_at p hand) r (with_blocks ((message_at r (without_at p hand)).blocks ++ (message_at p hand).blocks) (message_at r (without_at p hand)))) (with_blocks [] (message_at p hand) ∷ idle) spare counts

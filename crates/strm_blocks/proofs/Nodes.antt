@@ -1,12 +1,10 @@
 -- Lists of messages, changed at a place.
-use Rattle.std.proofs.Common.{ℕ, zero, suc, ◌≡◌, ◌≤◌, ◌<◌, ◌+◌, ◌-◌, Bool, true, false, not, cond, eqb, leb, ltb, List, [], ◌∷◌, ◌++◌, length, take, drop, get_or, refl, sym, ap, ◌∙◌, arith}
-use Rattle.std.proofs.Math.ListN.{set, length-set}
-use Rattle.std.specs.Prelude.{sum_by, count_by, ◌==◌}
-use Rattle.std.specs.List.{position_or_len, prefix_len}
-use Rattle.std.proofs.lemmas.Bool.Decides.{nat_tests}
-use Rattle.std.proofs.lemmas.List.{get_or-set_same, set-set, length-drop, length-append}
-use Rattle.std.proofs.lemmas.List.Sums.{sum_by-cons, sum_by-append, sum_by-set, sum_by-remove, sum_by-insert, sum_by-take-drop, prefix_len-le-length, get_or-le-sum_by}
-use Rattle.strm_blocks.specs.Message.{message_at, no_message, row_at, without_at, with_blocks, place_in, weigh, named, naming, lacking, block_count, askew}
+use Rattle.std.proofs.Common.{ℕ, ◌≡◌, ◌≤◌, ◌<◌, ◌+◌, true, false, not, cond, List, [], ◌∷◌, ◌++◌, length, take, drop, get_or, refl, sym, arith}
+use Rattle.std.proofs.Math.ListN.{set}
+use Rattle.std.specs.Prelude.{sum_by, ◌==◌}
+use Rattle.std.proofs.lemmas.List.{get_or-set_same, set-set}
+use Rattle.std.proofs.lemmas.List.Sums.{sum_by-cons, sum_by-set, sum_by-remove, sum_by-insert, get_or-le-sum_by}
+use Rattle.strm_blocks.specs.Message.{message_at, no_message, without_at, with_blocks, place_in, weigh, named}
 use Rattle.strm_blocks.specs.declared.message.Message.{Message}
 use Rattle.strm_blocks.specs.declared.message.MessageBlock.{MessageBlock}
 
@@ -21,8 +19,9 @@ place-within i [] some = absurd (omega arith)
 place-within i (m ∷ q) some =
     let s = sum_by-cons (named i) m q in
     elim (m.name == i) as (λ b. (cond b 1 0 + sum_by (named i) q ≡ sum_by (named i) (m ∷ q)) → cond (not b) (1 + place_in i q) 0 < length (m ∷ q)) [
-      true ↦ (λ e. omega arith)
-    | false ↦ (λ e. let ih = place-within i q (omega arith) in omega arith) ] (sym s)
+      | true ↦ (λ e. omega arith)
+      | false ↦ (λ e. let ih = place-within i q (omega arith) in omega arith)
+    ] (sym s)
 
 -- sums over a list without the message at a place, with one more, and with other blocks at a place
 module _ (g : Message → ℕ) where

@@ -44,12 +44,14 @@ module _ (block : List ℕ) where
 pub sized-push : (blocks : List (List ℕ)) (block : List ℕ) (count size : ℕ) → length blocks ≡ count → length block ≡ size → ((n : ℕ) → n < count → length (get_or blocks n []) ≡ size) → (n : ℕ) → n < count + 1 → length (get_or (blocks ++ block ∷ []) n []) ≡ size
 sized-push blocks block count size len here all n within =
     elim (ltb n count) as (λ b. (ltb n count ≡ b) → length (get_or (blocks ++ block ∷ []) n []) ≡ size) [
-      true ↦ (λ e. let below : n < count = grind (arith, nat_tests) in rw (get_or_append_left blocks (block ∷ []) [] n (omega arith)) (all n below))
-    | false ↦ (λ e. let at : length blocks ≡ n = grind (arith, nat_tests) in rw (get_or_push blocks block [] n at) here) ] refl
+      | true ↦ (λ e. let below : n < count = grind (arith, nat_tests) in rw (get_or_append_left blocks (block ∷ []) [] n (omega arith)) (all n below))
+      | false ↦ (λ e. let at : length blocks ≡ n = grind (arith, nat_tests) in rw (get_or_push blocks block [] n at) here)
+    ] refl
 
 -- and with one of them replaced
 pub sized-set : (blocks : List (List ℕ)) (block : List ℕ) (d size : ℕ) → length block ≡ size → ((n : ℕ) → n < length blocks → length (get_or blocks n []) ≡ size) → (n : ℕ) → n < length blocks → length (get_or (set blocks d block) n []) ≡ size
 sized-set blocks block d size here all n within =
     elim (eqb n d) as (λ b. (eqb n d ≡ b) → length (get_or (set blocks d block) n []) ≡ size) [
-      true ↦ (λ e. let same : n ≡ d = grind (arith, nat_tests) in rw (get_or-set_at blocks d n block [] same (omega arith)) here)
-    | false ↦ (λ e. rw (get_or-set_other blocks d n block [] (grind (arith, nat_tests))) (all n within)) ] refl
+      | true ↦ (λ e. let same : n ≡ d = grind (arith, nat_tests) in rw (get_or-set_at blocks d n block [] same (omega arith)) here)
+      | false ↦ (λ e. rw (get_or-set_other blocks d n block [] (grind (arith, nat_tests))) (all n within))
+    ] refl

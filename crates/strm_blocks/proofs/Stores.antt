@@ -1,11 +1,10 @@
 -- What holds of the value of a store, from what holds of its fields.
-use Rattle.std.proofs.Common.{ℕ, zero, suc, ◌≡◌, ◌≤◌, ◌<◌, ◌+◌, ◌-◌, ◌*◌, Bool, true, false, cond, eqb, List, [], ◌∷◌, ◌++◌, length, take, drop, get_or, map, refl, sym, ap, ◌∙◌, arith}
-use Rattle.std.specs.Prelude.{sum_by, count_by, slice_range}
-use Rattle.std.proofs.lemmas.Bool.Decides.{nat_tests}
+use Rattle.std.proofs.Common.{ℕ, zero, suc, ◌≡◌, ◌≤◌, ◌+◌, ◌-◌, ◌*◌, cond, eqb, List, [], ◌∷◌, length, take, drop, get_or, map, refl, sym, ap, ◌∙◌, arith}
+use Rattle.std.specs.Prelude.{sum_by, count_by}
 use Rattle.std.proofs.lemmas.List.{length-map, length-take, take_all, get_or_past}
 use Rattle.std.proofs.lemmas.List.Sums.{sum_by-cons, sum_by_more}
-use Rattle.strm_blocks.specs.Blocks.{Block, StoreValue, IsStore, total, names_of, references, used, free_m, free_d, zeros_below, times_in, missing, extent}
-use Rattle.strm_blocks.specs.Message.{weigh, named, naming, block_count, lacking, askew}
+use Rattle.strm_blocks.specs.Blocks.{StoreValue, IsStore, total, names_of, references, used, free_m, free_d, zeros_below, missing, extent}
+use Rattle.strm_blocks.specs.Message.{weigh, naming, block_count, lacking, askew}
 use Rattle.strm_blocks.specs.Table.{shown, chain_of, lists_of, hand_of, IsTable}
 use Rattle.strm_blocks.specs.declared.message.Message.{Message}
 use Rattle.strm_blocks.specs.declared.message.MessageBlock.{MessageBlock}

@@ -1,8 +1,7 @@
 -- A store of message blocks as its clients see it (STREAMS Programming Guide, "Message Structure").
-use Rattle.std.specs.Prelude.{ℕ, zero, suc, Bool, true, false, not, ◌≡◌, ◌≤◌, ◌+◌, ◌-◌, ◌*◌, ◌==◌, nat_lt, min, if◌then◌else◌, List, [], ◌∷◌, ◌++◌, length, take, drop, map, filter, sum_by, count_by, take_while, replicate, slice_index_or, slice_set, Option, None, Some}
+use Rattle.std.specs.Prelude.{ℕ, zero, suc, ◌≡◌, ◌≤◌, ◌+◌, ◌-◌, ◌*◌, ◌==◌, nat_lt, min, if◌then◌else◌, List, [], ◌∷◌, ◌++◌, length, take, drop, sum_by, count_by, replicate, slice_index_or, slice_set}
 use Rattle.strm_types.specs.Ranked as ranked
 use Rattle.strm_types.specs.Message.{is_high_priority}
-use Rattle.strm_types.specs.Flush.{is_flushed}
 use Rattle.strm_types.specs.declared.kinds.MsgKind.{MsgKind}
 use Rattle.strm_types.specs.declared.kinds.MsgKind.TheVariants as kinds
 

@@ -1,12 +1,11 @@
 -- What the calls of a store lead to, where they have a result (STREAMS Programming Guide, "Message Structure").
-use Rattle.std.specs.Prelude.{ℕ, Bool, true, false, not, ◌≡◌, ◌≢◌, ◌<◌, ◌+◌, ◌==◌, ◌⊎◌, if◌then◌else◌, List, [], ◌∷◌, ◌++◌, length, drop, filter, sum_by, take_while, Option, None, Some, option_map}
+use Rattle.std.specs.Prelude.{ℕ, Bool, true, false, not, ◌≡◌, ◌<◌, ◌⊎◌, List, [], ◌∷◌, length, filter, sum_by, take_while, Option, None, Some, option_map}
 use Rattle.strm_types.specs.Flush.{is_flushed}
 use Rattle.strm_types.specs.declared.kinds.MsgKind.{MsgKind}
 use Rattle.strm_types.specs.declared.kinds.MsgKind.TheVariants as kinds
-use Rattle.strm_types.specs.declared.kinds.Band.{Band}
 use Rattle.strm_blocks.specs.declared.asked.Peek.{Peek}
 use Rattle.strm_blocks.specs.declared.asked.FlushWhat.{FlushWhat}
-use Rattle.strm_blocks.specs.Blocks.{Block, StoreValue, in_hand, held, dropped, changed, placed, list_at, used, references, free_m, free_d, IsFreshName, new_block, copy_of, block_at}
+use Rattle.strm_blocks.specs.Blocks.{Block, StoreValue, in_hand, held, changed, placed, list_at, references, free_m, free_d, IsFreshName, new_block, copy_of, block_at}
 
 -- allocb(9F): one new message of one empty block, with a data block that no other block names
 pub record Allocated (old new : StoreValue) (name : ℕ) (kind : MsgKind) : Type 0 where

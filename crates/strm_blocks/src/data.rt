@@ -102,6 +102,7 @@ impl DataBlocks {
     /// Does nothing. Its contract is what holds of all data blocks.
     pub(crate) fn audit(&self)
         ensures few { length self.now.references ≤ 65536 }
+        ensures same_count { length self.now.bytes ≡ length self.now.references }
         ensures bounded { (n : ℕ) → slice_index_or self.now.references n 0 ≤ 255 }
         ensures sized { (n : ℕ) → n < length self.now.references → length (slice_index_or self.now.bytes n []) ≡ 256 }
     {

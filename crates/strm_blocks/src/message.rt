@@ -1,7 +1,7 @@
 //! Message blocks, messages, and what is done to lists of them. Blocks and messages are nodes of linked lists, which
 //! move from list to list, so that nothing here takes memory.
-ghost use Rattle.std.specs.Prelude.{ℕ, ◌≡◌, ◌<◌, ◌≤◌, ◌+◌, ◌^◌, ◌==◌, [], ◌∷◌, ◌++◌, length, take, drop, slice_set};
-ghost use Rattle.strm_blocks.specs.Message.{message_at, row_at, without_at, with_blocks, place_in, rank_in, naming, named, block_count};
+ghost use Rattle.std.specs.Prelude.{ℕ, ◌≡◌, ◌<◌, ◌≤◌, ◌+◌, ◌^◌, ◌==◌, [], ◌∷◌, ◌++◌, length, take, drop, slice_set, sum_by, replicate};
+ghost use Rattle.strm_blocks.specs.Message.{message_at, row_at, without_at, with_blocks, place_in, rank_in, weigh};
 
 use std::collections::LinkedList;
 use std::mem::swap;
@@ -49,7 +49,11 @@ pub(crate) fn put_node(list: &mut LinkedList<Message>, at: usize, mut node: Link
 }
 
 /// Gives the message at a place of a list other blocks, and hands out those that it had.
-pub(crate) fn swap_blocks(list: &mut LinkedList<Message>, at: usize, blocks: &mut LinkedList<MessageBlock>)
+pub(crate) fn swap_blocks(
+    list: &mut LinkedList<Message>,
+    at: usize,
+    blocks: &mut LinkedList<MessageBlock>,
+)
     requires { at < length list.old }
     ensures given { list.new ≡ slice_set list.old at (with_blocks blocks.old (message_at at list.old)) }
     ensures taken { blocks.new ≡ (message_at at list.old).blocks }
@@ -109,7 +113,10 @@ pub(crate) fn blocks_of(list: &LinkedList<Message>, name: usize) -> &LinkedList<
 }
 
 /// Gives a spare block these contents, as a chain of one block.
-pub(crate) fn chain_with(spare: &mut LinkedList<MessageBlock>, block: MessageBlock) -> LinkedList<MessageBlock>
+pub(crate) fn chain_with(
+    spare: &mut LinkedList<MessageBlock>,
+    block: MessageBlock,
+) -> LinkedList<MessageBlock>
     requires { 0 < length spare.old }
     ensures chain { result ≡ block ∷ [] }
     ensures rest { spare.new ≡ drop 1 spare.old }
@@ -121,7 +128,11 @@ pub(crate) fn chain_with(spare: &mut LinkedList<MessageBlock>, block: MessageBlo
 }
 
 /// Gives blocks to an idle message, which then stands in hand, first. Returns its name.
-pub(crate) fn hold(hand: &mut LinkedList<Message>, idle: &mut LinkedList<Message>, mut blocks: LinkedList<MessageBlock>) -> usize
+pub(crate) fn hold(
+    hand: &mut LinkedList<Message>,
+    idle: &mut LinkedList<Message>,
+    mut blocks: LinkedList<MessageBlock>,
+) -> usize
     requires some { 0 < length idle.old }
     requires few { length hand.old + 1 < 2 ^ 63 }
     ensures name { result ≡ (message_at 0 idle.old).name }
@@ -144,7 +155,13 @@ pub(crate) fn name_of(list: &LinkedList<Message>) -> usize
 }
 
 /// Puts a block of the message of a name in place of another one.
-pub(crate) fn replace_block(list: &mut LinkedList<Message>, name: usize, at: usize, block: MessageBlock, mut none: LinkedList<MessageBlock>)
+pub(crate) fn replace_block(
+    list: &mut LinkedList<Message>,
+    name: usize,
+    at: usize,
+    block: MessageBlock,
+    mut none: LinkedList<MessageBlock>,
+)
     requires there { place_in name list.old < length list.old }
     requires within { at < length (message_at (place_in name list.old) list.old).blocks }
     ensures { let place = place_in name list.old in let m = message_at place list.old in
@@ -169,5 +186,55 @@ pub(crate) fn first_block(chain: &LinkedList<MessageBlock>) -> MessageBlock
             start: 0,
             end: 0,
         },
+    }
+}
+
+/// Hangs blocks behind those of the message at a place. `none` is a chain of no block.
+pub(crate) fn join_blocks(
+    list: &mut LinkedList<Message>,
+    at: usize,
+    mut blocks: LinkedList<MessageBlock>,
+    mut none: LinkedList<MessageBlock>,
+)
+    requires within { at < length list.old }
+    requires few { length (message_at at list.old).blocks + length blocks < 2 ^ 63 }
+    ensures { let m = message_at at list.old in list.new ≡ slice_set list.old at (with_blocks (m.blocks ++ blocks) m) }
+{
+    swap_blocks(list, at, &mut none);
+    none.append(&mut blocks).unwrap();
+    swap_blocks(list, at, &mut none);
+}
+
+/// Takes all blocks but the first from the message at a place. `none` is a chain of no block.
+pub(crate) fn part_blocks(
+    list: &mut LinkedList<Message>,
+    at: usize,
+    mut none: LinkedList<MessageBlock>,
+) -> LinkedList<MessageBlock>
+    requires within { at < length list.old }
+    requires some { 0 < length (message_at at list.old).blocks }
+    ensures kept { let m = message_at at list.old in list.new ≡ slice_set list.old at (with_blocks (take 1 m.blocks) m) }
+    ensures rest { result ≡ drop 1 (message_at at list.old).blocks }
+{
+    swap_blocks(list, at, &mut none);
+    let rest = none.split_off(1).unwrap();
+    swap_blocks(list, at, &mut none);
+    rest
+}
+
+/// Moves all messages of eight lists and of the hand to another list.
+pub(crate) fn gather(
+    lists: &mut [LinkedList<Message>; 8],
+    hand: &mut LinkedList<Message>,
+    taken: &mut LinkedList<Message>,
+)
+    requires { length taken.old + weigh (λ _. 1) lists.old hand.old < 2 ^ 63 }
+    ensures lists { lists.new ≡ replicate 8 [] }
+    ensures hand { hand.new ≡ [] }
+    ensures taken { (g : Message → ℕ) → sum_by g taken.new ≡ sum_by g taken.old + weigh g lists.old hand.old }
+{
+    taken.append(hand).unwrap();
+    for list in 0..8 {
+        taken.append(&mut lists[list]).unwrap();
     }
 }

@@ -22,7 +22,13 @@ fn release_all(blocks: &LinkedList<MessageBlock>, pool: &mut DataBlocks)
 }
 
 /// Gives back the blocks of all messages of a list, and lets the messages stand idle. `none` is a chain of no block.
-pub(crate) fn give_back(mut taken: LinkedList<Message>, idle: &mut LinkedList<Message>, spare: &mut LinkedList<MessageBlock>, pool: &mut DataBlocks, mut none: LinkedList<MessageBlock>)
+pub(crate) fn give_back(
+    mut taken: LinkedList<Message>,
+    idle: &mut LinkedList<Message>,
+    spare: &mut LinkedList<MessageBlock>,
+    pool: &mut DataBlocks,
+    mut none: LinkedList<MessageBlock>,
+)
     requires named { (d : ℕ) → sum_by (naming d) taken ≤ slice_index_or pool.old.references d 0 }
     requires few_messages { length idle.old + length taken < 2 ^ 63 }
     requires few_blocks { length spare.old + sum_by block_count taken < 2 ^ 63 }
@@ -60,7 +66,12 @@ pub(crate) fn sift(list: &mut LinkedList<Message>, what: FlushWhat) -> LinkedLis
 }
 
 /// Adds messages to the first list or to the second.
-fn add_to_one(first: &mut LinkedList<Message>, second: &mut LinkedList<Message>, mut node: LinkedList<Message>, to_first: bool)
+fn add_to_one(
+    first: &mut LinkedList<Message>,
+    second: &mut LinkedList<Message>,
+    mut node: LinkedList<Message>,
+    to_first: bool,
+)
     requires first_few { length first.old + length node < 2 ^ 63 }
     requires second_few { length second.old + length node < 2 ^ 63 }
     ensures first { first.new ≡ (if to_first then first.old ++ node else first.old) }

@@ -1,4 +1,3 @@
-use Rattle.std.proofs.Common.{◌≡◌}
 use Rattle.strm_blocks.proofs.Nodes.{swap-twice}
 use Rattle.strm_blocks.proofs.message.replace_block.Goals as goal
 

@@ -1,4 +1,4 @@
-use Rattle.std.proofs.Common.{ℕ, ◌≡◌, ◌<◌, ◌+◌, ◌^◌, ◌++◌, not, length, filter}
+use Rattle.std.proofs.Common.{◌≡◌, ◌<◌, ◌+◌, ◌^◌, ◌++◌, not, length, filter}
 use Rattle.strm_blocks.specs.Message.{flushes_message}
 use Rattle.strm_blocks.proofs.release.sift.Given as goal
 

@@ -1,4 +1,4 @@
-use Rattle.std.proofs.Common.{arith, ℕ, ◌<◌, ap}
+use Rattle.std.proofs.Common.{arith, ap}
 use Rattle.std.specs.Prelude.{slice_index_or}
 use Rattle.strm_blocks.specs.Pool.{Pool}
 use Rattle.strm_blocks.proofs.FreeList.{free-fewer}

@@ -1,5 +1,4 @@
-use Rattle.std.proofs.Common.{arith, rules, refl, sym, ◌≡◌, ◌∙◌, length, ap, ℕ}
-use Rattle.std.specs.Prelude.{replicate}
+use Rattle.std.proofs.Common.{arith, refl, sym, ◌≡◌, ◌∙◌, length, ap, ℕ}
 use Rattle.std.proofs.lemmas.List.{length-replicate}
 use Rattle.strm_blocks.specs.Pool.{Pool}
 use Rattle.strm_blocks.proofs.FreeList.{times-next, IsFreeList-new, bounded-zeros}

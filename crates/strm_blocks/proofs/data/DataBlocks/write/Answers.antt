@@ -1,4 +1,4 @@
-use Rattle.std.proofs.Common.{arith, refl, ℕ, ◌≡◌, ◌<◌, [], length, get_or, ap}
+use Rattle.std.proofs.Common.{arith, refl, ◌≡◌, ◌<◌, [], length, get_or, ap}
 use Rattle.std.proofs.lemmas.List.{get_or_read}
 use Rattle.strm_blocks.specs.Pool.{Pool}
 use Rattle.strm_blocks.proofs.Shown.{shown-written}

@@ -1,4 +1,4 @@
-use Rattle.std.proofs.Common.{arith, refl, ◌≡◌, ◌<◌, ℕ, length, ap, ◌∙◌, ◌∷◌, sym, subst}
+use Rattle.std.proofs.Common.{arith, refl, ◌≡◌, ◌<◌, length, ap, ◌∙◌, ◌∷◌, sym, subst}
 use Rattle.std.proofs.Math.ListN.{length-set}
 use Rattle.std.proofs.lemmas.Bool.Decides.{nat_tests}
 use Rattle.strm_blocks.specs.Pool.{Pool}
@@ -9,7 +9,7 @@ use Rattle.strm_blocks.proofs.Stores.{value-same}
 use Rattle.strm_blocks.proofs.FreeList.{count-taken}
 use Rattle.strm_blocks.proofs.Moves.{idle-some, hand-few, IsTable-added}
 use Rattle.strm_blocks.proofs.Calls.{NoneFree-messages, NoneFree-data, Allocated-value}
-use Rattle.strm_blocks.proofs.table.TableStore.alloc.Goals as goal
+use Rattle.strm_blocks.proofs.table.TableStoreBlocks.alloc.Goals as goal
 
 pub returns-then-is_empty : goal.returns-then-is_empty
 returns-then-is_empty c =

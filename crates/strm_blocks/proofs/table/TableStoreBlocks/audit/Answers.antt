@@ -1,6 +1,6 @@
 use Rattle.std.proofs.Common.{refl}
 use Rattle.strm_blocks.proofs.Stores.{IsStore-value}
-use Rattle.strm_blocks.proofs.table.TableStore.audit.Goals as goal
+use Rattle.strm_blocks.proofs.table.TableStoreBlocks.audit.Goals as goal
 
 pub returns : goal.returns
 returns c =
