@@ -92,14 +92,14 @@ counted-added flows q r chain low sums is = record {
         let e : band_of chain ≡ band = grind (arith, nat_tests) in
         subst (λ k. IsCounted k (flow_at k (slice_set flows (band_of chain) (added_to (is_data chain) (bytes_of chain) (flow_at (band_of chain) flows)))) r) e
         (rw (flow-same flows (band_of chain) (added_to (is_data chain) (bytes_of chain) (flow_at (band_of chain) flows)) (omega (arith, is.eight)))
-            (added-here (flow_at (band_of chain) flows) q r chain (band_of chain) (is_data chain) (is.each (band_of chain) low)
-                (sums (data_share (band_of chain)) ∙ ap (λ n. n + sum_by (data_share (band_of chain)) q) (data-here chain))
-                (sums (other_share (band_of chain)) ∙ ap (λ n. n + sum_by (other_share (band_of chain)) q) (other-here chain))))
+        (added-here (flow_at (band_of chain) flows) q r chain (band_of chain) (is_data chain) (is.each (band_of chain) low)
+        (sums (data_share (band_of chain)) ∙ ap (λ n. n + sum_by (data_share (band_of chain)) q) (data-here chain))
+        (sums (other_share (band_of chain)) ∙ ap (λ n. n + sum_by (other_share (band_of chain)) q) (other-here chain))))
     at band lt false apart =
         rw (flow-other flows (band_of chain) band (added_to (is_data chain) (bytes_of chain) (flow_at (band_of chain) flows)) (λ e. grind (arith, nat_tests)))
-            (still band (flow_at band flows) q r (is.each band lt)
-                (sums (data_share band) ∙ ap (λ n. n + sum_by (data_share band) q) (data-else band chain apart) ∙ omega arith)
-                (sums (other_share band) ∙ ap (λ n. n + sum_by (other_share band) q) (other-else band chain apart) ∙ omega arith))
+        (still band (flow_at band flows) q r (is.each band lt)
+        (sums (data_share band) ∙ ap (λ n. n + sum_by (data_share band) q) (data-else band chain apart) ∙ omega arith)
+        (sums (other_share band) ∙ ap (λ n. n + sum_by (other_share band) q) (other-else band chain apart) ∙ omega arith))
 
 -- and after a message was taken off it
 pub counted-removed : (flows : List Flow) (q r : List (List Block)) (chain : List Block) → band_of chain < 8
@@ -115,14 +115,14 @@ counted-removed flows q r chain low sums is = record {
         let e : band_of chain ≡ band = grind (arith, nat_tests) in
         subst (λ k. IsCounted k (flow_at k (slice_set flows (band_of chain) (removed_from (is_data chain) (bytes_of chain) (flow_at (band_of chain) flows)))) r) e
         (rw (flow-same flows (band_of chain) (removed_from (is_data chain) (bytes_of chain) (flow_at (band_of chain) flows)) (omega (arith, is.eight)))
-            (removed-here (flow_at (band_of chain) flows) q r chain (band_of chain) (is_data chain) (is.each (band_of chain) low)
-                (sums (data_share (band_of chain)) ∙ ap (λ n. n + sum_by (data_share (band_of chain)) r) (data-here chain))
-                (sums (other_share (band_of chain)) ∙ ap (λ n. n + sum_by (other_share (band_of chain)) r) (other-here chain))))
+        (removed-here (flow_at (band_of chain) flows) q r chain (band_of chain) (is_data chain) (is.each (band_of chain) low)
+        (sums (data_share (band_of chain)) ∙ ap (λ n. n + sum_by (data_share (band_of chain)) r) (data-here chain))
+        (sums (other_share (band_of chain)) ∙ ap (λ n. n + sum_by (other_share (band_of chain)) r) (other-here chain))))
     at band lt false apart =
         rw (flow-other flows (band_of chain) band (removed_from (is_data chain) (bytes_of chain) (flow_at (band_of chain) flows)) (λ e. grind (arith, nat_tests)))
-            (still band (flow_at band flows) q r (is.each band lt)
-                (sym (sums (data_share band) ∙ ap (λ n. n + sum_by (data_share band) r) (data-else band chain apart) ∙ omega arith))
-                (sym (sums (other_share band) ∙ ap (λ n. n + sum_by (other_share band) r) (other-else band chain apart) ∙ omega arith)))
+        (still band (flow_at band flows) q r (is.each band lt)
+        (sym (sums (data_share band) ∙ ap (λ n. n + sum_by (data_share band) r) (data-else band chain apart) ∙ omega arith))
+        (sym (sums (other_share band) ∙ ap (λ n. n + sum_by (other_share band) r) (other-else band chain apart) ∙ omega arith)))
 
 -- the counts stay few where one is changed to a small one
 pub few-set : (flows : List Flow) (i : ℕ) (f : Flow) → FewBytes flows → count_in f ≤ 16777216 → FewBytes (slice_set flows i f)

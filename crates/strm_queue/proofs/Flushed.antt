@@ -84,7 +84,7 @@ counted-marked flows band high low q is = record {
         let e : band ≡ other = grind (arith, nat_tests) in
         subst (λ k. IsCounted k (flow_at k (slice_set flows band (marked_with high low (flow_at band flows)))) q) e
         (rw (flow-same flows band (marked_with high low (flow_at band flows)) (omega (arith, is.eight, e, lt)))
-            (marked-at band high low (flow_at band flows) q (is.each band (omega (arith, e, lt)))))
+        (marked-at band high low (flow_at band flows) q (is.each band (omega (arith, e, lt)))))
     at other lt false apart =
         rw (flow-other flows band other (marked_with high low (flow_at band flows)) (λ e. grind (arith, nat_tests))) (is.each other lt)
 
@@ -144,7 +144,7 @@ counted-band-flushed flows named q low is = record {
         let e : named.0 ≡ band = grind (arith, nat_tests) in
         subst (λ k. IsCounted k (flow_at k (slice_set flows named.0 (flushed_of false (flow_at named.0 flows)))) (flushed (record { all = false; band = Some named }) q)) e
         (rw (flow-same flows named.0 (flushed_of false (flow_at named.0 flows)) (omega (arith, is.eight, low)))
-            (record { data_sum = sym (band-data-goes named.0 q); other_sum = (is.each named.0 low).other_sum ∙ sym (band-others-stay named.0 named.0 q); marked = refl }))
+        (record { data_sum = sym (band-data-goes named.0 q); other_sum = (is.each named.0 low).other_sum ∙ sym (band-others-stay named.0 named.0 q); marked = refl }))
     at band lt false apart =
         rw (flow-other flows named.0 band (flushed_of false (flow_at named.0 flows)) (λ e. grind (arith, nat_tests)))
-           (record { data_sum = (is.each band lt).data_sum ∙ sym (band-data-stays named.0 band q apart); other_sum = (is.each band lt).other_sum ∙ sym (band-others-stay named.0 band q); marked = (is.each band lt).marked })
+        (record { data_sum = (is.each band lt).data_sum ∙ sym (band-data-stays named.0 band q apart); other_sum = (is.each band lt).other_sum ∙ sym (band-others-stay named.0 band q); marked = (is.each band lt).marked })

@@ -25,27 +25,27 @@ pub put-counted : (s : StoreValue) (k i : ℕ) (flows : List Flow) → IsStore s
     → AreCounted (slice_set flows (band_of (in_hand s i)) (added_to (is_data (in_hand s i)) (bytes_of (in_hand s i)) (flow_at (band_of (in_hand s i)) flows))) (list_at (placed (dropped s i) k (put (in_hand s i) (list_at s k))) k)
 put-counted s k i flows is lt counted low =
     rw (list-placed (dropped s i) k (put (in_hand s i) (list_at s k)) (omega (arith, is.eight)))
-       (counted-added flows (list_at s k) (put (in_hand s i) (list_at s k)) (in_hand s i) low (λ f. sum-put rank_of f (in_hand s i) (list_at s k)) counted)
+    (counted-added flows (list_at s k) (put (in_hand s i) (list_at s k)) (in_hand s i) low (λ f. sum-put rank_of f (in_hand s i) (list_at s k)) counted)
 
 pub put_back-counted : (s : StoreValue) (k i : ℕ) (flows : List Flow) → IsStore s → k < 8 → AreCounted flows (list_at s k) → band_of (in_hand s i) < 8
     → AreCounted (slice_set flows (band_of (in_hand s i)) (added_to (is_data (in_hand s i)) (bytes_of (in_hand s i)) (flow_at (band_of (in_hand s i)) flows))) (list_at (placed (dropped s i) k (put_back (in_hand s i) (list_at s k))) k)
 put_back-counted s k i flows is lt counted low =
     rw (list-placed (dropped s i) k (put_back (in_hand s i) (list_at s k)) (omega (arith, is.eight)))
-       (counted-added flows (list_at s k) (put_back (in_hand s i) (list_at s k)) (in_hand s i) low (λ f. sum-put_back rank_of f (in_hand s i) (list_at s k)) counted)
+    (counted-added flows (list_at s k) (put_back (in_hand s i) (list_at s k)) (in_hand s i) low (λ f. sum-put_back rank_of f (in_hand s i) (list_at s k)) counted)
 
 -- a message that was taken off a list is part of its counts
 pub taken-fits : (s : StoreValue) (k : ℕ) (flows : List Flow) (chain : List Block) (rest : List (List Block)) → AreCounted flows (list_at s k) → list_at s k ≡ chain ∷ rest → band_of chain < 8
     → bytes_of chain ≤ (if is_data chain then (flow_at (band_of chain) flows).data_bytes else (flow_at (band_of chain) flows).other_bytes)
 taken-fits s k flows chain rest counted is low =
     part-fits (is_data chain) refl
-    where
-      part-fits : (b : Bool) → is_data chain ≡ b → bytes_of chain ≤ (if b then (flow_at (band_of chain) flows).data_bytes else (flow_at (band_of chain) flows).other_bytes)
-      part-fits true e =
-          let here : data_share (band_of chain) chain ≡ bytes_of chain = data-here chain ∙ rw e refl in
-          omega (arith, here, (counted.each (band_of chain) low).data_sum, ap (λ q. sum_by (data_share (band_of chain)) q) is, sum_by-cons (data_share (band_of chain)) chain rest)
-      part-fits false e =
-          let here : other_share (band_of chain) chain ≡ bytes_of chain = other-here chain ∙ rw e refl in
-          omega (arith, here, (counted.each (band_of chain) low).other_sum, ap (λ q. sum_by (other_share (band_of chain)) q) is, sum_by-cons (other_share (band_of chain)) chain rest)
+  where
+    part-fits : (b : Bool) → is_data chain ≡ b → bytes_of chain ≤ (if b then (flow_at (band_of chain) flows).data_bytes else (flow_at (band_of chain) flows).other_bytes)
+    part-fits true e =
+        let here : data_share (band_of chain) chain ≡ bytes_of chain = data-here chain ∙ rw e refl in
+        omega (arith, here, (counted.each (band_of chain) low).data_sum, ap (λ q. sum_by (data_share (band_of chain)) q) is, sum_by-cons (data_share (band_of chain)) chain rest)
+    part-fits false e =
+        let here : other_share (band_of chain) chain ≡ bytes_of chain = other-here chain ∙ rw e refl in
+        omega (arith, here, (counted.each (band_of chain) low).other_sum, ap (λ q. sum_by (other_share (band_of chain)) q) is, sum_by-cons (other_share (band_of chain)) chain rest)
 
 -- the numbers are right after a take
 pub take-counted : (s : StoreValue) (k : ℕ) (flows : List Flow) (chain : List Block) (rest : List (List Block)) → AreCounted flows (list_at s k) → list_at s k ≡ chain ∷ rest → band_of chain < 8

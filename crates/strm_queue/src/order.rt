@@ -13,5 +13,4 @@ pub fn serves_in_order()
     ensures each { (operations : List Operation) (q : List (List Block)) → IsOrdered q → ServesAllInOrder operations q }
     ensures first_come { (operations : List Operation) (q : List (List Block)) (r : ℕ) → IsOrdered q → PutsNothingBack operations →
         lane r (taken_all operations q) ++ lane r (after_all operations q) ≡ lane r q ++ lane r (put_all operations) }
-{
-}
+{}

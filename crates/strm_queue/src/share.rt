@@ -100,7 +100,11 @@ pub(crate) fn share_of<B: Blocks>(store: &B, message: &B::Mp) -> Share
     let _some = store.blocks(message);
     let kind = store.kind(message, 0);
     Share {
-        band: if is_high_priority(kind) { 0 } else { usize::from(store.band(message).0) },
+        band: if is_high_priority(kind) {
+            0
+        } else {
+            usize::from(store.band(message).0)
+        },
         bytes: bytes_in(store, message),
         is_data: is_data_kind(kind),
         is_high: is_high_priority(kind),
