@@ -10,13 +10,13 @@ use Rattle.strm_types.specs.declared.names.QueueName.{QueueName}
 
 -- a command
 pub data Command : Type 0 where
-  Open : Option ℕ → Command        -- with so many blocks of each kind, or as many as is usual
+  Open : Option ℕ → Command  -- with so many blocks of each kind, or as many as is usual
   Unlock : Command
   OpenSlave : Command
   Write : Side → List ℕ → Command
   Read : Side → ℕ → Command
   Turn : QueueName → Command
-  Run : ℕ → Command                -- so many turns at most
+  Run : ℕ → Command  -- so many turns at most
 
 -- the most bytes of a line, without its LF
 abbrev pub line_max : ℕ

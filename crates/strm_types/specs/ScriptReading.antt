@@ -54,8 +54,9 @@ unfoldable pub number_from : ℕ → List ℕ → Option ℕ
 number_from value [] = Some value
 number_from value (b ∷ digits) =
     elim (digit_of b) [
-      None ↦ None
-    | Some d ↦ if nat_le (10 * value + d) number_max then number_from (10 * value + d) digits else None ]
+      | None ↦ None
+      | Some d ↦ if nat_le (10 * value + d) number_max then number_from (10 * value + d) digits else None
+    ]
 
 -- the number that a text of 1 to 10 digits spells
 unfoldable pub number_in : List ℕ → Option ℕ
@@ -63,17 +64,17 @@ number_in digits = if nat_lt 0 (length digits) && nat_le (length digits) 10 then
 
 -- how far the spelling of a text has come
 pub data Mode : Type 0 where
-  Inside : Mode          -- between two pieces
-  Escaped : Mode         -- behind a backslash
-  Coded : Mode           -- behind \x
-  HalfCoded : ℕ → Mode   -- behind \x and a digit of this value
-  Closed : Mode          -- behind the quote at the end
+  Inside : Mode  -- between two pieces
+  Escaped : Mode  -- behind a backslash
+  Coded : Mode  -- behind \x
+  HalfCoded : ℕ → Mode  -- behind \x and a digit of this value
+  Closed : Mode  -- behind the quote at the end
 
 -- what a byte does to a spelling
 pub data Move : Type 0 where
-  Breaks : Move             -- no text is spelled so
+  Breaks : Move  -- no text is spelled so
   Goes : Mode → Move
-  Gives : ℕ → Move          -- a piece ends, which spells this byte
+  Gives : ℕ → Move  -- a piece ends, which spells this byte
 
 abbrev pub moved_by : Mode → ℕ → Move
 moved_by Inside b = if b == 34 then Goes Closed else (if b == 92 then Goes Escaped else (if b == 10 then Breaks else Gives b))
@@ -95,9 +96,10 @@ unfoldable pub text_from : Mode → List ℕ → Option (List ℕ)
 text_from mode [] = if is_closed mode then Some [] else None
 text_from mode (b ∷ spelled) =
     elim (moved_by mode b) [
-      Breaks ↦ None
-    | Goes next ↦ text_from next spelled
-    | Gives c ↦ with_front (c ∷ []) (text_from Inside spelled) ]
+      | Breaks ↦ None
+      | Goes next ↦ text_from next spelled
+      | Gives c ↦ with_front (c ∷ []) (text_from Inside spelled)
+    ]
 
 -- the text in quotes that the bytes spell
 unfoldable pub text_in : List ℕ → Option (List ℕ)

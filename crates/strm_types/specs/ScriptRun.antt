@@ -161,12 +161,14 @@ unfoldable pub turns_of : ℕ → List Supply → PlainPair → Turns
 turns_of zero account p = no_turns false account p
 turns_of (suc n) account p =
     elim (slice_get p.state.enabled 0) [
-      None ↦ no_turns false account p
-    | Some name ↦
-        let happened = turn_of (next_of account) p name in
-        elim happened.answer [
-          Err refusal ↦ no_turns (is_enosr refusal) (rest_of account) happened.pair
-        | Ok turn ↦ counted (turns_of n (rest_of account) happened.pair) ] ]
+      | None ↦ no_turns false account p
+      | Some name ↦
+          let happened = turn_of (next_of account) p name in
+          elim happened.answer [
+            | Err refusal ↦ no_turns (is_enosr refusal) (rest_of account) happened.pair
+            | Ok turn ↦ counted (turns_of n (rest_of account) happened.pair)
+          ]
+    ]
 
 unfoldable pub by_run : ℕ → List Supply → PlainPair → Answered
 by_run n account p =
@@ -223,11 +225,12 @@ unfoldable pub told_from : ℕ → List Supply → Option PlainPair → List (Li
 told_from n account pair [] = record { text = []; short = None; fault = None }
 told_from n account pair (line ∷ lines) =
     elim (reading line) [
-      Silent ↦ told_from (suc n) account pair lines
-    | Malformed ↦ record { text = printed_line (Wrong n); short = None; fault = Some n }
-    | Spoken command ↦
-        let here = answered command account pair in
-        told_after (printed_line here.line) (line_if here.is_short n) (told_from (suc n) here.account here.pair lines) ]
+      | Silent ↦ told_from (suc n) account pair lines
+      | Malformed ↦ record { text = printed_line (Wrong n); short = None; fault = Some n }
+      | Spoken command ↦
+          let here = answered command account pair in
+          told_after (printed_line here.line) (line_if here.is_short n) (told_from (suc n) here.account here.pair lines)
+    ]
 
 -- a script, for an account of which events got too few blocks
 abbrev pub told : List Supply → List ℕ → Told
