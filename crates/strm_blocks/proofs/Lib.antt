@@ -14,3 +14,4 @@ pub mod Appends
 pub mod Fresh
 pub mod Peeks
 pub mod Calls
+pub mod Laws

@@ -9,6 +9,8 @@ mod message;
 mod parts;
 mod release;
 mod table;
+#[cfg(test)]
+mod tests;
 
 pub use asked::{FlushWhat, NoBlocks, Peek};
 pub use blocks::Blocks;
