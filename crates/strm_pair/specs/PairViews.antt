@@ -1,16 +1,11 @@
 -- What a pair over rows stands for, and what holds of each.
-use Rattle.std.specs.Prelude.{◌≡◌, ℕ, ◌-◌}
+use Rattle.std.specs.Prelude.{◌≡◌}
 use Rattle.strm_types.specs.State.{opening}
-use Rattle.strm_types.specs.Refused.{Free}
+use Rattle.strm_types.specs.Refused.{free_beside}
 use Rattle.strm_types.specs.Step.{replay, IsLegal}
 use Rattle.strm_types.specs.Pair.{PairState}
-use Rattle.strm_types.specs.declared.limits.Config.{Config}
 use Rattle.strm_pair.specs.declared.pair.Pair.TheInside.{Inside}
 use Rattle.strm_pair.specs.Pairs.{state_of, used_of, journal_of}
-
--- the blocks that are free, where so many are used of each kind
-abbrev pub free_beside : ℕ → Config → Free
-free_beside used limits = record { mblks = limits.mblks - used; dblks = limits.dblks - used }
 
 -- the pair that the rows and the journal stand for
 abbrev pub pair_of : Inside → PairState

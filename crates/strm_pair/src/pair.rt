@@ -6,6 +6,8 @@ ghost use Rattle.strm_types.specs.Pair.{new_pair, call_refused, queue_refused, A
 ghost use Rattle.strm_types.specs.Journal.{Called, Turned, entries_in};
 ghost use Rattle.strm_types.specs.Refused.{enough, has_room};
 ghost use Rattle.strm_types.specs.Step.{replay, IsLegal};
+ghost use Rattle.strm_types.specs.State.{AreOrdered, messages_in};
+ghost use Rattle.strm_types.specs.Refused.{free_beside};
 
 use crate::journal::{Journal, payload};
 use crate::refusals::{blocks_asked, content_most};
@@ -163,12 +165,15 @@ impl Pair {
         Ok(turn)
     }
 
-    /// All that was carried out, in order. The state is that to which it leads from the state that it began at, and
-    /// each entry is a legal step with the answer that it stores.
+    /// All that was carried out, in order. The state is that to which it leads from the state that it began at, each
+    /// entry is a legal step with the answer that it stores, each queue is in order of rank, and the blocks that are
+    /// free are those that the messages on the queues leave.
     pub fn journal(&self) -> Recorded<'_>
         ensures entries { entries_in result.entries.now result.bytes.now ≡ self.now.journal }
         ensures replayed { self.now.state ≡ replay self.now.base self.now.journal }
         ensures legal { IsLegal self.now.base self.now.journal }
+        ensures ordered { AreOrdered self.now.state }
+        ensures blocks { self.now.free ≡ free_beside (messages_in self.now.state) self.now.limits }
     {
         Recorded {
             entries: self.journal.entries.as_slice(),

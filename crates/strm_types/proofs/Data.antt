@@ -4,7 +4,7 @@ use Rattle.std.specs.Prelude.{sum_by, if◌then◌else◌, ◌==◌, ◌&&◌, n
 use Rattle.std.specs.List.{AllByRecursion}
 use Rattle.std.proofs.lemmas.List.Sums.{sum_by-cons}
 use Rattle.strm_types.specs.Message.{Message, data_message, rank_of, band_of, size_of, cells_of, is_high_priority, is_held}
-use Rattle.strm_types.specs.Queue.{Queue, put, put_back, put_enables, count_of}
+use Rattle.strm_types.specs.Queue.{Queue, put, put_back, put_enables, count_of, IsOrdered}
 use Rattle.strm_types.specs.Head.{rest_of}
 use Rattle.strm_types.proofs.Ranked.{put-last, put_back-first}
 
@@ -64,3 +64,8 @@ module _ {C : Type 0} where
   data-count (xs ∷ q) =
       let here : (if band_of (data_message xs) == 0 then size_of (data_message xs) else 0) ≡ length xs = rw (data-band xs, data-size xs) refl in
       omega (arith, here, data-count q, sum_by-cons (λ m. if band_of m == 0 then size_of m else 0) (data_message xs) (map data_message q), sum_by-cons length xs q)
+
+  -- a queue of ordinary messages alone is in order
+  pub data-ordered : (q : List (List C)) → IsOrdered (map data_message q)
+  data-ordered [] = tt
+  data-ordered (xs ∷ q) = (none-above q (rank_of (data_message xs)), data-ordered q)

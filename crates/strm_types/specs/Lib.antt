@@ -3,6 +3,7 @@ pub mod Message
 pub mod Queue
 pub mod Names
 pub mod State
+pub mod Flush
 pub mod Head
 pub mod Write
 pub mod Turns

@@ -1,6 +1,6 @@
 -- Which refusal a call or a turn meets: the first whose condition holds, in this order. A side that isn't open; an
 -- argument; a full journal; too few free blocks; what the state says.
-use Rattle.std.specs.Prelude.{ℕ, Bool, true, false, not, ◌&&◌, ◌||◌, ◌==◌, nat_lt, nat_le, ◌+◌, List, length, Option, None, Some}
+use Rattle.std.specs.Prelude.{ℕ, Bool, true, false, not, ◌&&◌, ◌||◌, ◌==◌, nat_lt, nat_le, ◌+◌, ◌-◌, List, length, Option, None, Some}
 use Rattle.strm_types.specs.declared.limits.Config.{Config}
 use Rattle.strm_types.specs.declared.events.Caller.{Caller}
 use Rattle.strm_types.specs.declared.names.QueueName.{QueueName}
@@ -18,6 +18,10 @@ use Rattle.strm_types.specs.Journal.{PlainEntry, payload_of, content_max, room_u
 pub record Free : Type 0 where
   pub mblks : ℕ
   pub dblks : ℕ
+
+-- the blocks that are free, where so many are used of each kind
+abbrev pub free_beside : ℕ → Config → Free
+free_beside used limits = record { mblks = limits.mblks - used; dblks = limits.dblks - used }
 
 -- the first refusal, else the second
 abbrev pub or_else : Option Refusal → Option Refusal → Option Refusal

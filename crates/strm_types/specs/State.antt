@@ -1,9 +1,10 @@
 -- The plain state of a pair: what every call acts on.
-use Rattle.std.specs.Prelude.{ℕ, Bool, true, false, List, []}
+use Rattle.std.specs.Prelude.{ℕ, ◌+◌, Bool, true, false, List, [], ◌∷◌, length}
+use Rattle.std.specs.List.{AllByRecursion}
 use Rattle.strm_types.specs.declared.names.Side.{Side}
 use Rattle.strm_types.specs.declared.names.Side.TheVariants.{Master, Slave}
 use Rattle.strm_types.specs.declared.names.QueueName.{QueueName}
-use Rattle.strm_types.specs.Queue.{Queue, new_queue, map_queue}
+use Rattle.strm_types.specs.Queue.{Queue, IsOrdered, new_queue, map_queue}
 
 -- a stream head: what it has for its readers
 pub record Head (C : Type 0) : Type 0 where
@@ -60,6 +61,18 @@ module _ {C : Type 0} where
 
   abbrev pub with_driver_queue : Queue C → Stream C → Stream C
   with_driver_queue q t = record t { driver = record { queue = q } }
+
+-- all queues of a pair
+abbrev pub queues_of : {C : Type 0} → State C → List (Queue C)
+queues_of s = s.master.head.queue ∷ s.master.driver.queue ∷ s.slave.head.queue ∷ s.slave.driver.queue ∷ []
+
+-- each queue has its messages in order of rank
+abbrev pub AreOrdered : {C : Type 0} → State C → Type 0
+AreOrdered s = AllByRecursion (λ q. IsOrdered q.messages) (queues_of s)
+
+-- how many messages stand on the queues
+abbrev pub messages_in : {C : Type 0} → State C → ℕ
+messages_in s = length s.master.head.queue.messages + length s.master.driver.queue.messages + (length s.slave.head.queue.messages + length s.slave.driver.queue.messages)
 
 -- the same state of other cells, as where their origins are forgotten
 abbrev pub map_stream : {C D : Type 0} → (C → D) → Stream C → Stream D

@@ -1,0 +1,16 @@
+pub mod FreeList
+pub mod Shown
+pub mod ListParts
+pub mod Nodes
+pub mod Values
+pub mod Stores
+pub mod Moves
+pub mod Frame
+pub mod Found
+pub mod Edits
+pub mod Lists
+pub mod Chains
+pub mod Appends
+pub mod Fresh
+pub mod Peeks
+pub mod Calls

@@ -1,0 +1,165 @@
+-- The lists of a store, with messages that are put on them or taken off.
+use Rattle.std.proofs.Common.{ℕ, ◌≡◌, ◌≤◌, ◌<◌, ◌+◌, true, false, not, cond, filter, List, [], ◌∷◌, ◌++◌, length, take, drop, get_or, map, refl, sym, ap, ◌∙◌, arith}
+use Rattle.std.proofs.Math.ListN.{set, length-set}
+use Rattle.std.specs.Prelude.{sum_by, nat_le, nat_lt}
+use Rattle.std.specs.List.{prefix_len}
+use Rattle.std.proofs.lemmas.List.{map-set, get_or-map, get_or_default}
+use Rattle.std.proofs.lemmas.List.Sums.{sum_by-cons, get_or-le-sum_by}
+use Rattle.strm_blocks.specs.Blocks.{Block, Held, StoreValue, in_hand, list_at, held, dropped, placed, put, put_back, times_in}
+use Rattle.strm_blocks.specs.Outcomes.{Popped, flushes, flushed}
+use Rattle.strm_blocks.specs.Message.{message_at, without_at, place_in, rank_in, weigh, named, flushes_message}
+use Rattle.strm_blocks.specs.Table.{shown, chain_of, lists_of, value_of, IsTable, IsTableStore}
+use Rattle.strm_blocks.specs.declared.table.TableStore.TheInside.{Inside}
+use Rattle.strm_blocks.specs.declared.message.Message.{Message}
+use Rattle.strm_blocks.proofs.Nodes.{ones, sum-without, sum-put, weigh-list}
+use Rattle.strm_blocks.proofs.Values.{without-value, put-value, put_back-value, times-value}
+use Rattle.strm_blocks.proofs.Stores.{value, value-same}
+use Rattle.strm_blocks.proofs.ListParts.{sum-filter}
+use Rattle.std.proofs.lemmas.Bool.Decides.{nat_tests}
+use Rattle.strm_blocks.specs.declared.asked.FlushWhat.{FlushWhat}
+use Rattle.strm_blocks.proofs.Moves.{IsTable-moved}
+use Rattle.strm_blocks.proofs.Found.{chain-is}
+
+-- a message goes from the hand to a place of a list, and weighs the same there
+pub inserted-weigh : (g : Message → ℕ) (lists : List (List Message)) (hand : List Message) (k r p : ℕ) (q' : List Message) → k < length lists → r < length hand → q' ≡ take p (get_or lists k []) ++ ((message_at r hand ∷ []) ++ drop p (get_or lists k [])) → weigh g (set lists k q') (without_at r hand) ≡ weigh g lists hand
+inserted-weigh g lists hand k r p q' within there is =
+    let l = weigh-list g lists (without_at r hand) k q' within in
+    let e = ap (λ (q : List Message). sum_by g q) is in
+    let i = sum-put g (get_or lists k []) p (message_at r hand) in
+    let w = sum-without g hand r there in
+    omega arith
+
+-- the first message of a list goes to the front of the hand, and weighs the same there
+pub popped-weigh : (g : Message → ℕ) (lists : List (List Message)) (hand : List Message) (k : ℕ) (q' : List Message) → k < length lists → 0 < length (get_or lists k []) → q' ≡ without_at 0 (get_or lists k []) → weigh g (set lists k q') (message_at 0 (get_or lists k []) ∷ hand) ≡ weigh g lists hand
+popped-weigh g lists hand k q' within some is =
+    let m = message_at 0 (get_or lists k []) in
+    let l = weigh-list g lists (m ∷ hand) k q' within in
+    let e = ap (λ (q : List Message). sum_by g q) is in
+    let f = sum-without g (get_or lists k []) 0 some in
+    let h = sum_by-cons g m hand in
+    omega arith
+
+first-rest : (q : List Message) → 0 < length q → q ≡ message_at 0 q ∷ without_at 0 q
+first-rest [] some = absurd (omega arith)
+first-rest (m ∷ q) some = refl
+
+-- what a flush takes is seen in the first block
+flushes-value : (bytes : List (List ℕ)) (what : FlushWhat) (m : Message) → flushes what (chain_of bytes m) ≡ flushes_message what m
+flushes-value bytes what m = elim m.blocks as (λ blocks. flushes what (map (shown bytes) blocks) ≡ flushes_message what (record { name = m.name; blocks = blocks })) [ [] ↦ refl | b ∷ blocks ↦ refl ]
+
+filter-value : (bytes : List (List ℕ)) (what : FlushWhat) (q : List Message) → map (chain_of bytes) (filter (λ m. not (flushes_message what m)) q) ≡ flushed what (map (chain_of bytes) q)
+filter-value bytes what [] = refl
+filter-value bytes what (m ∷ q) =
+    let here : not (flushes what (chain_of bytes m)) ≡ not (flushes_message what m) = ap not (flushes-value bytes what m) in
+    rw here (elim (not (flushes_message what m)) as (λ b. map (chain_of bytes) (cond b (m ∷ filter (λ m. not (flushes_message what m)) q) (filter (λ m. not (flushes_message what m)) q)) ≡ cond b (chain_of bytes m ∷ flushed what (map (chain_of bytes) q)) (flushed what (map (chain_of bytes) q))) [
+      | true ↦ ap (λ (rest : List (List Block)). chain_of bytes m ∷ rest) (filter-value bytes what q)
+      | false ↦ filter-value bytes what q
+    ])
+
+module _ (t : Inside) {s : StoreValue} (is : value_of t ≡ s) (holds : IsTableStore t) (k : ℕ) (eight : k < 8) where
+  abbrev pub list : List Message
+  list = get_or t.lists k []
+
+  pub list-within : k < length t.lists
+  list-within = let e = holds.eight in omega arith
+
+  -- whatever is read where there is no list
+  pub list-read : (d : List Message) → get_or t.lists k d ≡ list
+  list-read d = get_or_default t.lists k d [] list-within
+
+  pub list-is : list_at s k ≡ map (chain_of t.data.bytes) list
+  list-is = ap (λ (s : StoreValue). list_at s k) (sym is) ∙ get_or-map (λ (q : List Message). map (chain_of t.data.bytes) q) t.lists k [] [] list-within
+
+  -- lists are short
+  pub list-few : length list + (length t.hand + length t.idle) ≤ 65536
+  list-few =
+      let m = holds.messages in
+      let f = holds.few in
+      let h = ones t.hand in
+      let o = ones list in
+      let le = get_or-le-sum_by (λ (q : List Message). sum_by (λ m. 1) q) t.lists k [] list-within in
+      omega arith
+
+  -- the first message of a list, and the rest
+  pub joined-value : 0 < length list → list_at s k ≡ chain_of t.data.bytes (message_at 0 list) ∷ map (chain_of t.data.bytes) (without_at 0 list)
+  joined-value some = list-is ∙ ap (λ (q : List Message). map (chain_of t.data.bytes) q) (first-rest list some)
+
+  -- the name of a message on a list is that of none in hand
+  pub listed-fresh : 0 < length list → times_in (message_at 0 list).name s.hand ≡ 0
+  listed-fresh some =
+      let i = (message_at 0 list).name in
+      let a = holds.apart i in
+      let f = sum-without (named i) list 0 some in
+      let n : named i (message_at 0 list) ≡ 1 = grind (arith, nat_tests) in
+      let le = get_or-le-sum_by (λ (q : List Message). sum_by (named i) q) t.lists k [] list-within in
+      let v = times-value t.data.bytes i t.hand in
+      let e = ap (λ (s : StoreValue). times_in i s.hand) is in
+      omega arith
+
+  -- getq of a list that has a message
+  pub popped-value : (q' hand' : List Message) (name : ℕ) → 0 < length list → q' ≡ without_at 0 list → hand' ≡ message_at 0 list ∷ t.hand → name ≡ (message_at 0 list).name → Popped s (value t.data.bytes (set t.lists k q') hand' t.mblks (length t.data.references)) k name
+  popped-value q' hand' name some eq eh en =
+      let bytes = t.data.bytes in
+      let e1 = ap (λ (hand : List Message). value bytes (set t.lists k q') hand t.mblks (length t.data.references)) eh in
+      let e2 = ap (λ (lists : List (List (List Block))). record (held (value_of t) (message_at 0 list).name (chain_of bytes (message_at 0 list))) { lists = lists }) (map-set (λ (q : List Message). map (chain_of bytes) q) t.lists k q') in
+      let e3 = ap (λ (q : List Message). held (placed (value_of t) k (map (chain_of bytes) q)) (message_at 0 list).name (chain_of bytes (message_at 0 list))) eq in
+      let e4 = ap (λ (s : StoreValue). held (placed s k (map (chain_of bytes) (without_at 0 list))) (message_at 0 list).name (chain_of bytes (message_at 0 list))) is in
+      record {
+        fresh_name = ap (λ (n : ℕ). times_in n s.hand) en ∙ listed-fresh some;
+        message = chain_of bytes (message_at 0 list);
+        rest = map (chain_of bytes) (without_at 0 list);
+        joined = joined-value some;
+        after = e1 ∙ e2 ∙ e3 ∙ e4 ∙ ap (λ (n : ℕ). held (placed s k (map (chain_of bytes) (without_at 0 list))) n (chain_of bytes (message_at 0 list))) (sym en);
+      }
+
+  pub IsTable-popped : (q' hand' : List Message) → 0 < length list → q' ≡ without_at 0 list → hand' ≡ message_at 0 list ∷ t.hand → IsTable t.mblks (set t.lists k q') hand' t.idle t.spare t.data.references
+  IsTable-popped q' hand' some eq eh =
+      IsTable-moved holds (set t.lists k q') hand' (length-set t.lists k q' ∙ holds.eight) (λ g. ap (λ (hand : List Message). weigh g (set t.lists k q') hand) eh ∙ popped-weigh g t.lists t.hand k q' list-within some eq)
+
+  -- what a flush leaves of a list
+  pub flushed-value : (what : FlushWhat) (bytes' : List (List ℕ)) (q' : List Message) (n : ℕ) → bytes' ≡ t.data.bytes → n ≡ length t.data.references → q' ≡ filter (λ m. not (flushes_message what m)) list → value bytes' (set t.lists k q') t.hand t.mblks n ≡ placed s k (flushed what (list_at s k))
+  flushed-value what bytes' q' n eb en eq =
+      let bytes = t.data.bytes in
+      let e0 = value-same bytes (set t.lists k q') t.hand t.mblks (length t.data.references) eb refl refl en in
+      let e1 = ap (λ (lists : List (List (List Block))). record (value_of t) { lists = lists }) (map-set (λ (q : List Message). map (chain_of bytes) q) t.lists k q') in
+      let left = ap (λ (q : List Message). map (chain_of bytes) q) eq ∙ filter-value bytes what list ∙ ap (λ (q : List (List Block)). flushed what q) (sym list-is) in
+      let e2 = ap (λ (q : List (List Block)). placed (value_of t) k q) left in
+      let e3 = ap (λ (s' : StoreValue). placed s' k (flushed what (list_at s k))) is in
+      e0 ∙ e1 ∙ e2 ∙ e3
+
+  pub flushed-weigh : (what : FlushWhat) (q' taken : List Message) → q' ≡ filter (λ m. not (flushes_message what m)) list → taken ≡ filter (λ m. flushes_message what m) list → (g : Message → ℕ) → weigh g (set t.lists k q') t.hand + sum_by g taken ≡ weigh g t.lists t.hand
+  flushed-weigh what q' taken eq et g =
+      let l = weigh-list g t.lists t.hand k q' list-within in
+      let a = ap (λ (q : List Message). sum_by g q) eq in
+      let b = ap (λ (q : List Message). sum_by g q) et in
+      let f = sum-filter g (λ m. flushes_message what m) list in
+      omega arith
+
+  -- the value with another list, and without a message in hand
+  placed-value : (i : ℕ) (q' hand' : List Message) (new : List (List Block)) → hand' ≡ without_at (place_in i t.hand) t.hand → map (chain_of t.data.bytes) q' ≡ new → value t.data.bytes (set t.lists k q') hand' t.mblks (length t.data.references) ≡ placed (dropped s i) k new
+  placed-value i q' hand' new eh en =
+      let bytes = t.data.bytes in
+      let e1 = ap (λ (hand : List Message). value bytes (set t.lists k q') hand t.mblks (length t.data.references)) eh in
+      let e2 = ap (λ (hand : List Held). record (value_of t) { lists = lists_of bytes (set t.lists k q'); hand = hand }) (without-value bytes i t.hand) in
+      let e3 = ap (λ (lists : List (List (List Block))). record (dropped (value_of t) i) { lists = lists }) (map-set (λ (q : List Message). map (chain_of bytes) q) t.lists k q') in
+      let e4 = ap (λ (q : List (List Block)). placed (dropped (value_of t) i) k q) en in
+      let e5 = ap (λ (s : StoreValue). placed (dropped s i) k new) is in
+      e1 ∙ e2 ∙ e3 ∙ e4 ∙ e5
+
+  -- putq and putbq of a message in hand
+  pub put-at : (i p : ℕ) (q' hand' : List Message) → hand' ≡ without_at (place_in i t.hand) t.hand → p ≡ prefix_len (λ x. nat_le (rank_in (message_at (place_in i t.hand) t.hand).blocks) (rank_in x.blocks)) list → q' ≡ take p list ++ ((message_at (place_in i t.hand) t.hand ∷ []) ++ drop p list) → value t.data.bytes (set t.lists k q') hand' t.mblks (length t.data.references) ≡ placed (dropped s i) k (put (in_hand s i) (list_at s k))
+  put-at i p q' hand' eh ep eq =
+      let m = message_at (place_in i t.hand) t.hand in
+      let new = ap (λ (q : List Message). map (chain_of t.data.bytes) q) eq ∙ put-value t.data.bytes m list p ep ∙ ap (λ (chain : List Block). put chain (map (chain_of t.data.bytes) list)) (sym (chain-is t is i)) ∙ ap (λ (q : List (List Block)). put (in_hand s i) q) (sym list-is) in
+      placed-value i q' hand' _ eh new
+
+  pub put_back-at : (i p : ℕ) (q' hand' : List Message) → hand' ≡ without_at (place_in i t.hand) t.hand → p ≡ prefix_len (λ x. nat_lt (rank_in (message_at (place_in i t.hand) t.hand).blocks) (rank_in x.blocks)) list → q' ≡ take p list ++ ((message_at (place_in i t.hand) t.hand ∷ []) ++ drop p list) → value t.data.bytes (set t.lists k q') hand' t.mblks (length t.data.references) ≡ placed (dropped s i) k (put_back (in_hand s i) (list_at s k))
+  put_back-at i p q' hand' eh ep eq =
+      let m = message_at (place_in i t.hand) t.hand in
+      let new = ap (λ (q : List Message). map (chain_of t.data.bytes) q) eq ∙ put_back-value t.data.bytes m list p ep ∙ ap (λ (chain : List Block). put_back chain (map (chain_of t.data.bytes) list)) (sym (chain-is t is i)) ∙ ap (λ (q : List (List Block)). put_back (in_hand s i) q) (sym list-is) in
+      placed-value i q' hand' _ eh new
+
+  -- what holds of the fields still holds
+  pub IsTable-inserted : (i p : ℕ) (q' hand' : List Message) → place_in i t.hand < length t.hand → hand' ≡ without_at (place_in i t.hand) t.hand → q' ≡ take p list ++ ((message_at (place_in i t.hand) t.hand ∷ []) ++ drop p list) → IsTable t.mblks (set t.lists k q') hand' t.idle t.spare t.data.references
+  IsTable-inserted i p q' hand' there eh eq =
+      IsTable-moved holds (set t.lists k q') hand' (length-set t.lists k q' ∙ holds.eight) (λ g. ap (λ (hand : List Message). weigh g (set t.lists k q') hand) eh ∙ inserted-weigh g t.lists t.hand k (place_in i t.hand) p q' list-within there eq)

@@ -1,0 +1,18 @@
+-- How long the parts of a message are, as sums that run along its blocks.
+use Rattle.std.specs.Prelude.{ℕ, ◌+◌, ◌-◌, if◌then◌else◌, List, [], ◌∷◌, Option, Some, unwrap_or}
+use Rattle.strm_blocks.specs.Outcomes.{is_control_kind, is_body_kind}
+use Rattle.strm_blocks.specs.declared.message.MessageBlock.{MessageBlock}
+
+-- a length with that of one more block
+abbrev pub with_len : Option ℕ → MessageBlock → Option ℕ
+with_len found b = Some (unwrap_or found 0 + (b.end - b.start))
+
+-- the control part, where so much of it was found
+abbrev pub control_run : Option ℕ → List MessageBlock → Option ℕ
+control_run found [] = found
+control_run found (b ∷ blocks) = if is_control_kind b.kind then control_run (with_len found b) blocks else found
+
+-- the data part, where so much of it was found
+abbrev pub body_run : Option ℕ → List MessageBlock → Option ℕ
+body_run found [] = found
+body_run found (b ∷ blocks) = body_run (if is_body_kind b.kind then with_len found b else found) blocks

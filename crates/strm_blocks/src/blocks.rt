@@ -1,0 +1,166 @@
+//! The calls of a store of message blocks and data blocks.
+ghost use Rattle.std.specs.Prelude.{◌≡◌, ◌≢◌, ℕ, ◌<◌, ◌≤◌, [], ◌++◌, length, take, MatchResult, MatchOption};
+ghost use Rattle.strm_blocks.specs.Blocks.{StoreValue, IsStore, IsInHand, in_hand, list_at, held, dropped, changed, placed, empty_store, block_at, with_block, put, put_back, trimmed_head, trimmed_tail, taken_by, extended, banded, free_m, free_d};
+ghost use Rattle.strm_blocks.specs.Outcomes.{Allocated, Duplicated, Copied, NoneFree, NoneShared, Unlinked, UnlinkedLast, Popped, Unpopped, PeekedFirst, flushed};
+
+use crate::asked::{FlushWhat, NoBlocks, Peek};
+use strm_types::{Band, MsgKind};
+
+/// A store of message blocks and data blocks, as one pair of streams has it (STREAMS Programming Guide, "Message
+/// Structure"). A message is a chain of message blocks, and each of these names a data block of 256 bytes, of which it
+/// shows the bytes from its read place to its write place. A data block may be named by up to 255 message blocks.
+/// Messages stand on eight lists, numbered from 0, or are in hand.
+///
+/// Each call changes the one list or the message in hand that it is given, and nothing else. No call takes memory.
+pub trait Blocks {
+    /// The name of a message in hand. A message whose name is dropped stays in hand.
+    type Mp: Drop;
+
+    /// The store as a value.
+    ghost value: { Self → StoreValue };
+
+    /// The number that a name stands for.
+    ghost name: { Self.Mp → ℕ };
+
+    /// Does nothing. Its contract is what holds of every store.
+    fn audit(&self)
+        ensures { IsStore (value self.now) };
+
+    /// Takes a message block and a data block with nothing written, as a message of that kind and of band 0:
+    /// `allocb(9F)`. `NoBlocks` where none of either kind is free.
+    fn alloc(&mut self, kind: MsgKind) -> Result<Self::Mp, NoBlocks>
+        ensures { MatchResult result (λ m. Allocated (value self.old) (value self.new) (name m) kind) (λ _. NoneFree (value self.old) (value self.new)) };
+
+    /// Takes a message block that names the same bytes of the same data block as block `at` of the message does:
+    /// `dupb(9F)`. `NoBlocks` where no message block is free, or the data block has 255 references.
+    fn dup(&mut self, message: &Self::Mp, at: usize) -> Result<Self::Mp, NoBlocks>
+        requires in_hand { IsInHand (value self.old) (name message.now) }
+        requires within { at < length (in_hand (value self.old) (name message.now)) }
+        ensures { let b = block_at at (in_hand (value self.old) (name message.now)) in
+            MatchResult result (λ m. Duplicated (value self.old) (value self.new) (name m) b) (λ _. NoneShared (value self.old) (value self.new) b.number) };
+
+    /// Takes a message block and a data block, and copies into it the bytes that block `at` of the message shows:
+    /// `copyb(9F)`. `NoBlocks` where none of either kind is free.
+    fn copy(&mut self, message: &Self::Mp, at: usize) -> Result<Self::Mp, NoBlocks>
+        requires in_hand { IsInHand (value self.old) (name message.now) }
+        requires within { at < length (in_hand (value self.old) (name message.now)) }
+        ensures { let b = block_at at (in_hand (value self.old) (name message.now)) in
+            MatchResult result (λ m. Copied (value self.old) (value self.new) (name m) b) (λ _. NoneFree (value self.old) (value self.new)) };
+
+    /// Gives back all message blocks of a message, and each data block that no other message block names: `freemsg(9F)`.
+    fn free(&mut self, message: Self::Mp)
+        requires { IsInHand (value self.old) (name message) }
+        ensures { value self.new ≡ dropped (value self.old) (name message) };
+
+    /// Hangs the second message behind the first: `linkb(9F)`.
+    fn link(&mut self, first: Self::Mp, second: Self::Mp) -> Self::Mp
+        requires first_in_hand { IsInHand (value self.old) (name first) }
+        requires second_in_hand { IsInHand (value self.old) (name second) }
+        requires apart { name first ≢ name second }
+        ensures kept_name { name result ≡ name first }
+        ensures linked { let s = value self.old in
+            value self.new ≡ changed (dropped s (name second)) (name first) (in_hand s (name first) ++ in_hand s (name second)) };
+
+    /// Parts a message into its first block and the rest, if there is any: `unlinkb(9F)`.
+    fn unlink(&mut self, message: Self::Mp) -> (Self::Mp, Option<Self::Mp>)
+        requires { IsInHand (value self.old) (name message) }
+        ensures { MatchOption result.1 (UnlinkedLast (value self.old) (value self.new) (name message) (name result.0)) (λ rest. Unlinked (value self.old) (value self.new) (name message) (name result.0) (name rest)) };
+
+    /// Writes bytes behind the write place of the message's last block, as many as its data block has room for, and
+    /// none where that data block is shared. Returns how many.
+    fn append(&mut self, message: &Self::Mp, bytes: &[u8]) -> usize
+        requires { IsInHand (value self.old) (name message.now) }
+        ensures count { result ≡ taken_by (value self.old) (in_hand (value self.old) (name message.now)) (length bytes.now) }
+        ensures written { let s = value self.old in
+            value self.new ≡ changed s (name message.now) (extended (take result bytes.now) (in_hand s (name message.now))) };
+
+    /// The bytes from the read place to the write place of block `at` of a message, at most 256.
+    fn bytes_at(&self, message: &Self::Mp, at: usize) -> &[u8]
+        requires in_hand { IsInHand (value self.now) (name message.now) }
+        requires within { at < length (in_hand (value self.now) (name message.now)) }
+        ensures bytes { result.now ≡ (block_at at (in_hand (value self.now) (name message.now))).bytes }
+        ensures few { length result.now ≤ 256 };
+
+    /// Moves the read place of block `at` of a message on by `n` bytes: `adjmsg(9F)` within one block.
+    fn trim_head(&mut self, message: &Self::Mp, at: usize, n: usize)
+        requires in_hand { IsInHand (value self.old) (name message.now) }
+        requires within { at < length (in_hand (value self.old) (name message.now)) }
+        requires enough { n ≤ length (block_at at (in_hand (value self.old) (name message.now))).bytes }
+        ensures { let chain = in_hand (value self.old) (name message.now) in
+            value self.new ≡ changed (value self.old) (name message.now) (with_block at (trimmed_head n (block_at at chain)) chain) };
+
+    /// Moves the write place of block `at` of a message back by `n` bytes: `adjmsg(9F)` within one block.
+    fn trim_tail(&mut self, message: &Self::Mp, at: usize, n: usize)
+        requires in_hand { IsInHand (value self.old) (name message.now) }
+        requires within { at < length (in_hand (value self.old) (name message.now)) }
+        requires enough { n ≤ length (block_at at (in_hand (value self.old) (name message.now))).bytes }
+        ensures { let chain = in_hand (value self.old) (name message.now) in
+            value self.new ≡ changed (value self.old) (name message.now) (with_block at (trimmed_tail n (block_at at chain)) chain) };
+
+    /// How many blocks a message has, at least one.
+    fn blocks(&self, message: &Self::Mp) -> usize
+        requires { IsInHand (value self.now) (name message.now) }
+        ensures count { result ≡ length (in_hand (value self.now) (name message.now)) }
+        ensures some { 0 < result };
+
+    /// How many bytes block `at` of a message shows, at most 256.
+    fn block_len(&self, message: &Self::Mp, at: usize) -> usize
+        requires in_hand { IsInHand (value self.now) (name message.now) }
+        requires within { at < length (in_hand (value self.now) (name message.now)) }
+        ensures count { result ≡ length (block_at at (in_hand (value self.now) (name message.now))).bytes }
+        ensures few { result ≤ 256 };
+
+    /// The kind of block `at` of a message. The kind of the message is that of block 0.
+    fn kind(&self, message: &Self::Mp, at: usize) -> MsgKind
+        requires in_hand { IsInHand (value self.now) (name message.now) }
+        requires within { at < length (in_hand (value self.now) (name message.now)) }
+        ensures { result ≡ (block_at at (in_hand (value self.now) (name message.now))).kind };
+
+    /// The band of a message, which is that of its first block.
+    fn band(&self, message: &Self::Mp) -> Band
+        requires { IsInHand (value self.now) (name message.now) }
+        ensures { result.0 ≡ (block_at 0 (in_hand (value self.now) (name message.now))).band };
+
+    /// Gives a message another band.
+    fn set_band(&mut self, message: &Self::Mp, band: Band)
+        requires { IsInHand (value self.old) (name message.now) }
+        ensures { value self.new ≡ changed (value self.old) (name message.now) (banded band.0 (in_hand (value self.old) (name message.now))) };
+
+    /// Puts a message on a list, behind all of at least its rank: `putq(9F)`.
+    fn insert_back(&mut self, list: usize, message: Self::Mp)
+        requires list { list < 8 }
+        requires in_hand { IsInHand (value self.old) (name message) }
+        ensures { let s = value self.old in
+            value self.new ≡ placed (dropped s (name message)) list (put (in_hand s (name message)) (list_at s list)) };
+
+    /// Puts a message on a list, in front of all of at most its rank: `putbq(9F)`.
+    fn insert_front(&mut self, list: usize, message: Self::Mp)
+        requires list { list < 8 }
+        requires in_hand { IsInHand (value self.old) (name message) }
+        ensures { let s = value self.old in
+            value self.new ≡ placed (dropped s (name message)) list (put_back (in_hand s (name message)) (list_at s list)) };
+
+    /// Takes the first message of a list, if there is one: `getq(9F)`.
+    fn pop(&mut self, list: usize) -> Option<Self::Mp>
+        requires { list < 8 }
+        ensures { MatchOption result (Unpopped (value self.old) (value self.new) list) (λ m. Popped (value self.old) (value self.new) list (name m)) };
+
+    /// What can be seen of the first message of a list, if there is one.
+    fn peek(&self, list: usize) -> Option<Peek>
+        requires { list < 8 }
+        ensures { MatchOption result (list_at (value self.now) list ≡ []) (λ peek. PeekedFirst (value self.now) list peek) };
+
+    /// Frees the messages of a list that a flush takes: `flushq(9F)`, `flushband(9F)`.
+    fn drop_where(&mut self, list: usize, what: FlushWhat)
+        requires { list < 8 }
+        ensures { value self.new ≡ placed (value self.old) list (flushed what (list_at (value self.old) list)) };
+
+    /// How many message blocks and how many data blocks are free.
+    fn free_blocks(&self) -> (usize, usize)
+        ensures message_blocks { result.0 ≡ free_m (value self.now) }
+        ensures data_blocks { result.1 ≡ free_d (value self.now) };
+
+    /// Frees all messages, on the lists and in hand. Names of messages that were in hand stand for none from then on.
+    fn reset(&mut self)
+        ensures { value self.new ≡ empty_store (value self.old).mblks (value self.old).dblks };
+}

@@ -1,0 +1,15 @@
+//! Message blocks and data blocks: the trait [`Blocks`] of stores of them, and the plain store [`TableStore`].
+#![tactic(auto)]
+
+mod asked;
+mod blocks;
+mod data;
+mod kinds;
+mod message;
+mod parts;
+mod release;
+mod table;
+
+pub use asked::{FlushWhat, NoBlocks, Peek};
+pub use blocks::Blocks;
+pub use table::{InHand, TableStore};

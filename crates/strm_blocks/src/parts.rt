@@ -1,0 +1,83 @@
+//! How long the parts of a message are, and where a message belongs on a list.
+ghost use Rattle.std.specs.Prelude.{◌≡◌, ◌<◌, ◌≤◌, ◌^◌, ◌-◌, nat_le, nat_lt, sum_by, None};
+ghost use Rattle.std.specs.List.{prefix_len};
+ghost use Rattle.strm_blocks.specs.Message.{rank_in};
+ghost use Rattle.strm_blocks.specs.Parts.{control_run, body_run};
+
+use crate::kinds::{is_body_kind, is_control_kind, is_high_priority};
+use crate::message::{Message, MessageBlock};
+use std::collections::LinkedList;
+
+/// The rank of a message: 256 for high priority, else its band.
+pub(crate) fn rank_of(blocks: &LinkedList<MessageBlock>) -> usize
+    ensures { result ≡ rank_in blocks.now }
+{
+    match blocks.front() {
+        None => 0,
+        Some(block) if is_high_priority(block.kind) => 256,
+        Some(block) => usize::from(block.band),
+    }
+}
+
+/// The place behind all messages of at least a rank: `putq(9F)`.
+pub(crate) fn place_behind(list: &LinkedList<Message>, rank: usize) -> usize
+    ensures { result ≡ prefix_len (λ m. nat_le rank (rank_in m.blocks)) list.now }
+{
+    let mut rest = list.iter();
+    let mut place = 0;
+    while let Some(message) = rest.next() {
+        if rank_of(&message.blocks) < rank {
+            return place;
+        }
+        place += 1;
+    }
+    place
+}
+
+/// The place in front of all messages of at most a rank: `putbq(9F)`.
+pub(crate) fn place_before(list: &LinkedList<Message>, rank: usize) -> usize
+    ensures { result ≡ prefix_len (λ m. nat_lt rank (rank_in m.blocks)) list.now }
+{
+    let mut rest = list.iter();
+    let mut place = 0;
+    while let Some(message) = rest.next() {
+        if rank_of(&message.blocks) <= rank {
+            return place;
+        }
+        place += 1;
+    }
+    place
+}
+
+/// How many bytes the M_PROTO and M_PCPROTO blocks at the front of a message have, if there are any.
+pub(crate) fn control_len(blocks: &LinkedList<MessageBlock>) -> Option<usize>
+    requires { sum_by (λ b. b.end - b.start) blocks.now < 2 ^ 63 }
+    ensures { result ≡ control_run None blocks.now }
+{
+    let mut rest = blocks.iter();
+    let mut found = None;
+    while let Some(block) = rest.next() {
+        if !is_control_kind(block.kind) {
+            return found;
+        }
+        let before = found.unwrap_or(0);
+        found = Some(before + block.end.saturating_sub(block.start));
+    }
+    found
+}
+
+/// How many bytes the M_DATA blocks of a message have, if there are any.
+pub(crate) fn body_len(blocks: &LinkedList<MessageBlock>) -> Option<usize>
+    requires { sum_by (λ b. b.end - b.start) blocks.now < 2 ^ 63 }
+    ensures { result ≡ body_run None blocks.now }
+{
+    let mut rest = blocks.iter();
+    let mut found = None;
+    while let Some(block) = rest.next() {
+        if is_body_kind(block.kind) {
+            let before = found.unwrap_or(0);
+            found = Some(before + block.end.saturating_sub(block.start));
+        }
+    }
+    found
+}

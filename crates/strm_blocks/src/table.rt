@@ -1,0 +1,309 @@
+//! The plain store of blocks.
+ghost use Rattle.std.specs.Prelude.{◌≡◌, ◌<◌, ◌≤◌, IfOk};
+ghost use Rattle.strm_blocks.specs.Blocks.{empty_store};
+
+use crate::asked::{FlushWhat, NoBlocks, Peek};
+use crate::blocks::Blocks;
+use crate::data::{BLOCK_SIZE, DataBlocks};
+use crate::message::{
+    Message, MessageBlock, block_at, blocks_of, chain_with, first_block, gather, hold, join_blocks,
+    name_of, part_blocks, place_of, put_node, replace_block, swap_blocks, take_node,
+};
+use crate::parts::{body_len, control_len, place_before, place_behind, rank_of};
+use crate::release::{give_back, sift};
+use std::alloc::{AllocError, Global};
+use std::collections::LinkedList;
+use std::marker::Model;
+use strm_types::{Band, MsgKind};
+
+/// A store of message blocks and data blocks in linked lists and tables. All of its memory is reserved when it is made:
+/// its blocks and messages are nodes, which move from list to list.
+#[derive(Drop)]
+pub struct TableStore {
+    lists: [LinkedList<Message>; 8],
+    hand: LinkedList<Message>,
+    idle: LinkedList<Message>,
+    spare: LinkedList<MessageBlock>,
+    data: DataBlocks,
+    mblks: usize,
+    alloc: Global,
+}
+
+impl Model for TableStore {
+    ghost use Rattle.strm_blocks.specs.Blocks.{StoreValue};
+
+    ghost Value = { StoreValue };
+
+    ghost use Rattle.strm_blocks.specs.Table.{value_of, IsTableStore};
+
+    ghost view = { value_of };
+
+    ghost invariant = { IsTableStore };
+}
+
+/// The name of a message in hand of a [`TableStore`].
+#[derive(Debug, Drop)]
+pub struct InHand {
+    name: usize,
+}
+
+impl TableStore {
+    /// A store of so many message blocks and data blocks, from 1 to 65536 of each, with nothing in it. All memory is
+    /// taken here, and `AllocError` says that it was refused.
+    pub fn new(alloc: Global, mblks: usize, dblks: usize) -> Result<TableStore, AllocError>
+        requires some_mblks { 0 < mblks }
+        requires few_mblks { mblks ≤ 65536 }
+        requires some_dblks { 0 < dblks }
+        requires few_dblks { dblks ≤ 65536 }
+        ensures { IfOk result (λ s. s ≡ empty_store mblks dblks) }
+    {
+        let data = DataBlocks::new(alloc, dblks)?;
+        let mut idle = LinkedList::new(alloc);
+        let mut spare = LinkedList::new(alloc);
+        for name in 0..mblks {
+            idle.push_back(Message {
+                name,
+                blocks: LinkedList::new(alloc),
+            })?;
+            spare.push_back(MessageBlock {
+                kind: MsgKind::Data,
+                band: 0,
+                number: 0,
+                start: 0,
+                end: 0,
+            })?;
+        }
+        Ok(TableStore {
+            lists: [
+                LinkedList::new(alloc),
+                LinkedList::new(alloc),
+                LinkedList::new(alloc),
+                LinkedList::new(alloc),
+                LinkedList::new(alloc),
+                LinkedList::new(alloc),
+                LinkedList::new(alloc),
+                LinkedList::new(alloc),
+            ],
+            hand: LinkedList::new(alloc),
+            idle,
+            spare,
+            data,
+            mblks,
+            alloc,
+        })
+    }
+}
+
+impl Blocks for TableStore {
+    type Mp = InHand;
+
+    ghost value = { λ s. s };
+
+    ghost name = { λ m. m.name };
+
+    fn audit(&self) {
+        self.data.audit();
+    }
+
+    fn alloc(&mut self, kind: MsgKind) -> Result<InHand, NoBlocks> {
+        if self.spare.is_empty() {
+            return Err(NoBlocks);
+        }
+        let Some(number) = self.data.take() else {
+            return Err(NoBlocks);
+        };
+        let block = MessageBlock {
+            kind,
+            band: 0,
+            number,
+            start: 0,
+            end: 0,
+        };
+        let chain = chain_with(&mut self.spare, block);
+        Ok(InHand {
+            name: hold(&mut self.hand, &mut self.idle, chain),
+        })
+    }
+
+    fn dup(&mut self, message: &InHand, at: usize) -> Result<InHand, NoBlocks> {
+        let block = block_at(blocks_of(&self.hand, message.name), at);
+        if self.spare.is_empty() {
+            return Err(NoBlocks);
+        }
+        if self.data.references(block.number) == 255 {
+            return Err(NoBlocks);
+        }
+        self.data.share(block.number);
+        let chain = chain_with(&mut self.spare, block);
+        Ok(InHand {
+            name: hold(&mut self.hand, &mut self.idle, chain),
+        })
+    }
+
+    fn copy(&mut self, message: &InHand, at: usize) -> Result<InHand, NoBlocks> {
+        let block = block_at(blocks_of(&self.hand, message.name), at);
+        if self.spare.is_empty() {
+            return Err(NoBlocks);
+        }
+        let Some(number) = self.data.take() else {
+            return Err(NoBlocks);
+        };
+        self.data.audit();
+        self.data.copy(block.number, block.start, block.end, number);
+        let copied = MessageBlock {
+            kind: block.kind,
+            band: block.band,
+            number,
+            start: 0,
+            end: block.end - block.start,
+        };
+        let chain = chain_with(&mut self.spare, copied);
+        Ok(InHand {
+            name: hold(&mut self.hand, &mut self.idle, chain),
+        })
+    }
+
+    fn free(&mut self, message: InHand) {
+        let place = place_of(&self.hand, message.name);
+        let taken = take_node(&mut self.hand, place);
+        let none = LinkedList::new(self.alloc);
+        give_back(taken, &mut self.idle, &mut self.spare, &mut self.data, none);
+    }
+
+    fn link(&mut self, first: InHand, second: InHand) -> InHand {
+        let place = place_of(&self.hand, second.name);
+        let mut node = take_node(&mut self.hand, place);
+        let mut rest = LinkedList::new(self.alloc);
+        swap_blocks(&mut node, 0, &mut rest);
+        put_node(&mut self.idle, 0, node);
+        let place = place_of(&self.hand, first.name);
+        join_blocks(&mut self.hand, place, rest, LinkedList::new(self.alloc));
+        first
+    }
+
+    fn unlink(&mut self, message: InHand) -> (InHand, Option<InHand>) {
+        let place = place_of(&self.hand, message.name);
+        let rest = part_blocks(&mut self.hand, place, LinkedList::new(self.alloc));
+        if rest.is_empty() {
+            return (message, None);
+        }
+        let name = hold(&mut self.hand, &mut self.idle, rest);
+        (message, Some(InHand { name }))
+    }
+
+    fn append(&mut self, message: &InHand, bytes: &[u8]) -> usize {
+        let blocks = blocks_of(&self.hand, message.name);
+        let last = blocks.len() - 1;
+        let mut block = block_at(blocks, last);
+        if self.data.references(block.number) > 1 {
+            return 0;
+        }
+        self.data.audit();
+        let count = bytes.len().min(BLOCK_SIZE - block.end);
+        self.data.write(block.number, block.end, &bytes[..count]);
+        block.end += count;
+        let none = LinkedList::new(self.alloc);
+        replace_block(&mut self.hand, message.name, last, block, none);
+        count
+    }
+
+    fn bytes_at(&self, message: &InHand, at: usize) -> &[u8] {
+        let block = block_at(blocks_of(&self.hand, message.name), at);
+        self.data.shown(block.number, block.start, block.end)
+    }
+
+    fn trim_head(&mut self, message: &InHand, at: usize, n: usize) {
+        let mut block = block_at(blocks_of(&self.hand, message.name), at);
+        self.data.audit();
+        block.start += n;
+        let none = LinkedList::new(self.alloc);
+        replace_block(&mut self.hand, message.name, at, block, none);
+    }
+
+    fn trim_tail(&mut self, message: &InHand, at: usize, n: usize) {
+        let mut block = block_at(blocks_of(&self.hand, message.name), at);
+        self.data.audit();
+        block.end -= n;
+        let none = LinkedList::new(self.alloc);
+        replace_block(&mut self.hand, message.name, at, block, none);
+    }
+
+    fn blocks(&self, message: &InHand) -> usize {
+        blocks_of(&self.hand, message.name).len()
+    }
+
+    fn block_len(&self, message: &InHand, at: usize) -> usize {
+        let block = block_at(blocks_of(&self.hand, message.name), at);
+        self.data.shown(block.number, block.start, block.end).len()
+    }
+
+    fn kind(&self, message: &InHand, at: usize) -> MsgKind {
+        block_at(blocks_of(&self.hand, message.name), at).kind
+    }
+
+    fn band(&self, message: &InHand) -> Band {
+        Band(first_block(blocks_of(&self.hand, message.name)).band)
+    }
+
+    fn set_band(&mut self, message: &InHand, band: Band) {
+        let mut block = block_at(blocks_of(&self.hand, message.name), 0);
+        block.band = band.0;
+        let none = LinkedList::new(self.alloc);
+        replace_block(&mut self.hand, message.name, 0, block, none);
+    }
+
+    fn insert_back(&mut self, list: usize, message: InHand) {
+        let rank = rank_of(blocks_of(&self.hand, message.name));
+        let place = place_of(&self.hand, message.name);
+        let node = take_node(&mut self.hand, place);
+        let place = place_behind(&self.lists[list], rank);
+        put_node(&mut self.lists[list], place, node);
+    }
+
+    fn insert_front(&mut self, list: usize, message: InHand) {
+        let rank = rank_of(blocks_of(&self.hand, message.name));
+        let place = place_of(&self.hand, message.name);
+        let node = take_node(&mut self.hand, place);
+        let place = place_before(&self.lists[list], rank);
+        put_node(&mut self.lists[list], place, node);
+    }
+
+    fn pop(&mut self, list: usize) -> Option<InHand> {
+        if self.lists[list].is_empty() {
+            return None;
+        }
+        let node = take_node(&mut self.lists[list], 0);
+        let name = name_of(&node);
+        put_node(&mut self.hand, 0, node);
+        Some(InHand { name })
+    }
+
+    fn peek(&self, list: usize) -> Option<Peek> {
+        let message = self.lists[list].front()?;
+        self.data.audit();
+        let block = first_block(&message.blocks);
+        Some(Peek {
+            kind: block.kind,
+            band: Band(block.band),
+            control: control_len(&message.blocks),
+            body: body_len(&message.blocks),
+        })
+    }
+
+    fn drop_where(&mut self, list: usize, what: FlushWhat) {
+        let taken = sift(&mut self.lists[list], what);
+        let none = LinkedList::new(self.alloc);
+        give_back(taken, &mut self.idle, &mut self.spare, &mut self.data, none);
+    }
+
+    fn free_blocks(&self) -> (usize, usize) {
+        (self.spare.len(), self.data.free_count())
+    }
+
+    fn reset(&mut self) {
+        let mut taken = LinkedList::new(self.alloc);
+        gather(&mut self.lists, &mut self.hand, &mut taken);
+        let none = LinkedList::new(self.alloc);
+        give_back(taken, &mut self.idle, &mut self.spare, &mut self.data, none);
+    }
+}

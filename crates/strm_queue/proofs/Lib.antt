@@ -1,0 +1,5 @@
+pub mod Bounds
+pub mod Counted
+pub mod Stored
+pub mod Flushed
+pub mod Serving

@@ -1,0 +1,17 @@
+-- What the store frees is counted out of each band.
+use Rattle.std.proofs.Common.{◌≡◌, ap, sym, ◌∙◌, arith}
+use Rattle.std.specs.Prelude.{None}
+use Rattle.strm_blocks.specs.Blocks.{list_at}
+use Rattle.strm_blocks.specs.Outcomes.{flushed}
+use Rattle.strm_queue.proofs.Stored.{count-fits, list-placed}
+use Rattle.strm_queue.proofs.Flushed.{counted-flushed}
+use Rattle.strm_queue.proofs.queue.Queue.flushq.Goals as goal
+
+pub returns-clause-counted : goal.returns-clause-counted
+returns-clause-counted g c =
+    let s = g.B.Blocks.value c.args.store.now in
+    let k = c.args.self.now.list in
+    let left = flushed (record { all = c.args.all; band = None }) (list_at s k) in
+    let list_is = c.see_empty.ensures.list ∙ c.count_flush.ensures.others.list in
+    rw (c.see_empty.ensures.flows, list_is, c.drop_where.ensures, list-placed s k left (omega (arith, c.audit.ensures.eight, c.args.self.now.on_list)))
+    (counted-flushed c.args.all c.args.self.now.flows c.count_flush.new.self.flows (list_at s k) c.count_flush.ensures.eight c.count_flush.ensures.flows c.requires)

@@ -1,0 +1,4 @@
+pub mod Flows
+pub mod Kept
+pub mod Queues
+pub mod Order

@@ -1,0 +1,108 @@
+//! Flow control of one band.
+
+ghost use Rattle.std.specs.Prelude.{◌≡◌, ◌+◌, ◌≤◌, ◌<◌, ◌^◌, nat_le, false, if◌then◌else◌};
+ghost use Rattle.strm_queue.specs.Flows.{count_in, added_to, removed_from, flushed_of, marked_with, relieved, relieves};
+
+use crate::share::Share;
+
+/// The flow control of one band: how many bytes stand there, in messages of data (M_DATA, M_PROTO, M_PCPROTO) and in
+/// others; the high-water and the low-water mark; whether the band is full, which it is from its high-water mark on;
+/// and whether a writer waits for it.
+#[derive(Clone, Copy, Debug, PartialEq, Eq)]
+pub struct Flow {
+    pub data_bytes: usize,
+    pub other_bytes: usize,
+    pub high: usize,
+    pub low: usize,
+    pub full: bool,
+    pub want_write: bool,
+}
+
+impl Flow {
+    /// The flow control of a band where nothing stands, with these marks.
+    pub fn new(high: usize, low: usize) -> Flow
+        ensures { result ≡ record { data_bytes = 0; other_bytes = 0; high = high; low = low; full = nat_le high 0; want_write = false } }
+    {
+        Flow {
+            data_bytes: 0,
+            other_bytes: 0,
+            high,
+            low,
+            full: high == 0,
+            want_write: false,
+        }
+    }
+
+    /// How many bytes stand in the band.
+    pub fn count(&self) -> usize
+        requires { count_in self.now < 2 ^ 64 }
+        ensures { result ≡ count_in self.now }
+    {
+        self.data_bytes + self.other_bytes
+    }
+
+    /// With a message's bytes added.
+    pub(crate) fn with(self, share: Share) -> Flow
+        requires { count_in self + share.bytes < 2 ^ 64 }
+        ensures { result ≡ added_to share.is_data share.bytes self }
+    {
+        let mut flow = self;
+        if share.is_data {
+            flow.data_bytes += share.bytes;
+        } else {
+            flow.other_bytes += share.bytes;
+        }
+        flow.full = flow.count() >= flow.high;
+        flow
+    }
+
+    /// With a message's bytes taken away.
+    pub(crate) fn without(self, share: Share) -> Flow
+        requires small { count_in self < 2 ^ 64 }
+        requires has { share.bytes ≤ (if share.is_data then self.data_bytes else self.other_bytes) }
+        ensures { result ≡ removed_from share.is_data share.bytes self }
+    {
+        let mut flow = self;
+        if share.is_data {
+            flow.data_bytes -= share.bytes;
+        } else {
+            flow.other_bytes -= share.bytes;
+        }
+        flow.full = flow.count() >= flow.high;
+        flow
+    }
+
+    /// After a flush of all messages, or of those of data.
+    pub(crate) fn flushed(self, all: bool) -> Flow
+        requires { count_in self < 2 ^ 64 }
+        ensures { result ≡ flushed_of all self }
+    {
+        let mut flow = self;
+        flow.data_bytes = 0;
+        if all {
+            flow.other_bytes = 0;
+        }
+        flow.full = flow.count() >= flow.high;
+        flow
+    }
+
+    /// With other marks.
+    pub(crate) fn marked(self, high: usize, low: usize) -> Flow
+        requires { count_in self < 2 ^ 64 }
+        ensures { result ≡ marked_with high low self }
+    {
+        let mut flow = self;
+        flow.high = high;
+        flow.low = low;
+        flow.full = flow.count() >= high;
+        flow
+    }
+
+    /// Whether a waiting writer is let go: the count is at or below the low-water mark.
+    pub(crate) fn lets_go(&self) -> bool
+        requires { count_in self.now < 2 ^ 64 }
+        ensures { result ≡ relieves self.now }
+    {
+        self.want_write && self.count() <= self.low
+    }
+}

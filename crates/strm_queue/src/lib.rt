@@ -1,0 +1,12 @@
+//! Message queues with priorities and flow control, over any store of message blocks: putq(9F), putbq(9F), getq(9F),
+//! flushq(9F), flushband(9F), canput(9F). A queue is a list of a store with its counts, marks and flags beside it.
+#![tactic(auto)]
+
+mod flow;
+mod order;
+mod queue;
+mod share;
+
+pub use flow::Flow;
+pub use order::serves_in_order;
+pub use queue::Queue;

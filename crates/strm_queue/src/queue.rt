@@ -1,0 +1,260 @@
+//! A queue.
+
+ghost use Rattle.std.specs.Prelude.{◌≡◌, ◌<◌, ◌≤◌, ◌+◌, ◌^◌, ℕ, true, false, List, [], length, MatchOption, Some, None, if◌then◌else◌, slice_set, slice_index_or};
+ghost use Rattle.strm_types.specs.Message.{is_high_priority};
+ghost use Rattle.strm_blocks.specs.Blocks.{IsInHand, in_hand, list_at, placed, dropped, put, put_back, block_at};
+ghost use Rattle.strm_blocks.specs.Outcomes.{Popped, Unpopped, flushed};
+ghost use Rattle.strm_queue.specs.Kept.{AreCounted, count_of, band_of, enables, flow_at, is_full, AllBands, FewBytes};
+ghost use Rattle.strm_blocks.specs.Blocks.{Block};
+ghost use Rattle.strm_queue.specs.Flows.{count_in, added_to, removed_from, flushed_of, marked_with, relieves, relieved};
+
+use crate::flow::Flow;
+use crate::share::{Share, share_of};
+use strm_blocks::{Blocks, FlushWhat};
+use strm_types::Band;
+
+/// How many bands a queue has.
+pub const BANDS: usize = 8;
+
+/// A queue: the number of its list in a store, the flow control of its bands from 0 up, and its flags. Want-read says
+/// that a message of band 0 that is put enables the queue; no-enable that only a message of high priority does.
+#[derive(Drop)]
+pub struct Queue {
+    pub list: usize,
+    pub flows: [Flow; 8],
+    pub want_read: bool,
+    pub no_enable: bool,
+    pub ghost on_list: { list < 8 },
+    pub ghost few: { FewBytes flows },
+}
+
+impl Queue {
+    ghost use Rattle.strm_queue.specs.Queues.{OnlyCounts};
+
+    /// A queue for a list with nothing on it, with the same marks in each band: 5120 and 1024 for a head's, 512 and 128
+    /// for any other.
+    pub fn new(list: usize, high: usize, low: usize) -> Queue
+        requires list { list < 8 }
+        requires some { 1 ≤ high }
+        requires order { low ≤ high }
+        ensures counted { AreCounted result.flows [] }
+        ensures list { result.list ≡ list }
+        ensures want_read { result.want_read ≡ true }
+        ensures no_enable { result.no_enable ≡ false }
+    {
+        Queue {
+            list,
+            flows: [Flow::new(high, low); 8],
+            want_read: true,
+            no_enable: false,
+        }
+    }
+
+    // Counts a message in.
+    fn count_in(&mut self, share: Share)
+        requires band { share.band < length self.old.flows }
+        requires few { count_in (flow_at share.band self.old.flows) + share.bytes ≤ 16777216 }
+        ensures flows { self.new.flows ≡ slice_set self.old.flows share.band (added_to share.is_data share.bytes (flow_at share.band self.old.flows)) }
+        ensures others { OnlyCounts self.old self.new }
+    {
+        let flow = self.flows[share.band];
+        self.flows[share.band] = flow.with(share);
+    }
+
+    // Counts a message out.
+    fn count_out(&mut self, share: Share)
+        requires band { share.band < length self.old.flows }
+        requires has { share.bytes ≤ (if share.is_data then (flow_at share.band self.old.flows).data_bytes else (flow_at share.band self.old.flows).other_bytes) }
+        ensures flows { self.new.flows ≡ slice_set self.old.flows share.band (removed_from share.is_data share.bytes (flow_at share.band self.old.flows)) }
+        ensures others { OnlyCounts self.old self.new }
+    {
+        let flow = self.flows[share.band];
+        self.flows[share.band] = flow.without(share);
+    }
+
+    /// Puts a message behind all of at least its rank, and says whether that enables the queue: a message of high
+    /// priority always does, a banded one unless no-enable is set, one of band 0 where want-read is set too: `putq(9F)`.
+    ///
+    /// The cost is a step for each block of the message, and the store's for finding the place.
+    pub fn putq<B: Blocks>(&mut self, store: &mut B, message: B::Mp) -> bool
+        requires counted { AreCounted self.old.flows (list_at (B.value store.old) self.old.list) }
+        requires in_hand { IsInHand (B.value store.old) (B.name message) }
+        requires band { band_of (in_hand (B.value store.old) (B.name message)) < 8 }
+        ensures placed { let s = B.value store.old in
+            B.value store.new ≡ placed (dropped s (B.name message)) self.old.list (put (in_hand s (B.name message)) (list_at s self.old.list)) }
+        ensures counted { AreCounted self.new.flows (list_at (B.value store.new) self.new.list) }
+        ensures enables { result ≡ enables (in_hand (B.value store.old) (B.name message)) self.old.want_read self.old.no_enable }
+        ensures others { OnlyCounts self.old self.new }
+    {
+        store.audit();
+        let share = share_of(store, &message);
+        store.insert_back(self.list, message);
+        self.count_in(share);
+        share.enables(self.want_read, self.no_enable)
+    }
+
+    /// Puts a message in front of all of at most its rank: `putbq(9F)`. It enables nothing.
+    pub fn putbq<B: Blocks>(&mut self, store: &mut B, message: B::Mp)
+        requires counted { AreCounted self.old.flows (list_at (B.value store.old) self.old.list) }
+        requires in_hand { IsInHand (B.value store.old) (B.name message) }
+        requires band { band_of (in_hand (B.value store.old) (B.name message)) < 8 }
+        ensures placed { let s = B.value store.old in
+            B.value store.new ≡ placed (dropped s (B.name message)) self.old.list (put_back (in_hand s (B.name message)) (list_at s self.old.list)) }
+        ensures counted { AreCounted self.new.flows (list_at (B.value store.new) self.new.list) }
+        ensures others { OnlyCounts self.old self.new }
+    {
+        store.audit();
+        let share = share_of(store, &message);
+        store.insert_front(self.list, message);
+        self.count_in(share);
+    }
+
+    /// Takes the first message, if there is one, which clears want-read: `getq(9F)`. Waiting writers are let go by
+    /// `back_enable`, once what is left of the message is put back.
+    pub fn getq<B: Blocks>(&mut self, store: &mut B) -> Option<B::Mp>
+        requires counted { AreCounted self.old.flows (list_at (B.value store.old) self.old.list) }
+        requires bands { AllBands (list_at (B.value store.old) self.old.list) }
+        ensures taken { MatchOption result (Unpopped (B.value store.old) (B.value store.new) self.old.list) (λ m. Popped (B.value store.old) (B.value store.new) self.old.list (B.name m)) }
+        ensures counted { AreCounted self.new.flows (list_at (B.value store.new) self.new.list) }
+        ensures want_read { MatchOption result (self.new.want_read ≡ self.old.want_read) (λ _. self.new.want_read ≡ false) }
+        ensures list { self.new.list ≡ self.old.list }
+        ensures no_enable { self.new.no_enable ≡ self.old.no_enable }
+    {
+        store.audit();
+        let message = store.pop(self.list)?;
+        let share = share_of(store, &message);
+        self.count_out(share);
+        self.want_read = false;
+        Some(message)
+    }
+
+    /// How many bytes count in a band: all of its messages', and in band 0 those of high priority too.
+    pub fn count(&self, band: Band) -> usize
+        requires { band.0 < 8 }
+        ensures kept { result ≡ count_in (flow_at band.0 self.now.flows) }
+        ensures count { (q : List (List Block)) → AreCounted self.now.flows q → result ≡ count_of band.0 q }
+    {
+        let flow = self.flows[usize::from(band.0)];
+        flow.count()
+    }
+
+    /// Whether a band's count is at or above its high-water mark.
+    pub fn is_full(&self, band: Band) -> bool
+        requires { band.0 < 8 }
+        ensures kept { result ≡ (flow_at band.0 self.now.flows).full }
+        ensures full { (q : List (List Block)) → AreCounted self.now.flows q → result ≡ is_full (flow_at band.0 self.now.flows).high band.0 q }
+    {
+        self.flows[usize::from(band.0)].full
+    }
+
+    // Counts out what a flush of all messages, or of those of data, has taken.
+    fn count_flush(&mut self, all: bool)
+        ensures flows { (band : ℕ) → band < 8 → flow_at band self.new.flows ≡ flushed_of all (flow_at band self.old.flows) }
+        ensures eight { length self.new.flows ≡ length self.old.flows }
+        ensures others { OnlyCounts self.old self.new }
+    {
+        for band in 0..BANDS {
+            let flow = self.flows[band];
+            self.flows[band] = flow.flushed(all);
+        }
+    }
+
+    // Sets want-read where nothing stands on the list.
+    fn see_empty<B: Blocks>(&mut self, store: &B)
+        ensures empty { list_at (B.value store.now) self.old.list ≡ [] → self.new.want_read ≡ true }
+        ensures filled { (list_at (B.value store.now) self.old.list ≡ [] → ⊥) → self.new.want_read ≡ self.old.want_read }
+        ensures flows { self.new.flows ≡ self.old.flows }
+        ensures list { self.new.list ≡ self.old.list }
+        ensures no_enable { self.new.no_enable ≡ self.old.no_enable }
+    {
+        if store.peek(self.list).is_none() {
+            self.want_read = true;
+        }
+    }
+
+    /// Frees the messages of data (M_DATA, M_PROTO, M_PCPROTO), or all of them: `flushq(9F)` with FLUSHDATA or FLUSHALL.
+    /// Want-read is set where that leaves the queue empty.
+    pub fn flushq<B: Blocks>(&mut self, store: &mut B, all: bool)
+        requires { AreCounted self.old.flows (list_at (B.value store.old) self.old.list) }
+        ensures flushed { let s = B.value store.old in
+            B.value store.new ≡ placed s self.old.list (flushed (record { all = all; band = None }) (list_at s self.old.list)) }
+        ensures counted { AreCounted self.new.flows (list_at (B.value store.new) self.new.list) }
+        ensures empty { list_at (B.value store.new) self.old.list ≡ [] → self.new.want_read ≡ true }
+        ensures filled { (list_at (B.value store.new) self.old.list ≡ [] → ⊥) → self.new.want_read ≡ self.old.want_read }
+        ensures list { self.new.list ≡ self.old.list }
+        ensures no_enable { self.new.no_enable ≡ self.old.no_enable }
+    {
+        store.audit();
+        store.drop_where(self.list, FlushWhat { all, band: None });
+        self.count_flush(all);
+        self.see_empty(store);
+    }
+
+    /// Frees the messages of data of one band, and for band 0 those of high priority too: `flushband(9F)` with FLUSHDATA.
+    /// Want-read is set where that leaves the queue empty.
+    pub fn flushband<B: Blocks>(&mut self, store: &mut B, band: Band)
+        requires counted { AreCounted self.old.flows (list_at (B.value store.old) self.old.list) }
+        requires band { band.0 < 8 }
+        ensures flushed { let s = B.value store.old in
+            B.value store.new ≡ placed s self.old.list (flushed (record { all = false; band = Some band }) (list_at s self.old.list)) }
+        ensures counted { AreCounted self.new.flows (list_at (B.value store.new) self.new.list) }
+        ensures empty { list_at (B.value store.new) self.old.list ≡ [] → self.new.want_read ≡ true }
+        ensures filled { (list_at (B.value store.new) self.old.list ≡ [] → ⊥) → self.new.want_read ≡ self.old.want_read }
+        ensures list { self.new.list ≡ self.old.list }
+        ensures no_enable { self.new.no_enable ≡ self.old.no_enable }
+    {
+        store.audit();
+        store.drop_where(
+            self.list,
+            FlushWhat {
+                all: false,
+                band: Some(band),
+            },
+        );
+        self.count_band_flush(usize::from(band.0));
+        self.see_empty(store);
+    }
+
+    // Counts out what a flush of data of one band has taken.
+    fn count_band_flush(&mut self, band: usize)
+        requires { band < length self.old.flows }
+        ensures flows { self.new.flows ≡ slice_set self.old.flows band (flushed_of false (flow_at band self.old.flows)) }
+        ensures others { OnlyCounts self.old self.new }
+    {
+        let flow = self.flows[band];
+        self.flows[band] = flow.flushed(false);
+    }
+
+    /// Sets the marks of a band. It is full from then on exactly where its count is at or above the new high-water mark.
+    pub fn set_marks(&mut self, band: Band, high: usize, low: usize)
+        requires band { band.0 < 8 }
+        requires some { 1 ≤ high }
+        requires order { low ≤ high }
+        ensures marks { self.new.flows ≡ slice_set self.old.flows band.0 (marked_with high low (flow_at band.0 self.old.flows)) }
+        ensures counted { (q : List (List Block)) → AreCounted self.old.flows q → AreCounted self.new.flows q }
+        ensures others { OnlyCounts self.old self.new }
+    {
+        let band = usize::from(band.0);
+        let flow = self.flows[band];
+        self.flows[band] = flow.marked(high, low);
+    }
+
+    /// Lets the waiting writers of each band go whose count is at or below its low-water mark: want-write is cleared, and
+    /// the answer says for which bands. The nearest earlier queue that has service is then to be enabled.
+    pub fn back_enable(&mut self) -> [bool; 8]
+        ensures went { (band : ℕ) → band < 8 → slice_index_or result band false ≡ relieves (flow_at band self.old.flows) }
+        ensures flows { (band : ℕ) → band < 8 → flow_at band self.new.flows ≡ relieved (flow_at band self.old.flows) }
+        ensures counted { (q : List (List Block)) → AreCounted self.old.flows q → AreCounted self.new.flows q }
+        ensures others { OnlyCounts self.old self.new }
+    {
+        let mut goes = [false; 8];
+        for band in 0..BANDS {
+            let flow = self.flows[band];
+            goes[band] = flow.lets_go();
+            if flow.lets_go() {
+                self.flows[band].want_write = false;
+            }
+        }
+        goes
+    }
+}

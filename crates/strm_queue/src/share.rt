@@ -1,0 +1,112 @@
+//! What a message adds to the counts of a queue.
+
+ghost use Rattle.std.specs.Prelude.{◌≡◌, ◌<◌, ◌≤◌, ◌+◌, ◌||◌, ◌&&◌, not, nat_lt};
+ghost use Rattle.strm_types.specs.Message.{is_high_priority};
+ghost use Rattle.strm_types.specs.Flush.{is_data_kind, counted_band};
+ghost use Rattle.strm_blocks.specs.Blocks.{IsInHand, in_hand, block_at};
+ghost use Rattle.strm_queue.specs.Kept.{bytes_of, band_of, is_data};
+
+use strm_blocks::Blocks;
+use strm_types::MsgKind;
+
+/// The band in which a message counts, how many bytes it has, whether it is of a kind that a flush of data takes, and
+/// whether it is of high priority.
+#[derive(Clone, Copy)]
+pub(crate) struct Share {
+    pub band: usize,
+    pub bytes: usize,
+    pub is_data: bool,
+    pub is_high: bool,
+}
+
+impl Share {
+    /// Whether a put of this message enables a queue with these flags that has a service procedure.
+    pub fn enables(self, want_read: bool, no_enable: bool) -> bool
+        ensures { result ≡ (self.is_high || (not no_enable && (nat_lt 0 self.band || want_read))) }
+    {
+        self.is_high || (!no_enable && (self.band > 0 || want_read))
+    }
+}
+
+/// Whether a kind is of high priority.
+#[tactic(auto, unfolding(strm_types::specs::Message::is_high_priority))]
+pub(crate) fn is_high_priority(kind: MsgKind) -> bool
+    ensures { result ≡ is_high_priority kind }
+{
+    match kind {
+        MsgKind::Data
+        | MsgKind::Proto
+        | MsgKind::Sig
+        | MsgKind::Ctl
+        | MsgKind::Ioctl
+        | MsgKind::Setopts => false,
+        MsgKind::Iocack
+        | MsgKind::Iocnak
+        | MsgKind::Pcproto
+        | MsgKind::Pcsig
+        | MsgKind::Read
+        | MsgKind::Flush
+        | MsgKind::Stop
+        | MsgKind::Start
+        | MsgKind::Hangup
+        | MsgKind::Error => true,
+    }
+}
+
+/// Whether a flush of data takes a kind.
+#[tactic(auto, unfolding(strm_types::specs::Flush::is_data_kind))]
+pub(crate) fn is_data_kind(kind: MsgKind) -> bool
+    ensures { result ≡ is_data_kind kind }
+{
+    match kind {
+        MsgKind::Data | MsgKind::Proto | MsgKind::Pcproto => true,
+        MsgKind::Sig
+        | MsgKind::Ctl
+        | MsgKind::Ioctl
+        | MsgKind::Setopts
+        | MsgKind::Iocack
+        | MsgKind::Iocnak
+        | MsgKind::Pcsig
+        | MsgKind::Read
+        | MsgKind::Flush
+        | MsgKind::Stop
+        | MsgKind::Start
+        | MsgKind::Hangup
+        | MsgKind::Error => false,
+    }
+}
+
+// How many bytes a message has. It takes a step for each of its blocks.
+fn bytes_in<B: Blocks>(store: &B, message: &B::Mp) -> usize
+    requires { IsInHand (B.value store.now) (B.name message.now) }
+    ensures { result ≡ bytes_of (in_hand (B.value store.now) (B.name message.now)) }
+{
+    store.audit();
+    let mut bytes = 0;
+    for at in 0..store.blocks(message) {
+        bytes += store.block_len(message, at);
+    }
+    bytes
+}
+
+/// What a message in hand adds to the counts of a queue.
+pub(crate) fn share_of<B: Blocks>(store: &B, message: &B::Mp) -> Share
+    requires { IsInHand (B.value store.now) (B.name message.now) }
+    ensures band { result.band ≡ band_of (in_hand (B.value store.now) (B.name message.now)) }
+    ensures bytes { result.bytes ≡ bytes_of (in_hand (B.value store.now) (B.name message.now)) }
+    ensures kind { result.is_data ≡ is_data (in_hand (B.value store.now) (B.name message.now)) }
+    ensures high { result.is_high ≡ is_high_priority (block_at 0 (in_hand (B.value store.now) (B.name message.now))).kind }
+{
+    let _some = store.blocks(message);
+    let kind = store.kind(message, 0);
+    Share {
+        band: if is_high_priority(kind) {
+            0
+        } else {
+            usize::from(store.band(message).0)
+        },
+        bytes: bytes_in(store, message),
+        is_data: is_data_kind(kind),
+        is_high: is_high_priority(kind),
+    }
+}
