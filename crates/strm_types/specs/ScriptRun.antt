@@ -1,9 +1,8 @@
 -- What a script writes: its answers, in the order of its lines.
-use Rattle.std.specs.Prelude.{ℕ, zero, suc, ◌+◌, nat_lt, nat_le, ◌&&◌, Bool, true, false, if◌then◌else◌, List, [], ◌∷◌, ◌++◌, length, Option, None, Some, Result, Ok, Err, unwrap_or, slice_get}
+use Rattle.std.specs.Prelude.{ℕ, zero, suc, ◌+◌, nat_le, ◌&&◌, Bool, true, false, if◌then◌else◌, List, [], ◌∷◌, ◌++◌, length, Option, None, Some, Result, Ok, Err, unwrap_or, slice_get}
 use Rattle.strm_types.specs.declared.limits.Config.{Config}
 use Rattle.strm_types.specs.declared.answers.Turn.{Turn}
 use Rattle.strm_types.specs.declared.events.Caller.{Caller}
-use Rattle.strm_types.specs.declared.names.Side.{Side}
 use Rattle.strm_types.specs.declared.names.Side.TheVariants.{Master, Slave}
 use Rattle.strm_types.specs.declared.names.QueueName.{QueueName}
 use Rattle.strm_types.specs.declared.refusals.Refusal.{Refusal}
@@ -16,8 +15,8 @@ use Rattle.strm_types.specs.Calls.{Request, Reply, called}
 use Rattle.strm_types.specs.Journal.{PlainEntry, Called, Turned, payload_of, content_max}
 use Rattle.strm_types.specs.Refused.{or_else, unless, has_room, refused_at_once, refused_by_state}
 use Rattle.strm_types.specs.Script.{Command, Open, Unlock, OpenSlave, Write, Read, Turn as TurnOf, Run, lines_of}
-use Rattle.strm_types.specs.ScriptReading.{Reading, Silent, Malformed, Spoken, reading}
-use Rattle.strm_types.specs.ScriptAnswers.{Line, Refused, Wrong, Ran, Plain, printed_line, reply_line, turn_line}
+use Rattle.strm_types.specs.ScriptReading.{Silent, Malformed, Spoken, reading}
+use Rattle.strm_types.specs.ScriptAnswers.{Line, Refused, Wrong, Ran, printed_line, reply_line, turn_line}
 
 -- What the pool of blocks had for an event. An account says it of each call and each turn of a script, in their order;
 -- behind its end the pool has enough.
