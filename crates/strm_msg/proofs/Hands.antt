@@ -1,0 +1,60 @@
+-- Messages in hand, where others come and go.
+use Rattle.std.proofs.Common.{ℕ, zero, suc, ◌≡◌, ◌≢◌, ◌≤◌, ◌<◌, ◌+◌, ◌-◌, Bool, true, false, cond, eqb, List, [], ◌∷◌, ◌++◌, length, refl, sym, ap, ◌∙◌, arith}
+use Rattle.std.specs.Prelude.{sum_by, count_by, ◌==◌}
+use Rattle.std.proofs.lemmas.Bool.Decides.{nat_tests}
+use Rattle.std.proofs.lemmas.List.Sums.{sum_by-cons}
+use Rattle.strm_blocks.specs.Blocks.{Block, Held, StoreValue, in_hand, held, dropped, changed, IsInHand, IsFreshName, times_in, chain_in, without, with_chain}
+
+same-name : (i : ℕ) → eqb i i ≡ true
+same-name i = grind (arith, nat_tests)
+
+other-name : (i j : ℕ) → i ≢ j → eqb i j ≡ false
+other-name i j ne = grind (arith, nat_tests)
+
+module _ (s : StoreValue) (i : ℕ) (chain : List Block) where
+  times-held : (j : ℕ) → times_in j (held s i chain).hand ≡ cond (eqb i j) 1 0 + times_in j s.hand
+  times-held j = sum_by-cons (λ (h : Held). cond (eqb h.name j) 1 0) (record { name = i; chain = chain }) s.hand
+
+  -- the message that came is in hand, with its chain
+  pub held-is : IsFreshName s i → IsInHand (held s i chain) i
+  held-is fresh = let t = times-held i in let e = ap (λ v. cond {A = ℕ} v 1 0) (same-name i) in omega arith
+
+  pub held-chain : in_hand (held s i chain) i ≡ chain
+  held-chain = ap (λ v. cond v chain (chain_in i s.hand)) (same-name i)
+
+  -- what was in hand before has another name
+  pub held-apart : (j : ℕ) → IsFreshName s i → IsInHand s j → i ≢ j
+  held-apart j fresh is = λ e. (let t = ap (λ k. times_in k s.hand) e in absurd (omega arith))
+
+  -- a name that is still fresh is another one
+  pub fresh-apart : (j : ℕ) → IsFreshName (held s i chain) j → i ≢ j
+  fresh-apart j fresh = λ e. (let t = times-held j in let n = ap (λ k. cond {A = ℕ} (eqb k j) 1 0) e in let o = ap (λ v. cond {A = ℕ} v 1 0) (same-name j) in absurd (omega arith))
+
+  pub fresh-before : (j : ℕ) → IsFreshName (held s i chain) j → IsFreshName s j
+  fresh-before j fresh = let t = times-held j in omega arith
+
+  -- and stays there, with its chain
+  pub stays : (j : ℕ) → IsFreshName s i → IsInHand s j → IsInHand (held s i chain) j
+  stays j fresh is =
+      let t = times-held j in
+      let e = ap (λ v. cond {A = ℕ} v 1 0) (other-name i j (held-apart j fresh is)) in
+      omega arith
+
+  pub stays-chain : (j : ℕ) → i ≢ j → in_hand (held s i chain) j ≡ in_hand s j
+  stays-chain j ne = ap (λ v. cond v chain (chain_in j s.hand)) (other-name i j ne)
+
+  -- a message that came and went again
+  pub gone : dropped (held s i chain) i ≡ s
+  gone = ap (λ v. record s { hand = cond v s.hand (record { name = i; chain = chain } ∷ without i s.hand) }) (same-name i)
+
+  pub held-changed : (chain' : List Block) → changed (held s i chain) i chain' ≡ held s i chain'
+  held-changed chain' = ap (λ v. record s { hand = cond v (record { name = i; chain = chain' } ∷ s.hand) (record { name = i; chain = chain } ∷ with_chain i chain' s.hand) }) (same-name i)
+
+-- a message that is hung behind another one
+pub grown : (s : StoreValue) (i j : ℕ) (front back : List Block) → j ≢ i →
+    changed (dropped (held (held s i front) j back) j) i (in_hand (held (held s i front) j back) i ++ in_hand (held (held s i front) j back) j) ≡ held s i (front ++ back)
+grown s i j front back ne =
+    let first = stays-chain (held s i front) j back i ne ∙ held-chain s i front in
+    let second = held-chain (held s i front) j back in
+    let joined : in_hand (held (held s i front) j back) i ++ in_hand (held (held s i front) j back) j ≡ front ++ back = ap (λ xs. xs ++ in_hand (held (held s i front) j back) j) first ∙ ap (λ xs. front ++ xs) second in
+    ap (λ t. changed t i (in_hand (held (held s i front) j back) i ++ in_hand (held (held s i front) j back) j)) (gone (held s i front) j back) ∙ ap (λ c. changed (held s i front) i c) joined ∙ held-changed s i front (front ++ back)

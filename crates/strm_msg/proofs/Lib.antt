@@ -1,0 +1,5 @@
+pub mod Bounds
+pub mod Counts
+pub mod Hands
+pub mod Making
+pub mod Parts
