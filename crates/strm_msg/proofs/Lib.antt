@@ -3,3 +3,5 @@ pub mod Counts
 pub mod Hands
 pub mod Making
 pub mod Parts
+pub mod Pieces
+pub mod Sharing

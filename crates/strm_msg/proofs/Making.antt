@@ -19,7 +19,7 @@ copies-more (n ∷ numbers) [] number b same = absurd (omega arith)
 copies-more (n ∷ numbers) (c ∷ like) number b same = ap (λ xs. copy_of n c ∷ xs) (copies-more numbers like number b (omega arith))
 
 -- a chain of one block names its data block once
-names-one : (d : ℕ) (b : Block) → names_of d (b ∷ []) ≡ cond {A = ℕ} (eqb b.number d) 1 0
+pub names-one : (d : ℕ) (b : Block) → names_of d (b ∷ []) ≡ cond {A = ℕ} (eqb b.number d) 1 0
 names-one d b = let c = sum_by-cons (λ (x : Block). cond (eqb x.number d) 1 0) b [] in omega arith
 
 -- the first block of a message

@@ -3,9 +3,11 @@
 //! bytes of its M_DATA blocks.
 #![tactic(auto)]
 
+mod bytes;
 mod copies;
 mod kinds;
 mod sizes;
 
-pub use copies::copymsg;
+pub use bytes::from_bytes;
+pub use copies::{copymsg, dupmsg};
 pub use sizes::{control_len, data_len, msgdsize};
