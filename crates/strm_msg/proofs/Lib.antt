@@ -5,3 +5,4 @@ pub mod Making
 pub mod Parts
 pub mod Pieces
 pub mod Sharing
+pub mod Taking

@@ -31,7 +31,7 @@ abbrev pub data_run : Option ℕ → List Block → Option ℕ
 data_run found [] = found
 data_run found (b ∷ chain) = data_run (cond (is_body_kind b.kind) (with_block_len found b) found) chain
 
-control-blocks-cons : (b : Block) (chain : List Block) → control_blocks (b ∷ chain) ≡ cond (is_control_kind b.kind) (b ∷ control_blocks chain) []
+pub control-blocks-cons : (b : Block) (chain : List Block) → control_blocks (b ∷ chain) ≡ cond (is_control_kind b.kind) (b ∷ control_blocks chain) []
 control-blocks-cons b chain = take_while-cons (λ b. is_control_kind b.kind) b chain
 
 control-run-some : (n : ℕ) (chain : List Block) → control_run (Some n) chain ≡ Some (n + length (control_bytes chain))

@@ -5,9 +5,11 @@
 
 mod bytes;
 mod copies;
+mod data;
 mod kinds;
 mod sizes;
 
 pub use bytes::from_bytes;
 pub use copies::{copymsg, dupmsg};
+pub use data::take_data;
 pub use sizes::{control_len, data_len, msgdsize};
