@@ -35,19 +35,20 @@ unfolding zeros_below
 zeros-less f g k none some others zero within = absurd (omega arith)
 zeros-less f g k none some others (suc n) within =
     elim (cases_lt k n) [
-      inr le ↦
-        (let e : n ≡ k = omega arith in
-         let below = zeros-below f g k others n (omega arith) in
-         let fn : f n ≡ 0 = ap f e ∙ none in
-         let gn : 0 < g n = (let s = ap g e in omega arith) in
-         let here : cond {A = ℕ} (eqb (f n) 0) 1 0 ≡ 1 = grind (arith, nat_tests) in
-         let gone : cond {A = ℕ} (eqb (g n) 0) 1 0 ≡ 0 = grind (arith, nat_tests) in
-         omega arith)
-    | inl lt ↦
-        (let ih = zeros-less f g k none some others n lt in
-         let ne : n ≢ k = omega arith in
-         let here : cond {A = ℕ} (eqb (g n) 0) 1 0 ≡ cond {A = ℕ} (eqb (f n) 0) 1 0 = ap (λ (v : ℕ). cond {A = ℕ} (eqb v 0) 1 0) (others n ne) in
-         omega arith) ]
+      | inr le ↦
+          (let e : n ≡ k = omega arith in
+          let below = zeros-below f g k others n (omega arith) in
+          let fn : f n ≡ 0 = ap f e ∙ none in
+          let gn : 0 < g n = (let s = ap g e in omega arith) in
+          let here : cond {A = ℕ} (eqb (f n) 0) 1 0 ≡ 1 = grind (arith, nat_tests) in
+          let gone : cond {A = ℕ} (eqb (g n) 0) 1 0 ≡ 0 = grind (arith, nat_tests) in
+          omega arith)
+      | inl lt ↦
+          (let ih = zeros-less f g k none some others n lt in
+          let ne : n ≢ k = omega arith in
+          let here : cond {A = ℕ} (eqb (g n) 0) 1 0 ≡ cond {A = ℕ} (eqb (f n) 0) 1 0 = ap (λ (v : ℕ). cond {A = ℕ} (eqb v 0) 1 0) (others n ne) in
+          omega arith)
+    ]
 
 module _ (s : StoreValue) (i : ℕ) (chain : List Block) where
   -- a sum over all messages with one more in hand
@@ -70,10 +71,10 @@ free_d-fresh s i b exists none =
     let c = sum_by-cons (λ (x : Block). cond (eqb x.number b.number) 1 0) b [] in
     let is : cond {A = ℕ} (eqb b.number b.number) 1 0 ≡ 1 = grind (arith, nat_tests) in
     zeros-less (references s) (references (held s i (b ∷ []))) b.number none (omega arith) (λ d ne.
-        (let at = references-held s i (b ∷ []) d in
-         let c = sum_by-cons (λ (x : Block). cond (eqb x.number d) 1 0) b [] in
-         let not : cond {A = ℕ} (eqb b.number d) 1 0 ≡ 0 = grind (arith, nat_tests) in
-         omega arith)) s.dblks exists
+    (let at = references-held s i (b ∷ []) d in
+    let c = sum_by-cons (λ (x : Block). cond (eqb x.number d) 1 0) b [] in
+    let not : cond {A = ℕ} (eqb b.number d) 1 0 ≡ 0 = grind (arith, nat_tests) in
+    omega arith)) s.dblks exists
 
 -- one more message whose data blocks are all named already
 pub free_d-shared : (s : StoreValue) (i : ℕ) (chain : List Block) → ((d : ℕ) → references s d ≡ 0 → names_of d chain ≡ 0) → free_d (held s i chain) ≡ free_d s

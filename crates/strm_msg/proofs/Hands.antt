@@ -66,13 +66,14 @@ chain-replaced i chain [] some = absurd (omega arith)
 chain-replaced i chain (h ∷ hand) some =
     let t = sum_by-cons (λ (h : Held). cond (eqb h.name i) 1 0) h hand in
     elim (cases_eq h.name i) [
-      inl e ↦
-        (let hit : eqb h.name i ≡ true = ap (λ k. eqb k i) e ∙ same-name i in
-         ap (λ v. chain_in i (cond v (record h { chain = chain } ∷ hand) (h ∷ with_chain i chain hand))) hit ∙ ap (λ v. cond v chain (chain_in i hand)) hit)
-    | inr ne ↦
-        (let miss : eqb h.name i ≡ false = other-name h.name i ne in
-         let none = ap (λ v. cond {A = ℕ} v 1 0) miss in
-         ap (λ v. chain_in i (cond v (record h { chain = chain } ∷ hand) (h ∷ with_chain i chain hand))) miss ∙ ap (λ v. cond v h.chain (chain_in i (with_chain i chain hand))) miss ∙ chain-replaced i chain hand (omega arith)) ]
+      | inl e ↦
+          (let hit : eqb h.name i ≡ true = ap (λ k. eqb k i) e ∙ same-name i in
+          ap (λ v. chain_in i (cond v (record h { chain = chain } ∷ hand) (h ∷ with_chain i chain hand))) hit ∙ ap (λ v. cond v chain (chain_in i hand)) hit)
+      | inr ne ↦
+          (let miss : eqb h.name i ≡ false = other-name h.name i ne in
+          let none = ap (λ v. cond {A = ℕ} v 1 0) miss in
+          ap (λ v. chain_in i (cond v (record h { chain = chain } ∷ hand) (h ∷ with_chain i chain hand))) miss ∙ ap (λ v. cond v h.chain (chain_in i (with_chain i chain hand))) miss ∙ chain-replaced i chain hand (omega arith))
+    ]
 
 times-replaced : (i j : ℕ) (chain : List Block) (hand : List Held) → times_in j (with_chain i chain hand) ≡ times_in j hand
 times-replaced i j chain [] = refl
@@ -88,12 +89,13 @@ twice-replaced i one two [] = refl
 twice-replaced i one two (h ∷ hand) =
     let ih = twice-replaced i one two hand in
     elim (cases_eq h.name i) [
-      inl e ↦
-        (let hit : eqb h.name i ≡ true = ap (λ k. eqb k i) e ∙ same-name i in
-         ap (λ v. with_chain i two (cond v (record h { chain = one } ∷ hand) (h ∷ with_chain i one hand))) hit ∙ ap (λ v. cond v (record h { chain = two } ∷ hand) (record h { chain = one } ∷ with_chain i two hand)) hit ∙ sym (ap (λ v. cond v (record h { chain = two } ∷ hand) (h ∷ with_chain i two hand)) hit))
-    | inr ne ↦
-        (let miss : eqb h.name i ≡ false = other-name h.name i ne in
-         ap (λ v. with_chain i two (cond v (record h { chain = one } ∷ hand) (h ∷ with_chain i one hand))) miss ∙ ap (λ v. cond v (record h { chain = two } ∷ with_chain i one hand) (h ∷ with_chain i two (with_chain i one hand))) miss ∙ ap (λ xs. h ∷ xs) ih ∙ sym (ap (λ v. cond v (record h { chain = two } ∷ hand) (h ∷ with_chain i two hand)) miss)) ]
+      | inl e ↦
+          (let hit : eqb h.name i ≡ true = ap (λ k. eqb k i) e ∙ same-name i in
+          ap (λ v. with_chain i two (cond v (record h { chain = one } ∷ hand) (h ∷ with_chain i one hand))) hit ∙ ap (λ v. cond v (record h { chain = two } ∷ hand) (record h { chain = one } ∷ with_chain i two hand)) hit ∙ sym (ap (λ v. cond v (record h { chain = two } ∷ hand) (h ∷ with_chain i two hand)) hit))
+      | inr ne ↦
+          (let miss : eqb h.name i ≡ false = other-name h.name i ne in
+          ap (λ v. with_chain i two (cond v (record h { chain = one } ∷ hand) (h ∷ with_chain i one hand))) miss ∙ ap (λ v. cond v (record h { chain = two } ∷ with_chain i one hand) (h ∷ with_chain i two (with_chain i one hand))) miss ∙ ap (λ xs. h ∷ xs) ih ∙ sym (ap (λ v. cond v (record h { chain = two } ∷ hand) (h ∷ with_chain i two hand)) miss))
+    ]
 
 same-replaced : (i : ℕ) (hand : List Held) → with_chain i (chain_in i hand) hand ≡ hand
 same-replaced i [] = refl

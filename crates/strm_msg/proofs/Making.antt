@@ -47,13 +47,14 @@ own-more old i front own number copy none is d all joined some =
     let before = references-held old i front d in
     let o = own d in
     elim (cases_eq number d) [
-      inl e ↦
-        (let here = ap (λ k. references (held old i front) k) e in
-         let hit : cond {A = ℕ} (eqb copy.number d) 1 0 ≡ 1 = grind (arith, nat_tests) in
-         omega arith)
-    | inr ne ↦
-        (let miss : cond {A = ℕ} (eqb copy.number d) 1 0 ≡ 0 = grind (arith, nat_tests) in
-         omega arith) ]
+      | inl e ↦
+          (let here = ap (λ k. references (held old i front) k) e in
+          let hit : cond {A = ℕ} (eqb copy.number d) 1 0 ≡ 1 = grind (arith, nat_tests) in
+          omega arith)
+      | inr ne ↦
+          (let miss : cond {A = ℕ} (eqb copy.number d) 1 0 ≡ 0 = grind (arith, nat_tests) in
+          omega arith)
+    ]
 
 -- One block more, which is hung behind the others.
 pub Made-more : {old mid hung new : StoreValue} {i j : ℕ} {like : List Block} {b : Block} → Made old mid i like → Copied mid hung j b → new ≡ changed (dropped hung j) i (in_hand hung i ++ in_hand hung j) → Made old new i (like ++ b ∷ [])

@@ -15,7 +15,9 @@ chain-at chain at within = drop-cons chain at no_block within ∙ ap (λ k. bloc
 pub data-size-more : (b : Block) (chain : List Block) → length (data_bytes (b ∷ chain)) ≡ cond (is_body_kind b.kind) (length b.bytes) 0 + length (data_bytes chain)
 data-size-more b chain =
     elim (is_body_kind b.kind) as (λ v. length (bytes_of (cond v (b ∷ data_blocks chain) (data_blocks chain))) ≡ cond v (length b.bytes) 0 + length (data_bytes chain)) [
-      true ↦ length-append b.bytes (bytes_of (data_blocks chain)) | false ↦ omega arith ]
+      | true ↦ length-append b.bytes (bytes_of (data_blocks chain))
+      | false ↦ omega arith
+    ]
 
 -- a length with that of one more block
 abbrev pub with_block_len : Option ℕ → Block → Option ℕ
@@ -41,8 +43,10 @@ control-run-some n (b ∷ chain) =
     let more = length-append b.bytes (control_bytes chain) in
     let e : n + length b.bytes + length (control_bytes chain) ≡ n + length (b.bytes ++ control_bytes chain) = omega arith in
     let by_kind : control_run (Some n) (b ∷ chain) ≡ Some (n + length (bytes_of (cond (is_control_kind b.kind) (b ∷ control_blocks chain) []))) =
-        elim (is_control_kind b.kind) as (λ v. cond v (control_run (Some (n + length b.bytes)) chain) (Some n) ≡ Some (n + length (bytes_of (cond v (b ∷ control_blocks chain) [])))) [
-          true ↦ ih ∙ ap Some e | false ↦ ap Some (omega arith) ] in
+    elim (is_control_kind b.kind) as (λ v. cond v (control_run (Some (n + length b.bytes)) chain) (Some n) ≡ Some (n + length (bytes_of (cond v (b ∷ control_blocks chain) [])))) [
+      | true ↦ ih ∙ ap Some e
+      | false ↦ ap Some (omega arith)
+    ] in
     by_kind ∙ ap (λ (xs : List Block). Some (n + length (bytes_of xs))) (sym (control-blocks-cons b chain))
 
 pub control-run-is : (chain : List Block) → control_run None chain ≡ length_of_part (control_blocks chain)
@@ -53,8 +57,10 @@ control-run-is (b ∷ chain) =
     let e : length b.bytes + length (control_bytes chain) ≡ length (b.bytes ++ control_bytes chain) = omega arith in
     let z : 0 + length b.bytes ≡ length b.bytes = omega arith in
     let by_kind : control_run None (b ∷ chain) ≡ length_of_part (cond (is_control_kind b.kind) (b ∷ control_blocks chain) []) =
-        elim (is_control_kind b.kind) as (λ v. cond v (control_run (Some (0 + length b.bytes)) chain) None ≡ length_of_part (cond v (b ∷ control_blocks chain) [])) [
-          true ↦ ap (λ k. control_run (Some k) chain) z ∙ ih ∙ ap Some e | false ↦ refl ] in
+    elim (is_control_kind b.kind) as (λ v. cond v (control_run (Some (0 + length b.bytes)) chain) None ≡ length_of_part (cond v (b ∷ control_blocks chain) [])) [
+      | true ↦ ap (λ k. control_run (Some k) chain) z ∙ ih ∙ ap Some e
+      | false ↦ refl
+    ] in
     by_kind ∙ ap (λ (xs : List Block). length_of_part xs) (sym (control-blocks-cons b chain))
 
 -- the run ends at a block of another kind
@@ -69,7 +75,9 @@ data-run-some n (b ∷ chain) =
     let more = length-append b.bytes (data_bytes chain) in
     let e : n + length b.bytes + length (data_bytes chain) ≡ n + length (b.bytes ++ data_bytes chain) = omega arith in
     elim (is_body_kind b.kind) as (λ v. data_run (cond v (Some (n + length b.bytes)) (Some n)) chain ≡ Some (n + length (bytes_of (cond v (b ∷ data_blocks chain) (data_blocks chain))))) [
-      true ↦ ih ∙ ap Some e | false ↦ data-run-some n chain ]
+      | true ↦ ih ∙ ap Some e
+      | false ↦ data-run-some n chain
+    ]
 
 pub data-run-is : (chain : List Block) → data_run None chain ≡ length_of_part (data_blocks chain)
 data-run-is [] = refl
@@ -79,4 +87,6 @@ data-run-is (b ∷ chain) =
     let e : length b.bytes + length (data_bytes chain) ≡ length (b.bytes ++ data_bytes chain) = omega arith in
     let z : 0 + length b.bytes ≡ length b.bytes = omega arith in
     elim (is_body_kind b.kind) as (λ v. data_run (cond v (Some (0 + length b.bytes)) None) chain ≡ length_of_part (cond v (b ∷ data_blocks chain) (data_blocks chain))) [
-      true ↦ ap (λ k. data_run (Some k) chain) z ∙ ih ∙ ap Some e | false ↦ data-run-is chain ]
+      | true ↦ ap (λ k. data_run (Some k) chain) z ∙ ih ∙ ap Some e
+      | false ↦ data-run-is chain
+    ]

@@ -50,13 +50,13 @@ block-filled {old} {one} {two} {new} {i} {count} kind band bytes few a set_band 
     let b = record empty { band = band } in
     let one_is : one ≡ held old i (empty ∷ []) = a.after in
     let two_is : two ≡ held old i (b ∷ []) =
-        set_band ∙ ap (λ s. changed s i (banded band (in_hand s i))) one_is ∙ ap (λ xs. changed (held old i (empty ∷ [])) i (banded band xs)) (held-chain old i (empty ∷ [])) ∙ held-changed old i (empty ∷ []) (b ∷ []) in
+    set_band ∙ ap (λ s. changed s i (banded band (in_hand s i))) one_is ∙ ap (λ xs. changed (held old i (empty ∷ [])) i (banded band xs)) (held-chain old i (empty ∷ [])) ∙ held-changed old i (empty ∷ []) (b ∷ []) in
     let chain : in_hand two i ≡ b ∷ [] = ap (λ s. in_hand s i) two_is ∙ held-chain old i (b ∷ []) in
     let refs : references two a.number ≡ 1 = (let r = ap (λ s. references s a.number) two_is in let h = references-held old i (b ∷ []) a.number in let n = names-one a.number b in let f = a.fresh_number in grind (arith, nat_tests)) in
     let all : count ≡ length bytes = count_is ∙ ap (λ xs. taken_by two xs (length bytes)) chain ∙ ap (λ r. cond (nat_lt 1 r) 0 (min (length bytes) 256)) refs ∙ omega arith in
     let shown : take count bytes ≡ bytes = take_all count bytes (omega arith) in
     let new_is : new ≡ held old i (copy_of a.number (piece kind band bytes) ∷ []) =
-        written ∙ ap (λ xs. changed two i (extended (take count bytes) xs)) chain ∙ ap (λ s. changed s i (extended (take count bytes) (b ∷ []))) two_is ∙ held-changed old i (b ∷ []) (extended (take count bytes) (b ∷ [])) ∙ ap (λ xs. held old i (extended xs (b ∷ []))) shown in
+    written ∙ ap (λ xs. changed two i (extended (take count bytes) xs)) chain ∙ ap (λ s. changed s i (extended (take count bytes) (b ∷ []))) two_is ∙ held-changed old i (b ∷ []) (extended (take count bytes) (b ∷ [])) ∙ ap (λ xs. held old i (extended xs (b ∷ []))) shown in
     record {
       number = a.number;
       room_m = a.room_m;
@@ -94,8 +94,9 @@ pieces-all {old} {new} {i} kind band bytes at is m = subst (λ (n : ℕ). Made o
 pub shown-is : (bytes : List ℕ) (n : ℕ) → n ≡ min (length bytes) 256 → take n bytes ≡ take 256 bytes
 shown-is bytes n is =
     elim (cases_lt (length bytes) 256) [
-      inl lt ↦ take_all n bytes (omega arith) ∙ sym (take_all 256 bytes (omega arith))
-    | inr le ↦ ap (λ k. take k bytes) (let e : n ≡ 256 = omega arith in e) ]
+      | inl lt ↦ take_all n bytes (omega arith) ∙ sym (take_all 256 bytes (omega arith))
+      | inr le ↦ ap (λ k. take k bytes) (let e : n ≡ 256 = omega arith in e)
+    ]
 
 pub chunk-is : (bytes : List ℕ) (from n : ℕ) → n ≡ min (length bytes - from) 256 → take n (take (length bytes - from) (drop from bytes)) ≡ take 256 (drop from bytes)
 chunk-is bytes from n is =

@@ -40,8 +40,9 @@ shared-first {old} {new} {i} message is some dup =
           let r = dup.room_r in
           let most = is.shared d in
           elim (cases_eq (block_at 0 chain).number d) [
-            inl e ↦ (let here = ap (λ k. references old k) e in let hit : cond {A = ℕ} (eqb (block_at 0 chain).number d) 1 0 ≡ 1 = grind (arith, nat_tests) in omega arith)
-          | inr ne ↦ (let miss : cond {A = ℕ} (eqb (block_at 0 chain).number d) 1 0 ≡ 0 = grind (arith, nat_tests) in omega arith) ]);
+            | inl e ↦ (let here = ap (λ k. references old k) e in let hit : cond {A = ℕ} (eqb (block_at 0 chain).number d) 1 0 ≡ 1 = grind (arith, nat_tests) in omega arith)
+            | inr ne ↦ (let miss : cond {A = ℕ} (eqb (block_at 0 chain).number d) 1 0 ≡ 0 = grind (arith, nat_tests) in omega arith)
+          ]);
       fresh_name = dup.fresh_name;
       after = after;
     }
@@ -85,8 +86,9 @@ shared-next {old} {mid} {hung} {new} {i} {j} {r} message at m is within dup kept
           let r = next.room_r in
           let most = m.room_r d in
           elim (cases_eq b.number d) [
-            inl e ↦ (let here = ap (λ s. references s b.number) m.after in let now = references-held old i front b.number in let there = ap (λ k. references old k + names_of k front) e in let hit : cond {A = ℕ} (eqb b.number d) 1 0 ≡ 1 = grind (arith, nat_tests) in omega arith)
-          | inr ne ↦ (let miss : cond {A = ℕ} (eqb b.number d) 1 0 ≡ 0 = grind (arith, nat_tests) in omega arith) ]);
+            | inl e ↦ (let here = ap (λ s. references s b.number) m.after in let now = references-held old i front b.number in let there = ap (λ k. references old k + names_of k front) e in let hit : cond {A = ℕ} (eqb b.number d) 1 0 ≡ 1 = grind (arith, nat_tests) in omega arith)
+            | inr ne ↦ (let miss : cond {A = ℕ} (eqb b.number d) 1 0 ≡ 0 = grind (arith, nat_tests) in omega arith)
+          ]);
       fresh_name = m.fresh_name;
       after = after;
     } in
@@ -96,9 +98,13 @@ shared-next {old} {mid} {hung} {new} {i} {j} {r} message at m is within dup kept
 pub shared-none : {old new : StoreValue} (chain : List Block) → 0 < length chain → NoneShared old new (block_at 0 chain).number → Unshared old new chain
 shared-none {old} {new} chain some none = record {
   few = elim none.none [
-    inl none_m ↦ inl (omega arith)
-  | inr full ↦ inr ((block_at 0 chain).number, (
-      let one = names-more (block_at 0 chain).number chain 0 some refl in omega arith)) ];
+    | inl none_m ↦ inl (omega arith)
+    | inr full ↦ inr (
+      (block_at 0 chain).number,
+      (
+          let one = names-more (block_at 0 chain).number chain 0 some refl in omega arith),
+    )
+  ];
   same = none.same;
 }
 
@@ -112,11 +118,15 @@ shared-fails {old} {mid} {mid'} {new} {i} message at m is within none left =
     let number : references mid (block_at at (in_hand mid message)).number ≡ references mid d = ap (λ (xs : List Block). references mid (block_at at xs).number) (shared-keeps-chain m message is) in
     record {
       few = elim none.none [
-        inl none_m ↦ inl (let r = m.room_m in let l = length-take-le at chain (omega arith) in omega arith)
-      | inr full ↦ inr (d, (
-          let here = ap (λ s. references s d) m.after in
-          let now = references-held old i front d in
-          let more = names-more d chain at within refl in
-          omega arith)) ];
+        | inl none_m ↦ inl (let r = m.room_m in let l = length-take-le at chain (omega arith) in omega arith)
+        | inr full ↦ inr (
+          d,
+          (
+              let here = ap (λ s. references s d) m.after in
+              let now = references-held old i front d in
+              let more = names-more d chain at within refl in
+              omega arith),
+        )
+      ];
       same = left ∙ ap (λ s. dropped s i) same ∙ gone old i front;
     }

@@ -22,28 +22,30 @@ pub filled-more : (old xs ys : List ℕ) (at n : ℕ) → at ≡ min (length old
 filled-more old xs ys at n at_is n_is =
     let both = length-append xs ys in
     elim (cases_lt (length xs) (length old)) [
-      inl lt ↦
-        (let e : at ≡ length xs = omega arith in
-         let front : filled old xs ≡ xs ++ drop (length xs) old = ap (λ zs. zs ++ drop (length xs) old) (take_all (length old) xs (omega arith)) in
-         let room : length old ≡ length xs + (length old - length xs) = omega arith in
-         let head : take at (filled old xs) ≡ xs = ap (λ k. take k (filled old xs)) e ∙ ap (λ zs. take (length xs) zs) front ∙ take-append_seam xs (drop (length xs) old) in
-         let tail : drop (at + n) (filled old xs) ≡ drop (length xs + n) old = ap (λ k. drop (k + n) (filled old xs)) e ∙ ap (λ zs. drop (length xs + n) zs) front ∙ drop-append-add xs (drop (length xs) old) n ∙ drop-drop n (length xs) old in
-         let given : take (length old) (xs ++ ys) ≡ xs ++ take (length old - length xs) ys = ap (λ k. take k (xs ++ ys)) room ∙ take-append-add xs ys (length old - length xs) in
-         let left : paste (filled old xs) at ys n ≡ (xs ++ take n ys) ++ drop (length xs + n) old = ap (λ zs. (zs ++ take n ys) ++ drop (at + n) (filled old xs)) head ∙ ap (λ zs. (xs ++ take n ys) ++ zs) tail in
-         let right : filled old (xs ++ ys) ≡ (xs ++ take (length old - length xs) ys) ++ drop (length xs + length ys) old = ap (λ zs. zs ++ drop (length (xs ++ ys)) old) given ∙ ap (λ k. (xs ++ take (length old - length xs) ys) ++ drop k old) both in
-         elim (cases_lt (length ys) (length old - length xs)) [
-           inl fits ↦
-             (let n_all : n ≡ length ys = omega arith in
-              left ∙ ap (λ k. (xs ++ take k ys) ++ drop (length xs + k) old) n_all ∙ ap (λ zs. (xs ++ zs) ++ drop (length xs + length ys) old) (take_all (length ys) ys (omega arith) ∙ sym (take_all (length old - length xs) ys (omega arith))) ∙ sym right)
-         | inr more ↦
-             (let n_room : n ≡ length old - length xs = omega arith in
-              left ∙ ap (λ k. (xs ++ take k ys) ++ drop (length xs + k) old) n_room ∙ ap (λ zs. (xs ++ take (length old - length xs) ys) ++ zs) (drop_all (length xs + (length old - length xs)) old (omega arith) ∙ sym (drop_all (length xs + length ys) old (omega arith))) ∙ sym right) ])
-    | inr ge ↦
-        (let n_none : n ≡ 0 = omega arith in
-         let same : paste (filled old xs) at ys n ≡ filled old xs = ap (λ k. paste (filled old xs) at ys k) n_none ∙ sym (paste_none (filled old xs) at ys) in
-         let head = take-append-le (length old) xs ys ge in
-         let tail : drop (length xs) old ≡ drop (length (xs ++ ys)) old = drop_all (length xs) old ge ∙ sym (drop_all (length (xs ++ ys)) old (omega arith)) in
-         same ∙ ap (λ zs. zs ++ drop (length xs) old) (sym head) ∙ ap (λ zs. take (length old) (xs ++ ys) ++ zs) tail) ]
+      | inl lt ↦
+          (let e : at ≡ length xs = omega arith in
+          let front : filled old xs ≡ xs ++ drop (length xs) old = ap (λ zs. zs ++ drop (length xs) old) (take_all (length old) xs (omega arith)) in
+          let room : length old ≡ length xs + (length old - length xs) = omega arith in
+          let head : take at (filled old xs) ≡ xs = ap (λ k. take k (filled old xs)) e ∙ ap (λ zs. take (length xs) zs) front ∙ take-append_seam xs (drop (length xs) old) in
+          let tail : drop (at + n) (filled old xs) ≡ drop (length xs + n) old = ap (λ k. drop (k + n) (filled old xs)) e ∙ ap (λ zs. drop (length xs + n) zs) front ∙ drop-append-add xs (drop (length xs) old) n ∙ drop-drop n (length xs) old in
+          let given : take (length old) (xs ++ ys) ≡ xs ++ take (length old - length xs) ys = ap (λ k. take k (xs ++ ys)) room ∙ take-append-add xs ys (length old - length xs) in
+          let left : paste (filled old xs) at ys n ≡ (xs ++ take n ys) ++ drop (length xs + n) old = ap (λ zs. (zs ++ take n ys) ++ drop (at + n) (filled old xs)) head ∙ ap (λ zs. (xs ++ take n ys) ++ zs) tail in
+          let right : filled old (xs ++ ys) ≡ (xs ++ take (length old - length xs) ys) ++ drop (length xs + length ys) old = ap (λ zs. zs ++ drop (length (xs ++ ys)) old) given ∙ ap (λ k. (xs ++ take (length old - length xs) ys) ++ drop k old) both in
+          elim (cases_lt (length ys) (length old - length xs)) [
+            | inl fits ↦
+                (let n_all : n ≡ length ys = omega arith in
+                left ∙ ap (λ k. (xs ++ take k ys) ++ drop (length xs + k) old) n_all ∙ ap (λ zs. (xs ++ zs) ++ drop (length xs + length ys) old) (take_all (length ys) ys (omega arith) ∙ sym (take_all (length old - length xs) ys (omega arith))) ∙ sym right)
+            | inr more ↦
+                (let n_room : n ≡ length old - length xs = omega arith in
+                left ∙ ap (λ k. (xs ++ take k ys) ++ drop (length xs + k) old) n_room ∙ ap (λ zs. (xs ++ take (length old - length xs) ys) ++ zs) (drop_all (length xs + (length old - length xs)) old (omega arith) ∙ sym (drop_all (length xs + length ys) old (omega arith))) ∙ sym right)
+          ])
+      | inr ge ↦
+          (let n_none : n ≡ 0 = omega arith in
+          let same : paste (filled old xs) at ys n ≡ filled old xs = ap (λ k. paste (filled old xs) at ys k) n_none ∙ sym (paste_none (filled old xs) at ys) in
+          let head = take-append-le (length old) xs ys ge in
+          let tail : drop (length xs) old ≡ drop (length (xs ++ ys)) old = drop_all (length xs) old ge ∙ sym (drop_all (length (xs ++ ys)) old (omega arith)) in
+          same ∙ ap (λ zs. zs ++ drop (length xs) old) (sym head) ∙ ap (λ zs. take (length old) (xs ++ ys) ++ zs) tail)
+    ]
 
 pub length-filled : (old xs : List ℕ) → length (filled old xs) ≡ length old
 length-filled old xs = length-append (take (length old) xs) (drop (length xs) old) ∙ (let t = length-take (length old) xs in let d = length-drop (length xs) old in omega arith)
@@ -54,13 +56,17 @@ data-append [] ys = refl
 data-append (b ∷ xs) ys =
     let ih = data-append xs ys in
     elim (is_body_kind b.kind) as (λ v. bytes_of (cond v (b ∷ data_blocks (xs ++ ys)) (data_blocks (xs ++ ys))) ≡ bytes_of (cond v (b ∷ data_blocks xs) (data_blocks xs)) ++ data_bytes ys) [
-      true ↦ ap (λ zs. b.bytes ++ zs) ih ∙ sym (append_assoc b.bytes (data_bytes xs) (data_bytes ys)) | false ↦ ih ]
+      | true ↦ ap (λ zs. b.bytes ++ zs) ih ∙ sym (append_assoc b.bytes (data_bytes xs) (data_bytes ys))
+      | false ↦ ih
+    ]
 
 pub length-without : (n : ℕ) (chain : List Block) → length (without_data n chain) ≡ length chain
 length-without n [] = refl
 length-without n (b ∷ chain) =
     elim (is_body_kind b.kind) as (λ v. length (cond v (trimmed_head n b ∷ without_data (n - length b.bytes) chain) (b ∷ without_data n chain)) ≡ suc (length chain)) [
-      true ↦ ap suc (length-without (n - length b.bytes) chain) | false ↦ ap suc (length-without n chain) ]
+      | true ↦ ap suc (length-without (n - length b.bytes) chain)
+      | false ↦ ap suc (length-without n chain)
+    ]
 
 -- taking from two chains
 pub without-append : (n : ℕ) (xs ys : List Block) → without_data n (xs ++ ys) ≡ without_data n xs ++ without_data (n - length (data_bytes xs)) ys
@@ -71,15 +77,17 @@ without-append n (b ∷ xs) ys =
     let len = length-append b.bytes (data_bytes xs) in
     let e : n - length b.bytes - length (data_bytes xs) ≡ n - length (b.bytes ++ data_bytes xs) = omega arith in
     elim (is_body_kind b.kind) as (λ v. cond v (trimmed_head n b ∷ without_data (n - length b.bytes) (xs ++ ys)) (b ∷ without_data n (xs ++ ys)) ≡ cond v (trimmed_head n b ∷ without_data (n - length b.bytes) xs) (b ∷ without_data n xs) ++ without_data (n - length (bytes_of (cond v (b ∷ data_blocks xs) (data_blocks xs)))) ys) [
-      true ↦ ap (λ zs. trimmed_head n b ∷ zs) some ∙ ap (λ k. trimmed_head n b ∷ (without_data (n - length b.bytes) xs ++ without_data k ys)) e
-    | false ↦ ap (λ zs. b ∷ zs) none ]
+      | true ↦ ap (λ zs. trimmed_head n b ∷ zs) some ∙ ap (λ k. trimmed_head n b ∷ (without_data (n - length b.bytes) xs ++ without_data k ys)) e
+      | false ↦ ap (λ zs. b ∷ zs) none
+    ]
 
 -- what is left of the data part
 drop-append : (n : ℕ) (xs ys : List ℕ) → drop n (xs ++ ys) ≡ drop n xs ++ drop (n - length xs) ys
 drop-append n xs ys =
     elim (cases_lt n (length xs)) [
-      inl lt ↦ drop-append-le n xs ys (omega arith) ∙ ap (λ k. drop n xs ++ drop k ys) (let e : 0 ≡ n - length xs = omega arith in e)
-    | inr ge ↦ ap (λ k. drop k (xs ++ ys)) (let e : n ≡ length xs + (n - length xs) = omega arith in e) ∙ drop-append-add xs ys (n - length xs) ∙ ap (λ zs. zs ++ drop (n - length xs) ys) (sym (drop_all n xs ge)) ]
+      | inl lt ↦ drop-append-le n xs ys (omega arith) ∙ ap (λ k. drop n xs ++ drop k ys) (let e : 0 ≡ n - length xs = omega arith in e)
+      | inr ge ↦ ap (λ k. drop k (xs ++ ys)) (let e : n ≡ length xs + (n - length xs) = omega arith in e) ∙ drop-append-add xs ys (n - length xs) ∙ ap (λ zs. zs ++ drop (n - length xs) ys) (sym (drop_all n xs ge))
+    ]
 
 pub data-without : (n : ℕ) (chain : List Block) → data_bytes (without_data n chain) ≡ drop n (data_bytes chain)
 data-without n [] = sym (drop_all n [] (omega arith))
@@ -88,9 +96,10 @@ data-without n (b ∷ chain) =
     let none = data-without n chain in
     let split = drop-append n b.bytes (data_bytes chain) in
     let by : (v : Bool) → is_body_kind b.kind ≡ v → data_bytes (cond v (trimmed_head n b ∷ without_data (n - length b.bytes) chain) (b ∷ without_data n chain)) ≡ drop n (bytes_of (cond v (b ∷ data_blocks chain) (data_blocks chain))) =
-        λ v. elim v as (λ w. is_body_kind b.kind ≡ w → data_bytes (cond w (trimmed_head n b ∷ without_data (n - length b.bytes) chain) (b ∷ without_data n chain)) ≡ drop n (bytes_of (cond w (b ∷ data_blocks chain) (data_blocks chain)))) [
-          true ↦ (λ is. ap (λ w. bytes_of (cond w (trimmed_head n b ∷ data_blocks (without_data (n - length b.bytes) chain)) (data_blocks (without_data (n - length b.bytes) chain)))) is ∙ ap (λ zs. drop n b.bytes ++ zs) some ∙ sym split)
-        | false ↦ (λ is. ap (λ w. bytes_of (cond w (b ∷ data_blocks (without_data n chain)) (data_blocks (without_data n chain)))) is ∙ none) ] in
+    λ v. elim v as (λ w. is_body_kind b.kind ≡ w → data_bytes (cond w (trimmed_head n b ∷ without_data (n - length b.bytes) chain) (b ∷ without_data n chain)) ≡ drop n (bytes_of (cond w (b ∷ data_blocks chain) (data_blocks chain)))) [
+      | true ↦ (λ is. ap (λ w. bytes_of (cond w (trimmed_head n b ∷ data_blocks (without_data (n - length b.bytes) chain)) (data_blocks (without_data (n - length b.bytes) chain)))) is ∙ ap (λ zs. drop n b.bytes ++ zs) some ∙ sym split)
+      | false ↦ (λ is. ap (λ w. bytes_of (cond w (b ∷ data_blocks (without_data n chain)) (data_blocks (without_data n chain)))) is ∙ none)
+    ] in
     by (is_body_kind b.kind) refl
 
 -- no data block is one of control
@@ -108,23 +117,25 @@ control-without n (b ∷ chain) =
     let none = control-without n chain in
     let old = ap (λ (xs : List Block). bytes_of xs) (control-blocks-cons b chain) in
     let by : (v : Bool) → is_body_kind b.kind ≡ v → control_bytes (cond v (trimmed_head n b ∷ without_data (n - length b.bytes) chain) (b ∷ without_data n chain)) ≡ control_bytes (b ∷ chain) =
-        λ v. elim v as (λ w. is_body_kind b.kind ≡ w → control_bytes (cond w (trimmed_head n b ∷ without_data (n - length b.bytes) chain) (b ∷ without_data n chain)) ≡ control_bytes (b ∷ chain)) [
-          true ↦ (λ is.
-            (let other = apart b.kind is in
-             let new = ap (λ (xs : List Block). bytes_of xs) (control-blocks-cons (trimmed_head n b) (without_data (n - length b.bytes) chain)) in
-             new ∙ ap (λ w. bytes_of (cond w (trimmed_head n b ∷ control_blocks (without_data (n - length b.bytes) chain)) [])) other ∙ sym (ap (λ w. bytes_of (cond w (b ∷ control_blocks chain) [])) other) ∙ sym old))
-        | false ↦ (λ is.
-            (let new = ap (λ (xs : List Block). bytes_of xs) (control-blocks-cons b (without_data n chain)) in
-             let inner : bytes_of (cond (is_control_kind b.kind) (b ∷ control_blocks (without_data n chain)) []) ≡ bytes_of (cond (is_control_kind b.kind) (b ∷ control_blocks chain) []) =
-                elim (is_control_kind b.kind) as (λ u. bytes_of (cond u (b ∷ control_blocks (without_data n chain)) []) ≡ bytes_of (cond u (b ∷ control_blocks chain) [])) [ true ↦ ap (λ zs. b.bytes ++ zs) none | false ↦ refl ] in
-             new ∙ inner ∙ sym old)) ] in
+    λ v. elim v as (λ w. is_body_kind b.kind ≡ w → control_bytes (cond w (trimmed_head n b ∷ without_data (n - length b.bytes) chain) (b ∷ without_data n chain)) ≡ control_bytes (b ∷ chain)) [
+      | true ↦ (λ is.
+          (let other = apart b.kind is in
+          let new = ap (λ (xs : List Block). bytes_of xs) (control-blocks-cons (trimmed_head n b) (without_data (n - length b.bytes) chain)) in
+          new ∙ ap (λ w. bytes_of (cond w (trimmed_head n b ∷ control_blocks (without_data (n - length b.bytes) chain)) [])) other ∙ sym (ap (λ w. bytes_of (cond w (b ∷ control_blocks chain) [])) other) ∙ sym old))
+      | false ↦ (λ is.
+          (let new = ap (λ (xs : List Block). bytes_of xs) (control-blocks-cons b (without_data n chain)) in
+          let inner : bytes_of (cond (is_control_kind b.kind) (b ∷ control_blocks (without_data n chain)) []) ≡ bytes_of (cond (is_control_kind b.kind) (b ∷ control_blocks chain) []) =
+          elim (is_control_kind b.kind) as (λ u. bytes_of (cond u (b ∷ control_blocks (without_data n chain)) []) ≡ bytes_of (cond u (b ∷ control_blocks chain) [])) [ true ↦ ap (λ zs. b.bytes ++ zs) none | false ↦ refl ] in
+          new ∙ inner ∙ sym old))
+    ] in
     by (is_body_kind b.kind) refl
 
 drop-least : (k n : ℕ) (xs : List ℕ) → n ≡ min k (length xs) → drop n xs ≡ drop k xs
 drop-least k n xs is =
     elim (cases_lt k (length xs)) [
-      inl lt ↦ ap (λ m. drop m xs) (let e : n ≡ k = omega arith in e)
-    | inr ge ↦ drop_all n xs (omega arith) ∙ sym (drop_all k xs ge) ]
+      | inl lt ↦ ap (λ m. drop m xs) (let e : n ≡ k = omega arith in e)
+      | inr ge ↦ drop_all n xs (omega arith) ∙ sym (drop_all k xs ge)
+    ]
 
 module _ (room : ℕ) (chain : List Block) where
   -- the chain with its first so many blocks done

@@ -29,7 +29,12 @@ fn chunk_at(bytes: &[u8], at: usize) -> &[u8]
 }
 
 /// Makes a message of one block that shows these bytes.
-fn block_of<B: Blocks>(store: &mut B, kind: MsgKind, band: Band, bytes: &[u8]) -> Result<B::Mp, NoBlocks>
+fn block_of<B: Blocks>(
+    store: &mut B,
+    kind: MsgKind,
+    band: Band,
+    bytes: &[u8],
+) -> Result<B::Mp, NoBlocks>
     requires { length bytes.now ≤ 256 }
     ensures { MatchResult result (λ m. Copied (B.value store.old) (B.value store.new) (B.name m) (piece kind band.0 bytes.now)) (λ _. NoneFree (B.value store.old) (B.value store.new)) }
 {
@@ -42,7 +47,12 @@ fn block_of<B: Blocks>(store: &mut B, kind: MsgKind, band: Band, bytes: &[u8]) -
 /// Makes a message of a kind and a band that shows these bytes, as `allocb(9F)`, a copy and `linkb(9F)` for each 256 of
 /// them. It takes one block of each kind for each begun 256 bytes, and at least one; `NoBlocks` where fewer are free,
 /// and then nothing changes.
-pub fn from_bytes<B: Blocks>(store: &mut B, kind: MsgKind, band: Band, bytes: &[u8]) -> Result<B::Mp, NoBlocks>
+pub fn from_bytes<B: Blocks>(
+    store: &mut B,
+    kind: MsgKind,
+    band: Band,
+    bytes: &[u8],
+) -> Result<B::Mp, NoBlocks>
     ensures { MatchResult result (λ m. Made (B.value store.old) (B.value store.new) (B.name m) (pieces kind band.0 bytes.now)) (λ _. TooFew (B.value store.old) (B.value store.new) (write.chunk_count (length bytes.now))) }
 {
     let count = chunk_count(bytes.len());

@@ -21,7 +21,13 @@ fn copy_into(buffer: &mut [u8], from: usize, bytes: &[u8]) -> usize
 }
 
 /// Takes bytes of one block into a buffer from a place on, and trims them from the block. Returns how many.
-fn take_from_block<B: Blocks>(store: &mut B, message: &B::Mp, at: usize, buffer: &mut [u8], from: usize) -> usize
+fn take_from_block<B: Blocks>(
+    store: &mut B,
+    message: &B::Mp,
+    at: usize,
+    buffer: &mut [u8],
+    from: usize,
+) -> usize
     requires in_hand { IsInHand (B.value store.old) (B.name message.now) }
     requires within { at < length (in_hand (B.value store.old) (B.name message.now)) }
     requires room { from ≤ length buffer.old }

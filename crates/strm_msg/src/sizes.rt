@@ -14,7 +14,8 @@ pub fn msgdsize<B: Blocks>(store: &B, message: &B::Mp) -> usize
     store.audit();
     let mut size = 0;
     for at in 0..store.blocks(message) {
-        if is_body_kind(store.kind(message, at)) {
+        let kind = store.kind(message, at);
+        if is_body_kind(kind) {
             size += store.block_len(message, at);
         }
     }

@@ -31,8 +31,9 @@ take_from_block-done-requires-clause-within g c =
 pub loop-at-preserved : goal.loop-at-preserved
 loop-at-preserved g c =
     elim c.if-is_body_kind.branch [
-      then-is_body_kind w ↦ going-data c.requires (omega arith) c.loop-at.invariant w.take_from_block-done.result (ap is_body_kind (sym c.kind.ensures) ∙ sym c.is_body_kind.ensures ∙ w.if-is_body_kind.true) w.take_from_block-done.ensures.count w.done-is (w.buffer-is ∙ w.take_from_block-done.ensures.copied) (ap (λ s. g.B.Blocks.value s) w.store-is ∙ w.take_from_block-done.ensures.trimmed)
-    | else-is_body_kind w ↦ going-other c.requires (omega arith) c.loop-at.invariant (ap is_body_kind (sym c.kind.ensures) ∙ sym c.is_body_kind.ensures ∙ w.if-is_body_kind.false) w.done-is w.buffer-is (ap (λ s. g.B.Blocks.value s) w.store-is) ]
+      | then-is_body_kind w ↦ going-data c.requires (omega arith) c.loop-at.invariant w.take_from_block-done.result (ap is_body_kind (sym c.kind.ensures) ∙ sym c.is_body_kind.ensures ∙ w.if-is_body_kind.true) w.take_from_block-done.ensures.count w.done-is (w.buffer-is ∙ w.take_from_block-done.ensures.copied) (ap (λ s. g.B.Blocks.value s) w.store-is ∙ w.take_from_block-done.ensures.trimmed)
+      | else-is_body_kind w ↦ going-other c.requires (omega arith) c.loop-at.invariant (ap is_body_kind (sym c.kind.ensures) ∙ sym c.is_body_kind.ensures ∙ w.if-is_body_kind.false) w.done-is w.buffer-is (ap (λ s. g.B.Blocks.value s) w.store-is)
+    ]
 
 pub returns-clause-left : goal.returns-clause-left
 returns-clause-left g c =
