@@ -6,7 +6,9 @@ use Rattle.std.proofs.lemmas.Bool.Decides.{nat_tests}
 use Rattle.std.proofs.lemmas.List.{length-append, length-take-le, take_more}
 use Rattle.std.proofs.lemmas.List.Sums.{sum_by-cons, sum_by-append}
 use Rattle.strm_blocks.specs.Blocks.{Block, StoreValue, block_at, no_block, in_hand, held, dropped, changed, IsInHand, IsFreshName, times_in, references, names_of, free_m, free_d, copy_of}
-use Rattle.strm_blocks.specs.Outcomes.{Copied, NoneFree}
+use Rattle.strm_blocks.specs.Outcomes.{Copied, NoneFree, is_control_kind, is_body_kind}
+use Rattle.strm_msg.specs.Bytes.{bytes_of, control_blocks, control_bytes, data_blocks, data_bytes}
+use Rattle.strm_msg.proofs.Parts.{control-blocks-cons}
 use Rattle.strm_msg.specs.Made.{Made, TooFew, copies_of}
 use Rattle.strm_msg.proofs.Counts.{references-held, free_m-held, free_d-fresh, free_m-joined, free_d-joined}
 use Rattle.strm_msg.proofs.Hands.{gone, grown, stays, stays-chain, held-apart, fresh-apart, held-is}
@@ -22,6 +24,35 @@ copies-more (n ∷ numbers) (c ∷ like) number b same = ap (λ xs. copy_of n c 
 pub names-one : (d : ℕ) (b : Block) → names_of d (b ∷ []) ≡ cond {A = ℕ} (eqb b.number d) 1 0
 names-one d b = let c = sum_by-cons (λ (x : Block). cond (eqb x.number d) 1 0) b [] in omega arith
 
+-- copies show the same bytes, and in the same parts
+copies-shown : (numbers : List ℕ) (like : List Block) → length numbers ≡ length like → bytes_of (copies_of numbers like) ≡ bytes_of like
+copies-shown [] [] same = refl
+copies-shown [] (b ∷ like) same = absurd (omega arith)
+copies-shown (n ∷ numbers) [] same = absurd (omega arith)
+copies-shown (n ∷ numbers) (b ∷ like) same = ap (λ xs. b.bytes ++ xs) (copies-shown numbers like (omega arith))
+
+copies-body : (numbers : List ℕ) (like : List Block) → length numbers ≡ length like → data_bytes (copies_of numbers like) ≡ data_bytes like
+copies-body [] [] same = refl
+copies-body [] (b ∷ like) same = absurd (omega arith)
+copies-body (n ∷ numbers) [] same = absurd (omega arith)
+copies-body (n ∷ numbers) (b ∷ like) same =
+    let ih = copies-body numbers like (omega arith) in
+    elim (is_body_kind b.kind) as (λ v. bytes_of (cond v (copy_of n b ∷ data_blocks (copies_of numbers like)) (data_blocks (copies_of numbers like))) ≡ bytes_of (cond v (b ∷ data_blocks like) (data_blocks like))) [
+      true ↦ ap (λ xs. b.bytes ++ xs) ih | false ↦ ih ]
+
+copies-control : (numbers : List ℕ) (like : List Block) → length numbers ≡ length like → control_bytes (copies_of numbers like) ≡ control_bytes like
+copies-control [] [] same = refl
+copies-control [] (b ∷ like) same = absurd (omega arith)
+copies-control (n ∷ numbers) [] same = absurd (omega arith)
+copies-control (n ∷ numbers) (b ∷ like) same =
+    let ih = copies-control numbers like (omega arith) in
+    let new = ap (λ (xs : List Block). bytes_of xs) (control-blocks-cons (copy_of n b) (copies_of numbers like)) in
+    let old = ap (λ (xs : List Block). bytes_of xs) (control-blocks-cons b like) in
+    let inner : bytes_of (cond (is_control_kind b.kind) (copy_of n b ∷ control_blocks (copies_of numbers like)) []) ≡ bytes_of (cond (is_control_kind b.kind) (b ∷ control_blocks like) []) =
+        elim (is_control_kind b.kind) as (λ v. bytes_of (cond v (copy_of n b ∷ control_blocks (copies_of numbers like)) []) ≡ bytes_of (cond v (b ∷ control_blocks like) [])) [
+          true ↦ ap (λ xs. b.bytes ++ xs) ih | false ↦ refl ] in
+    new ∙ inner ∙ sym old
+
 -- the first block of a message
 pub Made-one : {old new : StoreValue} {i : ℕ} {b : Block} → Copied old new i b → Made old new i (b ∷ [])
 Made-one {old} {new} {i} {b} c =
@@ -35,6 +66,9 @@ Made-one {old} {new} {i} {b} c =
       room_d = ap (λ s. free_d s + 1) c.after ∙ fd;
       fresh_name = c.fresh_name;
       own = λ d some. (let one = names-one d copy in let f = c.fresh_number in let e : c.number ≡ d = grind (arith, nat_tests) in let r = ap (λ k. references old k) e in grind (arith, nat_tests));
+      shown = copies-shown (c.number ∷ []) (b ∷ []) refl;
+      control = copies-control (c.number ∷ []) (b ∷ []) refl;
+      body = copies-body (c.number ∷ []) (b ∷ []) refl;
       after = c.after;
     }
 
@@ -84,6 +118,9 @@ Made-more {old} {mid} {hung} {new} {i} {j} {like} {b} m c link =
       room_d = let r = m.room_d in omega arith;
       fresh_name = m.fresh_name;
       own = λ d some. own-more old i front m.own c.number copy none refl d (copies_of (m.numbers ++ c.number ∷ []) (like ++ b ∷ [])) more some;
+      shown = copies-shown (m.numbers ++ c.number ∷ []) (like ++ b ∷ []) (let k = m.count in omega arith);
+      control = copies-control (m.numbers ++ c.number ∷ []) (like ++ b ∷ []) (let k = m.count in omega arith);
+      body = copies-body (m.numbers ++ c.number ∷ []) (like ++ b ∷ []) (let k = m.count in omega arith);
       after = after ∙ ap (λ xs. held old i xs) (sym more);
     }
 

@@ -3,13 +3,15 @@ use Rattle.std.proofs.Common.{ℕ, zero, suc, ◌≡◌, ◌≢◌, ◌≤◌, �
 use Rattle.std.specs.Prelude.{sum_by, count_by, nat_lt, ◌==◌}
 use Rattle.std.proofs.lemmas.Bool.{cases_lt}
 use Rattle.std.proofs.lemmas.Bool.Decides.{nat_tests}
+use Rattle.std.proofs.Math.Seq.{take-add}
 use Rattle.std.proofs.lemmas.List.{length-map, length-drop, drop-drop, map-append, take_all}
 use Rattle.std.proofs.lemmas.List.Sums.{sum_by-cons}
 use Rattle.strm_types.specs.declared.kinds.MsgKind.{MsgKind}
 use Rattle.strm_types.specs.Write.{chunk_count, chunks_of}
 use Rattle.strm_blocks.specs.Blocks.{Block, StoreValue, in_hand, held, changed, dropped, references, names_of, new_block, copy_of, banded, extended, taken_by, IsFreshName, IsInHand}
 use Rattle.strm_blocks.specs.Outcomes.{Allocated, Copied, NoneFree}
-use Rattle.strm_msg.specs.Made.{Made, TooFew, piece, pieces}
+use Rattle.strm_msg.specs.Bytes.{bytes_of}
+use Rattle.strm_msg.specs.Made.{Made, MadeOf, TooFew, copies_of, piece, pieces}
 use Rattle.strm_msg.proofs.Counts.{references-held}
 use Rattle.strm_msg.proofs.Hands.{held-chain, held-changed, held-is}
 use Rattle.strm_msg.proofs.Making.{names-one, Made-one, Made-more, Made-fails}
@@ -86,9 +88,30 @@ piece-first {old} {new} {i} kind band bytes shown is c = Made-one (subst (λ (xs
 pub pieces-fail : {old mid mid' new : StoreValue} {i : ℕ} (kind : MsgKind) (band : ℕ) (bytes : List ℕ) (at n : ℕ) → at < n → Made old mid i (first_pieces kind band bytes at) → NoneFree mid mid' → new ≡ dropped mid' i → TooFew old new n
 pieces-fail kind band bytes at n less m none left = Made-fails n (let l = length-pieces kind band bytes at in omega arith) m none left
 
+-- the bytes that pieces show
+pub pieces-shown : (kind : MsgKind) (band : ℕ) (n : ℕ) (cells : List ℕ) → bytes_of (map (piece kind band) (chunks_of n cells)) ≡ take (n * 256) cells
+pieces-shown kind band zero cells = refl
+pieces-shown kind band (suc n) cells =
+    let ih = pieces-shown kind band n (drop 256 cells) in
+    let e : 256 + n * 256 ≡ suc n * 256 = omega arith in
+    ap (λ xs. take 256 cells ++ xs) ih ∙ sym (take-add 256 (n * 256) cells) ∙ ap (λ k. take k cells) e
+
+-- the pieces are long enough for all bytes
+chunk-enough : (n : ℕ) → n ≤ chunk_count n * 256
+unfolding chunk_count
+chunk-enough n = omega arith
+
 -- all pieces
-pub pieces-all : {old new : StoreValue} {i : ℕ} (kind : MsgKind) (band : ℕ) (bytes : List ℕ) (at : ℕ) → at ≡ chunk_count (length bytes) → Made old new i (first_pieces kind band bytes at) → Made old new i (pieces kind band bytes)
-pieces-all {old} {new} {i} kind band bytes at is m = subst (λ (n : ℕ). Made old new i (first_pieces kind band bytes n)) is m
+pub pieces-all : {old new : StoreValue} {i : ℕ} (kind : MsgKind) (band : ℕ) (bytes : List ℕ) (at : ℕ) → at ≡ chunk_count (length bytes) → Made old new i (first_pieces kind band bytes at) → MadeOf old new i kind band bytes
+pieces-all {old} {new} {i} kind band bytes at is m =
+    let all : Made old new i (pieces kind band bytes) = subst (λ (n : ℕ). Made old new i (first_pieces kind band bytes n)) is m in
+    let chain = copies_of all.numbers (pieces kind band bytes) in
+    let held_chain : in_hand new i ≡ chain = ap (λ s. in_hand s i) all.after ∙ held-chain old i chain in
+    let enough = chunk-enough (length bytes) in
+    record {
+      made = all;
+      shows = ap (λ xs. bytes_of xs) held_chain ∙ all.shown ∙ pieces-shown kind band (chunk_count (length bytes)) bytes ∙ take_all (chunk_count (length bytes) * 256) bytes enough;
+    }
 
 -- at most 256 bytes of a list
 pub shown-is : (bytes : List ℕ) (n : ℕ) → n ≡ min (length bytes) 256 → take n bytes ≡ take 256 bytes

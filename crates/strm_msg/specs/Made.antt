@@ -2,7 +2,8 @@
 use Rattle.std.specs.Prelude.{ℕ, zero, suc, ◌≡◌, ◌≤◌, ◌<◌, ◌+◌, ◌⊎◌, List, [], ◌∷◌, length, take, drop, map}
 use Rattle.strm_types.specs.declared.kinds.MsgKind.{MsgKind}
 use Rattle.strm_types.specs.Write.{chunk_count, chunks_of}
-use Rattle.strm_blocks.specs.Blocks.{Block, StoreValue, held, references, names_of, free_m, free_d, copy_of, IsFreshName}
+use Rattle.strm_msg.specs.Bytes.{bytes_of, control_bytes, data_bytes}
+use Rattle.strm_blocks.specs.Blocks.{in_hand, Block, StoreValue, held, references, names_of, free_m, free_d, copy_of, IsFreshName}
 
 -- copies of blocks, in data blocks of these numbers
 abbrev pub copies_of : List ℕ → List Block → List Block
@@ -27,7 +28,15 @@ pub record Made (old new : StoreValue) (name : ℕ) (like : List Block) : Type 0
   pub room_d : free_d new + length like ≡ free_d old
   pub fresh_name : IsFreshName old name
   pub own : (d : ℕ) → 0 < names_of d (copies_of numbers like) → references old d + names_of d (copies_of numbers like) ≡ 1
+  pub shown : bytes_of (copies_of numbers like) ≡ bytes_of like
+  pub control : control_bytes (copies_of numbers like) ≡ control_bytes like
+  pub body : data_bytes (copies_of numbers like) ≡ data_bytes like
   pub after : new ≡ held old name (copies_of numbers like)
+
+-- a new message of pieces, which show these bytes
+pub record MadeOf (old new : StoreValue) (name : ℕ) (kind : MsgKind) (band : ℕ) (bytes : List ℕ) : Type 0 where
+  pub made : Made old new name (pieces kind band bytes)
+  pub shows : bytes_of (in_hand new name) ≡ bytes
 
 -- fewer blocks of one of the two kinds are free than a call makes, and nothing changed
 pub record TooFew (old new : StoreValue) (count : ℕ) : Type 0 where

@@ -2,7 +2,7 @@
 ghost use Rattle.std.specs.Prelude.{◌≡◌, ◌≤◌, ◌*◌, length, take, drop, MatchResult};
 ghost use Rattle.strm_types.specs.Write as write;
 ghost use Rattle.strm_blocks.specs.Outcomes.{Copied, NoneFree};
-ghost use Rattle.strm_msg.specs.Made.{Made, TooFew, piece, pieces};
+ghost use Rattle.strm_msg.specs.Made.{MadeOf, TooFew, piece};
 
 use strm_blocks::{Blocks, NoBlocks};
 use strm_types::{Band, MsgKind};
@@ -53,7 +53,7 @@ pub fn from_bytes<B: Blocks>(
     band: Band,
     bytes: &[u8],
 ) -> Result<B::Mp, NoBlocks>
-    ensures { MatchResult result (λ m. Made (B.value store.old) (B.value store.new) (B.name m) (pieces kind band.0 bytes.now)) (λ _. TooFew (B.value store.old) (B.value store.new) (write.chunk_count (length bytes.now))) }
+    ensures { MatchResult result (λ m. MadeOf (B.value store.old) (B.value store.new) (B.name m) kind band.0 bytes.now) (λ _. TooFew (B.value store.old) (B.value store.new) (write.chunk_count (length bytes.now))) }
 {
     let count = chunk_count(bytes.len());
     let mut message = block_of(store, kind, band, chunk_at(bytes, 0))?;

@@ -42,3 +42,17 @@ returns-clause-left g c =
 pub returns-clause-control : goal.returns-clause-control
 returns-clause-control g c =
     take-control (g.B.Blocks.value c.args.store.now) (g.B.Blocks.name c.args.message.now) (length c.args.buffer.now) c.loop-at.at c.requires (omega arith) c.loop-at.invariant.trimmed
+
+pub returns-clause-count : goal.returns-clause-count
+returns-clause-count g c =
+    let all = ap (λ xs. length (data_bytes xs)) (take_all c.loop-at.at (in_hand (g.B.Blocks.value c.args.store.now) (g.B.Blocks.name c.args.message.now)) (omega arith)) in
+    let count = c.loop-at.invariant.count in
+    omega arith
+
+pub returns-clause-given : goal.returns-clause-given
+returns-clause-given g c =
+    c.loop-at.invariant.given ∙ ap (λ xs. filled c.args.buffer.now (data_bytes xs)) (take_all c.loop-at.at (in_hand (g.B.Blocks.value c.args.store.now) (g.B.Blocks.name c.args.message.now)) (omega arith))
+
+pub returns-clause-trimmed : goal.returns-clause-trimmed
+returns-clause-trimmed g c =
+    c.loop-at.invariant.trimmed ∙ ap (λ xs. changed (g.B.Blocks.value c.args.store.now) (g.B.Blocks.name c.args.message.now) xs) (take-all (length c.args.buffer.now) (in_hand (g.B.Blocks.value c.args.store.now) (g.B.Blocks.name c.args.message.now)) c.loop-at.at (omega arith))
