@@ -1,8 +1,8 @@
 -- How large the chains of a store's messages are.
-use Rattle.std.proofs.Common.{ℕ, zero, suc, ◌≡◌, ◌≤◌, ◌<◌, ◌+◌, ◌-◌, ◌*◌, Bool, true, false, cond, eqb, ◌==◌, List, [], ◌∷◌, length, refl, sym, ap, ◌∙◌, arith}
-use Rattle.std.specs.Prelude.{sum_by, count_by}
+use Rattle.std.proofs.Common.{ℕ, ◌≡◌, ◌≤◌, true, false, cond, ◌==◌, List, [], ◌∷◌, length, refl, arith}
+use Rattle.std.specs.Prelude.{sum_by}
 use Rattle.std.proofs.lemmas.List.Sums.{sum_by-cons}
-use Rattle.strm_blocks.specs.Blocks.{Block, Held, StoreValue, IsStore, total, used, in_hand, chain_in, times_in}
+use Rattle.strm_blocks.specs.Blocks.{Block, Held, StoreValue, IsStore, used, in_hand, chain_in}
 
 -- the chain of a name weighs no more than all in hand
 pub chain-le : (f : List Block → ℕ) → (i : ℕ) → (hand : List Held) → f [] ≡ 0 → f (chain_in i hand) ≤ sum_by (λ h. f h.chain) hand

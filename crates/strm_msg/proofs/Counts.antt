@@ -1,11 +1,10 @@
 -- How many blocks are free once one more message is in hand.
-use Rattle.std.proofs.Common.{ℕ, zero, suc, ◌≡◌, ◌≢◌, ◌≤◌, ◌<◌, ◌+◌, ◌-◌, ◌*◌, ◌⊎◌, Bool, true, false, cond, eqb, List, [], ◌∷◌, ◌++◌, length, refl, sym, ap, ◌∙◌, arith, inl, inr}
-use Rattle.std.specs.Prelude.{sum_by, count_by, ◌==◌}
+use Rattle.std.proofs.Common.{ℕ, zero, suc, ◌≡◌, ◌≢◌, ◌≤◌, ◌<◌, ◌+◌, cond, eqb, List, [], ◌∷◌, ◌++◌, length, refl, sym, ap, ◌∙◌, arith, inl, inr}
 use Rattle.std.proofs.lemmas.Bool.{cases_lt}
 use Rattle.std.proofs.lemmas.Bool.Decides.{nat_tests}
 use Rattle.std.proofs.lemmas.List.{length-append}
 use Rattle.std.proofs.lemmas.List.Sums.{sum_by-cons, sum_by-append}
-use Rattle.strm_blocks.specs.Blocks.{Block, Held, StoreValue, IsStore, total, used, references, free_m, free_d, zeros_below, names_of, in_hand, held, block_at, no_block}
+use Rattle.strm_blocks.specs.Blocks.{Block, Held, StoreValue, total, used, references, free_m, free_d, zeros_below, names_of, in_hand, held}
 use Rattle.strm_msg.proofs.Bounds.{chain-le}
 
 -- no number below a bound has 0 in one count and not in another

@@ -1,9 +1,8 @@
 -- Messages that are made block by block.
-use Rattle.std.proofs.Common.{ℕ, zero, suc, ◌≡◌, ◌≢◌, ◌≤◌, ◌<◌, ◌+◌, ◌-◌, ◌⊎◌, Bool, true, false, cond, eqb, List, [], ◌∷◌, ◌++◌, length, take, subst, refl, sym, ap, ◌∙◌, arith, inl, inr}
-use Rattle.std.specs.Prelude.{sum_by, count_by, ◌==◌}
+use Rattle.std.proofs.Common.{ℕ, ◌≡◌, ◌≢◌, ◌<◌, ◌+◌, true, false, cond, eqb, List, [], ◌∷◌, ◌++◌, length, take, subst, refl, sym, ap, ◌∙◌, arith, inl, inr}
 use Rattle.std.proofs.lemmas.Bool.{cases_eq}
 use Rattle.std.proofs.lemmas.Bool.Decides.{nat_tests}
-use Rattle.std.proofs.lemmas.List.{length-append, length-take-le, take_more}
+use Rattle.std.proofs.lemmas.List.{length-append, take_more}
 use Rattle.std.proofs.lemmas.List.Sums.{sum_by-cons, sum_by-append}
 use Rattle.strm_blocks.specs.Blocks.{Block, StoreValue, block_at, no_block, in_hand, held, dropped, changed, IsInHand, IsFreshName, times_in, references, names_of, free_m, free_d, copy_of}
 use Rattle.strm_blocks.specs.Outcomes.{Copied, NoneFree, is_control_kind, is_body_kind}
@@ -38,7 +37,9 @@ copies-body (n ∷ numbers) [] same = absurd (omega arith)
 copies-body (n ∷ numbers) (b ∷ like) same =
     let ih = copies-body numbers like (omega arith) in
     elim (is_body_kind b.kind) as (λ v. bytes_of (cond v (copy_of n b ∷ data_blocks (copies_of numbers like)) (data_blocks (copies_of numbers like))) ≡ bytes_of (cond v (b ∷ data_blocks like) (data_blocks like))) [
-      true ↦ ap (λ xs. b.bytes ++ xs) ih | false ↦ ih ]
+      | true ↦ ap (λ xs. b.bytes ++ xs) ih
+      | false ↦ ih
+    ]
 
 copies-control : (numbers : List ℕ) (like : List Block) → length numbers ≡ length like → control_bytes (copies_of numbers like) ≡ control_bytes like
 copies-control [] [] same = refl
@@ -49,8 +50,10 @@ copies-control (n ∷ numbers) (b ∷ like) same =
     let new = ap (λ (xs : List Block). bytes_of xs) (control-blocks-cons (copy_of n b) (copies_of numbers like)) in
     let old = ap (λ (xs : List Block). bytes_of xs) (control-blocks-cons b like) in
     let inner : bytes_of (cond (is_control_kind b.kind) (copy_of n b ∷ control_blocks (copies_of numbers like)) []) ≡ bytes_of (cond (is_control_kind b.kind) (b ∷ control_blocks like) []) =
-        elim (is_control_kind b.kind) as (λ v. bytes_of (cond v (copy_of n b ∷ control_blocks (copies_of numbers like)) []) ≡ bytes_of (cond v (b ∷ control_blocks like) [])) [
-          true ↦ ap (λ xs. b.bytes ++ xs) ih | false ↦ refl ] in
+    elim (is_control_kind b.kind) as (λ v. bytes_of (cond v (copy_of n b ∷ control_blocks (copies_of numbers like)) []) ≡ bytes_of (cond v (b ∷ control_blocks like) [])) [
+      | true ↦ ap (λ xs. b.bytes ++ xs) ih
+      | false ↦ refl
+    ] in
     new ∙ inner ∙ sym old
 
 -- the first block of a message

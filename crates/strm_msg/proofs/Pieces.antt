@@ -1,19 +1,18 @@
 -- Bytes in pieces of at most 256.
-use Rattle.std.proofs.Common.{ℕ, zero, suc, ◌≡◌, ◌≢◌, ◌≤◌, ◌<◌, ◌+◌, ◌-◌, ◌*◌, ◌/◌, ◌%◌, min, max, Bool, true, false, cond, eqb, List, [], ◌∷◌, ◌++◌, length, take, drop, map, subst, refl, sym, ap, ◌∙◌, arith, inl, inr, add-one}
-use Rattle.std.specs.Prelude.{sum_by, count_by, nat_lt, ◌==◌}
+use Rattle.std.proofs.Common.{ℕ, zero, suc, ◌≡◌, ◌≤◌, ◌<◌, ◌+◌, ◌-◌, ◌*◌, min, cond, List, [], ◌∷◌, ◌++◌, length, take, drop, map, subst, refl, sym, ap, ◌∙◌, arith, inl, inr, add-one}
+use Rattle.std.specs.Prelude.{nat_lt}
 use Rattle.std.proofs.lemmas.Bool.{cases_lt}
 use Rattle.std.proofs.lemmas.Bool.Decides.{nat_tests}
 use Rattle.std.proofs.Math.Seq.{take-add}
 use Rattle.std.proofs.lemmas.List.{length-map, length-drop, drop-drop, map-append, take_all}
-use Rattle.std.proofs.lemmas.List.Sums.{sum_by-cons}
 use Rattle.strm_types.specs.declared.kinds.MsgKind.{MsgKind}
 use Rattle.strm_types.specs.Write.{chunk_count, chunks_of}
-use Rattle.strm_blocks.specs.Blocks.{Block, StoreValue, in_hand, held, changed, dropped, references, names_of, new_block, copy_of, banded, extended, taken_by, IsFreshName, IsInHand}
+use Rattle.strm_blocks.specs.Blocks.{Block, StoreValue, in_hand, held, changed, dropped, references, new_block, copy_of, banded, extended, taken_by}
 use Rattle.strm_blocks.specs.Outcomes.{Allocated, Copied, NoneFree}
 use Rattle.strm_msg.specs.Bytes.{bytes_of}
 use Rattle.strm_msg.specs.Made.{Made, MadeOf, TooFew, copies_of, piece, pieces}
 use Rattle.strm_msg.proofs.Counts.{references-held}
-use Rattle.strm_msg.proofs.Hands.{held-chain, held-changed, held-is}
+use Rattle.strm_msg.proofs.Hands.{held-chain, held-changed}
 use Rattle.strm_msg.proofs.Making.{names-one, Made-one, Made-more, Made-fails}
 
 -- how many pieces there are, and which bytes the next one has

@@ -1,14 +1,13 @@
 -- Messages that are duplicated block by block.
-use Rattle.std.proofs.Common.{ℕ, zero, suc, ◌≡◌, ◌≢◌, ◌≤◌, ◌<◌, ◌+◌, ◌-◌, ◌⊎◌, Bool, true, false, cond, eqb, List, [], ◌∷◌, ◌++◌, length, take, subst, refl, sym, ap, ◌∙◌, arith, inl, inr}
-use Rattle.std.specs.Prelude.{sum_by, count_by, ◌==◌}
+use Rattle.std.proofs.Common.{ℕ, ◌≡◌, ◌≢◌, ◌≤◌, ◌<◌, ◌+◌, cond, eqb, List, [], ◌∷◌, ◌++◌, length, take, subst, refl, sym, ap, ◌∙◌, arith, inl, inr}
 use Rattle.std.proofs.lemmas.Bool.{cases_eq}
 use Rattle.std.proofs.lemmas.Bool.Decides.{nat_tests}
-use Rattle.std.proofs.lemmas.List.{length-append, length-take-le, take_more}
-use Rattle.std.proofs.lemmas.List.Sums.{sum_by-cons, sum_by-append, sum_by-take-le, sum_by_more_le, get_or-le-sum_by}
+use Rattle.std.proofs.lemmas.List.{length-take-le, take_more}
+use Rattle.std.proofs.lemmas.List.Sums.{sum_by-append, sum_by-take-le, sum_by_more_le}
 use Rattle.strm_blocks.specs.Blocks.{Block, StoreValue, block_at, no_block, in_hand, held, dropped, changed, IsStore, IsInHand, IsFreshName, times_in, references, names_of, free_m, free_d}
 use Rattle.strm_blocks.specs.Outcomes.{Duplicated, NoneShared}
 use Rattle.strm_msg.specs.Made.{Shared, Unshared}
-use Rattle.strm_msg.proofs.Counts.{references-held, free_m-held, free_d-shared, free_m-joined, free_d-joined, named-in_hand}
+use Rattle.strm_msg.proofs.Counts.{references-held, free_m-held, free_d-shared, named-in_hand}
 use Rattle.strm_msg.proofs.Hands.{gone, grown, stays, stays-chain, held-apart, fresh-apart, held-is}
 use Rattle.strm_msg.proofs.Making.{names-one}
 

@@ -1,12 +1,9 @@
 -- Data bytes that are taken block by block.
-use Rattle.std.proofs.Common.{ℕ, zero, suc, ◌≡◌, ◌≢◌, ◌≤◌, ◌<◌, ◌+◌, ◌-◌, min, Bool, true, false, cond, List, [], ◌∷◌, ◌++◌, length, take, drop, get_or, subst, refl, sym, ap, ◌∙◌, arith, inl, inr, append_assoc, append-nil}
+use Rattle.std.proofs.Common.{ℕ, suc, ◌≡◌, ◌≤◌, ◌<◌, ◌+◌, ◌-◌, min, Bool, true, false, cond, List, [], ◌∷◌, ◌++◌, length, take, drop, get_or, refl, sym, ap, ◌∙◌, arith, inl, inr, append_assoc, append-nil}
 use Rattle.std.proofs.Math.ListN.{set}
 use Rattle.std.proofs.Math.Seq.{paste, take-append_seam, drop-append-add, take-append-add, set-append_seam, get_or-append_seam}
-use Rattle.std.specs.Prelude.{filter}
-use Rattle.std.specs.List.{flat_map}
 use Rattle.std.proofs.lemmas.Bool.{cases_lt}
-use Rattle.std.proofs.lemmas.List.{length-append, length-take, length-take-le, length-drop, drop-drop, drop_all, take_all, take-append-le, take_more, drop-append-le, take-append-drop}
-use Rattle.std.proofs.lemmas.List.Concat.{flat_map-append}
+use Rattle.std.proofs.lemmas.List.{length-append, length-take, length-take-le, length-drop, drop-drop, drop_all, take_all, take-append-le, take_more, drop-append-le}
 use Rattle.std.proofs.lemmas.List.Edits.{paste_none}
 use Rattle.strm_types.specs.declared.kinds.MsgKind.{MsgKind}
 use Rattle.strm_types.specs.declared.kinds.MsgKind.TheVariants as kinds
@@ -15,7 +12,7 @@ use Rattle.strm_blocks.specs.Outcomes.{is_control_kind, is_body_kind}
 use Rattle.strm_msg.specs.Bytes.{bytes_of, control_blocks, control_bytes, data_blocks, data_bytes}
 use Rattle.strm_msg.specs.Taken.{without_data, filled}
 use Rattle.strm_msg.proofs.Hands.{changed-chain, changed-twice, changed-in_hand, changed-same}
-use Rattle.strm_msg.proofs.Parts.{chain-at, control-blocks-cons, data-size-more}
+use Rattle.strm_msg.proofs.Parts.{chain-at, control-blocks-cons}
 
 -- a buffer with more bytes
 pub filled-more : (old xs ys : List ℕ) (at n : ℕ) → at ≡ min (length old) (length xs) → n ≡ min (length old - at) (length ys) → paste (filled old xs) at ys n ≡ filled old (xs ++ ys)

@@ -1,5 +1,5 @@
 -- What the calls that make messages lead to (dupmsg(9F), copymsg(9F)).
-use Rattle.std.specs.Prelude.{ℕ, zero, suc, ◌≡◌, ◌≤◌, ◌<◌, ◌+◌, ◌⊎◌, List, [], ◌∷◌, length, take, drop, map}
+use Rattle.std.specs.Prelude.{ℕ, ◌≡◌, ◌≤◌, ◌<◌, ◌+◌, ◌⊎◌, List, [], ◌∷◌, length, map}
 use Rattle.strm_types.specs.declared.kinds.MsgKind.{MsgKind}
 use Rattle.strm_types.specs.Write.{chunk_count, chunks_of}
 use Rattle.strm_msg.specs.Bytes.{bytes_of, control_bytes, data_bytes}

@@ -1,5 +1,5 @@
 -- What is left of a message whose data bytes were taken or trimmed (adjmsg(9F)).
-use Rattle.std.specs.Prelude.{ℕ, ◌+◌, ◌-◌, if◌then◌else◌, List, [], ◌∷◌, ◌++◌, length, take, drop}
+use Rattle.std.specs.Prelude.{ℕ, ◌-◌, if◌then◌else◌, List, [], ◌∷◌, ◌++◌, length, take, drop}
 use Rattle.strm_blocks.specs.Blocks.{Block, trimmed_head}
 use Rattle.strm_blocks.specs.Outcomes.{is_body_kind}
 

@@ -1,4 +1,3 @@
-use Rattle.std.proofs.Common.{length, arith}
 use Rattle.strm_msg.proofs.Pieces.{block-filled}
 use Rattle.strm_msg.proofs.bytes.block_of.Goals as goal
 

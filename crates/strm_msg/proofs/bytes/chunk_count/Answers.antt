@@ -1,5 +1,4 @@
 use Rattle.std.proofs.Common.{arith}
-use Rattle.std.proofs.lemmas.Bool.Decides.{nat_tests}
 use Rattle.strm_types.specs.Write.{chunk_count}
 use Rattle.strm_msg.proofs.bytes.chunk_count.Goals as goal
 use Rattle.strm_msg.proofs.bytes.chunk_count.Goals.{then-len-eq0, else-len-eq0}

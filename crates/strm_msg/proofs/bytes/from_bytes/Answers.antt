@@ -1,8 +1,8 @@
-use Rattle.std.proofs.Common.{◌≡◌, ◌<◌, ◌*◌, ◌+◌, ◌∙◌, ap, sym, arith, length, take, drop, min}
+use Rattle.std.proofs.Common.{arith, length}
 use Rattle.std.proofs.lemmas.Result.{err_from_is_err_and}
 use Rattle.strm_types.specs.Write.{chunk_count}
 use Rattle.strm_msg.proofs.Making.{fails-at-once}
-use Rattle.strm_msg.proofs.Pieces.{chunk-within, chunk-some, piece-next, piece-first, pieces-fail, pieces-all, shown-is}
+use Rattle.strm_msg.proofs.Pieces.{chunk-within, chunk-some, piece-next, piece-first, pieces-fail, pieces-all}
 use Rattle.strm_msg.proofs.bytes.from_bytes.Goals as goal
 
 pub returns-in_err-message : goal.returns-in_err-message

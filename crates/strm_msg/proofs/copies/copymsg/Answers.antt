@@ -1,5 +1,5 @@
-use Rattle.std.proofs.Common.{◌≡◌, ◌<◌, ◌∙◌, ap, sym, arith, length}
-use Rattle.strm_blocks.specs.Blocks.{in_hand, IsInHand}
+use Rattle.std.proofs.Common.{ap, arith, length}
+use Rattle.strm_blocks.specs.Blocks.{in_hand}
 use Rattle.strm_msg.proofs.Making.{copied-first, copied-next, made-keeps, made-keeps-chain}
 use Rattle.strm_msg.proofs.copies.copymsg.Goals as goal
 

@@ -1,6 +1,5 @@
-use Rattle.std.proofs.Common.{◌≡◌, ◌<◌, ◌∙◌, ap, sym, arith, length}
-use Rattle.strm_blocks.specs.Blocks.{in_hand, IsInHand}
-use Rattle.strm_msg.proofs.Sharing.{shared-first, shared-none, shared-fails, shared-next, shared-keeps, shared-keeps-chain}
+use Rattle.std.proofs.Common.{ap, arith, length}
+use Rattle.strm_msg.proofs.Sharing.{shared-first, shared-fails, shared-next, shared-keeps, shared-keeps-chain}
 use Rattle.strm_msg.proofs.copies.dupmsg.Goals as goal
 
 pub loop-at-init : goal.loop-at-init

@@ -1,6 +1,5 @@
-use Rattle.std.proofs.Common.{◌≡◌, ◌<◌, ◌∙◌, ◌+◌, ap, arith, length, get_or}
+use Rattle.std.proofs.Common.{◌∙◌, ◌+◌, ap, arith, get_or}
 use Rattle.std.proofs.Math.ListN.{set}
-use Rattle.std.proofs.Math.Seq.{paste}
 use Rattle.std.proofs.lemmas.List.Edits.{paste_none, paste_more}
 use Rattle.strm_msg.proofs.data.copy_into.Goals as goal
 

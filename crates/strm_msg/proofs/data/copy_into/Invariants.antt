@@ -1,4 +1,4 @@
-use Rattle.std.proofs.Common.{◌≡◌, length}
+use Rattle.std.proofs.Common.{◌≡◌}
 use Rattle.std.proofs.Math.Seq.{paste}
 use Rattle.strm_msg.proofs.data.copy_into.Given as goal
 

@@ -1,10 +1,9 @@
-use Rattle.std.proofs.Common.{◌≡◌, ◌<◌, ◌≤◌, ◌∙◌, ◌+◌, ap, sym, arith, min, length, take, drop}
+use Rattle.std.proofs.Common.{◌∙◌, ap, sym, arith, length}
 use Rattle.std.proofs.lemmas.List.{take_all}
-use Rattle.strm_blocks.specs.Blocks.{in_hand, block_at, IsInHand, changed}
+use Rattle.strm_blocks.specs.Blocks.{in_hand, changed}
 use Rattle.strm_blocks.specs.Outcomes.{is_body_kind}
-use Rattle.strm_msg.specs.Bytes.{data_bytes, control_bytes}
-use Rattle.strm_msg.specs.Taken.{filled, without_data}
-use Rattle.strm_msg.proofs.Hands.{changed-same, changed-chain}
+use Rattle.strm_msg.specs.Bytes.{data_bytes}
+use Rattle.strm_msg.specs.Taken.{filled}
 use Rattle.strm_msg.proofs.Taking.{going-first, going-data, going-other, take-length, take-in_hand, take-all, take-left, take-control}
 use Rattle.strm_msg.proofs.data.take_data.Goals as goal
 use Rattle.strm_msg.proofs.data.take_data.Goals.{then-is_body_kind, else-is_body_kind}

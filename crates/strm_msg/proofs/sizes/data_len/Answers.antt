@@ -1,4 +1,4 @@
-use Rattle.std.proofs.Common.{◌≡◌, ◌∙◌, ◌+◌, ◌≤◌, ap, sym, arith, length, drop, unwrap_or, None}
+use Rattle.std.proofs.Common.{◌∙◌, ◌≤◌, ap, sym, arith, length}
 use Rattle.std.proofs.lemmas.List.{drop_all}
 use Rattle.strm_blocks.specs.Blocks.{in_hand}
 use Rattle.strm_msg.proofs.Bounds.{blocks-few}

@@ -1,5 +1,5 @@
-use Rattle.std.proofs.Common.{◌≡◌, ◌≤◌, ◌+◌, ◌*◌, length, drop, unwrap_or, None}
-use Rattle.strm_blocks.specs.Blocks.{IsStore, in_hand}
+use Rattle.std.proofs.Common.{◌≡◌, ◌≤◌, ◌*◌, drop, unwrap_or, None}
+use Rattle.strm_blocks.specs.Blocks.{in_hand}
 use Rattle.strm_msg.proofs.Parts.{data_run}
 use Rattle.strm_msg.proofs.sizes.data_len.Given as goal
 

@@ -1,5 +1,5 @@
 use Rattle.std.proofs.Common.{◌≡◌, ◌≤◌, ◌+◌, ◌*◌, length, drop}
-use Rattle.strm_blocks.specs.Blocks.{IsStore, in_hand}
+use Rattle.strm_blocks.specs.Blocks.{in_hand}
 use Rattle.strm_msg.specs.Bytes.{data_bytes}
 use Rattle.strm_msg.proofs.sizes.msgdsize.Given as goal
 
