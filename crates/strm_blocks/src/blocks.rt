@@ -29,7 +29,9 @@ pub trait Blocks {
     /// Takes a message block and a data block with nothing written, as a message of that kind and of band 0:
     /// `allocb(9F)`. `NoBlocks` where none of either kind is free.
     fn alloc(&mut self, kind: MsgKind) -> Result<Self::Mp, NoBlocks>
-        ensures { MatchResult result (λ m. Allocated (value self.old) (value self.new) (name m) kind) (λ _. NoneFree (value self.old) (value self.new)) };
+        ensures { MatchResult result
+            (λ m. Allocated (value self.old) (value self.new) (name m) kind)
+            (λ _. NoneFree (value self.old) (value self.new)) };
 
     /// Takes a message block that names the same bytes of the same data block as block `at` of the message does:
     /// `dupb(9F)`. `NoBlocks` where no message block is free, or the data block has 255 references.
@@ -37,7 +39,9 @@ pub trait Blocks {
         requires in_hand { IsInHand (value self.old) (name message.now) }
         requires within { at < length (in_hand (value self.old) (name message.now)) }
         ensures { let b = block_at at (in_hand (value self.old) (name message.now)) in
-            MatchResult result (λ m. Duplicated (value self.old) (value self.new) (name m) b) (λ _. NoneShared (value self.old) (value self.new) b.number) };
+            MatchResult result
+            (λ m. Duplicated (value self.old) (value self.new) (name m) b)
+            (λ _. NoneShared (value self.old) (value self.new) b.number) };
 
     /// Takes a message block and a data block, and copies into it the bytes that block `at` of the message shows:
     /// `copyb(9F)`. `NoBlocks` where none of either kind is free.
@@ -45,7 +49,9 @@ pub trait Blocks {
         requires in_hand { IsInHand (value self.old) (name message.now) }
         requires within { at < length (in_hand (value self.old) (name message.now)) }
         ensures { let b = block_at at (in_hand (value self.old) (name message.now)) in
-            MatchResult result (λ m. Copied (value self.old) (value self.new) (name m) b) (λ _. NoneFree (value self.old) (value self.new)) };
+            MatchResult result
+            (λ m. Copied (value self.old) (value self.new) (name m) b)
+            (λ _. NoneFree (value self.old) (value self.new)) };
 
     /// Gives back all message blocks of a message, and each data block that no other message block names: `freemsg(9F)`.
     fn free(&mut self, message: Self::Mp)
@@ -59,20 +65,26 @@ pub trait Blocks {
         requires apart { name first ≢ name second }
         ensures kept_name { name result ≡ name first }
         ensures linked { let s = value self.old in
-            value self.new ≡ changed (dropped s (name second)) (name first) (in_hand s (name first) ++ in_hand s (name second)) };
+            value self.new ≡ changed (dropped s (name second)) (name first)
+            (in_hand s (name first) ++ in_hand s (name second)) };
 
     /// Parts a message into its first block and the rest, if there is any: `unlinkb(9F)`.
     fn unlink(&mut self, message: Self::Mp) -> (Self::Mp, Option<Self::Mp>)
         requires { IsInHand (value self.old) (name message) }
-        ensures { MatchOption result.1 (UnlinkedLast (value self.old) (value self.new) (name message) (name result.0)) (λ rest. Unlinked (value self.old) (value self.new) (name message) (name result.0) (name rest)) };
+        ensures { let old = value self.old in let new = value self.new in
+            MatchOption result.1
+            (UnlinkedLast old new (name message) (name result.0))
+            (λ rest. Unlinked old new (name message) (name result.0) (name rest)) };
 
     /// Writes bytes behind the write place of the message's last block, as many as its data block has room for, and
     /// none where that data block is shared. Returns how many.
     fn append(&mut self, message: &Self::Mp, bytes: &[u8]) -> usize
         requires { IsInHand (value self.old) (name message.now) }
-        ensures count { result ≡ taken_by (value self.old) (in_hand (value self.old) (name message.now)) (length bytes.now) }
+        ensures count { let s = value self.old in
+            result ≡ taken_by s (in_hand s (name message.now)) (length bytes.now) }
         ensures written { let s = value self.old in
-            value self.new ≡ changed s (name message.now) (extended (take result bytes.now) (in_hand s (name message.now))) };
+            value self.new ≡ changed s (name message.now)
+            (extended (take result bytes.now) (in_hand s (name message.now))) };
 
     /// The bytes from the read place to the write place of block `at` of a message, at most 256.
     fn bytes_at(&self, message: &Self::Mp, at: usize) -> &[u8]
@@ -87,7 +99,8 @@ pub trait Blocks {
         requires within { at < length (in_hand (value self.old) (name message.now)) }
         requires enough { n ≤ length (block_at at (in_hand (value self.old) (name message.now))).bytes }
         ensures { let chain = in_hand (value self.old) (name message.now) in
-            value self.new ≡ changed (value self.old) (name message.now) (with_block at (trimmed_head n (block_at at chain)) chain) };
+            value self.new ≡ changed (value self.old) (name message.now)
+            (with_block at (trimmed_head n (block_at at chain)) chain) };
 
     /// Moves the write place of block `at` of a message back by `n` bytes: `adjmsg(9F)` within one block.
     fn trim_tail(&mut self, message: &Self::Mp, at: usize, n: usize)
@@ -95,7 +108,8 @@ pub trait Blocks {
         requires within { at < length (in_hand (value self.old) (name message.now)) }
         requires enough { n ≤ length (block_at at (in_hand (value self.old) (name message.now))).bytes }
         ensures { let chain = in_hand (value self.old) (name message.now) in
-            value self.new ≡ changed (value self.old) (name message.now) (with_block at (trimmed_tail n (block_at at chain)) chain) };
+            value self.new ≡ changed (value self.old) (name message.now)
+            (with_block at (trimmed_tail n (block_at at chain)) chain) };
 
     /// How many blocks a message has, at least one.
     fn blocks(&self, message: &Self::Mp) -> usize
@@ -124,36 +138,44 @@ pub trait Blocks {
     /// Gives a message another band.
     fn set_band(&mut self, message: &Self::Mp, band: Band)
         requires { IsInHand (value self.old) (name message.now) }
-        ensures { value self.new ≡ changed (value self.old) (name message.now) (banded band.0 (in_hand (value self.old) (name message.now))) };
+        ensures { let s = value self.old in
+            value self.new ≡ changed s (name message.now) (banded band.0 (in_hand s (name message.now))) };
 
     /// Puts a message on a list, behind all of at least its rank: `putq(9F)`.
     fn insert_back(&mut self, list: usize, message: Self::Mp)
         requires list { list < 8 }
         requires in_hand { IsInHand (value self.old) (name message) }
         ensures { let s = value self.old in
-            value self.new ≡ placed (dropped s (name message)) list (put (in_hand s (name message)) (list_at s list)) };
+            value self.new ≡ placed (dropped s (name message)) list
+            (put (in_hand s (name message)) (list_at s list)) };
 
     /// Puts a message on a list, in front of all of at most its rank: `putbq(9F)`.
     fn insert_front(&mut self, list: usize, message: Self::Mp)
         requires list { list < 8 }
         requires in_hand { IsInHand (value self.old) (name message) }
         ensures { let s = value self.old in
-            value self.new ≡ placed (dropped s (name message)) list (put_back (in_hand s (name message)) (list_at s list)) };
+            value self.new ≡ placed (dropped s (name message)) list
+            (put_back (in_hand s (name message)) (list_at s list)) };
 
     /// Takes the first message of a list, if there is one: `getq(9F)`.
     fn pop(&mut self, list: usize) -> Option<Self::Mp>
         requires { list < 8 }
-        ensures { MatchOption result (Unpopped (value self.old) (value self.new) list) (λ m. Popped (value self.old) (value self.new) list (name m)) };
+        ensures { MatchOption result
+            (Unpopped (value self.old) (value self.new) list)
+            (λ m. Popped (value self.old) (value self.new) list (name m)) };
 
     /// What can be seen of the first message of a list, if there is one.
     fn peek(&self, list: usize) -> Option<Peek>
         requires { list < 8 }
-        ensures { MatchOption result (list_at (value self.now) list ≡ []) (λ peek. PeekedFirst (value self.now) list peek) };
+        ensures { MatchOption result
+            (list_at (value self.now) list ≡ [])
+            (λ peek. PeekedFirst (value self.now) list peek) };
 
     /// Frees the messages of a list that a flush takes: `flushq(9F)`, `flushband(9F)`.
     fn drop_where(&mut self, list: usize, what: FlushWhat)
         requires { list < 8 }
-        ensures { value self.new ≡ placed (value self.old) list (flushed what (list_at (value self.old) list)) };
+        ensures { let s = value self.old in
+            value self.new ≡ placed s list (flushed what (list_at s list)) };
 
     /// How many message blocks and how many data blocks are free.
     fn free_blocks(&self) -> (usize, usize)

@@ -11,7 +11,8 @@ use std::collections::LinkedList;
 /// Takes away the references that blocks have to their data blocks.
 fn release_all(blocks: &LinkedList<MessageBlock>, pool: &mut DataBlocks)
     requires { (d : ℕ) → count_by (λ b. b.number == d) blocks.now ≤ slice_index_or pool.old.references d 0 }
-    ensures released { (d : ℕ) → slice_index_or pool.new.references d 0 + count_by (λ b. b.number == d) blocks.now ≡ slice_index_or pool.old.references d 0 }
+    ensures released { (d : ℕ) → slice_index_or pool.new.references d 0 + count_by (λ b. b.number == d) blocks.now
+        ≡ slice_index_or pool.old.references d 0 }
     ensures bytes { pool.new.bytes ≡ pool.old.bytes }
     ensures count { length pool.new.references ≡ length pool.old.references }
 {
@@ -36,7 +37,8 @@ pub(crate) fn give_back(
     ensures messages { length idle.new ≡ length idle.old + length taken }
     ensures names { (i : ℕ) → sum_by (named i) idle.new ≡ sum_by (named i) idle.old + sum_by (named i) taken }
     ensures blocks { length spare.new ≡ length spare.old + sum_by block_count taken }
-    ensures released { (d : ℕ) → slice_index_or pool.new.references d 0 + sum_by (naming d) taken ≡ slice_index_or pool.old.references d 0 }
+    ensures released { (d : ℕ) → slice_index_or pool.new.references d 0 + sum_by (naming d) taken
+        ≡ slice_index_or pool.old.references d 0 }
     ensures bytes { pool.new.bytes ≡ pool.old.bytes }
     ensures count { length pool.new.references ≡ length pool.old.references }
 {

@@ -1,0 +1,28 @@
+use Rattle.std.proofs.Common.{◌≡◌, ◌∙◌, ◌≤◌, ◌<◌, ap, sym, arith, false, length}
+use Rattle.std.proofs.lemmas.List.{drop_all}
+use Rattle.strm_blocks.specs.Blocks.{in_hand, block_at}
+use Rattle.strm_blocks.specs.Outcomes.{is_control_kind}
+use Rattle.strm_msg.proofs.Bounds.{blocks-few}
+use Rattle.strm_msg.proofs.Parts.{control_run, control-run-is, control-run-stops}
+use Rattle.strm_msg.proofs.sizes.control_len.Goals as goal
+
+pub returns-then-not-is_control_kind : goal.returns-then-not-is_control_kind
+returns-then-not-is_control_kind g c =
+    let chain = in_hand (g.B.Blocks.value c.args.store.now) (g.B.Blocks.name c.args.message.now) in
+    let within : c.loop-at.at < length chain = omega arith in
+    let kind : is_control_kind (block_at c.loop-at.at chain).kind ≡ false = ap is_control_kind (sym c.kind.ensures) ∙ sym c.is_control_kind.ensures ∙ c.if-not-is_control_kind.true in
+    let stop = control-run-stops c.loop-at.found chain c.loop-at.at within kind in
+    sym stop ∙ c.loop-at.invariant.run ∙ control-run-is chain
+
+pub overflow_add-found : goal.overflow_add-found
+overflow_add-found g c =
+    let few = blocks-few (g.B.Blocks.value c.args.store.now) (g.B.Blocks.name c.args.message.now) c.audit.ensures in
+    let small = c.loop-at.invariant.small in
+    omega (arith, c.block_len.ensures.few, c.unwrap_or-before.ensures)
+
+pub returns : goal.returns
+returns g c =
+    let chain = in_hand (g.B.Blocks.value c.args.store.now) (g.B.Blocks.name c.args.message.now) in
+    let le : length chain ≤ c.loop-at.at = omega arith in
+    let e = ap (λ rest. control_run c.loop-at.found rest) (drop_all c.loop-at.at chain le) in
+    sym e ∙ c.loop-at.invariant.run ∙ control-run-is chain

@@ -1,0 +1,70 @@
+//! Messages made of bytes.
+ghost use Rattle.std.specs.Prelude.{◌≡◌, ◌≤◌, ◌*◌, length, take, drop, MatchResult};
+ghost use Rattle.strm_types.specs.Write as write;
+ghost use Rattle.strm_blocks.specs.Outcomes.{Copied, NoneFree};
+ghost use Rattle.strm_msg.specs.Made.{MadeOf, TooFew, piece};
+
+use strm_blocks::{Blocks, NoBlocks};
+use strm_types::{Band, MsgKind};
+
+/// How many blocks hold so many bytes: one for each begun 256, at least one.
+fn chunk_count(len: usize) -> usize
+    ensures { result ≡ write.chunk_count len }
+{
+    let whole = len / 256;
+    let count = if len % 256 == 0 { whole } else { whole + 1 };
+    count.max(1)
+}
+
+/// The chunk of that number, from 0: 256 bytes, or what is left.
+fn chunk_at(bytes: &[u8], at: usize) -> &[u8]
+    requires { at * 256 ≤ length bytes.now }
+    ensures chunk { result.now ≡ take 256 (drop (at * 256) bytes.now) }
+    ensures short { length result.now ≤ 256 }
+{
+    let from = at * 256;
+    let rest = &bytes[from..];
+    let len = rest.len().min(256);
+    &rest[..len]
+}
+
+/// Makes a message of one block that shows these bytes.
+fn block_of<B: Blocks>(
+    store: &mut B,
+    kind: MsgKind,
+    band: Band,
+    bytes: &[u8],
+) -> Result<B::Mp, NoBlocks>
+    requires { length bytes.now ≤ 256 }
+    ensures { MatchResult result (λ m. Copied (B.value store.old) (B.value store.new) (B.name m) (piece kind band.0 bytes.now)) (λ _. NoneFree (B.value store.old) (B.value store.new)) }
+{
+    let block = store.alloc(kind)?;
+    store.set_band(&block, band);
+    store.append(&block, bytes);
+    Ok(block)
+}
+
+/// Makes a message of a kind and a band that shows these bytes, as `allocb(9F)`, a copy and `linkb(9F)` for each 256 of
+/// them. It takes one block of each kind for each begun 256 bytes, and at least one; `NoBlocks` where fewer are free,
+/// and then nothing changes.
+pub fn from_bytes<B: Blocks>(
+    store: &mut B,
+    kind: MsgKind,
+    band: Band,
+    bytes: &[u8],
+) -> Result<B::Mp, NoBlocks>
+    ensures { MatchResult result (λ m. MadeOf (B.value store.old) (B.value store.new) (B.name m) kind band.0 bytes.now) (λ _. TooFew (B.value store.old) (B.value store.new) (write.chunk_count (length bytes.now))) }
+{
+    let count = chunk_count(bytes.len());
+    let mut message = block_of(store, kind, band, chunk_at(bytes, 0))?;
+    for at in 1..count {
+        match block_of(store, kind, band, chunk_at(bytes, at)) {
+            Ok(next) => message = store.link(message, next),
+            Err(NoBlocks) => {
+                store.free(message);
+                return Err(NoBlocks);
+            }
+        }
+    }
+    Ok(message)
+}

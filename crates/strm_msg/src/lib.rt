@@ -1,0 +1,15 @@
+//! Calls on messages, over any store of message blocks: copies, sizes, trimming, joining, and the bytes that go in and
+//! out. A message has a control part, the bytes of the M_PROTO and M_PCPROTO blocks at its front, and a data part, the
+//! bytes of its M_DATA blocks.
+#![tactic(auto)]
+
+mod bytes;
+mod copies;
+mod data;
+mod kinds;
+mod sizes;
+
+pub use bytes::from_bytes;
+pub use copies::{copymsg, dupmsg};
+pub use data::take_data;
+pub use sizes::{control_len, data_len, msgdsize};

@@ -1,0 +1,56 @@
+//! How many bytes the parts of a message have.
+ghost use Rattle.std.specs.Prelude.{◌≡◌, length};
+ghost use Rattle.strm_blocks.specs.Blocks.{IsInHand, in_hand};
+ghost use Rattle.strm_msg.specs.Bytes.{control_blocks, data_blocks, data_bytes, length_of_part};
+
+use crate::kinds::{is_body_kind, is_control_kind};
+use strm_blocks::Blocks;
+
+/// How many bytes the M_DATA blocks of a message have, whatever stands between them: `msgdsize(9F)`.
+pub fn msgdsize<B: Blocks>(store: &B, message: &B::Mp) -> usize
+    requires { IsInHand (B.value store.now) (B.name message.now) }
+    ensures { result ≡ length (data_bytes (in_hand (B.value store.now) (B.name message.now))) }
+{
+    store.audit();
+    let mut size = 0;
+    for at in 0..store.blocks(message) {
+        let kind = store.kind(message, at);
+        if is_body_kind(kind) {
+            size += store.block_len(message, at);
+        }
+    }
+    size
+}
+
+/// How many bytes the control part of a message has, nothing where no M_PROTO or M_PCPROTO block stands at its front.
+pub fn control_len<B: Blocks>(store: &B, message: &B::Mp) -> Option<usize>
+    requires { IsInHand (B.value store.now) (B.name message.now) }
+    ensures { result ≡ length_of_part (control_blocks (in_hand (B.value store.now) (B.name message.now))) }
+{
+    store.audit();
+    let mut found = None;
+    for at in 0..store.blocks(message) {
+        if !is_control_kind(store.kind(message, at)) {
+            return found;
+        }
+        let before = found.unwrap_or(0);
+        found = Some(before + store.block_len(message, at));
+    }
+    found
+}
+
+/// How many bytes the data part of a message has, nothing where it has no M_DATA block.
+pub fn data_len<B: Blocks>(store: &B, message: &B::Mp) -> Option<usize>
+    requires { IsInHand (B.value store.now) (B.name message.now) }
+    ensures { result ≡ length_of_part (data_blocks (in_hand (B.value store.now) (B.name message.now))) }
+{
+    store.audit();
+    let mut found = None;
+    for at in 0..store.blocks(message) {
+        if is_body_kind(store.kind(message, at)) {
+            let before = found.unwrap_or(0);
+            found = Some(before + store.block_len(message, at));
+        }
+    }
+    found
+}
