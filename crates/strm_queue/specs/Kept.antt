@@ -48,18 +48,19 @@ pub record IsCounted (band : ℕ) (f : Flow) (q : List (List Block)) : Type 0 wh
   pub other_sum : f.other_bytes ≡ sum_by (other_share band) q
   pub marked : IsMarked f
 
+-- each message counts in a band that a queue has
+abbrev pub AllBands : List (List Block) → Type 0
+AllBands q = AllByRecursion (λ chain. band_of chain < 8) q
+
 -- The numbers that are kept for each of a queue's bands are those of the messages on a list.
 pub record AreCounted (flows : List Flow) (q : List (List Block)) : Type 0 where
   pub eight : length flows ≡ 8
+  pub bands : AllBands q
   pub each : (band : ℕ) → band < 8 → IsCounted band (flow_at band flows) q
 
 -- whether a put enables a queue that has a service procedure
 abbrev pub enables : List Block → Bool → Bool → Bool
 enables chain want_read no_enable = is_high_priority (block_at 0 chain).kind || (not no_enable && (nat_lt 0 (band_of chain) || want_read))
-
--- each message counts in a band that a queue has
-abbrev pub AllBands : List (List Block) → Type 0
-AllBands q = AllByRecursion (λ chain. band_of chain < 8) q
 
 -- the counts are small enough to add: a store has 65536 blocks of 256 bytes at most
 abbrev pub FewBytes : List Flow → Type 0
