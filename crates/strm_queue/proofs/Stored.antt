@@ -1,13 +1,13 @@
 -- A queue beside its list in a store.
-use Rattle.std.proofs.Common.{ℕ, Bool, true, false, ◌≡◌, ◌≤◌, ◌<◌, ◌+◌, ◌^◌, List, [], ◌∷◌, length, get_or, refl, sym, ap, subst, ◌∙◌, arith, get_or-set_same}
-use Rattle.std.specs.Prelude.{sum_by, slice_index_or, slice_set, if◌then◌else◌, ◌==◌}
+use Rattle.std.proofs.Common.{ℕ, Bool, true, false, ◌≡◌, ◌≤◌, ◌<◌, ◌+◌, List, [], ◌∷◌, length, refl, ap, subst, ◌∙◌, arith, get_or-set_same}
+use Rattle.std.specs.Prelude.{sum_by, slice_set, if◌then◌else◌, ◌==◌}
 use Rattle.std.proofs.lemmas.Bool.Decides.{nat_tests}
 use Rattle.std.proofs.lemmas.List.Sums.{sum_by-cons}
 use Rattle.strm_types.proofs.Ranked.{sum-put, sum-put_back}
 use Rattle.strm_blocks.specs.Blocks.{Block, StoreValue, IsStore, in_hand, list_at, held, placed, dropped, put, put_back, rank_of}
 use Rattle.strm_queue.specs.declared.flow.Flow.{Flow}
 use Rattle.strm_queue.specs.Flows.{count_in, added_to, removed_from}
-use Rattle.strm_queue.specs.Kept.{bytes_of, band_of, is_data, count_of, flow_at, data_share, other_share, AreCounted, AllBands}
+use Rattle.strm_queue.specs.Kept.{bytes_of, band_of, is_data, flow_at, data_share, other_share, AreCounted, AllBands}
 use Rattle.strm_queue.proofs.Bounds.{few-bytes}
 use Rattle.strm_queue.proofs.Counted.{counted-added, counted-removed, count-kept, count-few, data-here, other-here, all-put, all-put_back}
 

@@ -1,9 +1,9 @@
 -- How a queue is kept beside its list in a store (queue(9S), STREAMS Programming Guide, "Message Queues").
-use Rattle.std.specs.Prelude.{◌≡◌, ℕ, zero, suc, Bool, true, false, not, ◌&&◌, ◌||◌, ◌==◌, nat_le, nat_lt, ◌+◌, ◌≤◌, ◌<◌, if◌then◌else◌, List, [], ◌∷◌, length, sum_by, slice_index_or, filter}
+use Rattle.std.specs.Prelude.{◌≡◌, ℕ, Bool, false, not, ◌&&◌, ◌||◌, ◌==◌, nat_le, nat_lt, ◌≤◌, ◌<◌, if◌then◌else◌, List, length, sum_by, slice_index_or}
 use Rattle.std.specs.List.{AllByRecursion}
 use Rattle.strm_types.specs.Message.{is_high_priority}
 use Rattle.strm_types.specs.Flush.{is_data_kind, counted_band}
-use Rattle.strm_blocks.specs.Blocks.{Block, StoreValue, list_at, block_at}
+use Rattle.strm_blocks.specs.Blocks.{Block, block_at}
 use Rattle.strm_queue.specs.declared.flow.Flow.{Flow}
 use Rattle.strm_queue.specs.Flows.{IsMarked, count_in}
 

@@ -1,8 +1,8 @@
 -- The message that was taken is part of its band's count.
-use Rattle.std.proofs.Common.{◌≡◌, ◌<◌, ◌+◌, ap, sym, subst, ◌∙◌, arith}
+use Rattle.std.proofs.Common.{ap, subst, ◌∙◌, arith}
 use Rattle.strm_blocks.specs.Blocks.{in_hand, list_at, placed}
-use Rattle.strm_queue.specs.Kept.{bytes_of, band_of, is_data, flow_at, AreCounted, AllBands}
-use Rattle.strm_queue.proofs.Stored.{count-fits, held-chain, take-counted, list-placed}
+use Rattle.strm_queue.specs.Kept.{AllBands}
+use Rattle.strm_queue.proofs.Stored.{held-chain, take-counted, list-placed}
 use Rattle.strm_queue.proofs.queue.Queue.getq.Goals as goal
 
 pub returns-clause-counted : goal.returns-clause-counted
