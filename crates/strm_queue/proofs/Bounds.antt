@@ -1,8 +1,8 @@
 -- The bytes of a store's messages are few enough to add.
-use Rattle.std.proofs.Common.{ℕ, zero, suc, ◌≡◌, ◌≤◌, ◌<◌, ◌+◌, ◌*◌, Bool, true, false, cond, eqb, List, [], ◌∷◌, length, take, get_or, refl, sym, ap, ◌∙◌, arith}
-use Rattle.std.specs.Prelude.{sum_by, slice_index_or, if◌then◌else◌, ◌==◌, ◌&&◌}
+use Rattle.std.proofs.Common.{ℕ, zero, suc, ◌≡◌, ◌≤◌, ◌<◌, ◌+◌, Bool, true, false, List, [], ◌∷◌, length, take, refl, arith}
+use Rattle.std.specs.Prelude.{sum_by, slice_index_or, if◌then◌else◌, ◌==◌}
 use Rattle.std.proofs.lemmas.List.Sums.{sum_by-cons, sum_by_more, sum_by-take-le}
-use Rattle.strm_blocks.specs.Blocks.{Block, Held, StoreValue, IsStore, total, extent, chain_in, in_hand, list_at, used, block_at, no_block}
+use Rattle.strm_blocks.specs.Blocks.{Block, Held, StoreValue, IsStore, extent, chain_in, in_hand, list_at, block_at, no_block}
 use Rattle.strm_queue.specs.Kept.{bytes_of}
 
 -- a sum of smaller numbers is smaller

@@ -1,14 +1,16 @@
 -- The kept numbers of a queue after each change of its list.
-use Rattle.std.proofs.Common.{ℕ, zero, suc, ◌≡◌, ◌≢◌, ◌≤◌, ◌<◌, ◌+◌, ◌-◌, Bool, true, false, cond, eqb, List, [], ◌∷◌, length, take, get_or, set, refl, sym, ap, subst, ◌∙◌, arith, get_or-set_same, get_or-set_other, length-set}
-use Rattle.std.specs.Prelude.{sum_by, slice_index_or, slice_set, if◌then◌else◌, ◌==◌, ◌&&◌, not, nat_le, filter}
+use Rattle.std.proofs.Common.{ℕ, ◌≡◌, ◌≢◌, ◌≤◌, ◌<◌, ◌+◌, Bool, true, false, cond, List, [], ◌∷◌, length, refl, sym, ap, subst, ◌∙◌, arith, get_or-set_same, get_or-set_other, length-set}
+use Rattle.std.specs.Prelude.{sum_by, slice_set, if◌then◌else◌, ◌==◌, ◌&&◌, not, nat_le, filter, nat_lt}
 use Rattle.std.proofs.lemmas.Bool.Decides.{nat_tests}
 use Rattle.std.proofs.lemmas.List.{set_past}
 use Rattle.std.proofs.Math.Decide.{dec_lt}
 use Rattle.std.proofs.lemmas.List.Sums.{sum_by-cons}
-use Rattle.strm_blocks.specs.Blocks.{Block, StoreValue}
+use Rattle.std.specs.List.{AllByRecursion}
+use Rattle.strm_types.specs.Ranked as ranked
+use Rattle.strm_blocks.specs.Blocks.{Block}
 use Rattle.strm_queue.specs.declared.flow.Flow.{Flow}
-use Rattle.strm_queue.specs.Flows.{count_in, IsMarked, marked, added_to, removed_from, flushed_of, marked_with}
-use Rattle.strm_queue.specs.Kept.{bytes_of, band_of, is_data, data_share, other_share, count_of, flow_at, no_flow, IsCounted, AreCounted, FewBytes}
+use Rattle.strm_queue.specs.Flows.{count_in, added_to, removed_from}
+use Rattle.strm_queue.specs.Kept.{bytes_of, band_of, is_data, data_share, other_share, count_of, flow_at, no_flow, IsCounted, AreCounted, AllBands, FewBytes}
 
 -- flows with another one at a band
 pub flow-same : (flows : List Flow) (band : ℕ) (f : Flow) → band < length flows → flow_at band (slice_set flows band f) ≡ f
@@ -16,6 +18,32 @@ flow-same flows band f lt = get_or-set_same flows band f no_flow lt
 
 pub flow-other : (flows : List Flow) (band other : ℕ) (f : Flow) → other ≢ band → flow_at other (slice_set flows band f) ≡ flow_at other flows
 flow-other flows band other f apart = get_or-set_other flows band other f no_flow apart
+
+-- what holds of all messages and of one more holds of all after a put and a put back, and of those that are kept
+module _ {A : Type 0} (P : A → Type 0) where
+  pub all-put : (rank : A → ℕ) (m : A) (q : List A) → P m → AllByRecursion P q → AllByRecursion P (ranked.put rank m q)
+  all-put rank m [] here all = (here, tt)
+  all-put rank m (x ∷ q) here all = put-at rank m x q (nat_le (rank m) (rank x)) here all (all-put rank m q here all.1)
+    where
+      put-at : (rank : A → ℕ) (m x : A) (q : List A) (b : Bool) → P m → AllByRecursion P (x ∷ q) → AllByRecursion P (ranked.put rank m q) → AllByRecursion P (cond b (x ∷ ranked.put rank m q) (m ∷ x ∷ q))
+      put-at rank m x q true here all ih = (all.0, ih)
+      put-at rank m x q false here all ih = (here, all)
+
+  pub all-put_back : (rank : A → ℕ) (m : A) (q : List A) → P m → AllByRecursion P q → AllByRecursion P (ranked.put_back rank m q)
+  all-put_back rank m [] here all = (here, tt)
+  all-put_back rank m (x ∷ q) here all = back-at rank m x q (nat_lt (rank m) (rank x)) here all (all-put_back rank m q here all.1)
+    where
+      back-at : (rank : A → ℕ) (m x : A) (q : List A) (b : Bool) → P m → AllByRecursion P (x ∷ q) → AllByRecursion P (ranked.put_back rank m q) → AllByRecursion P (cond b (x ∷ ranked.put_back rank m q) (m ∷ x ∷ q))
+      back-at rank m x q true here all ih = (all.0, ih)
+      back-at rank m x q false here all ih = (here, all)
+
+  pub all-kept : (test : A → Bool) (q : List A) → AllByRecursion P q → AllByRecursion P (filter test q)
+  all-kept test [] all = tt
+  all-kept test (x ∷ q) all = kept-at x (filter test q) (test x) all.0 (all-kept test q all.1)
+    where
+      kept-at : (x : A) (rest : List A) (b : Bool) → P x → AllByRecursion P rest → AllByRecursion P (cond b (x ∷ rest) rest)
+      kept-at x rest true here all = (here, all)
+      kept-at x rest false here all = all
 
 -- the sums of two parts are the sum of the whole
 sum-both : {A : Type 0} (f g h : A → ℕ) → ((x : A) → f x + g x ≡ h x) → (xs : List A) → sum_by f xs + sum_by g xs ≡ sum_by h xs
@@ -80,9 +108,10 @@ still band f q r is first second = record { data_sum = is.data_sum ∙ sym first
 
 -- the numbers of a queue after a message was added to its list
 pub counted-added : (flows : List Flow) (q r : List (List Block)) (chain : List Block) → band_of chain < 8
-    → ((f : List Block → ℕ) → sum_by f r ≡ f chain + sum_by f q) → AreCounted flows q
+    → ((f : List Block → ℕ) → sum_by f r ≡ f chain + sum_by f q) → AllBands r → AreCounted flows q
     → AreCounted (slice_set flows (band_of chain) (added_to (is_data chain) (bytes_of chain) (flow_at (band_of chain) flows))) r
-counted-added flows q r chain low sums is = record {
+counted-added flows q r chain low sums bands is = record {
+  bands = bands;
   eight = length-set flows (band_of chain) _ ∙ is.eight;
   each = λ band lt. at band lt (band_of chain == band) refl;
 }
@@ -103,9 +132,10 @@ counted-added flows q r chain low sums is = record {
 
 -- and after a message was taken off it
 pub counted-removed : (flows : List Flow) (q r : List (List Block)) (chain : List Block) → band_of chain < 8
-    → ((f : List Block → ℕ) → sum_by f q ≡ f chain + sum_by f r) → AreCounted flows q
+    → ((f : List Block → ℕ) → sum_by f q ≡ f chain + sum_by f r) → AllBands r → AreCounted flows q
     → AreCounted (slice_set flows (band_of chain) (removed_from (is_data chain) (bytes_of chain) (flow_at (band_of chain) flows))) r
-counted-removed flows q r chain low sums is = record {
+counted-removed flows q r chain low sums bands is = record {
+  bands = bands;
   eight = length-set flows (band_of chain) _ ∙ is.eight;
   each = λ band lt. at band lt (band_of chain == band) refl;
 }

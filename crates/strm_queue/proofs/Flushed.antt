@@ -1,16 +1,15 @@
 -- The kept numbers of a queue after a flush, with other marks, and after its writers are let go.
-use Rattle.std.proofs.Common.{ℕ, ◌≡◌, ◌≢◌, ◌≤◌, ◌<◌, ◌+◌, Bool, true, false, cond, eqb, List, [], ◌∷◌, length, get_or, refl, sym, ap, subst, ◌∙◌, arith, length-set}
-use Rattle.std.specs.Prelude.{sum_by, slice_index_or, slice_set, if◌then◌else◌, ◌==◌, ◌&&◌, ◌||◌, not, nat_le, filter, None, Some}
+use Rattle.std.proofs.Common.{ℕ, ◌≡◌, ◌<◌, ◌+◌, Bool, true, false, cond, List, [], ◌∷◌, length, refl, sym, subst, ◌∙◌, arith, length-set}
+use Rattle.std.specs.Prelude.{sum_by, slice_set, if◌then◌else◌, ◌==◌, ◌&&◌, ◌||◌, not, filter, None, Some}
 use Rattle.std.proofs.lemmas.Bool.Decides.{nat_tests}
 use Rattle.std.proofs.lemmas.List.Sums.{sum_by-cons}
-use Rattle.strm_types.specs.Flush.{is_flushed}
 use Rattle.strm_types.specs.declared.kinds.Band.{Band}
-use Rattle.strm_blocks.specs.Blocks.{Block, block_at}
+use Rattle.strm_blocks.specs.Blocks.{Block}
 use Rattle.strm_blocks.specs.Outcomes.{flushed}
 use Rattle.strm_queue.specs.declared.flow.Flow.{Flow}
-use Rattle.strm_queue.specs.Flows.{count_in, IsMarked, marked, flushed_of, marked_with, relieves, relieved}
-use Rattle.strm_queue.specs.Kept.{bytes_of, band_of, is_data, data_share, other_share, flow_at, no_flow, IsCounted, AreCounted}
-use Rattle.strm_queue.proofs.Counted.{flow-same, flow-other}
+use Rattle.strm_queue.specs.Flows.{flushed_of, marked_with, relieves, relieved}
+use Rattle.strm_queue.specs.Kept.{bytes_of, band_of, is_data, data_share, other_share, flow_at, IsCounted, AreCounted}
+use Rattle.strm_queue.proofs.Counted.{flow-same, flow-other, all-kept}
 
 -- what stays and what goes have the sum of all
 parted : (f : List Block → ℕ) (goes : List Block → Bool) (q : List (List Block)) → sum_by f (filter (λ m. not (goes m)) q) + sum_by (λ m. if goes m then f m else 0) q ≡ sum_by f q
@@ -65,6 +64,7 @@ flush-at false band f q is = record { data_sum = sym (data-goes false band q); o
 -- the numbers are right after a flush
 pub counted-flushed : (all : Bool) (old new : List Flow) (q : List (List Block)) → length new ≡ length old → ((band : ℕ) → band < 8 → flow_at band new ≡ flushed_of all (flow_at band old)) → AreCounted old q → AreCounted new (flushed (record { all = all; band = None }) q)
 counted-flushed all old new q eight each is = record {
+  bands = all-kept (λ chain. band_of chain < 8) _ q is.bands;
   eight = eight ∙ is.eight;
   each = λ band lt. subst (λ f. IsCounted band f (flushed (record { all = all; band = None }) q)) (sym (each band lt)) (flush-at all band (flow_at band old) q (is.each band lt));
 }
@@ -75,6 +75,7 @@ marked-at band high low f q is = record { data_sum = is.data_sum; other_sum = is
 -- the numbers stay right with other marks
 pub counted-marked : (flows : List Flow) (band high low : ℕ) (q : List (List Block)) → AreCounted flows q → AreCounted (slice_set flows band (marked_with high low (flow_at band flows))) q
 counted-marked flows band high low q is = record {
+  bands = is.bands;
   eight = length-set flows band _ ∙ is.eight;
   each = λ other lt. at other lt (other == band) refl;
 }
@@ -95,6 +96,7 @@ relieved-at band f q false is = is
 -- the numbers stay right where writers are let go
 pub counted-relieved : (old new : List Flow) (q : List (List Block)) → length new ≡ length old → ((band : ℕ) → band < 8 → flow_at band new ≡ relieved (flow_at band old)) → AreCounted old q → AreCounted new q
 counted-relieved old new q eight each is = record {
+  bands = is.bands;
   eight = eight ∙ is.eight;
   each = λ band lt. subst (λ f. IsCounted band f q) (sym (each band lt)) (relieved-at band (flow_at band old) q (relieves (flow_at band old)) (is.each band lt));
 }
@@ -135,6 +137,7 @@ band-data-stays named band q apart =
 -- the numbers are right after a flush of a band
 pub counted-band-flushed : (flows : List Flow) (named : Band) (q : List (List Block)) → named.0 < 8 → AreCounted flows q → AreCounted (slice_set flows named.0 (flushed_of false (flow_at named.0 flows))) (flushed (record { all = false; band = Some named }) q)
 counted-band-flushed flows named q low is = record {
+  bands = all-kept (λ chain. band_of chain < 8) _ q is.bands;
   eight = length-set flows named.0 _ ∙ is.eight;
   each = λ band lt. at band lt (band == named.0) refl;
 }

@@ -1,9 +1,9 @@
 -- Queues serve in order, over whole runs.
-use Rattle.std.proofs.Common.{ℕ, ◌≡◌, ◌≤◌, Bool, true, false, cond, eqb, List, [], ◌∷◌, ◌++◌, refl, sym, ap, ◌∙◌, append-nil, append_assoc}
-use Rattle.std.specs.Prelude.{if◌then◌else◌, ◌==◌, filter}
+use Rattle.std.proofs.Common.{ℕ, ◌≡◌, Bool, true, false, cond, List, [], ◌∷◌, ◌++◌, refl, sym, ap, ◌∙◌, append-nil, append_assoc}
+use Rattle.std.specs.Prelude.{◌==◌}
 use Rattle.strm_types.proofs.Ranked.{behind, lane-put, lane-put_back, Ordered-put, Ordered-put_back}
-use Rattle.strm_blocks.specs.Blocks.{Block, rank_of, put, put_back}
-use Rattle.strm_queue.specs.Order.{Operation, Put, PutBack, Take, lane, IsOrdered, after, after_all, taken, taken_all, put_all, rest_of, PutsNothingBack, ServesInOrder, ServesAllInOrder}
+use Rattle.strm_blocks.specs.Blocks.{Block, rank_of, put}
+use Rattle.strm_queue.specs.Order.{Operation, Put, PutBack, Take, lane, IsOrdered, after, after_all, taken_all, put_all, PutsNothingBack, ServesInOrder, ServesAllInOrder}
 
 -- an operation keeps the order
 after-ordered : (operation : Operation) (q : List (List Block)) → IsOrdered q → IsOrdered (after operation q)

@@ -1,15 +1,15 @@
 -- A queue beside its list in a store.
-use Rattle.std.proofs.Common.{ℕ, Bool, true, false, ◌≡◌, ◌≤◌, ◌<◌, ◌+◌, ◌^◌, List, [], ◌∷◌, length, get_or, refl, sym, ap, subst, ◌∙◌, arith, get_or-set_same}
-use Rattle.std.specs.Prelude.{sum_by, slice_index_or, slice_set, if◌then◌else◌, ◌==◌}
+use Rattle.std.proofs.Common.{ℕ, Bool, true, false, ◌≡◌, ◌≤◌, ◌<◌, ◌+◌, List, [], ◌∷◌, length, refl, ap, subst, ◌∙◌, arith, get_or-set_same}
+use Rattle.std.specs.Prelude.{sum_by, slice_set, if◌then◌else◌, ◌==◌}
 use Rattle.std.proofs.lemmas.Bool.Decides.{nat_tests}
 use Rattle.std.proofs.lemmas.List.Sums.{sum_by-cons}
 use Rattle.strm_types.proofs.Ranked.{sum-put, sum-put_back}
 use Rattle.strm_blocks.specs.Blocks.{Block, StoreValue, IsStore, in_hand, list_at, held, placed, dropped, put, put_back, rank_of}
 use Rattle.strm_queue.specs.declared.flow.Flow.{Flow}
 use Rattle.strm_queue.specs.Flows.{count_in, added_to, removed_from}
-use Rattle.strm_queue.specs.Kept.{bytes_of, band_of, is_data, count_of, flow_at, data_share, other_share, AreCounted}
+use Rattle.strm_queue.specs.Kept.{bytes_of, band_of, is_data, flow_at, data_share, other_share, AreCounted, AllBands}
 use Rattle.strm_queue.proofs.Bounds.{few-bytes}
-use Rattle.strm_queue.proofs.Counted.{counted-added, counted-removed, count-kept, count-few, data-here, other-here}
+use Rattle.strm_queue.proofs.Counted.{counted-added, counted-removed, count-kept, count-few, data-here, other-here, all-put, all-put_back}
 
 -- a list that was placed is there
 pub list-placed : (s : StoreValue) (k : ℕ) (q : List (List Block)) → k < length s.lists → list_at (placed s k q) k ≡ q
@@ -25,13 +25,13 @@ pub put-counted : (s : StoreValue) (k i : ℕ) (flows : List Flow) → IsStore s
     → AreCounted (slice_set flows (band_of (in_hand s i)) (added_to (is_data (in_hand s i)) (bytes_of (in_hand s i)) (flow_at (band_of (in_hand s i)) flows))) (list_at (placed (dropped s i) k (put (in_hand s i) (list_at s k))) k)
 put-counted s k i flows is lt counted low =
     rw (list-placed (dropped s i) k (put (in_hand s i) (list_at s k)) (omega (arith, is.eight)))
-    (counted-added flows (list_at s k) (put (in_hand s i) (list_at s k)) (in_hand s i) low (λ f. sum-put rank_of f (in_hand s i) (list_at s k)) counted)
+    (counted-added flows (list_at s k) (put (in_hand s i) (list_at s k)) (in_hand s i) low (λ f. sum-put rank_of f (in_hand s i) (list_at s k)) (all-put (λ chain. band_of chain < 8) rank_of (in_hand s i) (list_at s k) low counted.bands) counted)
 
 pub put_back-counted : (s : StoreValue) (k i : ℕ) (flows : List Flow) → IsStore s → k < 8 → AreCounted flows (list_at s k) → band_of (in_hand s i) < 8
     → AreCounted (slice_set flows (band_of (in_hand s i)) (added_to (is_data (in_hand s i)) (bytes_of (in_hand s i)) (flow_at (band_of (in_hand s i)) flows))) (list_at (placed (dropped s i) k (put_back (in_hand s i) (list_at s k))) k)
 put_back-counted s k i flows is lt counted low =
     rw (list-placed (dropped s i) k (put_back (in_hand s i) (list_at s k)) (omega (arith, is.eight)))
-    (counted-added flows (list_at s k) (put_back (in_hand s i) (list_at s k)) (in_hand s i) low (λ f. sum-put_back rank_of f (in_hand s i) (list_at s k)) counted)
+    (counted-added flows (list_at s k) (put_back (in_hand s i) (list_at s k)) (in_hand s i) low (λ f. sum-put_back rank_of f (in_hand s i) (list_at s k)) (all-put_back (λ chain. band_of chain < 8) rank_of (in_hand s i) (list_at s k) low counted.bands) counted)
 
 -- a message that was taken off a list is part of its counts
 pub taken-fits : (s : StoreValue) (k : ℕ) (flows : List Flow) (chain : List Block) (rest : List (List Block)) → AreCounted flows (list_at s k) → list_at s k ≡ chain ∷ rest → band_of chain < 8
@@ -51,7 +51,7 @@ taken-fits s k flows chain rest counted is low =
 pub take-counted : (s : StoreValue) (k : ℕ) (flows : List Flow) (chain : List Block) (rest : List (List Block)) → AreCounted flows (list_at s k) → list_at s k ≡ chain ∷ rest → band_of chain < 8
     → AreCounted (slice_set flows (band_of chain) (removed_from (is_data chain) (bytes_of chain) (flow_at (band_of chain) flows))) rest
 take-counted s k flows chain rest counted is low =
-    counted-removed flows (list_at s k) rest chain low (λ f. ap (λ q. sum_by f q) is ∙ sum_by-cons f chain rest) counted
+    counted-removed flows (list_at s k) rest chain low (λ f. ap (λ q. sum_by f q) is ∙ sum_by-cons f chain rest) (subst AllBands is counted.bands).1 counted
 
 -- the chain of a message that has just come in hand
 pub held-chain : (s : StoreValue) (i : ℕ) (chain : List Block) → in_hand (held s i chain) i ≡ chain

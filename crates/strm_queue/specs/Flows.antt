@@ -1,5 +1,5 @@
 -- The flow control of one band (STREAMS Programming Guide, "Flow Control").
-use Rattle.std.specs.Prelude.{◌≡◌, ℕ, ◌+◌, ◌≤◌, ◌-◌, ◌&&◌, Bool, true, false, nat_le, if◌then◌else◌}
+use Rattle.std.specs.Prelude.{◌≡◌, ℕ, ◌+◌, ◌-◌, ◌&&◌, Bool, false, nat_le, if◌then◌else◌}
 use Rattle.strm_queue.specs.declared.flow.Flow.{Flow}
 
 -- how many bytes stand in a band, by its kept counts

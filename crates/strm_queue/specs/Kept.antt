@@ -1,9 +1,9 @@
 -- How a queue is kept beside its list in a store (queue(9S), STREAMS Programming Guide, "Message Queues").
-use Rattle.std.specs.Prelude.{◌≡◌, ℕ, zero, suc, Bool, true, false, not, ◌&&◌, ◌||◌, ◌==◌, nat_le, nat_lt, ◌+◌, ◌≤◌, ◌<◌, if◌then◌else◌, List, [], ◌∷◌, length, sum_by, slice_index_or, filter}
+use Rattle.std.specs.Prelude.{◌≡◌, ℕ, Bool, false, not, ◌&&◌, ◌||◌, ◌==◌, nat_le, nat_lt, ◌≤◌, ◌<◌, if◌then◌else◌, List, length, sum_by, slice_index_or}
 use Rattle.std.specs.List.{AllByRecursion}
 use Rattle.strm_types.specs.Message.{is_high_priority}
 use Rattle.strm_types.specs.Flush.{is_data_kind, counted_band}
-use Rattle.strm_blocks.specs.Blocks.{Block, StoreValue, list_at, block_at}
+use Rattle.strm_blocks.specs.Blocks.{Block, block_at}
 use Rattle.strm_queue.specs.declared.flow.Flow.{Flow}
 use Rattle.strm_queue.specs.Flows.{IsMarked, count_in}
 
@@ -48,18 +48,19 @@ pub record IsCounted (band : ℕ) (f : Flow) (q : List (List Block)) : Type 0 wh
   pub other_sum : f.other_bytes ≡ sum_by (other_share band) q
   pub marked : IsMarked f
 
+-- each message counts in a band that a queue has
+abbrev pub AllBands : List (List Block) → Type 0
+AllBands q = AllByRecursion (λ chain. band_of chain < 8) q
+
 -- The numbers that are kept for each of a queue's bands are those of the messages on a list.
 pub record AreCounted (flows : List Flow) (q : List (List Block)) : Type 0 where
   pub eight : length flows ≡ 8
+  pub bands : AllBands q
   pub each : (band : ℕ) → band < 8 → IsCounted band (flow_at band flows) q
 
 -- whether a put enables a queue that has a service procedure
 abbrev pub enables : List Block → Bool → Bool → Bool
 enables chain want_read no_enable = is_high_priority (block_at 0 chain).kind || (not no_enable && (nat_lt 0 (band_of chain) || want_read))
-
--- each message counts in a band that a queue has
-abbrev pub AllBands : List (List Block) → Type 0
-AllBands q = AllByRecursion (λ chain. band_of chain < 8) q
 
 -- the counts are small enough to add: a store has 65536 blocks of 256 bytes at most
 abbrev pub FewBytes : List Flow → Type 0

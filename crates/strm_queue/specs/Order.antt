@@ -1,5 +1,5 @@
 -- The order in which a queue serves its messages, over whole runs of operations (putq(9F), putbq(9F), getq(9F)).
-use Rattle.std.specs.Prelude.{ℕ, ◌≡◌, ◌≤◌, ◌==◌, if◌then◌else◌, List, [], ◌∷◌, ◌++◌, filter}
+use Rattle.std.specs.Prelude.{ℕ, ◌≡◌, ◌≤◌, ◌==◌, if◌then◌else◌, List, [], ◌∷◌, ◌++◌}
 use Rattle.std.specs.List.{AllByRecursion}
 use Rattle.strm_blocks.specs.Blocks.{Block, rank_of, put, put_back}
 use Rattle.strm_types.specs.Ranked as ranked

@@ -10,3 +10,6 @@ mod share;
 pub use flow::Flow;
 pub use order::serves_in_order;
 pub use queue::Queue;
+
+#[cfg(test)]
+mod tests;

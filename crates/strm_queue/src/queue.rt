@@ -4,7 +4,7 @@ ghost use Rattle.std.specs.Prelude.{◌≡◌, ◌<◌, ◌≤◌, ◌+◌, ◌^
 ghost use Rattle.strm_types.specs.Message.{is_high_priority};
 ghost use Rattle.strm_blocks.specs.Blocks.{IsInHand, in_hand, list_at, placed, dropped, put, put_back, block_at};
 ghost use Rattle.strm_blocks.specs.Outcomes.{Popped, Unpopped, flushed};
-ghost use Rattle.strm_queue.specs.Kept.{AreCounted, count_of, band_of, enables, flow_at, is_full, AllBands, FewBytes};
+ghost use Rattle.strm_queue.specs.Kept.{AreCounted, count_of, band_of, enables, flow_at, is_full, FewBytes};
 ghost use Rattle.strm_blocks.specs.Blocks.{Block};
 ghost use Rattle.strm_queue.specs.Flows.{count_in, added_to, removed_from, flushed_of, marked_with, relieves, relieved};
 
@@ -112,8 +112,7 @@ impl Queue {
     /// Takes the first message, if there is one, which clears want-read: `getq(9F)`. Waiting writers are let go by
     /// `back_enable`, once what is left of the message is put back.
     pub fn getq<B: Blocks>(&mut self, store: &mut B) -> Option<B::Mp>
-        requires counted { AreCounted self.old.flows (list_at (B.value store.old) self.old.list) }
-        requires bands { AllBands (list_at (B.value store.old) self.old.list) }
+        requires { AreCounted self.old.flows (list_at (B.value store.old) self.old.list) }
         ensures taken { MatchOption result (Unpopped (B.value store.old) (B.value store.new) self.old.list) (λ m. Popped (B.value store.old) (B.value store.new) self.old.list (B.name m)) }
         ensures counted { AreCounted self.new.flows (list_at (B.value store.new) self.new.list) }
         ensures want_read { MatchOption result (self.new.want_read ≡ self.old.want_read) (λ _. self.new.want_read ≡ false) }

@@ -1,6 +1,6 @@
-use Rattle.std.proofs.Common.{◌≡◌, ◌<◌, ◌≤◌, ◌^◌, ℕ, length, false}
+use Rattle.std.proofs.Common.{◌≡◌, ◌<◌, ◌≤◌, ℕ, length, false}
 use Rattle.std.specs.Prelude.{slice_index_or}
-use Rattle.strm_queue.specs.Flows.{count_in, relieves, relieved}
+use Rattle.strm_queue.specs.Flows.{relieves, relieved}
 use Rattle.strm_queue.specs.Kept.{flow_at}
 use Rattle.strm_queue.specs.Queues.{OnlyCounts}
 use Rattle.strm_queue.proofs.queue.Queue.back_enable.Given as goal

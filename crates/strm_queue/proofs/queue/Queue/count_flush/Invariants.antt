@@ -1,5 +1,5 @@
-use Rattle.std.proofs.Common.{◌≡◌, ◌<◌, ◌≤◌, ◌^◌, ℕ, length}
-use Rattle.strm_queue.specs.Flows.{count_in, flushed_of}
+use Rattle.std.proofs.Common.{◌≡◌, ◌<◌, ◌≤◌, ℕ, length}
+use Rattle.strm_queue.specs.Flows.{flushed_of}
 use Rattle.strm_queue.specs.Kept.{flow_at}
 use Rattle.strm_queue.specs.Queues.{OnlyCounts}
 use Rattle.strm_queue.proofs.queue.Queue.count_flush.Given as goal

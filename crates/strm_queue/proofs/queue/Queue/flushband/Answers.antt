@@ -1,9 +1,9 @@
 -- What the store frees is counted out of the band.
-use Rattle.std.proofs.Common.{◌≡◌, ap, sym, ◌∙◌, arith, false}
+use Rattle.std.proofs.Common.{◌∙◌, arith, false}
 use Rattle.std.specs.Prelude.{Some}
 use Rattle.strm_blocks.specs.Blocks.{list_at}
 use Rattle.strm_blocks.specs.Outcomes.{flushed}
-use Rattle.strm_queue.proofs.Stored.{count-fits, list-placed}
+use Rattle.strm_queue.proofs.Stored.{list-placed}
 use Rattle.strm_queue.proofs.Flushed.{counted-band-flushed}
 use Rattle.strm_queue.proofs.queue.Queue.flushband.Goals as goal
 

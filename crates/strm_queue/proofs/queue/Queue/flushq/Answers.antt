@@ -1,9 +1,9 @@
 -- What the store frees is counted out of each band.
-use Rattle.std.proofs.Common.{◌≡◌, ap, sym, ◌∙◌, arith}
+use Rattle.std.proofs.Common.{◌∙◌, arith}
 use Rattle.std.specs.Prelude.{None}
 use Rattle.strm_blocks.specs.Blocks.{list_at}
 use Rattle.strm_blocks.specs.Outcomes.{flushed}
-use Rattle.strm_queue.proofs.Stored.{count-fits, list-placed}
+use Rattle.strm_queue.proofs.Stored.{list-placed}
 use Rattle.strm_queue.proofs.Flushed.{counted-flushed}
 use Rattle.strm_queue.proofs.queue.Queue.flushq.Goals as goal
 

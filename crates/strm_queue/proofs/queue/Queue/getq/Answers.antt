@@ -1,8 +1,8 @@
 -- The message that was taken is part of its band's count.
-use Rattle.std.proofs.Common.{◌≡◌, ◌<◌, ◌+◌, ap, sym, subst, ◌∙◌, arith}
+use Rattle.std.proofs.Common.{ap, subst, ◌∙◌, arith}
 use Rattle.strm_blocks.specs.Blocks.{in_hand, list_at, placed}
-use Rattle.strm_queue.specs.Kept.{bytes_of, band_of, is_data, flow_at, AreCounted, AllBands}
-use Rattle.strm_queue.proofs.Stored.{count-fits, held-chain, take-counted, list-placed}
+use Rattle.strm_queue.specs.Kept.{AllBands}
+use Rattle.strm_queue.proofs.Stored.{held-chain, take-counted, list-placed}
 use Rattle.strm_queue.proofs.queue.Queue.getq.Goals as goal
 
 pub returns-clause-counted : goal.returns-clause-counted
@@ -15,4 +15,4 @@ returns-clause-counted g c =
     let low = (subst AllBands p.joined c.requires.bands).0 in
     let list_is = ap (λ v. list_at v k) p.after ∙ list-placed s k p.rest (omega (arith, c.audit.ensures.eight, c.args.self.now.on_list)) in
     rw (c.count_out.ensures.flows, c.count_out.ensures.others.list, list_is, c.share_of-share.ensures.band, c.share_of-share.ensures.bytes, c.share_of-share.ensures.kind, chain_is)
-    (take-counted s k c.args.self.now.flows p.message p.rest c.requires.counted p.joined low)
+    (take-counted s k c.args.self.now.flows p.message p.rest c.requires p.joined low)

@@ -1,9 +1,7 @@
 -- The message's bytes are counted in the band that it counts in.
-use Rattle.std.proofs.Common.{◌≡◌, ◌<◌, ◌+◌, ap, sym, subst, ◌∙◌, arith}
-use Rattle.std.specs.Prelude.{slice_set}
-use Rattle.strm_blocks.specs.Blocks.{in_hand, list_at}
-use Rattle.strm_queue.specs.Flows.{added_to}
-use Rattle.strm_queue.specs.Kept.{bytes_of, band_of, is_data, flow_at, AreCounted}
+use Rattle.std.proofs.Common.{arith}
+use Rattle.strm_blocks.specs.Blocks.{in_hand}
+use Rattle.strm_queue.specs.Kept.{band_of}
 use Rattle.strm_queue.proofs.Stored.{count-fits, put_back-counted}
 use Rattle.strm_queue.proofs.queue.Queue.putbq.Goals as goal
 
