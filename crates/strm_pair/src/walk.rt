@@ -1,6 +1,7 @@
 //! A long walk of calls and turns, each answer compared with a plain recount of the lengths and the bytes under way.
 
 use crate::Pair;
+use std::alloc::Global;
 use std::collections::VecDeque;
 use std::test::Fail;
 use strm_types::{Answer, Caller, Config, Event, Refusal, Side, Turn};
@@ -74,6 +75,75 @@ fn next_random(x: u64) -> u64 {
         .wrapping_add(1442695040888963407)
 }
 
+// A pair that both sides have open, a line each way, and a store of bytes to write.
+#[derive(Drop)]
+struct Walk {
+    pair: Pair,
+    from_master: Line,
+    from_slave: Line,
+    buffer: [u8; 300],
+}
+
+fn new_line(alloc: Global) -> Line {
+    Line {
+        lengths: VecDeque::new(alloc),
+        at_driver: 0,
+        at_head: 0,
+        next_written: 0,
+        next_read: 0,
+    }
+}
+
+impl Walk {
+    // The line of which a side is the writer.
+    fn line(&mut self, writer: Side) -> &mut Line {
+        match writer {
+            Side::Master => &mut self.from_master,
+            Side::Slave => &mut self.from_slave,
+        }
+    }
+
+    // Whether a write of so many bytes is answered as the recount says.
+    fn writes(&mut self, side: Side, len: usize) -> Result<bool, Fail> {
+        let first = self.line(side).next_written;
+        fill(&mut self.buffer, first);
+        let event = Event::Write {
+            bytes: &self.buffer[..len.min(300)],
+        };
+        let answer = self.pair.apply(Caller { side }, &event);
+        let taken = self.line(side).write(len.min(300))?;
+        Ok(match answer {
+            Ok(Answer::Count(n)) => n == taken,
+            Err(refusal) => refusal == Refusal::Eagain && taken == 0,
+            _ => false,
+        })
+    }
+
+    // Whether a read of up to `n` bytes is answered as the recount says.
+    fn reads(&mut self, side: Side, n: u32) -> bool {
+        let answer = self.pair.apply(Caller { side }, &Event::Read { n });
+        let line = match side {
+            Side::Master => &mut self.from_slave,
+            Side::Slave => &mut self.from_master,
+        };
+        match answer {
+            Ok(Answer::Bytes(bytes)) => line.reads(bytes.as_slice(), n as usize),
+            Err(refusal) => refusal == Refusal::Eagain && line.at_head == 0,
+            _ => false,
+        }
+    }
+
+    // Whether the next turn, if there is one, is answered as the recount says; and whether it was blocked.
+    fn turns(&mut self) -> (bool, bool) {
+        let Some(name) = self.pair.first_enabled() else {
+            return (true, false);
+        };
+        let moved = self.line(name.side).turn();
+        let right = self.pair.turn(name) == Ok(moved);
+        (right, moved == Turn::Blocked)
+    }
+}
+
 #[test]
 fn ten_thousand_calls_answer_as_a_plain_recount(rt: HostRuntime) -> Result<(), Fail> {
     let sizes = Config {
@@ -82,85 +152,38 @@ fn ten_thousand_calls_answer_as_a_plain_recount(rt: HostRuntime) -> Result<(), F
         journal_events: 20000,
         journal_bytes: 8388608,
     };
-    let mut pair = Pair::new(rt.alloc(), sizes)?;
+    let mut walk = Walk {
+        pair: Pair::new(rt.alloc(), sizes)?,
+        from_master: new_line(rt.alloc()),
+        from_slave: new_line(rt.alloc()),
+        buffer: [0u8; 300],
+    };
     for event in [Event::OpenMaster, Event::Unlock, Event::OpenSlave] {
-        let answer = pair.apply(Caller { side: Side::Master }, &event);
-        assert!(rt; answer.is_ok());
+        let side = Side::Master;
+        assert!(rt; walk.pair.apply(Caller { side }, &event).is_ok());
     }
-    let mut lines = [
-        Line {
-            lengths: VecDeque::new(rt.alloc()),
-            at_driver: 0,
-            at_head: 0,
-            next_written: 0,
-            next_read: 0,
-        },
-        Line {
-            lengths: VecDeque::new(rt.alloc()),
-            at_driver: 0,
-            at_head: 0,
-            next_written: 0,
-            next_read: 0,
-        },
-    ];
-    let mut buffer = [0u8; 300];
     let mut x = 1u64;
     let mut blocked = 0u32;
     for step in 0..10000 {
         x = next_random(x);
-        let from = ((x >> 40) % 2) as usize;
-        let line = &mut lines[from];
-        let (writer, reader) = if from == 0 {
-            (Side::Master, Side::Slave)
+        let side = if (x >> 40) % 2 == 0 {
+            Side::Master
         } else {
-            (Side::Slave, Side::Master)
+            Side::Slave
         };
         match (x >> 33) % 8 {
             0..=2 => {
                 let len = ((x >> 45) % 300) as usize + 1;
-                fill(&mut buffer, line.next_written);
-                let answer = pair.apply(
-                    Caller { side: writer },
-                    &Event::Write {
-                        bytes: &buffer[..len],
-                    },
-                );
-                let taken = line.write(len)?;
-                match answer {
-                    Ok(Answer::Count(n)) => assert_eq!(rt; n, taken, "write at {step}"),
-                    Err(refusal) => {
-                        assert_eq!(rt; refusal, Refusal::Eagain, "write at {step}");
-                        assert_eq!(rt; taken, 0, "write at {step}");
-                    }
-                    _ => assert!(rt; false, "write at {step}"),
-                }
+                assert!(rt; walk.writes(side, len)?, "write at {step}");
             }
             3 => {
                 let n = ((x >> 45) % 700) as u32 + 1;
-                let none = line.at_head == 0;
-                match pair.apply(Caller { side: reader }, &Event::Read { n }) {
-                    Ok(Answer::Bytes(bytes)) => {
-                        assert!(rt; line.reads(bytes.as_slice(), n as usize), "read at {step}");
-                    }
-                    Err(refusal) => {
-                        assert_eq!(rt; refusal, Refusal::Eagain, "read at {step}");
-                        assert!(rt; none, "read at {step}");
-                    }
-                    _ => assert!(rt; false, "read at {step}"),
-                }
+                assert!(rt; walk.reads(side, n), "read at {step}");
             }
             _ => {
-                if let Some(name) = pair.first_enabled() {
-                    let moved = if name.side == Side::Master {
-                        lines[0].turn()
-                    } else {
-                        lines[1].turn()
-                    };
-                    assert_eq!(rt; pair.turn(name), Ok(moved), "turn at {step}");
-                    if moved == Turn::Blocked {
-                        blocked = blocked.wrapping_add(1);
-                    }
-                }
+                let (right, was_blocked) = walk.turns();
+                assert!(rt; right, "turn at {step}");
+                blocked = blocked.wrapping_add(u32::from(was_blocked));
             }
         }
     }
