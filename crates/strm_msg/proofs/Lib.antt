@@ -1,6 +1,7 @@
 pub mod Bounds
 pub mod Counts
 pub mod Hands
+pub mod InHand
 pub mod Making
 pub mod Parts
 pub mod Pieces

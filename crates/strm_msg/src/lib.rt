@@ -1,5 +1,5 @@
-//! Calls on messages, over any store of message blocks: copies, sizes, trimming, joining, and the bytes that go in and
-//! out. A message has a control part, the bytes of the M_PROTO and M_PCPROTO blocks at its front, and a data part, the
+//! Calls on messages, over any store of message blocks: duplicates, copies, sizes, and the bytes that go in and out. A
+//! message has a control part, the bytes of the M_PROTO and M_PCPROTO blocks at its front, and a data part, the
 //! bytes of its M_DATA blocks.
 #![tactic(auto)]
 
@@ -13,3 +13,6 @@ pub use bytes::from_bytes;
 pub use copies::{copymsg, dupmsg};
 pub use data::take_data;
 pub use sizes::{control_len, data_len, msgdsize};
+
+#[cfg(test)]
+mod tests;
