@@ -75,6 +75,14 @@ fn next_random(x: u64) -> u64 {
         .wrapping_add(1442695040888963407)
 }
 
+fn side_of(x: u64) -> Side {
+    if (x >> 40) % 2 == 0 {
+        Side::Master
+    } else {
+        Side::Slave
+    }
+}
+
 // A pair that both sides have open, a line each way, and a store of bytes to write.
 #[derive(Drop)]
 struct Walk {
@@ -166,11 +174,7 @@ fn ten_thousand_calls_answer_as_a_plain_recount(rt: HostRuntime) -> Result<(), F
     let mut blocked = 0u32;
     for step in 0..10000 {
         x = next_random(x);
-        let side = if (x >> 40) % 2 == 0 {
-            Side::Master
-        } else {
-            Side::Slave
-        };
+        let side = side_of(x);
         match (x >> 33) % 8 {
             0..=2 => {
                 let len = ((x >> 45) % 300) as usize + 1;
