@@ -9,12 +9,10 @@ ghost use Rattle.strm_blocks.specs.Blocks.{Block};
 ghost use Rattle.strm_queue.specs.Flows.{count_in, added_to, removed_from, flushed_of, marked_with, relieves, relieved};
 
 use crate::flow::Flow;
+use crate::limits::BANDS;
 use crate::share::{Share, share_of};
 use strm_blocks::{Blocks, FlushWhat};
 use strm_types::Band;
-
-/// How many bands a queue has.
-pub const BANDS: usize = 8;
 
 /// A queue: the number of its list in a store, the flow control of its bands from 0 up, and its flags. Want-read says
 /// that a message of band 0 that is put enables the queue; no-enable that only a message of high priority does.
@@ -31,8 +29,8 @@ pub struct Queue {
 impl Queue {
     ghost use Rattle.strm_queue.specs.Queues.{OnlyCounts};
 
-    /// A queue for a list with nothing on it, with the same marks in each band: 5120 and 1024 for a head's, 512 and 128
-    /// for any other.
+    /// A queue for a list with nothing on it, with the same marks in each band: `HEAD_HIGH` and `HEAD_LOW` for a head's,
+    /// `OTHER_HIGH` and `OTHER_LOW` for any other. `is_list` and `are_marks` test what is asked here.
     pub fn new(list: usize, high: usize, low: usize) -> Queue
         requires list { list < 8 }
         requires some { 1 ≤ high }
@@ -93,7 +91,7 @@ impl Queue {
         share.enables(self.want_read, self.no_enable)
     }
 
-    /// Puts a message in front of all of at most its rank: `putbq(9F)`. It enables nothing.
+    /// Puts a message in front of all of at most its rank: `putbq(9F)`. It enables nothing. The cost is that of `putq`.
     pub fn putbq<B: Blocks>(&mut self, store: &mut B, message: B::Mp)
         requires counted { AreCounted self.old.flows (list_at (B.value store.old) self.old.list) }
         requires in_hand { IsInHand (B.value store.old) (B.name message) }
@@ -110,7 +108,7 @@ impl Queue {
     }
 
     /// Takes the first message, if there is one, which clears want-read: `getq(9F)`. Waiting writers are let go by
-    /// `back_enable`, once what is left of the message is put back.
+    /// `back_enable`, once what is left of the message is put back. The cost is a step for each block of the message.
     pub fn getq<B: Blocks>(&mut self, store: &mut B) -> Option<B::Mp>
         requires { AreCounted self.old.flows (list_at (B.value store.old) self.old.list) }
         ensures taken { MatchOption result (Unpopped (B.value store.old) (B.value store.new) self.old.list) (λ m. Popped (B.value store.old) (B.value store.new) self.old.list (B.name m)) }

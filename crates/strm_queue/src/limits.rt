@@ -1,0 +1,41 @@
+//! What a queue takes: the tests of what its calls ask of their caller, and the marks that queues begin with.
+
+ghost use Rattle.std.specs.Prelude.{◌≡◌, ◌&&◌, nat_le, nat_lt};
+
+use strm_types::Band;
+
+/// How many bands a queue has.
+pub const BANDS: usize = 8;
+
+/// The high-water mark of a stream head's read queue as it is made, in bytes: `STRHIGH` of System V.
+pub const HEAD_HIGH: usize = 5120;
+
+/// The low-water mark of a stream head's read queue as it is made, in bytes: `STRLOW` of System V.
+pub const HEAD_LOW: usize = 1024;
+
+/// The high-water mark of any other queue as it is made, in bytes.
+pub const OTHER_HIGH: usize = 512;
+
+/// The low-water mark of any other queue as it is made, in bytes.
+pub const OTHER_LOW: usize = 128;
+
+/// Whether a store has a list of this number, from 0 to 7.
+pub fn is_list(list: usize) -> bool
+    ensures { result ≡ nat_lt list 8 }
+{
+    list < 8
+}
+
+/// Whether a queue has this band, from 0 to 7.
+pub fn is_band(band: Band) -> bool
+    ensures { result ≡ nat_lt band.0 8 }
+{
+    usize::from(band.0) < BANDS
+}
+
+/// Whether a band can have these marks: a high-water mark of at least 1, and a low-water mark of at most that.
+pub fn are_marks(high: usize, low: usize) -> bool
+    ensures { result ≡ nat_le 1 high && nat_le low high }
+{
+    high >= 1 && low <= high
+}
