@@ -1,4 +1,4 @@
-pub mod Rows
+pub mod Stored
 pub mod Streams
 pub mod Journals
 pub mod Pairs

@@ -4,11 +4,13 @@
 
 mod enabled;
 mod ends;
+mod flows;
 mod journal;
 mod pair;
+mod passing;
+mod reading;
 mod refusals;
-mod row;
-mod row_queue;
+mod sending;
 mod streams;
 
 pub use pair::{Pair, Recorded};

@@ -1,9 +1,11 @@
 //! A long walk of calls and turns, each answer compared with a plain recount of the lengths and the bytes under way.
 
 use crate::Pair;
+use crate::tests::over_tables;
 use std::alloc::Global;
 use std::collections::VecDeque;
 use std::test::Fail;
+use strm_blocks::TableStore;
 use strm_types::{Answer, Caller, Config, Event, Refusal, Side, Turn};
 
 // What is under way from one side to the other: the lengths of the driver's messages, how many bytes stand there and at
@@ -86,7 +88,7 @@ fn side_of(x: u64) -> Side {
 // A pair that both sides have open, a line each way, and a store of bytes to write.
 #[derive(Drop)]
 struct Walk {
-    pair: Pair,
+    pair: Pair<TableStore>,
     from_master: Line,
     from_slave: Line,
     buffer: [u8; 300],
@@ -161,7 +163,7 @@ fn ten_thousand_calls_answer_as_a_plain_recount(rt: HostRuntime) -> Result<(), F
         journal_bytes: 8388608,
     };
     let mut walk = Walk {
-        pair: Pair::new(rt.alloc(), sizes)?,
+        pair: over_tables(rt.alloc(), sizes)?,
         from_master: new_line(rt.alloc()),
         from_slave: new_line(rt.alloc()),
         buffer: [0u8; 300],
