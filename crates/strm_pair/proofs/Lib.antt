@@ -3,6 +3,10 @@ pub mod FlowControl
 pub mod Placed
 pub mod OneMade
 pub mod Queued
-pub mod RowLemmas
+pub mod TakenFirst
+pub mod Gotten
+pub mod Kept
+pub mod Peeked
+pub mod DataLemmas
 pub mod StreamLemmas
 pub mod JournalLemmas

@@ -44,7 +44,7 @@ pub record OneMade (s new : StoreValue) (i : ℕ) (bytes : List ℕ) : Type 0 wh
 references-held : (s : StoreValue) (i : ℕ) (chain : List Block) (d : ℕ) → references (held s i chain) d ≡ references s d + names_of d chain
 references-held s i chain d = omega (arith, references-is (held s i chain) d, references-is s d, total-held (names_of d) s i chain)
 
-names-one : (b : Block) (d : ℕ) → names_of d (b ∷ []) ≡ cond (b.number == d) 1 0
+pub names-one : (b : Block) (d : ℕ) → names_of d (b ∷ []) ≡ cond (b.number == d) 1 0
 names-one b d = let c = sum_by-cons (λ (x : Block). cond {A = ℕ} (x.number == d) 1 0) b [] in omega arith
 
 made-single : (s new : StoreValue) (i : ℕ) (b : Block) → IsTidy s → b.kind ≡ kinds.Data → b.band ≡ 0 → Made s new i (b ∷ []) → IsStore new → OneMade s new i b.bytes

@@ -46,7 +46,7 @@ pub record Keeps (old new : StoreValue) (q q' : Queue) : Type 0 where
   pub mblks : new.mblks ≡ old.mblks
   pub dblks : new.dblks ≡ old.dblks
 
--- the marks and the flags stay, and want-read may be cleared
+-- the marks and the flags stay, but want-read may be cleared
 pub record SameFlags (old new : Queue) : Type 0 where
   pub flows : plain_flows new.flows ≡ plain_flows old.flows
   pub want_read : old.want_read ≡ false → new.want_read ≡ false
