@@ -7,6 +7,7 @@ pub mod TakenFirst
 pub mod Gotten
 pub mod Kept
 pub mod Peeked
+pub mod Passed
 pub mod DataLemmas
 pub mod StreamLemmas
 pub mod JournalLemmas
