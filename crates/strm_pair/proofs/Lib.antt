@@ -8,6 +8,9 @@ pub mod Gotten
 pub mod Kept
 pub mod Peeked
 pub mod Passed
+pub mod Sides
+pub mod Opened
+pub mod FreeBlocks
 pub mod DataLemmas
 pub mod StreamLemmas
 pub mod JournalLemmas
