@@ -1,11 +1,11 @@
 -- How many blocks of a tidy store are free: those that its messages leave.
-use Rattle.std.proofs.Common.{ℕ, zero, suc, ◌≡◌, ◌≤◌, ◌<◌, ◌+◌, ◌-◌, Bool, true, false, cond, eqb, List, [], ◌∷◌, length, map, refl, sym, ap, subst, ◌∙◌, arith}
+use Rattle.std.proofs.Common.{ℕ, zero, suc, ◌≡◌, ◌≤◌, ◌+◌, cond, eqb, List, [], ◌∷◌, length, refl, sym, ap, ◌∙◌, arith}
 use Rattle.std.specs.Prelude.{sum_by, slice_index_or, nat_lt, ◌==◌}
 use Rattle.std.specs.List.{AllByRecursion}
 use Rattle.std.proofs.lemmas.Bool.Decides.{nat_tests}
 use Rattle.std.proofs.lemmas.List.Sums.{sum_by-cons}
-use Rattle.strm_blocks.specs.Blocks.{Block, Held, StoreValue, list_at, names_of, references, total, used, free_m, free_d, zeros_below}
-use Rattle.strm_blocks.proofs.Laws.{references-is, used-is, free_m-is}
+use Rattle.strm_blocks.specs.Blocks.{Block, Held, StoreValue, list_at, names_of, references, total, used, free_d, zeros_below}
+use Rattle.strm_blocks.proofs.Laws.{references-is, used-is}
 use Rattle.strm_pair.specs.Stored.{IsOneBlock, IsTidy}
 
 -- the sum of a function over the numbers below a bound

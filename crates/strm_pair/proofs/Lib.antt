@@ -11,6 +11,8 @@ pub mod Passed
 pub mod Sides
 pub mod Opened
 pub mod FreeBlocks
+pub mod Steps
+pub mod Shown
 pub mod DataLemmas
 pub mod StreamLemmas
 pub mod JournalLemmas

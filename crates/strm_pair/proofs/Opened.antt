@@ -1,18 +1,16 @@
 -- The state once the slave is opened.
-use Rattle.std.proofs.Common.{ℕ, ◌≡◌, ◌≢◌, Bool, true, false, List, [], ◌∷◌, map, refl, sym, ap, ◌∙◌, arith}
+use Rattle.std.proofs.Common.{ℕ, ◌≡◌, ◌≢◌, true, false, List, [], ◌∷◌, map, refl, sym, ap, ◌∙◌, arith}
 use Rattle.std.specs.Prelude.{not, replicate}
 use Rattle.strm_types.specs.declared.names.Side.TheVariants.{Master}
 use Rattle.strm_types.specs.declared.names.QueueName.{QueueName}
 use Rattle.strm_types.specs.Names.{driver_of, enable_if}
 use Rattle.strm_types.specs.Queue as plain
-use Rattle.strm_types.specs.State.{State}
 use Rattle.strm_types.specs.Turns.{is_none_left}
 use Rattle.strm_types.specs.Calls.{opened_slave}
 use Rattle.strm_blocks.specs.Blocks.{Block, StoreValue, list_at}
 use Rattle.strm_msg.specs.Messages.{message_of}
 use Rattle.strm_queue.specs.declared.queue.Queue.{Queue}
 use Rattle.strm_queue.specs.Flows.{plain_flows}
-use Rattle.strm_pair.specs.declared.ends.End.{End}
 use Rattle.strm_pair.specs.declared.streams.Streams.{Streams}
 use Rattle.strm_pair.specs.Stored.{messages_on, queue_in}
 use Rattle.strm_pair.specs.Streams.{stream_in}
@@ -41,8 +39,11 @@ opened-state s new p q names held cl list flows want_read no_enable names_are =
     let head_apart : p.master.head.list ≢ 4 = λ e. absurd (omega (arith, held.master.head_list, e)) in
     let driver_apart : p.master.driver.list ≢ 4 = λ e. absurd (omega (arith, held.master.driver_list, e)) in
     let slave_apart : p.slave.driver.list ≢ 4 = λ e. absurd (omega (arith, held.slave.driver_list, e)) in
-    rw (queue-same s new p.master.head (cl.others p.master.head.list head_apart),
-    queue-same s new p.master.driver (cl.others p.master.driver.list driver_apart),
-    queue-same s new p.slave.driver (cl.others p.slave.driver.list slave_apart),
-    fresh-queue new q 5120 1024 (ap (list_at new) list ∙ cl.here) flows want_read no_enable,
-    names_are, waiting s new p held cl) refl
+    rw (
+      queue-same s new p.master.head (cl.others p.master.head.list head_apart),
+      queue-same s new p.master.driver (cl.others p.master.driver.list driver_apart),
+      queue-same s new p.slave.driver (cl.others p.slave.driver.list slave_apart),
+      fresh-queue new q 5120 1024 (ap (list_at new) list ∙ cl.here) flows want_read no_enable,
+      names_are,
+      waiting s new p held cl,
+    ) refl

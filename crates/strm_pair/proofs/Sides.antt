@@ -1,10 +1,10 @@
 -- The queues of both sides beside their store.
-use Rattle.std.proofs.Common.{ℕ, zero, suc, ◌≡◌, ◌≢◌, ◌≤◌, ◌+◌, true, false, List, [], ◌∷◌, length, map, refl, sym, ap, subst, ◌∙◌, arith}
-use Rattle.std.specs.Prelude.{None, sum_by, filter, replicate, slice_index_or}
+use Rattle.std.proofs.Common.{ℕ, zero, suc, ◌≡◌, ◌≢◌, true, List, [], ◌∷◌, refl, sym, ap, subst, ◌∙◌, arith}
+use Rattle.std.specs.Prelude.{None, replicate, slice_index_or}
 use Rattle.std.specs.List.{AllByRecursion}
 use Rattle.strm_types.specs.declared.names.Side.{Side}
 use Rattle.strm_types.specs.declared.names.Side.TheVariants.{Master, Slave}
-use Rattle.strm_blocks.specs.Blocks.{Block, StoreValue, empty_store, list_at, placed, names_of, references}
+use Rattle.strm_blocks.specs.Blocks.{Block, StoreValue, empty_store, list_at, placed, references}
 use Rattle.strm_blocks.proofs.Laws.{references-is}
 use Rattle.strm_blocks.specs.Outcomes.{flushed}
 use Rattle.strm_queue.specs.Kept.{AreCounted}
@@ -12,7 +12,7 @@ use Rattle.strm_queue.specs.declared.queue.Queue.{Queue}
 use Rattle.strm_pair.specs.declared.ends.End.{End}
 use Rattle.strm_pair.specs.declared.streams.Streams.{Streams}
 use Rattle.strm_pair.specs.Stored.{IsTidy, IsReady, IsOneBlock}
-use Rattle.strm_pair.specs.Streams.{IsBlank, IsSide, AreSides}
+use Rattle.strm_pair.specs.Streams.{IsBlank, AreSides}
 use Rattle.strm_pair.specs.Pairs.{end_at, AreHeld}
 use Rattle.strm_pair.proofs.Placed.{list-here, list-other, references-placed, tidy-placed}
 

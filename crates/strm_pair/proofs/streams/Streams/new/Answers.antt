@@ -1,8 +1,6 @@
 -- A store with nothing in it is tidy, and its lists are empty.
-use Rattle.std.proofs.Common.{◌≡◌, ◌∙◌, ℕ, ap, refl}
-use Rattle.strm_types.specs.State.{State, Stream, new_stream}
+use Rattle.std.proofs.Common.{refl}
 use Rattle.strm_blocks.specs.Blocks.{empty_store}
-use Rattle.strm_pair.specs.Pairs.{state_in}
 use Rattle.strm_pair.proofs.Sides.{blank, empty-tidy}
 use Rattle.strm_pair.proofs.streams.Streams.new.Goals as goal
 

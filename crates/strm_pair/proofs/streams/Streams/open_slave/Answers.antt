@@ -1,10 +1,10 @@
 -- The slave's head is emptied and as new, and all else stays.
-use Rattle.std.proofs.Common.{◌≡◌, ◌∙◌, ℕ, true, ap, sym, refl}
+use Rattle.std.proofs.Common.{◌∙◌, true, ap, refl}
 use Rattle.std.specs.Prelude.{not}
 use Rattle.strm_types.specs.declared.names.Side.TheVariants.{Master}
 use Rattle.strm_types.specs.Names.{driver_of, enable, enable_if}
 use Rattle.strm_pair.proofs.Opened.{opened-state}
-use Rattle.strm_pair.proofs.Sides.{Cleared, cleared, opened-sides}
+use Rattle.strm_pair.proofs.Sides.{cleared, opened-sides}
 use Rattle.strm_pair.proofs.streams.Streams.open_slave.Goals as goal
 
 pub returns-then-not-is_empty-clause-state : goal.returns-then-not-is_empty-clause-state

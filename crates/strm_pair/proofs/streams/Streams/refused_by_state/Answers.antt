@@ -1,4 +1,3 @@
-use Rattle.strm_blocks.specs.Blocks.{list_at}
 use Rattle.std.proofs.Common.{subst, sym}
 use Rattle.strm_pair.specs.declared.ends.End.{End}
 use Rattle.strm_pair.specs.Stored.{IsReady}
