@@ -1,3 +1,5 @@
+pub mod Adjusting
+pub mod AdjustingRuns
 pub mod Bounds
 pub mod Counts
 pub mod Hands

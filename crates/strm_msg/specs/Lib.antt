@@ -2,3 +2,4 @@ pub mod Bytes
 pub mod Made
 pub mod Taken
 pub mod Runs
+pub mod Adjusted
