@@ -4,7 +4,7 @@ use Rattle.std.proofs.Math.ListN.{set}
 use Rattle.std.proofs.Math.Seq.{set-append_seam, get_or-append_seam}
 use Rattle.std.proofs.lemmas.List.{length-append, length-take-le, length-drop, length-reverse, reverse-reverse, reverse-append, get_or-reverse, take_more, take-append-drop}
 use Rattle.std.proofs.lemmas.Grind.{flat_map-append}
-use Rattle.strm_blocks.specs.Blocks.{Block, StoreValue, block_at, no_block, in_hand, changed, with_block, trimmed_head, trimmed_tail, IsInHand, times_in}
+use Rattle.strm_blocks.specs.Blocks.{Block, StoreValue, block_at, no_block, in_hand, changed, with_block, IsInHand, times_in}
 use Rattle.strm_msg.specs.declared.adjust.End.{End}
 use Rattle.strm_msg.specs.declared.adjust.End.TheVariants.{Head, Tail}
 use Rattle.strm_msg.specs.Bytes.{bytes_of}

@@ -1,5 +1,5 @@
 -- The run of blocks of one kind at an end of a message, block by block.
-use Rattle.std.proofs.Common.{ℕ, ◌≡◌, ◌≤◌, ◌<◌, ◌+◌, ◌*◌, Bool, true, false, cond, List, [], ◌∷◌, length, drop, refl, sym, ap, ◌∙◌, arith}
+use Rattle.std.proofs.Common.{ℕ, ◌≡◌, ◌≤◌, ◌<◌, ◌+◌, ◌*◌, Bool, true, false, cond, List, [], ◌∷◌, length, drop, sym, ap, ◌∙◌, arith}
 use Rattle.std.specs.Prelude.{take_while}
 use Rattle.std.proofs.lemmas.List.{length-append, drop_all}
 use Rattle.std.proofs.lemmas.List.Sums.{take_while-cons}
@@ -37,7 +37,7 @@ module _ {chain : List Block} {kind : MsgKind} {steps len : ℕ} (so : Measured 
       let empty = ap (λ xs. length (bytes_of (run_of kind xs))) (drop_all steps chain all) in
       let blocks = so.blocks in
       let bytes = so.bytes in
-      (omega arith , omega arith)
+      (omega arith, omega arith)
 
   module _ (within : steps < length chain) where
     abbrev rest : List Block
@@ -54,7 +54,7 @@ module _ {chain : List Block} {kind : MsgKind} {steps len : ℕ} (so : Measured 
         let empty = ap (λ xs. length (bytes_of xs)) stop in
         let blocks = so.blocks in
         let bytes = so.bytes in
-        (omega arith , omega arith)
+        (omega arith, omega arith)
 
     -- a block of its kind belongs to it
     pub measured-next : {len' : ℕ} → same_kind (block_at steps chain).kind kind ≡ true → len' ≡ len + length (block_at steps chain).bytes → length (block_at steps chain).bytes ≤ 256 → Measured chain kind (steps + 1) len'
@@ -76,7 +76,7 @@ module _ (end : End) (chain : List Block) {count first : ℕ} {kind : MsgKind} (
   run-is = ap (λ k. run_of k view) (kind_is ∙ ap (λ (b : Block). b.kind) (block-from end chain 0 count_is first_is (omega arith)))
 
   counted : {steps len : ℕ} → (steps ≡ length (run_of kind view)) × (len ≡ length (bytes_of (run_of kind view))) → (steps ≡ length (front_run view)) × (len ≡ length (bytes_of (front_run view)))
-  counted both = (both.0 ∙ ap (λ xs. length xs) run-is , both.1 ∙ ap (λ xs. length (bytes_of xs)) run-is)
+  counted both = (both.0 ∙ ap (λ xs. length xs) run-is, both.1 ∙ ap (λ xs. length (bytes_of xs)) run-is)
 
   module _ {steps len : ℕ} (so : Measured view kind steps len) where
     pub run-all : count ≤ steps → (steps ≡ length (front_run view)) × (len ≡ length (bytes_of (front_run view)))

@@ -1,4 +1,5 @@
 pub mod Adjusting
+pub mod AdjustingBytes
 pub mod AdjustingRuns
 pub mod Bounds
 pub mod Counts

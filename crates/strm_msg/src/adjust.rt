@@ -27,11 +27,7 @@ struct Run {
 fn end_of(n: isize) -> End
     ensures { result ≡ adjusting.end_of n }
 {
-    if n < 0 {
-        End::Tail
-    } else {
-        End::Head
-    }
+    if n < 0 { End::Tail } else { End::Head }
 }
 
 /// The place of the block that stands so many blocks from an end of a message of `count` blocks.

@@ -1,5 +1,4 @@
-use Rattle.std.proofs.Common.{◌∙◌, ◌≡◌, ap, arith, length}
-use Rattle.strm_blocks.specs.Blocks.{in_hand}
+use Rattle.std.proofs.Common.{◌∙◌, ap, arith}
 use Rattle.strm_msg.specs.Adjusted.{place_from}
 use Rattle.strm_msg.proofs.Adjusting.{trimming-first, trimming-in_hand, trimming-length, trimming-next}
 use Rattle.strm_msg.proofs.adjust.trim_blocks.Goals as goal
