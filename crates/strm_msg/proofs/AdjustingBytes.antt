@@ -9,7 +9,7 @@ use Rattle.strm_blocks.specs.Blocks.{Block, trimmed_head, trimmed_tail}
 use Rattle.strm_msg.specs.declared.adjust.End.{End}
 use Rattle.strm_msg.specs.Bytes.{bytes_of}
 use Rattle.strm_msg.specs.Runs.{front_run}
-use Rattle.strm_msg.specs.Adjusted.{trimmed_by, trimmed_front, without_head, without_tail, has_bytes, adjusted, left_of, seen_from, trim_at, end_of}
+use Rattle.strm_msg.specs.Adjusted.{trimmed_by, trimmed_front, without_head, without_tail, has_bytes, trimmed, left_of, seen_from, trim_at, end_of}
 use Rattle.strm_msg.proofs.Taking.{drop-append, drop-least}
 
 pub bytes-append : (xs ys : List Block) → bytes_of (xs ++ ys) ≡ bytes_of xs ++ bytes_of ys
@@ -46,13 +46,13 @@ module _ (n : ℤ) (chain : List Block) {end : End} {size len : ℕ} (end_is : e
   enough has = let m = measured in sym (has-is n chain ∙ le-leb (unsigned_abs n) (run_len n chain) (omega arith))
 
 -- what is left of the chain
-adjusted-is : (n : ℤ) (chain : List Block) → seen_from (end_of n) (trimmed_front (trim_at (end_of n)) (unsigned_abs n) (length (front_run (seen_from (end_of n) chain))) (seen_from (end_of n) chain)) ≡ adjusted n chain
-adjusted-is (pos n) chain = refl
-adjusted-is (negsuc n) chain = ap (λ k. reverse (trimmed_front trimmed_tail (suc n) k (reverse chain))) (sym (length-reverse (front_run (reverse chain))))
+trimmed-is : (n : ℤ) (chain : List Block) → seen_from (end_of n) (trimmed_front (trim_at (end_of n)) (unsigned_abs n) (length (front_run (seen_from (end_of n) chain))) (seen_from (end_of n) chain)) ≡ trimmed n chain
+trimmed-is (pos n) chain = refl
+trimmed-is (negsuc n) chain = ap (λ k. reverse (trimmed_front trimmed_tail (suc n) k (reverse chain))) (sym (length-reverse (front_run (reverse chain))))
 
-pub adjusted-by : (n : ℤ) (chain : List Block) {end : End} {size blocks : ℕ} → end ≡ end_of n → size ≡ unsigned_abs n → blocks ≡ length (front_run (seen_from end chain)) → seen_from end (trimmed_front (trim_at end) size blocks (seen_from end chain)) ≡ adjusted n chain
-adjusted-by n chain {end} {size} {blocks} end_is size_is blocks_is =
-    ap (λ k. seen_from end (trimmed_front (trim_at end) size k (seen_from end chain))) blocks_is ∙ ap (λ m. seen_from end (trimmed_front (trim_at end) m (length (front_run (seen_from end chain))) (seen_from end chain))) size_is ∙ ap (λ e. seen_from e (trimmed_front (trim_at e) (unsigned_abs n) (length (front_run (seen_from e chain))) (seen_from e chain))) end_is ∙ adjusted-is n chain
+pub trimmed-at : (n : ℤ) (chain : List Block) {end : End} {size blocks : ℕ} → end ≡ end_of n → size ≡ unsigned_abs n → blocks ≡ length (front_run (seen_from end chain)) → seen_from end (trimmed_front (trim_at end) size blocks (seen_from end chain)) ≡ trimmed n chain
+trimmed-at n chain {end} {size} {blocks} end_is size_is blocks_is =
+    ap (λ k. seen_from end (trimmed_front (trim_at end) size k (seen_from end chain))) blocks_is ∙ ap (λ m. seen_from end (trimmed_front (trim_at end) m (length (front_run (seen_from end chain))) (seen_from end chain))) size_is ∙ ap (λ e. seen_from e (trimmed_front (trim_at e) (unsigned_abs n) (length (front_run (seen_from e chain))) (seen_from e chain))) end_is ∙ trimmed-is n chain
 
 -- bytes trimmed off blocks, the first one first
 trimmed-heads : (n : ℕ) (blocks : List Block) → bytes_of (trimmed_by trimmed_head n blocks) ≡ drop n (bytes_of blocks)
@@ -129,6 +129,6 @@ tail-bytes chain n has =
     let view = reverse chain in
     ap (λ k. bytes_of (reverse (trimmed_front trimmed_tail n k view))) (length-reverse (front_run view)) ∙ reversed-bytes view n has ∙ ap (λ xs. take (length (bytes_of xs) - n) (bytes_of xs)) (reverse-reverse chain)
 
-pub adjusted-bytes : (n : ℤ) (chain : List Block) → true ≡ has_bytes n chain → bytes_of (adjusted n chain) ≡ left_of n (bytes_of chain)
-adjusted-bytes (pos n) chain has = head-bytes chain n (leb-true n (run_len (pos n) chain) (sym has))
-adjusted-bytes (negsuc n) chain has = tail-bytes chain (suc n) (leb-true (suc n) (run_len (negsuc n) chain) (sym (has-is (negsuc n) chain) ∙ sym has))
+pub trimmed-bytes : (n : ℤ) (chain : List Block) → true ≡ has_bytes n chain → bytes_of (trimmed n chain) ≡ left_of n (bytes_of chain)
+trimmed-bytes (pos n) chain has = head-bytes chain n (leb-true n (run_len (pos n) chain) (sym has))
+trimmed-bytes (negsuc n) chain has = tail-bytes chain (suc n) (leb-true (suc n) (run_len (negsuc n) chain) (sym (has-is (negsuc n) chain) ∙ sym has))

@@ -1,5 +1,5 @@
 -- What is left of a message whose bytes were trimmed at one end (adjmsg(9F)).
-use Rattle.std.specs.Prelude.{ℕ, suc, ℤ, pos, negsuc, ◌-◌, min, Bool, nat_le, List, [], ◌∷◌, ◌++◌, length, take, drop, reverse}
+use Rattle.std.specs.Prelude.{ℕ, suc, ℤ, pos, negsuc, ◌-◌, min, Bool, nat_le, if◌then◌else◌, List, [], ◌∷◌, ◌++◌, length, take, drop, reverse}
 use Rattle.strm_blocks.specs.Blocks.{Block, trimmed_head, trimmed_tail}
 use Rattle.strm_msg.specs.declared.adjust.End.{End}
 use Rattle.strm_msg.specs.declared.adjust.End.TheVariants.{Head, Tail}
@@ -28,15 +28,23 @@ abbrev pub has_bytes : ℤ → List Block → Bool
 has_bytes (pos n) chain = nat_le n (length (bytes_of (front_run chain)))
 has_bytes (negsuc n) chain = nat_le (suc n) (length (bytes_of (tail_run chain)))
 
--- a chain without so many bytes at its front, or for a number below 0 at its end
+-- a chain without so many bytes of the run at its front, or for a number below 0 of that at its end
+abbrev pub trimmed : ℤ → List Block → List Block
+trimmed (pos n) chain = without_head n chain
+trimmed (negsuc n) chain = without_tail (suc n) chain
+
+-- what is left of a chain, which is all of it where that run has fewer bytes
 abbrev pub adjusted : ℤ → List Block → List Block
-adjusted (pos n) chain = without_head n chain
-adjusted (negsuc n) chain = without_tail (suc n) chain
+adjusted n chain = if has_bytes n chain then trimmed n chain else chain
 
 -- bytes without so many at the front, or for a number below 0 at the end
 abbrev pub left_of : ℤ → List ℕ → List ℕ
 left_of (pos n) bytes = drop n bytes
 left_of (negsuc n) bytes = take (length bytes - suc n) bytes
+
+-- a block but for the bytes that it shows and the room behind them: its kind, its band and its data block
+abbrev pub without_bytes : Block → Block
+without_bytes b = record b { bytes = []; room = 0 }
 
 -- a chain as it is seen from an end, the nearest block first
 abbrev pub seen_from : End → List Block → List Block

@@ -1,9 +1,10 @@
 //! Bytes trimmed at an end of a message.
-ghost use Rattle.std.specs.Prelude.{◌≡◌, ◌≤◌, ◌<◌, MatchBool, length, unsigned_abs};
-ghost use Rattle.strm_blocks.specs.Blocks.{IsInHand, in_hand, changed, block_at, with_block};
+ghost use Rattle.std.specs.Prelude.{◌≡◌, ◌≤◌, ◌<◌, pos, map, length};
+ghost use Rattle.std.specs.Bool.{OnTrue, OnFalse};
+ghost use Rattle.strm_blocks.specs.Blocks.{IsInHand, in_hand, changed, block_at, with_block, free_m, free_d};
 ghost use Rattle.strm_msg.specs.Bytes.{bytes_of};
 ghost use Rattle.strm_msg.specs.Runs.{front_run};
-ghost use Rattle.strm_msg.specs.Adjusted.{adjusted, has_bytes, left_of, seen_from, trim_at, trimmed_front};
+ghost use Rattle.strm_msg.specs.Adjusted.{adjusted, has_bytes, left_of, seen_from, trim_at, trimmed_front, without_bytes};
 ghost use Rattle.strm_msg.specs.Adjusted as adjusting;
 
 use crate::kinds::same_kind;
@@ -99,14 +100,16 @@ fn trim_blocks<B: Blocks>(store: &mut B, message: &B::Mp, end: End, blocks: usiz
 pub fn adjmsg<B: Blocks>(store: &mut B, message: &B::Mp, n: isize) -> bool
     requires { IsInHand (B.value store.old) (B.name message.now) }
     ensures answer { result ≡ has_bytes n (in_hand (B.value store.old) (B.name message.now)) }
-    ensures trimmed { let old = B.value store.old in let name = B.name message.now in
-        MatchBool result
-        (B.value store.new ≡ changed old name (adjusted n (in_hand old name)))
-        (B.value store.new ≡ old) }
-    ensures bytes { let shown = bytes_of (in_hand (B.value store.old) (B.name message.now)) in
-        MatchBool result
-        (bytes_of (in_hand (B.value store.new) (B.name message.now)) ≡ left_of n shown)
-        (bytes_of (in_hand (B.value store.new) (B.name message.now)) ≡ shown) }
+    ensures trimmed { let chain = in_hand (B.value store.old) (B.name message.now) in
+        B.value store.new ≡ changed (B.value store.old) (B.name message.now) (adjusted n chain) }
+    ensures refused { OnFalse result (B.value store.new ≡ B.value store.old) }
+    ensures nothing { n ≡ pos 0 → B.value store.new ≡ B.value store.old }
+    ensures left { let shown = bytes_of (in_hand (B.value store.old) (B.name message.now)) in
+        OnTrue result (bytes_of (in_hand (B.value store.new) (B.name message.now)) ≡ left_of n shown) }
+    // The blocks stay, with their kinds, bands and data blocks, and so no block is taken or freed.
+    ensures blocks { map without_bytes (in_hand (B.value store.new) (B.name message.now)) ≡ map without_bytes (in_hand (B.value store.old) (B.name message.now)) }
+    ensures free_m { free_m (B.value store.new) ≡ free_m (B.value store.old) }
+    ensures free_d { free_d (B.value store.new) ≡ free_d (B.value store.old) }
 {
     let end = end_of(n);
     let size = n.unsigned_abs();
