@@ -166,7 +166,12 @@ fn trims_of_copy<B: Blocks>(store: &mut B, message: &B::Mp) -> Result<Trims, NoB
     let tail = adjmsg(store, &copy, -301);
     let behind_tail = msgdsize(store, &copy);
     store.free(copy);
-    Ok(Trims { free, unshared, head: (head, behind_head), tail: (tail, behind_tail) })
+    Ok(Trims {
+        free,
+        unshared,
+        head: (head, behind_head),
+        tail: (tail, behind_tail),
+    })
 }
 
 // How many blocks are free beside a message's duplicate, which is freed again, and what the trims of a copy answer.

@@ -1,5 +1,4 @@
-use Rattle.std.proofs.Common.{◌∙◌, ap, arith}
-use Rattle.strm_msg.specs.Adjusted.{place_from}
+use Rattle.std.proofs.Common.{arith}
 use Rattle.strm_msg.proofs.Adjusting.{trimming-first, trimming-in_hand, trimming-length, trimming-next}
 use Rattle.strm_msg.proofs.adjust.trim_blocks.Goals as goal
 
