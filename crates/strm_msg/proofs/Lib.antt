@@ -1,7 +1,14 @@
+pub mod AdjustedRows
+pub mod Adjusting
+pub mod AdjustingBlocks
+pub mod AdjustingBytes
+pub mod AdjustingRuns
+pub mod AdjustingStore
 pub mod Bounds
 pub mod Counts
 pub mod Hands
 pub mod InHand
+pub mod KindNumbers
 pub mod Making
 pub mod Parts
 pub mod Pieces

@@ -1,3 +1,5 @@
 pub mod Bytes
 pub mod Made
 pub mod Taken
+pub mod Runs
+pub mod Adjusted

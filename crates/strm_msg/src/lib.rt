@@ -3,12 +3,14 @@
 //! bytes of its M_DATA blocks.
 #![tactic(auto)]
 
+mod adjust;
 mod bytes;
 mod copies;
 mod data;
 mod kinds;
 mod sizes;
 
+pub use adjust::adjmsg;
 pub use bytes::from_bytes;
 pub use copies::{copymsg, dupmsg};
 pub use data::take_data;
