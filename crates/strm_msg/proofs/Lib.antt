@@ -5,5 +5,6 @@ pub mod InHand
 pub mod Making
 pub mod Parts
 pub mod Pieces
+pub mod Pulling
 pub mod Sharing
 pub mod Taking

@@ -7,6 +7,7 @@ mod bytes;
 mod copies;
 mod data;
 mod kinds;
+mod pullup;
 mod sizes;
 
 pub use bytes::from_bytes;
