@@ -2,6 +2,7 @@ pub mod Bounds
 pub mod Counts
 pub mod Hands
 pub mod InHand
+pub mod KindNumbers
 pub mod Making
 pub mod Parts
 pub mod Pieces

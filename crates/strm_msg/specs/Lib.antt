@@ -1,3 +1,4 @@
 pub mod Bytes
 pub mod Made
 pub mod Taken
+pub mod Runs
