@@ -1,5 +1,7 @@
 pub mod Bounds
 pub mod Counts
+pub mod Dropping
+pub mod Gathering
 pub mod Hands
 pub mod InHand
 pub mod KindNumbers

@@ -1,4 +1,5 @@
 pub mod Bytes
 pub mod Made
+pub mod Pulled
 pub mod Taken
 pub mod Runs

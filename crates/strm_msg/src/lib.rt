@@ -7,12 +7,13 @@ mod bytes;
 mod copies;
 mod data;
 mod kinds;
-mod pullup;
+mod pulls;
 mod sizes;
 
 pub use bytes::from_bytes;
 pub use copies::{copymsg, dupmsg};
 pub use data::take_data;
+pub use pulls::{pullup, NotPulled};
 pub use sizes::{control_len, data_len, msgdsize};
 
 #[cfg(test)]
