@@ -7,6 +7,7 @@ use Rattle.std.proofs.lemmas.List.Sums.{take_while-cons}
 use Rattle.strm_types.specs.declared.kinds.MsgKind.{MsgKind}
 use Rattle.strm_blocks.specs.Blocks.{Block, block_at, no_block}
 use Rattle.strm_msg.specs.Bytes.{bytes_of}
+use Rattle.strm_msg.specs.Made.{piece}
 use Rattle.strm_msg.specs.Taken.{filled}
 use Rattle.strm_msg.specs.Runs.{same_kind}
 use Rattle.strm_msg.specs.Pulled.{run_of}
@@ -84,3 +85,8 @@ pub filled-first : (buffer bytes : List ℕ) (count : ℕ) → count ≤ length 
 filled-first buffer bytes count room enough =
     let len = length-take (length buffer) bytes in
     take-append-le count (take (length buffer) bytes) (drop (length bytes) buffer) (omega arith) ∙ take-take count (length buffer) bytes room
+
+-- a block of the first bytes of a chain
+pub piece-first : {kind k : MsgKind} {band b : ℕ} (zeros bytes buffer : List ℕ) (count : ℕ) → kind ≡ k → band ≡ b → buffer ≡ filled zeros bytes → count ≤ length zeros → count ≤ length bytes → piece kind band (take count buffer) ≡ piece k b (take count bytes)
+piece-first {kind} {k} {band} {b} zeros bytes buffer count kind_is band_is given room enough =
+    ap (λ x. piece x band (take count buffer)) kind_is ∙ ap (λ n. piece k n (take count buffer)) band_is ∙ ap (λ xs. piece k b (take count xs)) given ∙ ap (λ xs. piece k b xs) (filled-first zeros bytes count room enough)

@@ -4,6 +4,7 @@ pub mod Dropping
 pub mod Gathering
 pub mod Hands
 pub mod InHand
+pub mod Joining
 pub mod KindNumbers
 pub mod Making
 pub mod Parts
