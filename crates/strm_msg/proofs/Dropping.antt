@@ -36,9 +36,9 @@ cut-is kind n (b ∷ chain) =
     let by : cut kind n (b ∷ chain) ≡ left_of n (cond (same_kind b.kind kind) (b ∷ run) []) ++ drop (length (cond (same_kind b.kind kind) (b ∷ run) [])) (b ∷ chain) =
     elim (same_kind b.kind kind) as (λ v. cond v (cond (nat_le (length b.bytes) n) (cut kind (n - length b.bytes) chain) (trimmed_head n b ∷ chain)) (b ∷ chain) ≡ left_of n (cond v (b ∷ run) []) ++ drop (length (cond v (b ∷ run) [])) (b ∷ chain)) [
       | true ↦ elim (nat_le (length b.bytes) n) as (λ w. cond w (cut kind (n - length b.bytes) chain) (trimmed_head n b ∷ chain) ≡ cond w (left_of (n - length b.bytes) run) (trimmed_head n b ∷ run) ++ drop (length run) chain) [
-          | true ↦ cut-is kind (n - length b.bytes) chain
-          | false ↦ ap (λ xs. trimmed_head n b ∷ xs) (sym (run-parts kind chain))
-        ]
+        | true ↦ cut-is kind (n - length b.bytes) chain
+        | false ↦ ap (λ xs. trimmed_head n b ∷ xs) (sym (run-parts kind chain))
+      ]
       | false ↦ refl
     ] in
     by ∙ sym (ap (λ xs. left_of n xs ++ drop (length xs) (b ∷ chain)) (run-cons kind b chain))

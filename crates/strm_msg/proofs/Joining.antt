@@ -72,6 +72,13 @@ fewer i j (h ∷ hand) =
     let kept = sum_by-cons (λ (x : Held). cond (x.name == j) 1 0) h (without i hand) in
     elim (h.name == i) as (λ v. times_in j (cond v hand (h ∷ without i hand)) ≤ times_in j (h ∷ hand)) [ true ↦ omega arith | false ↦ omega arith ]
 
+fresh-dropped : (s : StoreValue) (i j : ℕ) → IsFreshName s j → IsFreshName (dropped s i) j
+fresh-dropped s i j none = let less = fewer i j s.hand in omega arith
+
+-- the message that was pulled up is in hand
+pub pulled-here : {old new : StoreValue} {i j : ℕ} {n : ℤ} → PulledUp old new i j n → IsInHand new j
+pulled-here {old} {new} {i} {j} {n} up = ap (λ t. times_in j t.hand) up.after ∙ held-is (dropped old i) j (pulled up.number up.count (in_hand old i)) (fresh-dropped old i j up.fresh_name)
+
 -- the new block in front of the message
 module _ {s s1 s2 : StoreValue} (i count : ℕ) {j w : ℕ} (is : IsInHand s i) (made : Copied s s1 j (piece (block_at 0 (in_hand s i)).kind (block_at 0 (in_hand s i)).band (take count (bytes_of (in_hand s i))))) (kept : w ≡ j) (linked : s2 ≡ changed (dropped s1 i) j (in_hand s1 j ++ in_hand s1 i)) where
   abbrev copy : Block
@@ -92,7 +99,7 @@ module _ {s s1 s2 : StoreValue} (i count : ℕ) {j w : ℕ} (is : IsInHand s i) 
       linked ∙ ap (λ u. changed (dropped u i) j (in_hand u j ++ in_hand u i)) made.after ∙ ap (λ xs. changed (dropped t i) j (xs ++ in_hand t i)) new ∙ ap (λ xs. changed (dropped t i) j (copy ∷ xs)) old ∙ ap (λ u. changed u j (copy ∷ in_hand s i)) gone ∙ held-changed base j (copy ∷ []) (copy ∷ in_hand s i)
 
   fresh : IsFreshName base j
-  fresh = let f = made.fresh_name in let less = fewer i j s.hand in omega arith
+  fresh = fresh-dropped s i j made.fresh_name
 
   pub joined-in_hand : IsInHand s2 w
   joined-in_hand = ap (λ k. times_in k s2.hand) kept ∙ ap (λ t. times_in j t.hand) whole ∙ held-is base j (copy ∷ in_hand s i) fresh

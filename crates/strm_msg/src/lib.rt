@@ -13,7 +13,7 @@ mod sizes;
 pub use bytes::from_bytes;
 pub use copies::{copymsg, dupmsg};
 pub use data::take_data;
-pub use pulls::{pullup, NotPulled};
+pub use pulls::{NotPulled, pullup};
 pub use sizes::{control_len, data_len, msgdsize};
 
 #[cfg(test)]

@@ -15,6 +15,7 @@ use strm_blocks::{Blocks, NoBlocks};
 use strm_types::Refusal;
 
 /// Why a message was not pulled up, and its name again.
+#[derive(Drop)]
 pub struct NotPulled<Mp> {
     /// EINVAL, ERANGE or ENOSR.
     pub refusal: Refusal,
@@ -155,7 +156,10 @@ pub fn pullup<B: Blocks>(store: &mut B, message: B::Mp, n: isize) -> Result<B::M
     };
     let joined = match join(store, &message, count) {
         Ok(joined) => joined,
-        Err(NoBlocks) => return Err(NotPulled { refusal: Refusal::Enosr, message }),
+        Err(NoBlocks) => return Err(NotPulled {
+            refusal: Refusal::Enosr,
+            message,
+        }),
     };
     let whole = store.link(joined, message);
     Ok(drop_joined(store, whole, count))
