@@ -1,3 +1,8 @@
+pub mod Adjusting
+pub mod AdjustingBlocks
+pub mod AdjustingBytes
+pub mod AdjustingRuns
+pub mod AdjustingStore
 pub mod Bounds
 pub mod Counts
 pub mod Dropping

@@ -127,7 +127,7 @@ control-without n (b ∷ chain) =
     ] in
     by (is_body_kind b.kind) refl
 
-drop-least : (k n : ℕ) (xs : List ℕ) → n ≡ min k (length xs) → drop n xs ≡ drop k xs
+pub drop-least : (k n : ℕ) (xs : List ℕ) → n ≡ min k (length xs) → drop n xs ≡ drop k xs
 drop-least k n xs is =
     elim (cases_lt k (length xs)) [
       | inl lt ↦ ap (λ m. drop m xs) (let e : n ≡ k = omega arith in e)

@@ -3,3 +3,4 @@ pub mod Made
 pub mod Pulled
 pub mod Taken
 pub mod Runs
+pub mod Adjusted

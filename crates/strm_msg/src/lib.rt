@@ -3,6 +3,7 @@
 //! bytes of its M_DATA blocks.
 #![tactic(auto)]
 
+mod adjust;
 mod bytes;
 mod copies;
 mod data;
@@ -10,6 +11,7 @@ mod kinds;
 mod pulls;
 mod sizes;
 
+pub use adjust::adjmsg;
 pub use bytes::from_bytes;
 pub use copies::{copymsg, dupmsg};
 pub use data::take_data;

@@ -5,7 +5,7 @@ ghost use Rattle.strm_blocks.specs.Blocks.{IsInHand};
 
 mod pulls;
 
-use crate::{control_len, copymsg, data_len, dupmsg, from_bytes, msgdsize, take_data};
+use crate::{adjmsg, control_len, copymsg, data_len, dupmsg, from_bytes, msgdsize, take_data};
 use std::test::Fail;
 use strm_blocks::{Blocks, NoBlocks, TableStore};
 use strm_types::{Band, MsgKind};
@@ -95,5 +95,38 @@ fn copies_have_the_parts_of_what_was_copied(rt: HostRuntime) -> Result<(), Fail>
     assert_eq!(rt; parts_of_dup(&mut store, &message), Ok((Some(4), Some(2))));
     store.free(message);
     assert_eq!(rt; store.free_blocks(), (4, 3));
+    Ok(())
+}
+
+// Trims bytes off an end of a message.
+fn adjust<B: Blocks>(store: &mut B, message: &B::Mp, n: isize) -> bool
+    requires { IsInHand (B.value store.old) (B.name message.now) }
+    ensures { IsInHand (B.value store.new) (B.name message.now) }
+{
+    adjmsg(store, message, n)
+}
+
+#[test]
+fn bytes_are_trimmed_within_a_run(rt: HostRuntime) -> Result<(), Fail> {
+    let mut store = TableStore::new(rt.alloc(), 4, 4)?;
+    let message = of_two_parts(&mut store, b"head", &[b'x'; 300])?;
+    assert_eq!(rt; adjust(&mut store, &message, 5), false);
+    assert_eq!(rt; adjust(&mut store, &message, -301), false);
+    assert_eq!(rt; adjust(&mut store, &message, isize::MIN), false);
+    assert_eq!(rt; adjust(&mut store, &message, isize::MAX), false);
+    assert_eq!(rt; adjust(&mut store, &message, 0), true);
+    assert_eq!(rt; control_len(&store, &message), Some(4));
+    assert_eq!(rt; msgdsize(&store, &message), 300);
+    assert_eq!(rt; adjust(&mut store, &message, 3), true);
+    assert_eq!(rt; control_len(&store, &message), Some(1));
+    assert_eq!(rt; adjust(&mut store, &message, -50), true);
+    assert_eq!(rt; msgdsize(&store, &message), 250);
+    assert_eq!(rt; adjust(&mut store, &message, 1), true);
+    assert_eq!(rt; adjust(&mut store, &message, 1), false);
+    assert_eq!(rt; adjust(&mut store, &message, -250), true);
+    assert_eq!(rt; control_len(&store, &message), Some(0));
+    assert_eq!(rt; data_len(&store, &message), Some(0));
+    store.free(message);
+    assert_eq!(rt; store.free_blocks(), (4, 4));
     Ok(())
 }
