@@ -15,7 +15,7 @@ abbrev pub cut : MsgKind → ℕ → List Block → List Block
 cut kind n [] = []
 cut kind n (b ∷ chain) = cond (same_kind b.kind kind) (cond (nat_le (length b.bytes) n) (cut kind (n - length b.bytes) chain) (trimmed_head n b ∷ chain)) (b ∷ chain)
 
-run-cons : (kind : MsgKind) (b : Block) (chain : List Block) → run_of kind (b ∷ chain) ≡ cond (same_kind b.kind kind) (b ∷ run_of kind chain) []
+pub run-cons : (kind : MsgKind) (b : Block) (chain : List Block) → run_of kind (b ∷ chain) ≡ cond (same_kind b.kind kind) (b ∷ run_of kind chain) []
 run-cons kind b chain = take_while-cons (λ b. same_kind b.kind kind) b chain
 
 -- a run and what is behind it

@@ -11,31 +11,8 @@ use Rattle.strm_msg.specs.Made.{piece}
 use Rattle.strm_msg.specs.Taken.{filled}
 use Rattle.strm_msg.specs.Runs.{same_kind}
 use Rattle.strm_msg.specs.Pulled.{run_of}
-use Rattle.strm_msg.proofs.Parts.{chain-at}
+use Rattle.strm_msg.proofs.AdjustingBytes.{bytes-append}
 use Rattle.strm_msg.proofs.Taking.{filled-more, filled-none, length-filled}
-
-pub bytes-append : (xs ys : List Block) → bytes_of (xs ++ ys) ≡ bytes_of xs ++ bytes_of ys
-bytes-append [] ys = refl
-bytes-append (b ∷ xs) ys = ap (λ zs. b.bytes ++ zs) (bytes-append xs ys) ∙ sym (append_assoc b.bytes (bytes_of xs) (bytes_of ys))
-
--- what a test of two kinds said
-pub kinds-said : {a b k j : MsgKind} {said value : Bool} → a ≡ k → b ≡ j → said ≡ same_kind a b → said ≡ value → same_kind k j ≡ value
-kinds-said {a} {b} {k} {j} a_is b_is is was = ap (λ x. same_kind x j) (sym a_is) ∙ ap (λ x. same_kind a x) (sym b_is) ∙ sym is ∙ was
-
--- the run from a block on
-module _ (kind : MsgKind) (chain : List Block) (at : ℕ) (within : at < length chain) where
-  run-at : run_of kind (drop at chain) ≡ cond (same_kind (block_at at chain).kind kind) (block_at at chain ∷ run_of kind (drop (at + 1) chain)) []
-  run-at = ap (λ xs. run_of kind xs) (chain-at chain at within) ∙ take_while-cons (λ b. same_kind b.kind kind) (block_at at chain) (drop (at + 1) chain)
-
-  pub run-more : same_kind (block_at at chain).kind kind ≡ true → length (bytes_of (run_of kind (drop at chain))) ≡ length (block_at at chain).bytes + length (bytes_of (run_of kind (drop (at + 1) chain)))
-  run-more same =
-      ap (λ xs. length (bytes_of xs)) run-at ∙ ap (λ v. length (bytes_of (cond v (block_at at chain ∷ run_of kind (drop (at + 1) chain)) []))) same ∙ length-append (block_at at chain).bytes (bytes_of (run_of kind (drop (at + 1) chain)))
-
-  pub run-ends : same_kind (block_at at chain).kind kind ≡ false → length (bytes_of (run_of kind (drop at chain))) ≡ 0
-  run-ends other = ap (λ xs. length (bytes_of xs)) run-at ∙ ap (λ v. length (bytes_of (cond v (block_at at chain ∷ run_of kind (drop (at + 1) chain)) []))) other
-
-pub run-all : (kind : MsgKind) (chain : List Block) (at : ℕ) → length chain ≤ at → length (bytes_of (run_of kind (drop at chain))) ≡ 0
-run-all kind chain at all = ap (λ xs. length (bytes_of (run_of kind xs))) (drop_all at chain all)
 
 -- A buffer into which the bytes of a chain's first so many blocks were put.
 pub record Gathered (chain : List Block) (before buffer : List ℕ) (done at : ℕ) : Type 0 where
@@ -87,6 +64,6 @@ filled-first buffer bytes count room enough =
     take-append-le count (take (length buffer) bytes) (drop (length bytes) buffer) (omega arith) ∙ take-take count (length buffer) bytes room
 
 -- a block of the first bytes of a chain
-pub piece-first : {kind k : MsgKind} {band b : ℕ} (zeros bytes buffer : List ℕ) (count : ℕ) → kind ≡ k → band ≡ b → buffer ≡ filled zeros bytes → count ≤ length zeros → count ≤ length bytes → piece kind band (take count buffer) ≡ piece k b (take count bytes)
-piece-first {kind} {k} {band} {b} zeros bytes buffer count kind_is band_is given room enough =
+pub piece-first : {kind : MsgKind} {band : ℕ} (k : MsgKind) (b : ℕ) (zeros bytes buffer : List ℕ) (count : ℕ) → kind ≡ k → band ≡ b → buffer ≡ filled zeros bytes → count ≤ length zeros → count ≤ length bytes → piece kind band (take count buffer) ≡ piece k b (take count bytes)
+piece-first {kind} {band} k b zeros bytes buffer count kind_is band_is given room enough =
     ap (λ x. piece x band (take count buffer)) kind_is ∙ ap (λ n. piece k n (take count buffer)) band_is ∙ ap (λ xs. piece k b (take count xs)) given ∙ ap (λ xs. piece k b xs) (filled-first zeros bytes count room enough)

@@ -10,13 +10,14 @@ use Rattle.strm_types.specs.declared.refusals.Refusal.TheVariants.{Erange, Enosr
 use Rattle.strm_types.specs.Refused.{or_else, unless}
 use Rattle.strm_blocks.specs.Blocks.{Block, Held, StoreValue, IsInHand, IsFreshName, block_at, in_hand, held, dropped, changed, times_in, without, free_m, free_d, copy_of, trimmed_head}
 use Rattle.strm_blocks.specs.Outcomes.{Copied}
-use Rattle.strm_msg.specs.Bytes.{bytes_of}
+use Rattle.strm_msg.specs.Bytes.{bytes_of, control_bytes, data_bytes}
 use Rattle.strm_msg.specs.Made.{piece}
 use Rattle.strm_msg.specs.Runs.{front_run}
 use Rattle.strm_msg.specs.Pulled.{run_bytes, run_of, left_of, without_joined, asked_of, count_refusal, block_refusal, pull_refusal, joined, pulled, PulledUp}
 use Rattle.strm_msg.proofs.Dropping.{run-parts}
-use Rattle.strm_msg.proofs.Gathering.{bytes-append}
+use Rattle.strm_msg.proofs.AdjustingBytes.{bytes-append}
 use Rattle.strm_msg.proofs.Hands.{other-name, held-is, held-chain, held-apart, stays-chain, held-changed}
+use Rattle.strm_msg.proofs.PulledParts.{pulled-control, pulled-body}
 use Rattle.strm_msg.proofs.Taking.{drop-append}
 
 -- no more bytes than there are are joined
@@ -138,6 +139,7 @@ module _ {s s1 s2 : StoreValue} (i count : ℕ) {j w : ℕ} (is : IsInHand s i) 
         cut ∙ ap (λ k. changed s2 k (take 1 (in_hand s2 k) ++ without_joined (block_at 0 (in_hand s2 k)).kind count (drop 1 (in_hand s2 k)))) kept ∙ ap (λ u. changed u j (take 1 (in_hand u j) ++ without_joined (block_at 0 (in_hand u j)).kind count (drop 1 (in_hand u j)))) whole ∙ ap (λ xs. changed t j (take 1 xs ++ without_joined (block_at 0 xs).kind count (drop 1 xs))) now ∙ held-changed base j (copy ∷ chain) (copy ∷ without_joined (block_at 0 chain).kind count chain) ∙ ap (λ (b : Block). held base j (b ∷ without_joined (block_at 0 chain).kind count chain)) copy-is in
         let named : r ≡ j = name_is ∙ kept in
         let after : new ≡ held base r (pulled made.number count chain) = done ∙ ap (λ k. held base k (pulled made.number count chain)) (sym named) in
+        let shows : in_hand new r ≡ pulled made.number count chain = ap (λ u. in_hand u r) after ∙ held-chain base r (pulled made.number count chain) in
         record {
           number = made.number;
           count = count;
@@ -147,5 +149,7 @@ module _ {s s1 s2 : StoreValue} (i count : ℕ) {j w : ℕ} (is : IsInHand s i) 
           exists = made.exists;
           fresh_number = made.fresh_number;
           after = after;
-          shown = ap (λ u. bytes_of (in_hand u r)) after ∙ ap (λ xs. bytes_of xs) (held-chain base r (pulled made.number count chain)) ∙ pulled-shown made.number count chain;
+          shown = ap (λ xs. bytes_of xs) shows ∙ pulled-shown made.number count chain;
+          control = ap (λ xs. control_bytes xs) shows ∙ pulled-control made.number count chain;
+          body = ap (λ xs. data_bytes xs) shows ∙ pulled-body made.number count chain;
         }

@@ -14,6 +14,7 @@ pub mod KindNumbers
 pub mod Making
 pub mod Parts
 pub mod Pieces
+pub mod PulledParts
 pub mod Pulling
 pub mod Sharing
 pub mod Taking

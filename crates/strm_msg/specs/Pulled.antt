@@ -5,7 +5,7 @@ use Rattle.strm_types.specs.declared.kinds.MsgKind.{MsgKind}
 use Rattle.strm_types.specs.declared.refusals.Refusal.{Refusal}
 use Rattle.strm_types.specs.declared.refusals.Refusal.TheVariants.{Einval, Enosr, Erange}
 use Rattle.strm_blocks.specs.Blocks.{Block, StoreValue, IsFreshName, block_at, in_hand, held, dropped, references, free_m, free_d, trimmed_head}
-use Rattle.strm_msg.specs.Bytes.{bytes_of}
+use Rattle.strm_msg.specs.Bytes.{bytes_of, control_bytes, data_bytes}
 use Rattle.strm_msg.specs.Runs.{front_run, same_kind}
 
 -- the bytes of the run of blocks of one kind at a message's front
@@ -59,8 +59,8 @@ joined number count chain = record {
 abbrev pub pulled : ℕ → ℕ → List Block → List Block
 pulled number count chain = joined number count chain ∷ without_joined (block_at 0 chain).kind count chain
 
--- A message was pulled up. It took one block of each kind, and it is a new one in hand in place of the old; the bytes
--- that it shows are the same.
+-- A message was pulled up. It took one block of each kind, and it is a new one in hand in place of the old. Its bytes are
+-- the same, and each of its two parts has the same.
 pub record PulledUp (old new : StoreValue) (message name : ℕ) (n : ℤ) : Type 0 where
   pub number : ℕ
   pub count : ℕ
@@ -71,6 +71,8 @@ pub record PulledUp (old new : StoreValue) (message name : ℕ) (n : ℤ) : Type
   pub fresh_number : references old number ≡ 0
   pub after : new ≡ held (dropped old message) name (pulled number count (in_hand old message))
   pub shown : bytes_of (in_hand new name) ≡ bytes_of (in_hand old message)
+  pub control : control_bytes (in_hand new name) ≡ control_bytes (in_hand old message)
+  pub body : data_bytes (in_hand new name) ≡ data_bytes (in_hand old message)
 
 -- a message was not pulled up, for that reason; it is still there, and nothing changed
 pub record PullRefused (old new : StoreValue) (message name : ℕ) (n : ℤ) (refusal : Refusal) : Type 0 where

@@ -8,6 +8,7 @@ ghost use Rattle.strm_msg.specs.Made.{piece};
 ghost use Rattle.strm_msg.specs.Runs.{front_run};
 ghost use Rattle.strm_msg.specs.Pulled.{run_bytes, asked_of, count_refusal, without_joined, PulledUp, PullRefused};
 
+use crate::adjust::{End, run_at};
 use crate::bytes::block_of;
 use crate::data::copy_into;
 use crate::kinds::same_kind;
@@ -40,24 +41,6 @@ fn joined_count(n: isize, size: usize) -> Result<usize, Refusal>
         return Err(Refusal::Erange);
     }
     Ok(count)
-}
-
-/// How many bytes the run of blocks of one kind at a message's front has.
-fn run_len<B: Blocks>(store: &B, message: &B::Mp) -> usize
-    requires { IsInHand (B.value store.now) (B.name message.now) }
-    ensures { result ≡ length (run_bytes (in_hand (B.value store.now) (B.name message.now))) }
-{
-    store.audit();
-    let count = store.blocks(message);
-    let kind = store.kind(message, 0);
-    let mut len = 0;
-    for at in 0..count {
-        if !same_kind(store.kind(message, at), kind) {
-            return len;
-        }
-        len += store.block_len(message, at);
-    }
-    len
 }
 
 /// Copies the bytes of a message into a buffer, as many as both have.
@@ -150,7 +133,8 @@ pub fn pullup<B: Blocks>(store: &mut B, message: B::Mp, n: isize) -> Result<B::M
         (λ m. PulledUp (B.value store.old) (B.value store.new) (B.name message) (B.name m) n)
         (λ not. PullRefused (B.value store.old) (B.value store.new) (B.name message) (B.name not.message) n not.refusal) }
 {
-    let count = match joined_count(n, run_len(store, &message)) {
+    let run = run_at(store, &message, End::Head);
+    let count = match joined_count(n, run.len) {
         Ok(count) => count,
         Err(refusal) => return Err(NotPulled { refusal, message }),
     };

@@ -10,8 +10,8 @@ pub join-requires-clause-enough : goal.join-requires-clause-enough
 join-requires-clause-enough g c =
     let chain = in_hand (g.B.Blocks.value c.args.store.now) (g.B.Blocks.name c.args.message) in
     let fits : SFits w64 c.args.n = search rules in
-    let asked : asked_of c.args.n c.run_len.result ≡ Some c.in-Ok.count = ap (λ z. asked_of z c.run_len.result) (sym (to_z-of_z w64 c.args.n fits)) ∙ c.in-Ok.ensures.0 in
-    let enough = asked-enough c.args.n chain c.in-Ok.count c.run_len.ensures asked in
+    let asked : asked_of c.args.n c.run_at-run.result.len ≡ Some c.in-Ok.count = ap (λ z. asked_of z c.run_at-run.result.len) (sym (to_z-of_z w64 c.args.n fits)) ∙ c.in-Ok.ensures.0 in
+    let enough = asked-enough c.args.n chain c.in-Ok.count c.run_at-run.ensures.len asked in
     let within = run-within chain in
     omega arith
 
@@ -21,5 +21,5 @@ drop_joined-requires g c = joined-in_hand (g.B.Blocks.name c.args.message) c.in-
 pub returns : goal.returns
 returns g c =
     let fits : SFits w64 c.args.n = search rules in
-    let asked : asked_of c.args.n c.run_len.result ≡ Some c.in-Ok.count = ap (λ z. asked_of z c.run_len.result) (sym (to_z-of_z w64 c.args.n fits)) ∙ c.in-Ok.ensures.0 in
-    pulled-up (g.B.Blocks.name c.args.message) c.in-Ok.count c.requires c.in-Ok-join.ensures c.link-whole.ensures.kept_name c.link-whole.ensures.linked c.args.n c.run_len.ensures asked c.in-Ok.ensures.1 c.drop_joined.ensures.kept_name c.drop_joined.ensures.dropped
+    let asked : asked_of c.args.n c.run_at-run.result.len ≡ Some c.in-Ok.count = ap (λ z. asked_of z c.run_at-run.result.len) (sym (to_z-of_z w64 c.args.n fits)) ∙ c.in-Ok.ensures.0 in
+    pulled-up (g.B.Blocks.name c.args.message) c.in-Ok.count c.requires c.in-Ok-join.ensures c.link-whole.ensures.kept_name c.link-whole.ensures.linked c.args.n c.run_at-run.ensures.len asked c.in-Ok.ensures.1 c.drop_joined.ensures.kept_name c.drop_joined.ensures.dropped
