@@ -142,12 +142,13 @@ module _ {old cur : StoreValue} {end : End} {i n steps left : ℕ} (is : IsInHan
         let size = length-seen end partly ∙ partly-length (omega arith) in
         ap (λ k. block_at k (in_hand cur i)) place ∙ ap (λ xs. block_at (place_from end (length (in_hand old i)) steps) xs) trimming-chain ∙ ap (λ k. block_at (place_from end k steps) (seen_from end partly)) (sym size) ∙ block-seen end (seen_from end partly) steps (omega arith) ∙ ap (λ xs. block_at steps xs) (seen-seen end partly) ∙ front-block (trim_at end) n view steps in-view
 
-    pub trimming-next : {new : StoreValue} {left' : ℕ} (at part : ℕ) → at ≡ place_from end (length (in_hand old i)) steps → part ≡ min left (length (block_at at (in_hand cur i)).bytes) → left' ≡ left - part → new ≡ changed cur i (with_block at (trim_at end part (block_at at (in_hand cur i))) (in_hand cur i)) → Trimming old new end i n (steps + 1) left'
-    trimming-next {new} {left'} at part place part_is left_is trim =
+    pub trimming-next : {new : StoreValue} {left' count : ℕ} (at part : ℕ) → count ≡ length (in_hand old i) → at ≡ place_from end count steps → part ≡ min left (length (block_at at (in_hand cur i)).bytes) → left' ≡ left - part → new ≡ changed cur i (with_block at (trim_at end part (block_at at (in_hand cur i))) (in_hand cur i)) → Trimming old new end i n (steps + 1) left'
+    trimming-next {new} {left'} {count} at part count_is place_is part_is left_is trim =
+        let place = place_is ∙ ap (λ k. place_from end k steps) count_is in
         let b = block_at steps view in
         let same = trimming-block at place in
         let len = ap (λ (x : Block). length x.bytes) same in
-        let count = so.count in
+        let still = so.count in
         let more = bytes-next (trim_at end) n view steps in-view in
         let size = partly-length (omega arith) in
         let step = front-next (trim_at end) n view steps in-view part (omega arith) in

@@ -1,3 +1,4 @@
+pub mod AdjustedRows
 pub mod Adjusting
 pub mod AdjustingBlocks
 pub mod AdjustingBytes

@@ -130,3 +130,81 @@ fn bytes_are_trimmed_within_a_run(rt: HostRuntime) -> Result<(), Fail> {
     assert_eq!(rt; store.free_blocks(), (4, 4));
     Ok(())
 }
+
+// What was seen while a copy of a message was trimmed: how many blocks were free, before and after the message could not
+// be duplicated, and for each trim its answer and how many data bytes were left.
+#[derive(Clone, Copy)]
+struct Trims {
+    free: (usize, usize),
+    unshared: (bool, (usize, usize)),
+    head: (bool, usize),
+    tail: (bool, usize),
+}
+
+// Whether a message can't be duplicated, and how many blocks are free afterwards.
+fn unshared<B: Blocks>(store: &mut B, message: &B::Mp) -> (bool, (usize, usize))
+    requires { IsInHand (B.value store.old) (B.name message.now) }
+    ensures { B.value store.new ≡ B.value store.old }
+{
+    match dupmsg(store, message) {
+        Ok(twin) => {
+            store.free(twin);
+            (false, store.free_blocks())
+        }
+        Err(NoBlocks) => (true, store.free_blocks()),
+    }
+}
+
+// What a copy of a message, which is freed again, answers to two trims, and what it has after each.
+fn trims_of_copy<B: Blocks>(store: &mut B, message: &B::Mp) -> Result<Trims, NoBlocks>
+    requires { IsInHand (B.value store.old) (B.name message.now) }
+    ensures { B.value store.new ≡ B.value store.old }
+{
+    let copy = copymsg(store, message)?;
+    let free = store.free_blocks();
+    let unshared = unshared(store, message);
+    let head = adjmsg(store, &copy, 300);
+    let behind_head = msgdsize(store, &copy);
+    let tail = adjmsg(store, &copy, -301);
+    let behind_tail = msgdsize(store, &copy);
+    store.free(copy);
+    Ok(Trims {
+        free,
+        unshared,
+        head: (head, behind_head),
+        tail: (tail, behind_tail),
+    })
+}
+
+// How many blocks are free beside a message's duplicate, which is freed again, and what the trims of a copy answer.
+fn trims_beside_dup<B: Blocks>(
+    store: &mut B,
+    message: &B::Mp,
+) -> Result<((usize, usize), Result<Trims, NoBlocks>), NoBlocks>
+    requires { IsInHand (B.value store.old) (B.name message.now) }
+    ensures { B.value store.new ≡ B.value store.old }
+{
+    let twin = dupmsg(store, message)?;
+    let free = store.free_blocks();
+    let trims = trims_of_copy(store, message);
+    store.free(twin);
+    Ok((free, trims))
+}
+
+#[test]
+fn a_copy_is_trimmed_and_the_message_stays(rt: HostRuntime) -> Result<(), Fail> {
+    let mut store = TableStore::new(rt.alloc(), 10, 10)?;
+    let message = from_bytes(&mut store, MsgKind::Data, Band(0), &[b'y'; 600])?;
+    assert_eq!(rt; store.free_blocks(), (7, 7));
+    let (free, trims) = trims_beside_dup(&mut store, &message)?;
+    assert_eq!(rt; free, (4, 7));
+    let trims = trims?;
+    assert_eq!(rt; trims.free, (1, 4));
+    assert_eq!(rt; trims.unshared, (true, (1, 4)));
+    assert_eq!(rt; trims.head, (true, 300));
+    assert_eq!(rt; trims.tail, (false, 300));
+    assert_eq!(rt; msgdsize(&store, &message), 600);
+    store.free(message);
+    assert_eq!(rt; store.free_blocks(), (10, 10));
+    Ok(())
+}

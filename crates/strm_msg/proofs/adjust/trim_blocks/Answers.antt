@@ -1,5 +1,4 @@
-use Rattle.std.proofs.Common.{◌∙◌, ap, arith}
-use Rattle.strm_msg.specs.Adjusted.{place_from}
+use Rattle.std.proofs.Common.{arith}
 use Rattle.strm_msg.proofs.Adjusting.{trimming-first, trimming-in_hand, trimming-length, trimming-next}
 use Rattle.strm_msg.proofs.adjust.trim_blocks.Goals as goal
 
@@ -27,7 +26,6 @@ trim_block-requires-clause-within g c =
 pub loop-steps-preserved : goal.loop-steps-preserved
 loop-steps-preserved g c =
     let within = c.requires.within in
-    let place = c.place_from-at.ensures.place ∙ ap (λ k. place_from c.args.end k c.loop-steps.steps) c.blocks-count.ensures.count in
     let part_is = c.min-part.ensures in
     let len = c.block_len.ensures.count in
-    trimming-next c.requires.in_hand c.loop-steps.invariant (omega arith) c.place_from-at.result c.min-part.result place (omega arith) (omega arith) c.trim_block.ensures
+    trimming-next c.requires.in_hand c.loop-steps.invariant (omega arith) c.place_from-at.result c.min-part.result c.blocks-count.ensures.count c.place_from-at.ensures.place (omega arith) (omega arith) c.trim_block.ensures
