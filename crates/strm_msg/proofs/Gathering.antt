@@ -1,16 +1,12 @@
 -- The bytes of a message's front run: how many, and how they come into a buffer.
-use Rattle.std.proofs.Common.{ℕ, ◌≡◌, ◌≤◌, ◌<◌, ◌+◌, ◌-◌, min, Bool, false, true, cond, List, [], ◌∷◌, ◌++◌, length, take, drop, refl, sym, ap, ◌∙◌, arith, append-nil, append_assoc}
-use Rattle.std.proofs.Math.Seq.{paste}
-use Rattle.std.proofs.lemmas.List.{length-append, take_all, drop_all, take_more, take-append-drop, take-append-le, length-take, take-take}
+use Rattle.std.proofs.Common.{ℕ, ◌≡◌, ◌≤◌, ◌<◌, ◌+◌, ◌-◌, min, List, [], ◌∷◌, ◌++◌, length, take, drop, sym, ap, ◌∙◌, arith, append-nil}
+use Rattle.std.proofs.lemmas.List.{length-append, take_all, take_more, take-append-drop, take-append-le, length-take, take-take}
 use Rattle.std.proofs.lemmas.List.Edits.{paste_none}
-use Rattle.std.proofs.lemmas.List.Sums.{take_while-cons}
 use Rattle.strm_types.specs.declared.kinds.MsgKind.{MsgKind}
 use Rattle.strm_blocks.specs.Blocks.{Block, block_at, no_block}
 use Rattle.strm_msg.specs.Bytes.{bytes_of}
 use Rattle.strm_msg.specs.Made.{piece}
 use Rattle.strm_msg.specs.Taken.{filled}
-use Rattle.strm_msg.specs.Runs.{same_kind}
-use Rattle.strm_msg.specs.Pulled.{run_of}
 use Rattle.strm_msg.proofs.AdjustingBytes.{bytes-append}
 use Rattle.strm_msg.proofs.Taking.{filled-more, filled-none, length-filled}
 

@@ -1,22 +1,20 @@
 -- A message whose first bytes were joined in a block that was hung in front of it.
-use Rattle.std.proofs.Common.{ℕ, zero, suc, ℤ, pos, negsuc, ◌≡◌, ◌≢◌, ◌≤◌, ◌<◌, ◌+◌, ◌-◌, Bool, true, false, cond, List, [], ◌∷◌, ◌++◌, length, take, drop, Option, None, Some, refl, sym, ap, ◌∙◌, arith, append_assoc}
+use Rattle.std.proofs.Common.{ℕ, zero, suc, ℤ, pos, negsuc, ◌≡◌, ◌≢◌, ◌≤◌, ◌-◌, Bool, true, false, cond, List, [], ◌∷◌, ◌++◌, length, take, drop, None, Some, refl, sym, ap, ◌∙◌, arith, append_assoc}
 use Rattle.std.specs.Prelude.{nat_le, ◌==◌, ◌||◌}
 use Rattle.std.proofs.lemmas.Bool.Decides.{nat_tests}
 use Rattle.std.proofs.lemmas.List.{length-append, length-take-le, take-append-le, take-append-drop, drop_all}
-use Rattle.std.proofs.lemmas.List.Sums.{sum_by-cons}
-use Rattle.strm_types.specs.declared.kinds.MsgKind.{MsgKind}
-use Rattle.strm_types.specs.declared.refusals.Refusal.{Refusal}
 use Rattle.strm_types.specs.declared.refusals.Refusal.TheVariants.{Erange, Enosr}
 use Rattle.strm_types.specs.Refused.{or_else, unless}
-use Rattle.strm_blocks.specs.Blocks.{Block, Held, StoreValue, IsInHand, IsFreshName, block_at, in_hand, held, dropped, changed, times_in, without, free_m, free_d, copy_of, trimmed_head}
+use Rattle.strm_blocks.specs.Blocks.{Block, StoreValue, IsInHand, IsFreshName, block_at, in_hand, held, dropped, changed, times_in, without, free_m, free_d, copy_of, trimmed_head}
 use Rattle.strm_blocks.specs.Outcomes.{Copied}
 use Rattle.strm_msg.specs.Bytes.{bytes_of, control_bytes, data_bytes}
 use Rattle.strm_msg.specs.Made.{piece}
 use Rattle.strm_msg.specs.Runs.{front_run}
-use Rattle.strm_msg.specs.Pulled.{run_bytes, run_of, left_of, without_joined, asked_of, count_refusal, block_refusal, pull_refusal, joined, pulled, PulledUp}
+use Rattle.strm_msg.specs.Pulled.{run_bytes, left_of, without_joined, asked_of, count_refusal, block_refusal, pull_refusal, joined, pulled, PulledUp}
 use Rattle.strm_msg.proofs.Dropping.{run-parts}
 use Rattle.strm_msg.proofs.AdjustingBytes.{bytes-append}
 use Rattle.strm_msg.proofs.Hands.{other-name, held-is, held-chain, held-apart, stays-chain, held-changed}
+use Rattle.strm_msg.proofs.InHand.{fresh-dropped}
 use Rattle.strm_msg.proofs.PulledParts.{pulled-control, pulled-body}
 use Rattle.strm_msg.proofs.Taking.{drop-append}
 
@@ -63,22 +61,6 @@ pub pulled-shown : (number count : ℕ) (chain : List Block) → bytes_of (pulle
 pulled-shown number count chain =
     let rest = drop (length (front_run chain)) chain in
     ap (λ xs. take count (run_bytes chain) ++ xs) (bytes-append (left_of count (front_run chain)) rest ∙ ap (λ xs. xs ++ bytes_of rest) (left-bytes count (front_run chain))) ∙ sym (append_assoc (take count (run_bytes chain)) (drop count (run_bytes chain)) (bytes_of rest)) ∙ ap (λ xs. xs ++ bytes_of rest) (take-append-drop count (run_bytes chain)) ∙ run-whole chain
-
--- a message that goes from the hand takes no other name with it
-fewer : (i j : ℕ) (hand : List Held) → times_in j (without i hand) ≤ times_in j hand
-fewer i j [] = omega arith
-fewer i j (h ∷ hand) =
-    let ih = fewer i j hand in
-    let all = sum_by-cons (λ (x : Held). cond (x.name == j) 1 0) h hand in
-    let kept = sum_by-cons (λ (x : Held). cond (x.name == j) 1 0) h (without i hand) in
-    elim (h.name == i) as (λ v. times_in j (cond v hand (h ∷ without i hand)) ≤ times_in j (h ∷ hand)) [ true ↦ omega arith | false ↦ omega arith ]
-
-fresh-dropped : (s : StoreValue) (i j : ℕ) → IsFreshName s j → IsFreshName (dropped s i) j
-fresh-dropped s i j none = let less = fewer i j s.hand in omega arith
-
--- the message that was pulled up is in hand
-pub pulled-here : {old new : StoreValue} {i j : ℕ} {n : ℤ} → PulledUp old new i j n → IsInHand new j
-pulled-here {old} {new} {i} {j} {n} up = ap (λ t. times_in j t.hand) up.after ∙ held-is (dropped old i) j (pulled up.number up.count (in_hand old i)) (fresh-dropped old i j up.fresh_name)
 
 -- the new block in front of the message
 module _ {s s1 s2 : StoreValue} (i count : ℕ) {j w : ℕ} (is : IsInHand s i) (made : Copied s s1 j (piece (block_at 0 (in_hand s i)).kind (block_at 0 (in_hand s i)).band (take count (bytes_of (in_hand s i))))) (kept : w ≡ j) (linked : s2 ≡ changed (dropped s1 i) j (in_hand s1 j ++ in_hand s1 i)) where

@@ -16,6 +16,7 @@ pub mod Making
 pub mod Parts
 pub mod Pieces
 pub mod PulledParts
+pub mod PulledRows
 pub mod Pulling
 pub mod Sharing
 pub mod Taking

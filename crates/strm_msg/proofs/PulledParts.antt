@@ -1,5 +1,5 @@
 -- The parts of a message that is pulled up: its control bytes and its data bytes.
-use Rattle.std.proofs.Common.{ℕ, ◌≡◌, ◌≤◌, ◌<◌, ◌-◌, Bool, true, false, cond, List, [], ◌∷◌, ◌++◌, length, take, drop, refl, sym, ap, ◌∙◌, arith, append_assoc}
+use Rattle.std.proofs.Common.{ℕ, ◌≡◌, ◌≤◌, ◌-◌, Bool, true, false, cond, List, [], ◌∷◌, ◌++◌, length, take, drop, refl, sym, ap, ◌∙◌, arith, append_assoc}
 use Rattle.std.specs.Prelude.{nat_le}
 use Rattle.std.proofs.lemmas.Bool.Decides.{nat_tests}
 use Rattle.std.proofs.lemmas.List.{take-append-drop, take_all, drop_all}
@@ -8,7 +8,7 @@ use Rattle.strm_blocks.specs.Blocks.{Block, block_at, trimmed_head}
 use Rattle.strm_blocks.specs.Outcomes.{is_control_kind, is_body_kind}
 use Rattle.strm_msg.specs.Bytes.{bytes_of, control_blocks, control_bytes, data_blocks, data_bytes}
 use Rattle.strm_msg.specs.Runs.{same_kind}
-use Rattle.strm_msg.specs.Pulled.{run_bytes, run_of, without_joined, joined, pulled}
+use Rattle.strm_msg.specs.Pulled.{run_of, without_joined, joined, pulled}
 use Rattle.strm_msg.proofs.Dropping.{cut, cut-is, run-cons}
 use Rattle.strm_msg.proofs.KindNumbers.{one-kind}
 use Rattle.strm_msg.proofs.Parts.{control-blocks-cons}

@@ -1,5 +1,4 @@
-use Rattle.std.proofs.Common.{◌<◌, length, arith}
-use Rattle.strm_blocks.specs.Blocks.{in_hand}
+use Rattle.std.proofs.Common.{arith}
 use Rattle.strm_msg.proofs.Dropping.{dropping-none, dropping-in_hand, dropping-more, dropping-other, dropping-part, dropping-one, dropping-all}
 use Rattle.strm_msg.proofs.pulls.drop_joined.Goals as goal
 

@@ -1,5 +1,4 @@
-use Rattle.std.proofs.Common.{sym}
-use Rattle.strm_msg.proofs.Pulling.{alone, behind-in_hand, second-in_hand, freed-last, freed-more, rest-in_hand, first-in_hand, first-apart}
+use Rattle.strm_msg.proofs.Pulling.{alone, behind-in_hand, second-in_hand, freed-more, first-in_hand, first-apart}
 use Rattle.strm_msg.proofs.pulls.free_second.Goals as goal
 
 pub returns-in_default-clause-freed : goal.returns-in_default-clause-freed

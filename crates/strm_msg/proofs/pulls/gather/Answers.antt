@@ -1,6 +1,6 @@
 use Rattle.strm_blocks.specs.Blocks.{in_hand}
-use Rattle.std.proofs.Common.{◌<◌, length, arith}
-use Rattle.strm_msg.proofs.Gathering.{gathered-none, gathered-length, gathered-room, gathered-more, gathered-full, gathered-all}
+use Rattle.std.proofs.Common.{arith}
+use Rattle.strm_msg.proofs.Gathering.{gathered-none, gathered-more, gathered-full}
 use Rattle.strm_msg.proofs.pulls.gather.Goals as goal
 
 pub loop-at-init : goal.loop-at-init

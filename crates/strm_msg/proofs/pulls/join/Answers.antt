@@ -1,4 +1,4 @@
-use Rattle.std.proofs.Common.{ℕ, List, length, replicate, subst, arith, ap, take}
+use Rattle.std.proofs.Common.{ℕ, replicate, subst, arith}
 use Rattle.std.specs.Prelude.{MatchResult}
 use Rattle.std.proofs.lemmas.List.{length-replicate}
 use Rattle.strm_blocks.specs.Blocks.{Block, in_hand, block_at}

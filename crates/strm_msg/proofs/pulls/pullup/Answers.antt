@@ -1,4 +1,4 @@
-use Rattle.std.proofs.Common.{◌≡◌, ◌∙◌, Some, length, arith, ap, sym, rules, w64}
+use Rattle.std.proofs.Common.{◌≡◌, ◌∙◌, Some, arith, ap, sym, rules, w64}
 use mir.Val.{SFits}
 use Rattle.std.proofs.lemmas.Int.{to_z-of_z}
 use Rattle.strm_blocks.specs.Blocks.{in_hand}

@@ -1,4 +1,4 @@
-use Rattle.strm_msg.proofs.Joining.{pulled-here}
+use Rattle.strm_msg.proofs.InHand.{pulled-here}
 use Rattle.strm_msg.proofs.tests.pulls.pulled.Goals as goal
 
 pub returns-in-Ok : goal.returns-in-Ok
