@@ -7,7 +7,7 @@ use Rattle.std.proofs.lemmas.List.{nil_from_length}
 use Rattle.strm_types.specs.declared.kinds.MsgKind.{MsgKind}
 use Rattle.strm_blocks.specs.Blocks.{Block, StoreValue, IsInHand, in_hand, changed, block_at, with_block, trimmed_head, times_in}
 use Rattle.strm_msg.specs.Runs.{same_kind}
-use Rattle.strm_msg.specs.Pulled.{run_of, left_of, without_joined}
+use Rattle.strm_msg.specs.Pulled.{run_of, blocks_left, without_joined}
 use Rattle.strm_msg.proofs.Hands.{changed-chain, changed-in_hand, changed-twice, changed-same}
 
 -- what goes, block by block
@@ -33,15 +33,15 @@ pub cut-is : (kind : MsgKind) (n : ℕ) (chain : List Block) → cut kind n chai
 cut-is kind n [] = refl
 cut-is kind n (b ∷ chain) =
     let run = run_of kind chain in
-    let by : cut kind n (b ∷ chain) ≡ left_of n (cond (same_kind b.kind kind) (b ∷ run) []) ++ drop (length (cond (same_kind b.kind kind) (b ∷ run) [])) (b ∷ chain) =
-    elim (same_kind b.kind kind) as (λ v. cond v (cond (nat_le (length b.bytes) n) (cut kind (n - length b.bytes) chain) (trimmed_head n b ∷ chain)) (b ∷ chain) ≡ left_of n (cond v (b ∷ run) []) ++ drop (length (cond v (b ∷ run) [])) (b ∷ chain)) [
-      | true ↦ elim (nat_le (length b.bytes) n) as (λ w. cond w (cut kind (n - length b.bytes) chain) (trimmed_head n b ∷ chain) ≡ cond w (left_of (n - length b.bytes) run) (trimmed_head n b ∷ run) ++ drop (length run) chain) [
+    let by : cut kind n (b ∷ chain) ≡ blocks_left n (cond (same_kind b.kind kind) (b ∷ run) []) ++ drop (length (cond (same_kind b.kind kind) (b ∷ run) [])) (b ∷ chain) =
+    elim (same_kind b.kind kind) as (λ v. cond v (cond (nat_le (length b.bytes) n) (cut kind (n - length b.bytes) chain) (trimmed_head n b ∷ chain)) (b ∷ chain) ≡ blocks_left n (cond v (b ∷ run) []) ++ drop (length (cond v (b ∷ run) [])) (b ∷ chain)) [
+      | true ↦ elim (nat_le (length b.bytes) n) as (λ w. cond w (cut kind (n - length b.bytes) chain) (trimmed_head n b ∷ chain) ≡ cond w (blocks_left (n - length b.bytes) run) (trimmed_head n b ∷ run) ++ drop (length run) chain) [
         | true ↦ cut-is kind (n - length b.bytes) chain
         | false ↦ ap (λ xs. trimmed_head n b ∷ xs) (sym (run-parts kind chain))
       ]
       | false ↦ refl
     ] in
-    by ∙ sym (ap (λ xs. left_of n xs ++ drop (length xs) (b ∷ chain)) (run-cons kind b chain))
+    by ∙ sym (ap (λ xs. blocks_left n xs ++ drop (length xs) (b ∷ chain)) (run-cons kind b chain))
 
 -- A message whose blocks behind the first one were looked at up to a place. Those that are left stand right behind the first.
 pub record Dropping (s cur : StoreValue) (i m count left at : ℕ) : Type 0 where

@@ -10,7 +10,7 @@ use Rattle.strm_blocks.specs.Outcomes.{Copied}
 use Rattle.strm_msg.specs.Bytes.{bytes_of, control_bytes, data_bytes}
 use Rattle.strm_msg.specs.Made.{piece}
 use Rattle.strm_msg.specs.Runs.{front_run}
-use Rattle.strm_msg.specs.Pulled.{run_bytes, left_of, without_joined, asked_of, count_refusal, block_refusal, pull_refusal, joined, pulled, PulledUp}
+use Rattle.strm_msg.specs.Pulled.{run_bytes, blocks_left, without_joined, asked_of, count_refusal, block_refusal, pull_refusal, joined, pulled, PulledUp}
 use Rattle.strm_msg.proofs.Dropping.{run-parts}
 use Rattle.strm_msg.proofs.AdjustingBytes.{bytes-append}
 use Rattle.strm_msg.proofs.Hands.{other-name, held-is, held-chain, held-apart, stays-chain, held-changed}
@@ -45,12 +45,12 @@ pub asked-enough : (n : ℤ) (chain : List Block) {size : ℕ} (count : ℕ) →
 asked-enough n chain {size} count size_is is = let within = asked-within n size count is in omega arith
 
 -- the bytes that are left
-left-bytes : (n : ℕ) (run : List Block) → bytes_of (left_of n run) ≡ drop n (bytes_of run)
+left-bytes : (n : ℕ) (run : List Block) → bytes_of (blocks_left n run) ≡ drop n (bytes_of run)
 left-bytes n [] = sym (drop_all n [] (omega arith))
 left-bytes n (b ∷ run) =
     let split = drop-append n b.bytes (bytes_of run) in
-    let by : (v : Bool) → nat_le (length b.bytes) n ≡ v → bytes_of (cond v (left_of (n - length b.bytes) run) (trimmed_head n b ∷ run)) ≡ drop n (b.bytes ++ bytes_of run) =
-    λ v. elim v as (λ w. nat_le (length b.bytes) n ≡ w → bytes_of (cond w (left_of (n - length b.bytes) run) (trimmed_head n b ∷ run)) ≡ drop n (b.bytes ++ bytes_of run)) [
+    let by : (v : Bool) → nat_le (length b.bytes) n ≡ v → bytes_of (cond v (blocks_left (n - length b.bytes) run) (trimmed_head n b ∷ run)) ≡ drop n (b.bytes ++ bytes_of run) =
+    λ v. elim v as (λ w. nat_le (length b.bytes) n ≡ w → bytes_of (cond w (blocks_left (n - length b.bytes) run) (trimmed_head n b ∷ run)) ≡ drop n (b.bytes ++ bytes_of run)) [
       | true ↦ (λ e. (let le : length b.bytes ≤ n = grind (arith, nat_tests) in left-bytes (n - length b.bytes) run ∙ sym (ap (λ xs. xs ++ drop (n - length b.bytes) (bytes_of run)) (drop_all n b.bytes le)) ∙ sym split))
       | false ↦ (λ e. (let none : 0 ≡ n - length b.bytes = grind (arith, nat_tests) in ap (λ k. drop n b.bytes ++ drop k (bytes_of run)) none ∙ sym split))
     ] in
@@ -60,7 +60,7 @@ left-bytes n (b ∷ run) =
 pub pulled-shown : (number count : ℕ) (chain : List Block) → bytes_of (pulled number count chain) ≡ bytes_of chain
 pulled-shown number count chain =
     let rest = drop (length (front_run chain)) chain in
-    ap (λ xs. take count (run_bytes chain) ++ xs) (bytes-append (left_of count (front_run chain)) rest ∙ ap (λ xs. xs ++ bytes_of rest) (left-bytes count (front_run chain))) ∙ sym (append_assoc (take count (run_bytes chain)) (drop count (run_bytes chain)) (bytes_of rest)) ∙ ap (λ xs. xs ++ bytes_of rest) (take-append-drop count (run_bytes chain)) ∙ run-whole chain
+    ap (λ xs. take count (run_bytes chain) ++ xs) (bytes-append (blocks_left count (front_run chain)) rest ∙ ap (λ xs. xs ++ bytes_of rest) (left-bytes count (front_run chain))) ∙ sym (append_assoc (take count (run_bytes chain)) (drop count (run_bytes chain)) (bytes_of rest)) ∙ ap (λ xs. xs ++ bytes_of rest) (take-append-drop count (run_bytes chain)) ∙ run-whole chain
 
 -- the new block in front of the message
 module _ {s s1 s2 : StoreValue} (i count : ℕ) {j w : ℕ} (is : IsInHand s i) (made : Copied s s1 j (piece (block_at 0 (in_hand s i)).kind (block_at 0 (in_hand s i)).band (take count (bytes_of (in_hand s i))))) (kept : w ≡ j) (linked : s2 ≡ changed (dropped s1 i) j (in_hand s1 j ++ in_hand s1 i)) where

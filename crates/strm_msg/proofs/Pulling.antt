@@ -37,14 +37,6 @@ module _ {s s1 : StoreValue} {i f r : ℕ} (is : IsInHand s i) (one : Unlinked s
   behind-chain : in_hand s1 r ≡ one.chain
   behind-chain = ap (λ t. in_hand t r) one.after ∙ held-chain base r one.chain
 
-  -- the block behind it was the last one
-  pub freed-last : {s2 s3 : StoreValue} {k : ℕ} → UnlinkedLast s1 s2 r k → s3 ≡ dropped s2 k → s3 ≡ changed s i (take 1 (in_hand s i) ++ drop 2 (in_hand s i))
-  freed-last {s2} {s3} {k} last free =
-      let few : length one.chain ≡ 1 = ap (λ xs. length xs) (sym behind-chain) ∙ last.single in
-      let none : drop 1 one.chain ≡ [] = drop_all 1 one.chain (omega arith) in
-      let left : take 1 (in_hand s i) ++ drop 2 (in_hand s i) ≡ one.block ∷ [] = ap (λ xs. take 1 xs ++ drop 2 xs) one.joined ∙ ap (λ xs. one.block ∷ xs) none in
-      free ∙ ap (λ t. dropped t k) (last.same ∙ one.after) ∙ ap (λ j. dropped (held base r one.chain) j) last.kept_name ∙ gone base r one.chain ∙ ap (λ xs. changed s i xs) (sym left)
-
   -- there are more behind it
   module _ {s2 s3 : StoreValue} {k q : ℕ} (two : Unlinked s1 s2 r k q) (free : s3 ≡ dropped s2 k) where
     parted : s1 ≡ held base r one.chain

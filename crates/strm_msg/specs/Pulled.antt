@@ -33,9 +33,9 @@ pull_refusal n s chain = or_else (count_refusal (asked_of n (length (run_bytes c
 
 -- What is left of blocks whose first so many bytes went. Each block goes in which nothing is left, as far as the bytes
 -- reach, and the next one begins behind them.
-abbrev pub left_of : ℕ → List Block → List Block
-left_of n [] = []
-left_of n (b ∷ run) = if nat_le (length b.bytes) n then left_of (n - length b.bytes) run else trimmed_head n b ∷ run
+abbrev pub blocks_left : ℕ → List Block → List Block
+blocks_left n [] = []
+blocks_left n (b ∷ run) = if nat_le (length b.bytes) n then blocks_left (n - length b.bytes) run else trimmed_head n b ∷ run
 
 -- the blocks from the first on that are of a kind
 abbrev pub run_of : MsgKind → List Block → List Block
@@ -43,7 +43,7 @@ run_of kind chain = take_while (λ b. same_kind b.kind kind) chain
 
 -- a chain without the first so many bytes of that run
 abbrev pub without_joined : MsgKind → ℕ → List Block → List Block
-without_joined kind count chain = left_of count (run_of kind chain) ++ drop (length (run_of kind chain)) chain
+without_joined kind count chain = blocks_left count (run_of kind chain) ++ drop (length (run_of kind chain)) chain
 
 -- a new block of the message's kind and band, with its first so many bytes
 abbrev pub joined : ℕ → ℕ → List Block → Block
