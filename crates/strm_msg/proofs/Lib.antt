@@ -6,11 +6,17 @@ pub mod AdjustingRuns
 pub mod AdjustingStore
 pub mod Bounds
 pub mod Counts
+pub mod Dropping
+pub mod Gathering
 pub mod Hands
 pub mod InHand
+pub mod Joining
 pub mod KindNumbers
 pub mod Making
 pub mod Parts
 pub mod Pieces
+pub mod PulledParts
+pub mod PulledRows
+pub mod Pulling
 pub mod Sharing
 pub mod Taking

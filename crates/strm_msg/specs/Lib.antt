@@ -1,5 +1,6 @@
 pub mod Bytes
 pub mod Made
+pub mod Pulled
 pub mod Taken
 pub mod Runs
 pub mod Adjusted

@@ -12,16 +12,16 @@ use strm_blocks::Blocks;
 
 /// An end of a message.
 #[derive(Clone, Copy)]
-enum End {
+pub(crate) enum End {
     Head,
     Tail,
 }
 
 /// The blocks of one kind at an end of a message: how many, and how many bytes they have.
 #[derive(Clone, Copy)]
-struct Run {
-    blocks: usize,
-    len: usize,
+pub(crate) struct Run {
+    pub(crate) blocks: usize,
+    pub(crate) len: usize,
 }
 
 /// The end that a number of bytes to trim speaks of: the tail below 0.
@@ -44,7 +44,7 @@ fn place_from(end: End, count: usize, steps: usize) -> usize
 }
 
 /// The run of blocks of one kind at an end of a message.
-fn run_at<B: Blocks>(store: &B, message: &B::Mp, end: End) -> Run
+pub(crate) fn run_at<B: Blocks>(store: &B, message: &B::Mp, end: End) -> Run
     requires { IsInHand (B.value store.now) (B.name message.now) }
     ensures blocks { result.blocks ≡ length (front_run (seen_from end (in_hand (B.value store.now) (B.name message.now)))) }
     ensures len { result.len ≡ length (bytes_of (front_run (seen_from end (in_hand (B.value store.now) (B.name message.now))))) }

@@ -3,6 +3,8 @@
 ghost use Rattle.std.specs.Prelude.{◌≡◌, ◌≢◌, ℕ, IfOk};
 ghost use Rattle.strm_blocks.specs.Blocks.{IsInHand};
 
+mod pulls;
+
 use crate::{adjmsg, control_len, copymsg, data_len, dupmsg, from_bytes, msgdsize, take_data};
 use std::test::Fail;
 use strm_blocks::{Blocks, NoBlocks, TableStore};
