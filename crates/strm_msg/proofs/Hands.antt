@@ -8,7 +8,7 @@ use Rattle.strm_blocks.specs.Blocks.{Block, Held, StoreValue, in_hand, held, dro
 same-name : (i : ℕ) → eqb i i ≡ true
 same-name i = grind (arith, nat_tests)
 
-other-name : (i j : ℕ) → i ≢ j → eqb i j ≡ false
+pub other-name : (i j : ℕ) → i ≢ j → eqb i j ≡ false
 other-name i j ne = grind (arith, nat_tests)
 
 module _ (s : StoreValue) (i : ℕ) (chain : List Block) where
@@ -74,7 +74,7 @@ chain-replaced i chain (h ∷ hand) some =
           ap (λ v. chain_in i (cond v (record h { chain = chain } ∷ hand) (h ∷ with_chain i chain hand))) miss ∙ ap (λ v. cond v h.chain (chain_in i (with_chain i chain hand))) miss ∙ chain-replaced i chain hand (omega arith))
     ]
 
-times-replaced : (i j : ℕ) (chain : List Block) (hand : List Held) → times_in j (with_chain i chain hand) ≡ times_in j hand
+pub times-replaced : (i j : ℕ) (chain : List Block) (hand : List Held) → times_in j (with_chain i chain hand) ≡ times_in j hand
 times-replaced i j chain [] = refl
 times-replaced i j chain (h ∷ hand) =
     let ih = times-replaced i j chain hand in

@@ -79,7 +79,7 @@ without-append n (b ∷ xs) ys =
     ]
 
 -- what is left of the data part
-drop-append : (n : ℕ) (xs ys : List ℕ) → drop n (xs ++ ys) ≡ drop n xs ++ drop (n - length xs) ys
+pub drop-append : (n : ℕ) (xs ys : List ℕ) → drop n (xs ++ ys) ≡ drop n xs ++ drop (n - length xs) ys
 drop-append n xs ys =
     elim (cases_lt n (length xs)) [
       | inl lt ↦ drop-append-le n xs ys (omega arith) ∙ ap (λ k. drop n xs ++ drop k ys) (let e : 0 ≡ n - length xs = omega arith in e)
@@ -127,7 +127,7 @@ control-without n (b ∷ chain) =
     ] in
     by (is_body_kind b.kind) refl
 
-drop-least : (k n : ℕ) (xs : List ℕ) → n ≡ min k (length xs) → drop n xs ≡ drop k xs
+pub drop-least : (k n : ℕ) (xs : List ℕ) → n ≡ min k (length xs) → drop n xs ≡ drop k xs
 drop-least k n xs is =
     elim (cases_lt k (length xs)) [
       | inl lt ↦ ap (λ m. drop m xs) (let e : n ≡ k = omega arith in e)

@@ -29,7 +29,7 @@ fn chunk_at(bytes: &[u8], at: usize) -> &[u8]
 }
 
 /// Makes a message of one block that shows these bytes.
-fn block_of<B: Blocks>(
+pub(crate) fn block_of<B: Blocks>(
     store: &mut B,
     kind: MsgKind,
     band: Band,

@@ -8,7 +8,7 @@ use crate::kinds::is_body_kind;
 use strm_blocks::Blocks;
 
 /// Copies bytes into a buffer from a place on, as many as it has room for. Returns how many.
-fn copy_into(buffer: &mut [u8], from: usize, bytes: &[u8]) -> usize
+pub(crate) fn copy_into(buffer: &mut [u8], from: usize, bytes: &[u8]) -> usize
     requires { from ≤ length buffer.old }
     ensures count { result ≡ min (length buffer.old - from) (length bytes.now) }
     ensures copied { buffer.new ≡ (take from buffer.old ++ take result bytes.now) ++ drop (from + result) buffer.old }

@@ -3,15 +3,19 @@
 //! bytes of its M_DATA blocks.
 #![tactic(auto)]
 
+mod adjust;
 mod bytes;
 mod copies;
 mod data;
 mod kinds;
+mod pulls;
 mod sizes;
 
+pub use adjust::adjmsg;
 pub use bytes::from_bytes;
 pub use copies::{copymsg, dupmsg};
 pub use data::take_data;
+pub use pulls::{NotPulled, pullup};
 pub use sizes::{control_len, data_len, msgdsize};
 
 #[cfg(test)]

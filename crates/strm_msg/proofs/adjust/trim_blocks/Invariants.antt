@@ -1,0 +1,5 @@
+use Rattle.strm_msg.proofs.Adjusting.{Trimming}
+use Rattle.strm_msg.proofs.adjust.trim_blocks.Given as goal
+
+abbrev pub invariant-loop-steps : goal.invariant-loop-steps
+invariant-loop-steps g l = Trimming (g.B.Blocks.value l.fn.store) (g.B.Blocks.value l.store) l.end (g.B.Blocks.name l.message) l.n l.steps l.left
