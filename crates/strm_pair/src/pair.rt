@@ -169,9 +169,9 @@ impl<B: Blocks + Drop> Pair<B> {
         Ok(turn)
     }
 
-    /// All that was carried out, in order. The state is that to which it leads from the state that it began at, each
-    /// entry is a legal step with the answer that it stores, each queue is in order of rank, and the blocks that are
-    /// free are those that the messages on the queues leave.
+    /// All that was carried out, in order. The message blocks stand for the state to which it leads from the state that
+    /// it began at, each entry is a legal step with the answer that it stores, each queue is in order of rank, and the
+    /// blocks that are free are those that the messages on the queues leave.
     pub fn journal(&self) -> Recorded<'_>
         ensures entries { entries_in result.entries.now result.bytes.now ≡ self.now.journal }
         ensures replayed { self.now.state ≡ replay self.now.base self.now.journal }
