@@ -344,12 +344,12 @@ impl PlainPair {
         if name.place != Place::Driver {
             return Ok(Turn::Idle);
         }
-        let (from, to) = match name.side {
-            Side::Master => (&mut self.master.driver, &mut self.slave),
-            Side::Slave => (&mut self.slave.driver, &mut self.master),
+        let turn = match name.side {
+            Side::Master => serve(&mut self.master.driver, &mut self.slave)?,
+            Side::Slave => serve(&mut self.slave.driver, &mut self.master)?,
         };
-        let turn = serve(from, to)?;
-        if matches!(turn, Turn::Moved(_)) && !from.messages.is_empty() {
+        let is_left = !self.end(name.side).driver.messages.is_empty();
+        if is_left && matches!(turn, Turn::Moved(_)) {
             self.enable_driver(name.side)?;
         }
         Ok(turn)
