@@ -1,3 +1,13 @@
-pub mod RowLemmas
+pub mod Chains
+pub mod FlowControl
+pub mod Placed
+pub mod OneMade
+pub mod Queued
+pub mod TakenFirst
+pub mod Gotten
+pub mod Kept
+pub mod Peeked
+pub mod Passed
+pub mod DataLemmas
 pub mod StreamLemmas
 pub mod JournalLemmas

@@ -1,9 +1,10 @@
 -- What a store and the queues beside it stand for, and what holds of a pair's store whenever nobody is in a call.
-use Rattle.std.specs.Prelude.{ℕ, ◌≡◌, ◌≢◌, ◌≤◌, ◌<◌, List, [], ◌∷◌, length, map}
+use Rattle.std.specs.Prelude.{ℕ, false, ◌≡◌, ◌≢◌, ◌≤◌, ◌<◌, List, [], ◌∷◌, length, map}
 use Rattle.std.specs.List.{AllByRecursion}
 use Rattle.strm_types.specs.declared.kinds.MsgKind.TheVariants as kinds
 use Rattle.strm_types.specs.Message.{Message, data_message}
 use Rattle.strm_types.specs.Queue as plain
+use Rattle.strm_types.specs.Turns.{moved_on}
 use Rattle.strm_blocks.specs.Blocks.{Block, StoreValue, list_at, references}
 use Rattle.strm_msg.specs.Messages.{message_of}
 use Rattle.strm_queue.specs.declared.queue.Queue.{Queue}
@@ -46,7 +47,7 @@ pub record Keeps (old new : StoreValue) (q q' : Queue) : Type 0 where
   pub mblks : new.mblks ≡ old.mblks
   pub dblks : new.dblks ≡ old.dblks
 
--- the marks and the flags stay, and want-read may be cleared
+-- the marks and the flags stay, but want-read may be cleared
 pub record SameFlags (old new : Queue) : Type 0 where
   pub flows : plain_flows new.flows ≡ plain_flows old.flows
   pub want_read : old.want_read ≡ false → new.want_read ≡ false
@@ -65,6 +66,22 @@ pub record PassedOn (old new : StoreValue) (from from' to to' : Queue) (count : 
   pub to_list : to'.list ≡ to.list
   pub flows : plain_flows from'.flows ≡ plain_flows from.flows
   pub no_enable : from'.no_enable ≡ from.no_enable
+  pub others : (k : ℕ) → k ≢ from.list → k ≢ to.list → list_at new k ≡ list_at old k
+  pub mblks : new.mblks ≡ old.mblks
+  pub dblks : new.dblks ≡ old.dblks
+
+-- The same, and the first queue is as after a turn that took its message: its waiting writers are let go.
+pub record MovedOn (old new : StoreValue) (from from' to to' : Queue) (count : ℕ) : Type 0 where
+  pub text : List ℕ
+  pub size : count ≡ length text
+  pub first : messages_on old from.list ≡ data_message text ∷ messages_on new from.list
+  pub moved : queue_in new from' ≡ moved_on (length text) (messages_on new from.list) (queue_in old from)
+  pub put : queue_in new to' ≡ plain.put_on (data_message text) (queue_in old to)
+  pub tidy : IsTidy new
+  pub from_counted : AreCounted from'.flows (list_at new from.list)
+  pub to_counted : AreCounted to'.flows (list_at new to.list)
+  pub from_list : from'.list ≡ from.list
+  pub to_list : to'.list ≡ to.list
   pub others : (k : ℕ) → k ≢ from.list → k ≢ to.list → list_at new k ≡ list_at old k
   pub mblks : new.mblks ≡ old.mblks
   pub dblks : new.dblks ≡ old.dblks

@@ -4,7 +4,7 @@ ghost use Rattle.std.specs.Prelude.{◌≡◌, ◌≢◌, false};
 ghost use Rattle.strm_types.specs.Turns.{driver_serves, goes_on, is_none_left};
 ghost use Rattle.strm_blocks.specs.Blocks.{list_at};
 ghost use Rattle.strm_queue.specs.Kept.{AreCounted};
-ghost use Rattle.strm_pair.specs.Stored.{queue_in, IsReady, messages_on, PassedOn};
+ghost use Rattle.strm_pair.specs.Stored.{queue_in, IsReady, messages_on, PassedOn, MovedOn};
 ghost use Rattle.strm_pair.specs.Streams.{stream_in, CanPass, Passes};
 
 use crate::ends::End;
@@ -26,6 +26,22 @@ fn pass_on<B: Blocks>(store: &mut B, from: &mut Queue, to: &mut Queue) -> usize
     };
     let size = store.block_len(&message, 0);
     let _ = to.putq(store, message);
+    size
+}
+
+// The first message goes to another queue, and waiting writers are let go where that makes room for them.
+fn advance<B: Blocks>(store: &mut B, from: &mut Queue, to: &mut Queue) -> usize
+    requires ready { IsReady (B.value store.old) from.old }
+    requires counted { AreCounted to.old.flows (list_at (B.value store.old) to.old.list) }
+    requires apart { from.old.list ≢ to.old.list }
+    requires some { is_none_left (list_at (B.value store.old) from.old.list) ≡ false }
+    ensures { MovedOn (B.value store.old) (B.value store.new) from.old from.new to.old to.new result }
+{
+    let size = pass_on(store, from, to);
+    from.want_read = from.is_empty(store);
+    if size > 0 {
+        let _ = relieve(from);
+    }
     size
 }
 
@@ -53,12 +69,7 @@ pub(crate) fn serve<B: Blocks>(store: &mut B, from: &mut End, to: &mut End) -> T
         to.head.let_wait(Band(0));
         return Turn::Blocked;
     }
-    let size = pass_on(store, &mut from.driver, &mut to.head);
-    from.driver.want_read = from.driver.is_empty(store);
-    if size > 0 {
-        let _ = relieve(&mut from.driver);
-    }
-    Turn::Moved(size)
+    Turn::Moved(advance(store, &mut from.driver, &mut to.head))
 }
 
 /// Whether a turn's queue is to have another turn: it moved a message, and more stand there.

@@ -1,4 +1,4 @@
--- What the fields of a queue of rows say of the plain queue.
+-- What a write sends and a read gathers, on queues of ordinary messages of data.
 use Rattle.std.proofs.Common.{ℕ, suc, ◌≡◌, ◌≤◌, ◌<◌, ◌+◌, ◌-◌, Bool, true, false, cond, ltb, eqb, List, [], ◌∷◌, ◌++◌, length, map, take, drop, get_or, refl, sym, ap, ◌∙◌, arith, min, append-nil, append_assoc}
 use Rattle.std.specs.Prelude.{sum_by, ◌&&◌, ◌||◌, nat_le, replicate}
 use Rattle.std.proofs.lemmas.Bool.Decides.{nat_tests}
@@ -10,35 +10,6 @@ use Rattle.std.proofs.lemmas.List.{take_all}
 use Rattle.std.proofs.Math.ListN.{drop_of_length-le}
 use Rattle.std.proofs.Math.Decide.{dec_le}
 use Rattle.strm_types.proofs.Data.{data-count, data-size, data-cells, data-rest, data-put_back}
-
--- the flows of a queue whose band 0 alone is used
-abbrev pub flows_with : ℕ → ℕ → Bool → List Flow
-flows_with high low waits = record { high = high; low = low; want_write = waits } ∷ replicate 7 (record { high = high; low = low; want_write = false })
-
--- whether a waiting writer is let go at a count
-abbrev pub goes_at : Bool → ℕ → ℕ → Bool
-goes_at waits count low = waits && nat_le count low
-
-relieved-at : (high low : ℕ) (waits : Bool) (rows : List (List ℕ)) (b : Bool) → goes_at waits (count_of 0 (map data_message rows)) low ≡ b
-    → relieved_from 0 (map data_message rows) (flows_with high low waits) ≡ flows_with high low (cond b false waits)
-relieved-at high low waits rows true is = rw is refl
-relieved-at high low waits rows false is = rw is refl
-
-relieves-at : (high low : ℕ) (waits : Bool) (rows : List (List ℕ)) (b : Bool) → goes_at waits (count_of 0 (map data_message rows)) low ≡ b
-    → relieves_from 0 (map data_message rows) (flows_with high low waits) ≡ b
-relieves-at high low waits rows true is = rw is refl
-relieves-at high low waits rows false is = rw is refl
-
--- what a queue's flows are once its waiting writers are let go, by its kept count
-pub relieved-kept : (high low count : ℕ) (waits b : Bool) (rows : List (List ℕ)) → count ≡ sum_by length rows → goes_at waits count low ≡ b
-    → relieved_from 0 (map data_message rows) (flows_with high low waits) ≡ flows_with high low (cond b false waits)
-relieved-kept high low count waits b rows counted is =
-    relieved-at high low waits rows b (ap (λ n. goes_at waits n low) (data-count rows ∙ sym counted) ∙ is)
-
-pub relieves-kept : (high low count : ℕ) (waits b : Bool) (rows : List (List ℕ)) → count ≡ sum_by length rows → goes_at waits count low ≡ b
-    → relieves_from 0 (map data_message rows) (flows_with high low waits) ≡ b
-relieves-kept high low count waits b rows counted is =
-    relieves-at high low waits rows b (ap (λ n. goes_at waits n low) (data-count rows ∙ sym counted) ∙ is)
 
 or-true : (b : Bool) → (b || true) ≡ true
 or-true true = refl
