@@ -1,15 +1,15 @@
 -- What a write sends and a read gathers, on queues of ordinary messages of data.
-use Rattle.std.proofs.Common.{ℕ, suc, ◌≡◌, ◌≤◌, ◌<◌, ◌+◌, ◌-◌, Bool, true, false, cond, ltb, eqb, List, [], ◌∷◌, ◌++◌, length, map, take, drop, get_or, refl, sym, ap, ◌∙◌, arith, min, append-nil, append_assoc}
-use Rattle.std.specs.Prelude.{sum_by, ◌&&◌, ◌||◌, nat_le, replicate}
+use Rattle.std.proofs.Common.{ℕ, suc, ◌≡◌, ◌≤◌, ◌<◌, ◌+◌, ◌-◌, Bool, true, false, ltb, eqb, List, [], ◌∷◌, ◌++◌, length, map, take, drop, get_or, refl, sym, ap, ◌∙◌, arith, min, append-nil, append_assoc}
+use Rattle.std.specs.Prelude.{◌||◌}
 use Rattle.std.proofs.lemmas.Bool.Decides.{nat_tests}
 use Rattle.strm_types.specs.Message.{Message, data_message, size_of}
-use Rattle.strm_types.specs.Queue.{Queue, Flow, count_of, relieved_from, relieves_from, put_back, put_on, put_enables, is_full}
+use Rattle.strm_types.specs.Queue.{Queue, put_back, put_on, put_enables, is_full}
 use Rattle.strm_types.specs.Head.{Taken, gathered, head_read, rest_of}
 use Rattle.strm_types.specs.Write.{Sent, sent, chunks_of}
 use Rattle.std.proofs.lemmas.List.{take_all}
 use Rattle.std.proofs.Math.ListN.{drop_of_length-le}
 use Rattle.std.proofs.Math.Decide.{dec_le}
-use Rattle.strm_types.proofs.Data.{data-count, data-size, data-cells, data-rest, data-put_back}
+use Rattle.strm_types.proofs.Data.{data-size, data-cells, data-rest, data-put_back}
 
 or-true : (b : Bool) → (b || true) ≡ true
 or-true true = refl

@@ -1,12 +1,9 @@
 -- What a queue's first message was, and what is there once it is freed, or put back with less.
-use Rattle.std.proofs.Common.{ℕ, ◌≡◌, ◌≢◌, ◌≤◌, ◌<◌, ◌+◌, cond, List, [], ◌∷◌, map, drop, refl, sym, ap, subst, ◌∙◌, arith}
-use Rattle.std.specs.Prelude.{◌==◌}
-use Rattle.std.specs.List.{AllByRecursion}
-use Rattle.std.proofs.lemmas.List.Sums.{sum_by-cons}
-use Rattle.strm_types.specs.Message.{Message, data_message}
+use Rattle.std.proofs.Common.{ℕ, ◌≡◌, ◌<◌, List, [], ◌∷◌, map, drop, refl, sym, ap, subst, ◌∙◌, arith}
+use Rattle.strm_types.specs.Message.{data_message}
 use Rattle.strm_types.specs.Queue as plain
 use Rattle.strm_types.proofs.Data.{data-put_back}
-use Rattle.strm_blocks.specs.Blocks.{Block, StoreValue, list_at, in_hand, held, dropped, changed, placed, block_at, with_block, trimmed_head, put_back, names_of, references}
+use Rattle.strm_blocks.specs.Blocks.{Block, StoreValue, list_at, in_hand, held, dropped, changed, placed, block_at, with_block, trimmed_head, put_back, names_of}
 use Rattle.strm_blocks.specs.Outcomes.{Popped}
 use Rattle.strm_blocks.proofs.Laws.{dropped-held, in_hand-held}
 use Rattle.strm_msg.specs.Messages.{message_of}

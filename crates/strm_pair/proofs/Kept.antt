@@ -1,5 +1,5 @@
 -- Changes of one queue, one after the other.
-use Rattle.std.proofs.Common.{ℕ, ◌≡◌, ◌≢◌, refl, sym, ap, ◌∙◌}
+use Rattle.std.proofs.Common.{refl, ◌∙◌}
 use Rattle.strm_blocks.specs.Blocks.{StoreValue}
 use Rattle.strm_queue.specs.declared.queue.Queue.{Queue}
 use Rattle.strm_pair.specs.Stored.{IsReady, Keeps, SameFlags}

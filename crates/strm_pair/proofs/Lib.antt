@@ -8,6 +8,11 @@ pub mod Gotten
 pub mod Kept
 pub mod Peeked
 pub mod Passed
+pub mod Sides
+pub mod Opened
+pub mod FreeBlocks
+pub mod Steps
+pub mod Shown
 pub mod DataLemmas
 pub mod StreamLemmas
 pub mod JournalLemmas

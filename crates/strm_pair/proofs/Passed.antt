@@ -1,15 +1,15 @@
 -- A message that goes from one queue to another.
-use Rattle.std.proofs.Common.{ℕ, ◌≡◌, ◌≢◌, ◌≤◌, ◌<◌, ◌+◌, Bool, true, false, eqb, List, [], ◌∷◌, length, map, refl, sym, ap, subst, ◌∙◌, arith}
-use Rattle.strm_types.specs.Message.{Message, data_message}
+use Rattle.std.proofs.Common.{ℕ, ◌≡◌, ◌≢◌, ◌∷◌, length, map, refl, sym, ap, subst, ◌∙◌, arith}
+use Rattle.strm_types.specs.Message.{data_message}
 use Rattle.strm_types.specs.Queue as plain
-use Rattle.strm_blocks.specs.Blocks.{Block, StoreValue, list_at, in_hand, dropped, placed, put, names_of}
+use Rattle.strm_blocks.specs.Blocks.{StoreValue, list_at, in_hand, dropped, placed, put}
 use Rattle.strm_blocks.specs.Outcomes.{Popped}
 use Rattle.strm_msg.specs.Messages.{message_of}
 use Rattle.strm_queue.specs.declared.queue.Queue.{Queue}
 use Rattle.strm_queue.specs.Flows.{plain_flows}
 use Rattle.strm_queue.specs.Queues.{OnlyCounts}
 use Rattle.strm_queue.specs.Kept.{AreCounted}
-use Rattle.strm_pair.specs.Stored.{messages_on, queue_in, IsTidy, IsReady, PassedOn}
+use Rattle.strm_pair.specs.Stored.{queue_in, IsTidy, PassedOn}
 use Rattle.strm_pair.proofs.Chains.{text_of}
 use Rattle.strm_pair.proofs.Placed.{PutOn, put-on}
 use Rattle.strm_pair.proofs.Queued.{put-queue}

@@ -1,12 +1,12 @@
 -- What is seen of a list's first message without taking it.
-use Rattle.std.proofs.Common.{ℕ, ◌≡◌, ◌<◌, Bool, true, false, eqb, List, [], ◌∷◌, length, map, sym, ap, subst, ◌∙◌, arith}
+use Rattle.std.proofs.Common.{ℕ, ◌≡◌, ◌<◌, true, false, eqb, List, [], ◌∷◌, length, map, sym, ap, subst, ◌∙◌, arith}
 use Rattle.std.specs.Prelude.{not, Option, Some}
 use Rattle.std.specs.Option.{option_eq}
 use Rattle.std.specs.List.{AllByRecursion}
 use Rattle.std.proofs.lemmas.Bool.Decides.{nat_tests}
 use Rattle.strm_types.specs.Message.{data_message}
 use Rattle.strm_blocks.specs.Blocks.{Block, StoreValue, list_at}
-use Rattle.strm_blocks.specs.Outcomes.{PeekedFirst, body_len}
+use Rattle.strm_blocks.specs.Outcomes.{PeekedFirst}
 use Rattle.strm_blocks.specs.declared.asked.Peek.{Peek}
 use Rattle.strm_pair.specs.Stored.{messages_on, IsOneBlock, IsTidy}
 use Rattle.strm_pair.proofs.Chains.{text_of, data-messages, data-body_len}

@@ -1,18 +1,14 @@
 -- What a list that is placed changes of a tidy store.
-use Rattle.std.proofs.Common.{ℕ, zero, suc, ◌≡◌, ◌≢◌, ◌≤◌, ◌<◌, ◌+◌, Bool, true, false, cond, eqb, List, [], ◌∷◌, length, map, refl, sym, ap, subst, ◌∙◌, arith, get_or-set_same, get_or-set_other, length-set}
+use Rattle.std.proofs.Common.{ℕ, ◌≡◌, ◌≢◌, ◌≤◌, ◌<◌, ◌+◌, Bool, true, false, cond, List, [], ◌∷◌, length, refl, sym, ap, subst, ◌∙◌, arith, get_or-set_same, get_or-set_other, length-set}
 use Rattle.std.specs.Prelude.{sum_by, ◌==◌}
 use Rattle.std.specs.List.{AllByRecursion}
 use Rattle.std.proofs.lemmas.Bool.Decides.{nat_tests}
 use Rattle.std.proofs.lemmas.List.Sums.{sum_by-cons}
-use Rattle.strm_types.specs.Message.{Message}
-use Rattle.strm_types.specs.Queue as plain
 use Rattle.strm_types.proofs.Ranked.{sum-put, sum-put_back}
-use Rattle.strm_blocks.specs.Blocks.{Block, StoreValue, in_hand, list_at, held, dropped, changed, placed, rank_of, put, put_back, names_of, references, total, used, free_m, free_d, with_chain}
+use Rattle.strm_blocks.specs.Blocks.{Block, StoreValue, in_hand, list_at, held, dropped, changed, placed, rank_of, put, put_back, names_of, references, total, free_m, free_d, with_chain}
 use Rattle.strm_blocks.proofs.Laws.{dropped-held, in_hand-held, total-placed, total-held, references-is, used-is, free_m-is, free_d-same}
-use Rattle.strm_msg.specs.Messages.{message_of}
 use Rattle.strm_queue.proofs.Counted.{all-put, all-put_back}
-use Rattle.strm_pair.specs.Stored.{messages_on, IsOneBlock, IsTidy}
-use Rattle.strm_pair.proofs.Chains.{put-chains, put_back-chains}
+use Rattle.strm_pair.specs.Stored.{IsOneBlock, IsTidy}
 
 module _ (s : StoreValue) (k : ℕ) (q : List (List Block)) where
   pub list-here : k < length s.lists → list_at (placed s k q) k ≡ q

@@ -1,5 +1,5 @@
 -- What a put changes of the plain queue, and of what holds of a queue beside its store.
-use Rattle.std.proofs.Common.{ℕ, ◌≡◌, ◌≢◌, ◌≤◌, ◌<◌, List, [], ◌∷◌, map, refl, sym, ap, subst, ◌∙◌}
+use Rattle.std.proofs.Common.{ℕ, ◌≡◌, ◌<◌, List, [], ◌∷◌, map, refl, ap, ◌∙◌}
 use Rattle.strm_types.specs.Message.{Message, data_message}
 use Rattle.strm_types.specs.Queue as plain
 use Rattle.strm_blocks.specs.Blocks.{Block, StoreValue, list_at, in_hand, placed, dropped, put}
@@ -8,7 +8,7 @@ use Rattle.strm_queue.specs.declared.queue.Queue.{Queue}
 use Rattle.strm_queue.specs.Flows.{plain_flows}
 use Rattle.strm_queue.specs.Queues.{OnlyCounts}
 use Rattle.strm_queue.specs.Kept.{AreCounted}
-use Rattle.strm_pair.specs.Stored.{messages_on, queue_in, IsOneBlock, IsTidy, IsReady, Keeps}
+use Rattle.strm_pair.specs.Stored.{messages_on, queue_in, IsOneBlock, IsTidy, Keeps}
 use Rattle.strm_pair.proofs.Chains.{text_of, data-message, put-chains}
 use Rattle.strm_pair.proofs.Placed.{PutOn, put-on}
 use Rattle.strm_pair.proofs.OneMade.{OneMade}

@@ -1,16 +1,24 @@
 -- What a pair over a store stands for.
 use Rattle.std.specs.Prelude.{ℕ, ◌≡◌, List}
+use Rattle.strm_types.specs.declared.names.Side.{Side}
+use Rattle.strm_types.specs.declared.names.Side.TheVariants.{Master, Slave}
 use Rattle.strm_types.specs.State.{State}
 use Rattle.strm_types.specs.Refused.{Free}
 use Rattle.strm_types.specs.Journal.{PlainEntry, entries_in}
 use Rattle.strm_blocks.specs.Blocks.{StoreValue, free_m, free_d}
 use Rattle.strm_pair.specs.declared.streams.Streams.{Streams}
+use Rattle.strm_pair.specs.declared.ends.End.{End}
 use Rattle.strm_pair.specs.declared.journal.Journal.{Journal}
 use Rattle.strm_pair.specs.Streams.{stream_in, AreSides}
 
 -- the plain state
 abbrev pub state_in : StoreValue → Streams → State ℕ
 state_in s p = record { master = stream_in s p.master; slave = stream_in s p.slave; locked = p.locked; enabled = p.enabled; next_ioctl = 1 }
+
+-- the stream of a side
+abbrev pub end_at : Side → Streams → End
+end_at Master p = p.master
+end_at Slave p = p.slave
 
 -- the store and the streams beside it fit
 abbrev pub AreHeld : StoreValue → Streams → Type 0

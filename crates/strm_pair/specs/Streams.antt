@@ -1,5 +1,5 @@
 -- What the two streams stand for, beside their store.
-use Rattle.std.specs.Prelude.{ℕ, ◌≡◌, ◌≢◌, ◌+◌, List, []}
+use Rattle.std.specs.Prelude.{ℕ, ◌≡◌, ◌≢◌, ◌+◌, []}
 use Rattle.strm_types.specs.State.{Stream}
 use Rattle.strm_blocks.specs.Blocks.{StoreValue, list_at}
 use Rattle.strm_queue.specs.Kept.{AreCounted}

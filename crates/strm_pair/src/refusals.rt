@@ -53,11 +53,12 @@ pub(crate) fn content_most(event: &Event<'_>) -> usize
 impl Streams {
     ghost use Rattle.strm_blocks.specs.Blocks.{StoreValue};
     ghost use Rattle.strm_pair.specs.Streams.{stream_in};
-    ghost use Rattle.strm_pair.specs.Pairs.{state_in, AreHeld};
+    ghost use Rattle.strm_pair.specs.Pairs.{state_in, end_at, AreHeld};
 
     // The stream of a side.
     fn end(&self, side: Side) -> &End
-        ensures { (s : StoreValue) → stream_in s result.now ≡ stream side (state_in s self.now) }
+        ensures end { result.now ≡ end_at side self.now }
+        ensures stream { (s : StoreValue) → stream_in s result.now ≡ stream side (state_in s self.now) }
     {
         match side {
             Side::Master => &self.master,

@@ -1,6 +1,6 @@
 //! Both streams of a pair, and what calls and turns do to them, on the store in which their messages stand.
 
-ghost use Rattle.std.specs.Prelude.{◌≡◌, ◌+◌, ◌≤◌, ◌<◌, ◌^◌, length, min};
+ghost use Rattle.std.specs.Prelude.{ℕ, ◌≡◌, ◌+◌, ◌≤◌, ◌<◌, ◌^◌, length, min};
 ghost use Rattle.strm_types.specs.State.{opening, new_stream};
 ghost use Rattle.strm_types.specs.Calls.{called, request, reply, Count, Bytes, wrote, read_at, opened_slave};
 ghost use Rattle.strm_types.specs.Turns.{turned, driver_turned};

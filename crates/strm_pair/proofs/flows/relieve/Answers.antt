@@ -1,8 +1,8 @@
 -- Each band lets its writer go by the kept count, which is that of the messages.
-use Rattle.std.proofs.Common.{◌≡◌, ◌<◌, ℕ, length, refl, ap, ◌∙◌, arith}
+use Rattle.std.proofs.Common.{◌≡◌, refl, ◌∙◌, arith}
 use Rattle.strm_blocks.specs.Blocks.{list_at}
 use Rattle.strm_queue.specs.Flows.{plain_flows}
-use Rattle.strm_pair.specs.Stored.{queue_in, messages_on}
+use Rattle.strm_pair.specs.Stored.{messages_on}
 use Rattle.strm_types.specs.Queue as plain
 use Rattle.strm_pair.proofs.FlowControl.{counts-from, relieved-each, relieves-each}
 use Rattle.strm_pair.proofs.flows.relieve.Goals as goal

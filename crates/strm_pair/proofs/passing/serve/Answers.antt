@@ -1,13 +1,11 @@
 -- The first message is one of data, and goes unless the head is full.
-use Rattle.std.proofs.Common.{◌≡◌, ◌∙◌, ℕ, length, map, sym, ap}
-use Rattle.strm_types.specs.Message.{data_message}
+use Rattle.std.proofs.Common.{◌∙◌, ℕ, sym, ap}
 use Rattle.strm_types.specs.State.{with_head_queue, with_driver_queue}
 use Rattle.strm_types.specs.declared.answers.Turn.TheVariants.{Moved}
-use Rattle.strm_types.specs.Turns.{Served, driver_serves, is_none_left}
+use Rattle.strm_types.specs.Turns.{Served, driver_serves}
 use Rattle.strm_blocks.specs.Blocks.{list_at}
 use Rattle.strm_pair.specs.Stored.{queue_in, messages_on}
 use Rattle.strm_pair.specs.Streams.{stream_in}
-use Rattle.strm_pair.proofs.Chains.{text_of, data-messages}
 use Rattle.strm_pair.proofs.Passed.{queue-same, waits-queue}
 use Rattle.strm_pair.proofs.StreamLemmas.{stops, serves-moved}
 use Rattle.strm_pair.proofs.passing.serve.Goals as goal

@@ -1,5 +1,5 @@
 -- The first message gives its bytes, and is freed or put back with what it has left.
-use Rattle.std.proofs.Common.{◌≡◌, ◌∙◌, ◌++◌, ◌≤◌, ◌<◌, ◌⊎◌, ℕ, map, length, take, min, ap, refl, subst, arith}
+use Rattle.std.proofs.Common.{◌≡◌, ◌∙◌, ◌++◌, ◌≤◌, ◌<◌, ◌⊎◌, map, length, take, min, ap, refl, subst, arith}
 use Rattle.std.specs.Bool.{OnTrue, OnFalse}
 use Rattle.strm_blocks.specs.Blocks.{list_at, block_at, placed, dropped, put_back, in_hand}
 use Rattle.strm_pair.specs.Stored.{messages_on}

@@ -1,6 +1,5 @@
 -- What is seen of the first message tells whether it has bytes.
-use Rattle.std.proofs.Common.{◌≡◌, ◌∙◌, ℕ, [], length, map, sym, ap, arith}
-use Rattle.strm_types.specs.Message.{data_message}
+use Rattle.std.proofs.Common.{◌≡◌, ◌∙◌, [], length, map, sym, ap}
 use Rattle.strm_types.specs.Head.{gathered, head_read}
 use Rattle.strm_pair.specs.Stored.{messages_on}
 use Rattle.strm_pair.proofs.Chains.{text_of}

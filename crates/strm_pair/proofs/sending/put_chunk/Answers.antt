@@ -1,17 +1,15 @@
 -- The chunk is one block of a message that is made, and put on the queue.
-use Rattle.std.proofs.Common.{◌≡◌, ℕ, ◌+◌, inl, inr, length, sym, ap, subst, ◌∙◌, arith}
-use Rattle.std.specs.Prelude.{◌||◌, ◌&&◌, not, nat_lt, ◌∷◌, []}
-use Rattle.strm_types.specs.declared.kinds.MsgKind.TheVariants as kinds
+use Rattle.std.proofs.Common.{◌+◌, inl, inr, length, sym, ap, ◌∙◌, arith}
+use Rattle.std.specs.Prelude.{◌∷◌, []}
 use Rattle.strm_types.specs.Message.{data_message}
-use Rattle.strm_types.specs.Queue.{put_on, put_enables}
+use Rattle.strm_types.specs.Queue.{put_on}
 use Rattle.strm_types.proofs.Data.{data-enables}
-use Rattle.strm_blocks.specs.Blocks.{in_hand, list_at, put, placed, dropped, held, free_m, free_d}
+use Rattle.strm_blocks.specs.Blocks.{in_hand, list_at, put}
 use Rattle.strm_blocks.proofs.Laws.{in_hand-held}
 use Rattle.strm_queue.specs.Kept as kept
 use Rattle.strm_pair.specs.Stored.{queue_in}
 use Rattle.strm_pair.proofs.Chains.{data-band_of, data-enables-kept}
-use Rattle.strm_pair.proofs.Placed.{PutOn, put-on}
-use Rattle.strm_pair.proofs.OneMade.{OneMade, one-made, chunk-one}
+use Rattle.strm_pair.proofs.OneMade.{one-made, chunk-one}
 use Rattle.strm_pair.proofs.Queued.{sent-on, put-queue, put-keeps}
 use Rattle.strm_pair.proofs.sending.put_chunk.Goals as goal
 
