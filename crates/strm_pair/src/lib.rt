@@ -16,6 +16,8 @@ mod streams;
 pub use pair::{Pair, Recorded};
 
 #[cfg(test)]
+mod recount;
+#[cfg(test)]
 mod tests;
 #[cfg(test)]
 mod walk;

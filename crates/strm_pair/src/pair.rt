@@ -185,3 +185,6 @@ impl<B: Blocks + Drop> Pair<B> {
         }
     }
 }
+
+#[cfg(test)]
+pub(crate) mod kept;

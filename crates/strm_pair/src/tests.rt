@@ -1,4 +1,4 @@
-//! Calls and turns on a pair, with answers worked out by hand, and a long walk against a plain recount.
+//! Calls and turns on a pair, with answers worked out by hand.
 
 ghost use Rattle.std.specs.Prelude.{◌<◌, ◌≤◌};
 
