@@ -1,7 +1,6 @@
 -- A message without its second block, which was parted from it and freed.
 use Rattle.std.proofs.Common.{ℕ, ◌≡◌, ◌≢◌, cond, List, [], ◌∷◌, ◌++◌, length, take, drop, Option, None, Some, refl, sym, ap, ◌∙◌, arith}
 use Rattle.std.specs.Prelude.{MatchOption}
-use Rattle.std.proofs.lemmas.List.{drop_all}
 use Rattle.strm_blocks.specs.Blocks.{Block, StoreValue, in_hand, held, dropped, changed, IsInHand, IsFreshName, times_in, without}
 use Rattle.strm_blocks.specs.Outcomes.{Unlinked, UnlinkedLast}
 use Rattle.strm_msg.proofs.Hands.{other-name, held-is, held-chain, held-apart, fresh-before, stays, stays-chain, gone, held-changed, times-replaced, changed-chain, changed-in_hand, changed-twice, changed-same}

@@ -2,5 +2,6 @@ pub mod Bytes
 pub mod Made
 pub mod Pulled
 pub mod Taken
+pub mod Messages
 pub mod Runs
 pub mod Adjusted

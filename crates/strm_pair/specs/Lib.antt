@@ -1,4 +1,5 @@
-pub mod Rows
+pub mod Stored
+pub mod Reads
 pub mod Streams
 pub mod Journals
 pub mod Pairs

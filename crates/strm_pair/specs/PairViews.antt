@@ -1,27 +1,32 @@
--- What a pair over rows stands for, and what holds of each.
+-- What a pair over a store stands for, and what holds of each.
 use Rattle.std.specs.Prelude.{◌≡◌}
+use Rattle.strm_types.specs.declared.limits.Config.{Config}
 use Rattle.strm_types.specs.State.{opening}
-use Rattle.strm_types.specs.Refused.{free_beside}
 use Rattle.strm_types.specs.Step.{replay, IsLegal}
 use Rattle.strm_types.specs.Pair.{PairState}
-use Rattle.strm_pair.specs.declared.pair.Pair.TheInside.{Inside}
-use Rattle.strm_pair.specs.Pairs.{state_of, used_of, journal_of}
+use Rattle.strm_blocks.specs.Blocks.{StoreValue}
+use Rattle.strm_pair.specs.declared.streams.Streams.{Streams}
+use Rattle.strm_pair.specs.declared.journal.Journal.{Journal}
+use Rattle.strm_pair.specs.Pairs.{state_in, free_in, journal_of, AreHeld}
 
--- the pair that the rows and the journal stand for
-abbrev pub pair_of : Inside → PairState
-pair_of p = record {
-  state = state_of p.streams;
+-- the pair that the store, the streams and the journal stand for
+abbrev pub pair_of : StoreValue → Streams → Journal → Config → PairState
+pair_of s streams journal limits = record {
+  state = state_in s streams;
   base = opening;
-  journal = journal_of p.journal;
-  limits = p.limits;
-  free = free_beside (used_of p.streams) p.limits;
+  journal = journal_of journal;
+  limits = limits;
+  free = free_in s;
 }
 
--- The rows stand for the state to which the journal leads from the opening, each entry of it is a legal step, and the
--- sizes are those that the pair was made with.
-pub record IsKept (p : Inside) : Type 0 where
-  pub replayed : state_of p.streams ≡ replay opening (journal_of p.journal)
-  pub legal : IsLegal opening (journal_of p.journal)
-  pub blocks : p.streams.blocks ≡ p.limits.mblks
-  pub events : p.journal.most_entries ≡ p.limits.journal_events
-  pub bytes : p.journal.most_bytes ≡ p.limits.journal_bytes
+-- The blocks stand for the state to which the journal leads from the opening, each entry of it is a legal step; the
+-- numbers that are kept beside the blocks are those of the blocks, and nothing is in hand; and the sizes are those that
+-- the pair was made with.
+pub record IsKept (s : StoreValue) (streams : Streams) (journal : Journal) (limits : Config) : Type 0 where
+  pub replayed : state_in s streams ≡ replay opening (journal_of journal)
+  pub legal : IsLegal opening (journal_of journal)
+  pub held : AreHeld s streams
+  pub mblks : s.mblks ≡ limits.mblks
+  pub dblks : s.dblks ≡ limits.dblks
+  pub events : journal.most_entries ≡ limits.journal_events
+  pub bytes : journal.most_bytes ≡ limits.journal_bytes

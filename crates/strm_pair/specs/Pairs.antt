@@ -1,18 +1,37 @@
--- What a pair over rows stands for.
-use Rattle.std.specs.Prelude.{ℕ, ◌+◌, List}
+-- What a pair over a store stands for.
+use Rattle.std.specs.Prelude.{ℕ, ◌≡◌, List}
+use Rattle.strm_types.specs.declared.names.Side.{Side}
+use Rattle.strm_types.specs.declared.names.Side.TheVariants.{Master, Slave}
 use Rattle.strm_types.specs.State.{State}
+use Rattle.strm_types.specs.Refused.{Free}
 use Rattle.strm_types.specs.Journal.{PlainEntry, entries_in}
+use Rattle.strm_blocks.specs.Blocks.{StoreValue, free_m, free_d}
 use Rattle.strm_pair.specs.declared.streams.Streams.{Streams}
+use Rattle.strm_pair.specs.declared.ends.End.{End}
 use Rattle.strm_pair.specs.declared.journal.Journal.{Journal}
-use Rattle.strm_pair.specs.Streams.{stream_of, rows_at}
+use Rattle.strm_pair.specs.Streams.{stream_in, AreSides}
 
 -- the plain state
-abbrev pub state_of : Streams → State ℕ
-state_of s = record { master = stream_of s.master; slave = stream_of s.slave; locked = s.locked; enabled = s.enabled; next_ioctl = 1 }
+abbrev pub state_in : StoreValue → Streams → State ℕ
+state_in s p = record { master = stream_in s p.master; slave = stream_in s p.slave; locked = p.locked; enabled = p.enabled; next_ioctl = 1 }
 
--- how many rows are used
-abbrev pub used_of : Streams → ℕ
-used_of s = rows_at s.master + rows_at s.slave
+-- the stream of a side
+abbrev pub end_at : Side → Streams → End
+end_at Master p = p.master
+end_at Slave p = p.slave
+
+-- the store and the streams beside it fit
+abbrev pub AreHeld : StoreValue → Streams → Type 0
+AreHeld s p = AreSides s p.master p.slave
+
+-- how many blocks of each kind are free in the store
+abbrev pub free_in : StoreValue → Free
+free_in s = record { mblks = free_m s; dblks = free_d s }
+
+-- the store has as many blocks as before
+pub record SamePool (old new : StoreValue) : Type 0 where
+  pub mblks : new.mblks ≡ old.mblks
+  pub dblks : new.dblks ≡ old.dblks
 
 -- the plain journal
 unfoldable pub journal_of : Journal → List (PlainEntry ℕ)

@@ -4,15 +4,19 @@
 
 mod enabled;
 mod ends;
+mod flows;
 mod journal;
 mod pair;
+mod passing;
+mod reading;
 mod refusals;
-mod row;
-mod row_queue;
+mod sending;
 mod streams;
 
 pub use pair::{Pair, Recorded};
 
+#[cfg(test)]
+mod recount;
 #[cfg(test)]
 mod tests;
 #[cfg(test)]

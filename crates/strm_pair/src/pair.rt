@@ -1,6 +1,6 @@
 //! The pair: calls, turns, and the journal of what was carried out.
 
-ghost use Rattle.std.specs.Prelude.{◌≡◌, ◌≤◌, ◌<◌, ◌+◌, length, MatchOption, IsOk, Err, IfOk, slice_get};
+ghost use Rattle.std.specs.Prelude.{◌≡◌, ◌≤◌, ◌<◌, ◌+◌, length, MatchResult, MatchOption, IsOk, Err, IfOk, slice_get};
 ghost use Rattle.strm_types.specs.Calls.{request, reply};
 ghost use Rattle.strm_types.specs.Pair.{new_pair, call_refused, queue_refused, AddsEntry};
 ghost use Rattle.strm_types.specs.Journal.{Called, Turned, entries_in};
@@ -8,18 +8,21 @@ ghost use Rattle.strm_types.specs.Refused.{enough, has_room};
 ghost use Rattle.strm_types.specs.Step.{replay, IsLegal};
 ghost use Rattle.strm_types.specs.State.{AreOrdered, messages_in};
 ghost use Rattle.strm_types.specs.Refused.{free_beside};
+ghost use Rattle.strm_blocks.specs.Blocks.{empty_store};
 
 use crate::journal::{Journal, payload};
 use crate::refusals::{blocks_asked, content_most};
 use crate::streams::Streams;
-use std::alloc::{AllocError, Global};
+use std::alloc::Global;
 use std::marker::Model;
-use strm_types::{Answer, Caller, Config, Entry, Event, QueueName, Refusal, Turn};
+use strm_blocks::Blocks;
+use strm_types::{Answer, Caller, Config, Entry, Event, NoMemory, QueueName, Refusal, Turn};
 
-/// A pair of a master and a slave. Contracts see it as its plain state, its journal with the state that it began at, the
-/// sizes that it was made with, and the numbers of free blocks.
+/// A pair of a master and a slave, whose messages stand in a store of its own. Contracts see it as its plain state, its
+/// journal with the state that it began at, the sizes that it was made with, and the numbers of free blocks.
 #[derive(Drop)]
-pub struct Pair {
+pub struct Pair<B: Blocks + Drop> {
+    store: B,
     streams: Streams,
     journal: Journal,
     limits: Config,
@@ -32,28 +35,33 @@ pub struct Recorded<'a> {
     pub bytes: &'a [u8],
 }
 
-impl Model for Pair {
+impl<B: Blocks + Drop> Model for Pair<B> {
     ghost use Rattle.strm_types.specs.Pair.{PairState};
 
     ghost Value = { PairState };
 
     ghost use Rattle.strm_pair.specs.PairViews.{pair_of, IsKept};
 
-    ghost view = { pair_of };
+    ghost view = { λ p. pair_of (B.value p.store) p.streams p.journal p.limits };
 
-    ghost invariant = { IsKept };
+    ghost invariant = { λ p. IsKept (B.value p.store) p.streams p.journal p.limits };
 }
 
-impl Pair {
-    /// A pair with these sizes, which nobody opened: all of its memory is reserved here, and no later call takes any.
-    pub fn new(alloc: Global, limits: Config) -> Result<Pair, AllocError>
-        requires mblks { limits.mblks ≤ 65536 }
-        requires dblks { limits.dblks ≤ 65536 }
-        ensures { IfOk result (λ p. p ≡ new_pair limits) }
+impl<B: Blocks + Drop> Pair<B> {
+    /// A pair with these sizes, which nobody opened, over a store that holds nothing and has as many blocks as `limits`
+    /// says. The memory of the journal is reserved here, and no later call takes any; where that is refused, the store
+    /// comes back.
+    pub fn new(alloc: Global, limits: Config, store: B) -> Result<Pair<B>, (NoMemory, B)>
+        requires { B.value store ≡ empty_store limits.mblks limits.dblks }
+        ensures { MatchResult result (λ p. p ≡ new_pair limits) (λ e. B.value e.1 ≡ B.value store) }
     {
+        let Ok(journal) = Journal::new(alloc, limits.journal_events, limits.journal_bytes) else {
+            return Err((NoMemory, store));
+        };
         Ok(Pair {
-            streams: Streams::new(alloc, limits.mblks)?,
-            journal: Journal::new(alloc, limits.journal_events, limits.journal_bytes)?,
+            store,
+            streams: Streams::new(),
+            journal,
             limits,
         })
     }
@@ -77,11 +85,7 @@ impl Pair {
         ensures mblks { result.0 ≡ self.now.free.mblks }
         ensures dblks { result.1 ≡ self.now.free.dblks }
     {
-        let used = self.streams.used();
-        (
-            self.limits.mblks.saturating_sub(used),
-            self.limits.dblks.saturating_sub(used),
-        )
+        self.store.free_blocks()
     }
 
     // Whether so many blocks of each kind are free.
@@ -112,7 +116,7 @@ impl Pair {
         if !self.has_blocks(blocks_asked(event)) {
             return Some(Refusal::Enosr);
         }
-        self.streams.refused_by_state(caller, event)
+        self.streams.refused_by_state(&self.store, caller, event)
     }
 
     // The refusal of a turn, if any.
@@ -143,7 +147,7 @@ impl Pair {
         if let Some(refusal) = self.refusal(caller, event) {
             return Err(refusal);
         }
-        let answer = self.streams.carry_out(caller, event);
+        let answer = self.streams.carry_out(&mut self.store, caller, event);
         self.journal.add_call(caller, event, &answer);
         Ok(answer)
     }
@@ -160,14 +164,14 @@ impl Pair {
         if let Some(refusal) = self.turn_refusal(name) {
             return Err(refusal);
         }
-        let turn = self.streams.turn(name);
+        let turn = self.streams.turn(&mut self.store, name);
         self.journal.add_turn(name, turn);
         Ok(turn)
     }
 
-    /// All that was carried out, in order. The state is that to which it leads from the state that it began at, each
-    /// entry is a legal step with the answer that it stores, each queue is in order of rank, and the blocks that are
-    /// free are those that the messages on the queues leave.
+    /// All that was carried out, in order. The message blocks stand for the state to which it leads from the state that
+    /// it began at, each entry is a legal step with the answer that it stores, each queue is in order of rank, and the
+    /// blocks that are free are those that the messages on the queues leave.
     pub fn journal(&self) -> Recorded<'_>
         ensures entries { entries_in result.entries.now result.bytes.now ≡ self.now.journal }
         ensures replayed { self.now.state ≡ replay self.now.base self.now.journal }
@@ -181,3 +185,6 @@ impl Pair {
         }
     }
 }
+
+#[cfg(test)]
+pub(crate) mod kept;

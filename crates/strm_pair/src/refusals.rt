@@ -7,7 +7,9 @@ ghost use Rattle.strm_types.specs.Refused.{refused_at_once, refused_by_state, bl
 ghost use Rattle.strm_types.specs.State.{stream};
 
 use crate::ends::End;
+use crate::flows::is_full;
 use crate::streams::{Streams, chunk_count};
+use strm_blocks::Blocks;
 use strm_types::{Caller, Event, READ_MAX, Refusal, Side};
 
 // A refusal unless a condition holds.
@@ -49,12 +51,14 @@ pub(crate) fn content_most(event: &Event<'_>) -> usize
 }
 
 impl Streams {
-    ghost use Rattle.strm_pair.specs.Streams.{stream_of};
-    ghost use Rattle.strm_pair.specs.Pairs.{state_of};
+    ghost use Rattle.strm_blocks.specs.Blocks.{StoreValue};
+    ghost use Rattle.strm_pair.specs.Streams.{stream_in};
+    ghost use Rattle.strm_pair.specs.Pairs.{state_in, end_at, AreHeld};
 
     // The stream of a side.
     fn end(&self, side: Side) -> &End
-        ensures { stream_of result.now ≡ stream side (state_of self.now) }
+        ensures end { result.now ≡ end_at side self.now }
+        ensures stream { (s : StoreValue) → stream_in s result.now ≡ stream side (state_in s self.now) }
     {
         match side {
             Side::Master => &self.master,
@@ -64,7 +68,7 @@ impl Streams {
 
     /// What a call is refused for before all else: its side, and then its arguments.
     pub fn refused_at_once(&self, caller: Caller, event: &Event<'_>) -> Option<Refusal>
-        ensures { result ≡ refused_at_once (state_of self.now) caller (request event.now) }
+        ensures { (s : StoreValue) → result ≡ refused_at_once (state_in s self.now) caller (request event.now) }
     {
         match event {
             Event::OpenMaster => None,
@@ -80,8 +84,14 @@ impl Streams {
     }
 
     /// What a call is refused for after all else: what the state says.
-    pub fn refused_by_state(&self, caller: Caller, event: &Event<'_>) -> Option<Refusal>
-        ensures { result ≡ refused_by_state (state_of self.now) caller (request event.now) }
+    pub fn refused_by_state<B: Blocks>(
+        &self,
+        store: &B,
+        caller: Caller,
+        event: &Event<'_>,
+    ) -> Option<Refusal>
+        requires { AreHeld (B.value store.now) self.now }
+        ensures { result ≡ refused_by_state (state_in (B.value store.now) self.now) caller (request event.now) }
     {
         match event {
             Event::OpenMaster => unless(!self.master.is_open, Refusal::Einval),
@@ -91,10 +101,13 @@ impl Streams {
                 unless(!self.locked, Refusal::Eagain),
             ),
             Event::Write { .. } => {
-                unless(!self.end(caller.side).driver.is_full(), Refusal::Eagain)
+                unless(
+                    !is_full(store, &self.end(caller.side).driver),
+                    Refusal::Eagain,
+                )
             }
             Event::Read { n } => unless(
-                *n == 0 || !self.end(caller.side).head.is_empty(),
+                *n == 0 || !self.end(caller.side).head.is_empty(store),
                 Refusal::Eagain,
             ),
         }

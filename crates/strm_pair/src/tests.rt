@@ -1,11 +1,12 @@
-//! Calls and turns on a pair, with answers worked out by hand, and a long walk against a plain recount.
+//! Calls and turns on a pair, with answers worked out by hand.
 
-ghost use Rattle.std.specs.Prelude.{◌≤◌};
+ghost use Rattle.std.specs.Prelude.{◌<◌, ◌≤◌};
 
 use crate::Pair;
 use std::alloc::Global;
 use std::process::Abort;
 use std::test::Fail;
+use strm_blocks::TableStore;
 use strm_types::{Answer, Caller, Config, Event, Place, QueueName, Refusal, Side, Turn, Way};
 
 const MASTER: Caller = Caller { side: Side::Master };
@@ -60,12 +61,28 @@ fn is_refused(answer: Result<Answer, Refusal>, wanted: Refusal) -> bool {
     }
 }
 
-// A pair with both sides open.
-fn opened(rt: &impl Abort, alloc: Global, sizes: Config) -> Result<Pair, Fail>
-    requires mblks { sizes.mblks ≤ 65536 }
-    requires dblks { sizes.dblks ≤ 65536 }
+// A pair over a store of tables that nobody opened.
+pub(crate) fn over_tables(alloc: Global, sizes: Config) -> Result<Pair<TableStore>, Fail>
+    requires mblks { 0 < sizes.mblks }
+    requires few_mblks { sizes.mblks ≤ 65536 }
+    requires dblks { 0 < sizes.dblks }
+    requires few_dblks { sizes.dblks ≤ 65536 }
 {
-    let mut pair = Pair::new(alloc, sizes)?;
+    let store = TableStore::new(alloc, sizes.mblks, sizes.dblks)?;
+    match Pair::new(alloc, sizes, store) {
+        Ok(pair) => Ok(pair),
+        Err((refused, _)) => Err(refused.into()),
+    }
+}
+
+// A pair with both sides open.
+fn opened(rt: &impl Abort, alloc: Global, sizes: Config) -> Result<Pair<TableStore>, Fail>
+    requires mblks { 0 < sizes.mblks }
+    requires few_mblks { sizes.mblks ≤ 65536 }
+    requires dblks { 0 < sizes.dblks }
+    requires few_dblks { sizes.dblks ≤ 65536 }
+{
+    let mut pair = over_tables(alloc, sizes)?;
     assert!(rt; is_done(pair.apply(MASTER, &Event::OpenMaster)));
     assert!(rt; is_done(pair.apply(MASTER, &Event::Unlock)));
     assert!(rt; is_done(pair.apply(MASTER, &Event::OpenSlave)));
@@ -152,7 +169,7 @@ fn a_full_journal_refuses(rt: HostRuntime) -> Result<(), Fail> {
 
 #[test]
 fn bad_calls_are_refused_by_name(rt: HostRuntime) -> Result<(), Fail> {
-    let mut pair = Pair::new(rt.alloc(), SIZES)?;
+    let mut pair = over_tables(rt.alloc(), SIZES)?;
     assert!(rt; is_refused(pair.apply(MASTER, &Event::Read { n: 1 }), Refusal::Enxio));
     assert!(rt; is_refused(pair.apply(SLAVE, &Event::OpenSlave), Refusal::Enxio));
     assert!(rt; is_done(pair.apply(SLAVE, &Event::OpenMaster)));

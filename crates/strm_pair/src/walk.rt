@@ -1,78 +1,67 @@
-//! A long walk of calls and turns, each answer compared with a plain recount of the lengths and the bytes under way.
+//! Long walks of calls and turns, some of them refused, each compared with a plain model that the pair's journal leads on.
+
+ghost use Rattle.std.specs.Prelude.{◌<◌, ◌≤◌};
 
 use crate::Pair;
+use crate::recount::PlainPair;
+use crate::tests::over_tables;
 use std::alloc::Global;
-use std::collections::VecDeque;
+use std::process::Abort;
 use std::test::Fail;
-use strm_types::{Answer, Caller, Config, Event, Refusal, Side, Turn};
+use strm_blocks::TableStore;
+use strm_types::{
+    Answer, AnswerShape, Caller, Config, Entry, Event, EventShape, Place, QueueName, Refusal, Side,
+    Turn, Way,
+};
 
-// What is under way from one side to the other: the lengths of the driver's messages, how many bytes stand there and at
-// the other head, and the next byte to be written and to be read.
+// A pair, the model to which its journal has led, the last random number, and how often what was met.
 #[derive(Drop)]
-struct Line {
-    lengths: VecDeque<usize>,
-    at_driver: usize,
-    at_head: usize,
-    next_written: u8,
-    next_read: u8,
+struct Walk {
+    pair: Pair<TableStore>,
+    model: PlainPair,
+    alloc: Global,
+    sizes: Config,
+    random: u64,
+    met: Met,
 }
 
-// The bytes to write next, up to 300.
-fn fill(buffer: &mut [u8; 300], first: u8) {
-    let mut byte = first;
-    for place in buffer.iter_mut() {
-        *place = byte;
-        byte = byte.wrapping_add(1);
-    }
+// How many calls and turns were refused for each reason, and how many turns were blocked.
+#[derive(Clone, Copy, Debug)]
+struct Met {
+    invalid: u32,
+    again: u32,
+    not_open: u32,
+    no_blocks: u32,
+    no_journal: u32,
+    blocked: u32,
 }
 
-impl Line {
-    // Takes a write of so many bytes into account, and says how many are taken.
-    fn write(&mut self, len: usize) -> Result<usize, Fail> {
-        let mut taken = 0usize;
-        for _ in 0..2 {
-            let chunk = len.saturating_sub(taken).min(256);
-            if chunk == 0 || self.at_driver >= 512 {
-                break;
-            }
-            self.lengths.push_back(chunk)?;
-            self.at_driver = self.at_driver.wrapping_add(chunk);
-            taken = taken.wrapping_add(chunk);
-        }
-        self.next_written = self.next_written.wrapping_add((taken % 256) as u8);
-        Ok(taken)
+const NOTHING_MET: Met = Met {
+    invalid: 0,
+    again: 0,
+    not_open: 0,
+    no_blocks: 0,
+    no_journal: 0,
+    blocked: 0,
+};
+
+impl Met {
+    fn note(&mut self, refusal: Refusal) {
+        let count = match refusal {
+            Refusal::Einval => &mut self.invalid,
+            Refusal::Eagain => &mut self.again,
+            Refusal::Enxio => &mut self.not_open,
+            Refusal::Enosr => &mut self.no_blocks,
+            _ => &mut self.no_journal,
+        };
+        *count = count.saturating_add(1);
     }
 
-    // What a turn of the driver answers.
-    fn turn(&mut self) -> Turn {
-        if self.at_head >= 5120 && !self.lengths.is_empty() {
-            return Turn::Blocked;
-        }
-        match self.lengths.pop_front() {
-            Some(len) => {
-                self.at_driver = self.at_driver.wrapping_sub(len);
-                self.at_head = self.at_head.wrapping_add(len);
-                Turn::Moved(len)
-            }
-            None => Turn::Idle,
+    fn note_turn(&mut self, turn: Turn) {
+        if turn == Turn::Blocked {
+            self.blocked = self.blocked.saturating_add(1);
         }
     }
-
-    // Whether these are the next bytes to be read, which are then gone.
-    fn reads(&mut self, bytes: &[u8], most: usize) -> bool {
-        let mut right = bytes.len() == self.at_head.min(most);
-        for byte in bytes {
-            right = right && *byte == self.next_read;
-            self.next_read = self.next_read.wrapping_add(1);
-        }
-        self.at_head = self.at_head.wrapping_sub(bytes.len());
-        right
-    }
-}
-
-fn next_random(x: u64) -> u64 {
-    x.wrapping_mul(6364136223846793005)
-        .wrapping_add(1442695040888963407)
 }
 
 fn side_of(x: u64) -> Side {
@@ -83,114 +72,233 @@ fn side_of(x: u64) -> Side {
     }
 }
 
-// A pair that both sides have open, a line each way, and a store of bytes to write.
-#[derive(Drop)]
-struct Walk {
-    pair: Pair,
-    from_master: Line,
-    from_slave: Line,
-    buffer: [u8; 300],
+// Some queue, which may not exist.
+fn queue_of(x: u64) -> QueueName {
+    let place = match (x >> 45) % 8 {
+        0 => Place::Head,
+        1 => Place::Ldterm,
+        _ => Place::Driver,
+    };
+    let way = if place == Place::Head {
+        Way::Up
+    } else {
+        Way::Down
+    };
+    QueueName {
+        side: side_of(x),
+        place,
+        way,
+    }
 }
 
-fn new_line(alloc: Global) -> Line {
-    Line {
-        lengths: VecDeque::new(alloc),
-        at_driver: 0,
-        at_head: 0,
-        next_written: 0,
-        next_read: 0,
-    }
+// Whether an entry with its bytes tells of this call with this answer.
+fn tells(entry: &Entry, bytes: &[u8], caller: Caller, event: &Event<'_>, answer: &Answer) -> bool {
+    let Entry::Called {
+        caller: who,
+        event: shape,
+        answer: told,
+    } = *entry
+    else {
+        return false;
+    };
+    let asked = match (shape, event) {
+        (EventShape::OpenMaster, Event::OpenMaster) => true,
+        (EventShape::Unlock, Event::Unlock) => true,
+        (EventShape::OpenSlave, Event::OpenSlave) => true,
+        (EventShape::Write { .. }, Event::Write { bytes: written }) => *written == bytes,
+        (EventShape::Read { n }, Event::Read { n: most }) => n == *most,
+        _ => false,
+    };
+    let answered = match (told, answer) {
+        (AnswerShape::Done, Answer::Done) => true,
+        (AnswerShape::Count(n), Answer::Count(count)) => n == *count,
+        (AnswerShape::Bytes { .. }, Answer::Bytes(given)) => given.as_slice() == bytes,
+        _ => false,
+    };
+    who == caller && asked && answered
 }
 
 impl Walk {
-    // The line of which a side is the writer.
-    fn line(&mut self, writer: Side) -> &mut Line {
-        match writer {
-            Side::Master => &mut self.from_master,
-            Side::Slave => &mut self.from_slave,
-        }
-    }
-
-    // Whether a write of so many bytes is answered as the recount says.
-    fn writes(&mut self, side: Side, len: usize) -> Result<bool, Fail> {
-        let first = self.line(side).next_written;
-        fill(&mut self.buffer, first);
-        let event = Event::Write {
-            bytes: &self.buffer[..len.min(300)],
-        };
-        let answer = self.pair.apply(Caller { side }, &event);
-        let taken = self.line(side).write(len.min(300))?;
-        Ok(match answer {
-            Ok(Answer::Count(n)) => n == taken,
-            Err(refusal) => refusal == Refusal::Eagain && taken == 0,
-            _ => false,
+    fn new(alloc: Global, sizes: Config) -> Result<Walk, Fail>
+        requires mblks { 0 < sizes.mblks }
+        requires few_mblks { sizes.mblks ≤ 65536 }
+        requires dblks { 0 < sizes.dblks }
+        requires few_dblks { sizes.dblks ≤ 65536 }
+    {
+        Ok(Walk {
+            pair: over_tables(alloc, sizes)?,
+            model: PlainPair::new(alloc, sizes),
+            alloc,
+            sizes,
+            random: 1,
+            met: NOTHING_MET,
         })
     }
 
-    // Whether a read of up to `n` bytes is answered as the recount says.
-    fn reads(&mut self, side: Side, n: u32) -> bool {
-        let answer = self.pair.apply(Caller { side }, &Event::Read { n });
-        let line = match side {
-            Side::Master => &mut self.from_slave,
-            Side::Slave => &mut self.from_master,
+    fn next_random(&mut self) -> u64 {
+        self.random = self
+            .random
+            .wrapping_mul(6364136223846793005)
+            .wrapping_add(1442695040888963407);
+        self.random
+    }
+
+    // Whether the journal has led the model to its end, and the pair is the model's: its free blocks, its enabled queues, and
+    // what its queues keep.
+    fn agrees(&self) -> bool {
+        let enabled = self.model.enabled();
+        self.model.is_at_the_end_of(self.pair.journal())
+            && self.pair.free_blocks() == self.model.free_blocks()
+            && self.pair.enabled() == enabled
+            && self.pair.first_enabled() == enabled.first().copied()
+            && self.pair.kept() == self.model.kept()
+    }
+
+    // Whether a call is answered as the model says, and adds one entry that tells so, or none where it is refused.
+    fn calls(&mut self, side: Side, event: &Event<'_>) -> Result<bool, Fail> {
+        let caller = Caller { side };
+        let refusal = self.model.refusal(caller, event);
+        let answer = match self.pair.apply(caller, event) {
+            Ok(answer) => answer,
+            Err(met) => {
+                self.met.note(met);
+                return Ok(refusal == Some(met) && self.agrees());
+            }
         };
-        match answer {
-            Ok(Answer::Bytes(bytes)) => line.reads(bytes.as_slice(), n as usize),
-            Err(refusal) => refusal == Refusal::Eagain && line.at_head == 0,
-            _ => false,
+        let Some((entry, bytes)) = self.model.next_of(self.pair.journal()) else {
+            return Ok(false);
+        };
+        let told = tells(&entry, bytes, caller, event, &answer);
+        let right = self.model.replay(&entry, bytes)?;
+        Ok(refusal.is_none() && told && right && self.agrees())
+    }
+
+    // Whether a turn is answered as the model says, and adds one entry that tells so, or none where it is refused.
+    fn turns(&mut self, queue: QueueName) -> Result<bool, Fail> {
+        let refusal = self.model.turn_refusal(queue);
+        let turn = match self.pair.turn(queue) {
+            Ok(turn) => turn,
+            Err(met) => {
+                self.met.note(met);
+                return Ok(refusal == Some(met) && self.agrees());
+            }
+        };
+        self.met.note_turn(turn);
+        let Some((entry, bytes)) = self.model.next_of(self.pair.journal()) else {
+            return Ok(false);
+        };
+        let told = entry == Entry::Turned { queue, turn };
+        let right = self.model.replay(&entry, bytes)?;
+        Ok(refusal.is_none() && told && right && self.agrees())
+    }
+
+    // A write of up to 300 random bytes.
+    fn writes(&mut self, x: u64) -> Result<bool, Fail> {
+        let mut buffer = [0u8; 300];
+        for byte in buffer.iter_mut() {
+            *byte = ((self.next_random() >> 40) % 256) as u8;
+        }
+        let len = if x >> 60 == 0 { 0 } else { (x >> 45) % 301 };
+        let bytes = &buffer[..(len as usize).min(300)];
+        self.calls(side_of(x), &Event::Write { bytes })
+    }
+
+    // A read of up to 700 bytes, or of up to 70.
+    fn reads(&mut self, x: u64, few: bool) -> Result<bool, Fail> {
+        let most = ((x >> 45) % 701) as u32;
+        let n = if few { most / 10 } else { most };
+        self.calls(side_of(x), &Event::Read { n })
+    }
+
+    fn opens(&mut self, x: u64) -> Result<bool, Fail> {
+        let event = match (x >> 45) % 3 {
+            0 => Event::OpenMaster,
+            1 => Event::Unlock,
+            _ => Event::OpenSlave,
+        };
+        self.calls(side_of(x), &event)
+    }
+
+    fn turns_first(&mut self) -> Result<bool, Fail> {
+        match self.pair.first_enabled() {
+            Some(queue) => self.turns(queue),
+            None => Ok(self.agrees()),
         }
     }
 
-    // Whether the next turn, if there is one, is answered as the recount says; and whether it was blocked.
-    fn turns(&mut self) -> (bool, bool) {
-        let Some(name) = self.pair.first_enabled() else {
-            return (true, false);
-        };
-        let moved = self.line(name.side).turn();
-        let right = self.pair.turn(name) == Ok(moved);
-        (right, moved == Turn::Blocked)
+    // One random step, on which more is written than read or the other way round.
+    fn steps(&mut self, fills: bool) -> Result<bool, Fail> {
+        let x = self.next_random();
+        match (x >> 33) % 16 {
+            0 => self.opens(x),
+            1 => self.turns(queue_of(x)),
+            2..=3 => self.writes(x),
+            4 => self.reads(x, fills),
+            5..=7 if fills => self.writes(x),
+            5..=7 => self.reads(x, fills),
+            _ => self.turns_first(),
+        }
+    }
+
+    // So many steps.
+    fn goes(&mut self, rt: &impl Abort, steps: u32) -> Result<(), Fail> {
+        for step in 0..steps {
+            let right = self.steps(step % 1024 < 512)?;
+            assert!(rt; right, "at step {step}");
+        }
+        Ok(())
+    }
+
+    // Leads a new model through the whole journal, and says whether it agrees at each entry and at the end. The walk goes on
+    // by it.
+    fn replays_all(&mut self) -> Result<bool, Fail> {
+        let mut model = PlainPair::new(self.alloc, self.sizes);
+        let mut right = true;
+        for _ in 0..self.pair.journal().entries.len() {
+            let Some((entry, bytes)) = model.next_of(self.pair.journal()) else {
+                return Ok(false);
+            };
+            right = model.replay(&entry, bytes)? && right;
+        }
+        self.model = model;
+        Ok(right && self.agrees())
     }
 }
 
 #[test]
-fn ten_thousand_calls_answer_as_a_plain_recount(rt: HostRuntime) -> Result<(), Fail> {
+fn five_thousand_steps_agree_with_a_plain_replay_of_the_journal(
+    rt: HostRuntime,
+) -> Result<(), Fail> {
     let sizes = Config {
-        mblks: 16384,
-        dblks: 16384,
-        journal_events: 20000,
-        journal_bytes: 8388608,
+        mblks: 132,
+        dblks: 126,
+        journal_events: 8192,
+        journal_bytes: 1048576,
     };
-    let mut walk = Walk {
-        pair: Pair::new(rt.alloc(), sizes)?,
-        from_master: new_line(rt.alloc()),
-        from_slave: new_line(rt.alloc()),
-        buffer: [0u8; 300],
-    };
-    for event in [Event::OpenMaster, Event::Unlock, Event::OpenSlave] {
-        let side = Side::Master;
-        assert!(rt; walk.pair.apply(Caller { side }, &event).is_ok());
+    let mut walk = Walk::new(rt.alloc(), sizes)?;
+    walk.goes(&rt, 5000)?;
+    assert!(rt; walk.replays_all()?);
+    walk.goes(&rt, 100)?;
+    let met = walk.met;
+    assert!(rt; met.invalid > 100 && met.again > 100, "{met:?}");
+    assert!(rt; met.no_blocks > 20 && met.blocked > 5, "{met:?}");
+    assert!(rt; met.not_open > 0 && met.no_journal == 0, "{met:?}");
+    Ok(())
+}
+
+#[test]
+fn a_short_journal_is_full_where_its_replay_says(rt: HostRuntime) -> Result<(), Fail> {
+    for (journal_events, journal_bytes) in [(50, 1048576), (8192, 3000)] {
+        let sizes = Config {
+            mblks: 256,
+            dblks: 256,
+            journal_events,
+            journal_bytes,
+        };
+        let mut walk = Walk::new(rt.alloc(), sizes)?;
+        walk.goes(&rt, 400)?;
+        assert!(rt; walk.replays_all()?);
+        assert!(rt; walk.met.no_journal > 10, "{:?}", walk.met);
     }
-    let mut x = 1u64;
-    let mut blocked = 0u32;
-    for step in 0..10000 {
-        x = next_random(x);
-        let side = side_of(x);
-        match (x >> 33) % 8 {
-            0..=2 => {
-                let len = ((x >> 45) % 300) as usize + 1;
-                assert!(rt; walk.writes(side, len)?, "write at {step}");
-            }
-            3 => {
-                let n = ((x >> 45) % 700) as u32 + 1;
-                assert!(rt; walk.reads(side, n), "read at {step}");
-            }
-            _ => {
-                let (right, was_blocked) = walk.turns();
-                assert!(rt; right, "turn at {step}");
-                blocked = blocked.wrapping_add(u32::from(was_blocked));
-            }
-        }
-    }
-    assert!(rt; blocked > 10, "{blocked} turns were blocked");
     Ok(())
 }

@@ -3,3 +3,4 @@ pub mod Counted
 pub mod Stored
 pub mod Flushed
 pub mod Serving
+pub mod Marks

@@ -1,5 +1,6 @@
 -- The flow control of one band (STREAMS Programming Guide, "Flow Control").
-use Rattle.std.specs.Prelude.{◌≡◌, ℕ, ◌+◌, ◌-◌, ◌&&◌, Bool, false, nat_le, if◌then◌else◌}
+use Rattle.std.specs.Prelude.{◌≡◌, ℕ, ◌+◌, ◌-◌, ◌&&◌, Bool, false, nat_le, if◌then◌else◌, List, map}
+use Rattle.strm_types.specs.Queue as plain
 use Rattle.strm_queue.specs.declared.flow.Flow.{Flow}
 
 -- how many bytes stand in a band, by its kept counts
@@ -37,3 +38,10 @@ relieves f = f.want_write && nat_le (count_in f) f.low
 -- the waiting writer is let go
 abbrev pub relieved : Flow → Flow
 relieved f = if relieves f then record f { want_write = false } else f
+
+-- what flow control has beside its counts: the marks, and whether a writer waits
+abbrev pub plain_flow : Flow → plain.Flow
+plain_flow f = record { high = f.high; low = f.low; want_write = f.want_write }
+
+abbrev pub plain_flows : List Flow → List plain.Flow
+plain_flows flows = map plain_flow flows

@@ -6,7 +6,10 @@ ghost use Rattle.strm_blocks.specs.Blocks.{IsInHand, in_hand, list_at, placed, d
 ghost use Rattle.strm_blocks.specs.Outcomes.{Popped, Unpopped, flushed};
 ghost use Rattle.strm_queue.specs.Kept.{AreCounted, count_of, band_of, enables, flow_at, is_full, FewBytes};
 ghost use Rattle.strm_blocks.specs.Blocks.{Block};
-ghost use Rattle.strm_queue.specs.Flows.{count_in, added_to, removed_from, flushed_of, marked_with, relieves, relieved};
+ghost use Rattle.strm_queue.specs.Flows.{count_in, added_to, removed_from, flushed_of, marked_with, relieves, relieved, plain_flows};
+ghost use Rattle.strm_types.specs.Queue.{with_writer_at};
+ghost use Rattle.strm_types.specs.Turns.{is_none_left};
+ghost use Rattle.std.specs.Prelude.{replicate};
 
 use crate::flow::Flow;
 use crate::limits::BANDS;
@@ -36,6 +39,7 @@ impl Queue {
         requires some { 1 ≤ high }
         requires order { low ≤ high }
         ensures counted { AreCounted result.flows [] }
+        ensures flows { plain_flows result.flows ≡ replicate 8 (record { high = high; low = low; want_write = false }) }
         ensures list { result.list ≡ list }
         ensures want_read { result.want_read ≡ true }
         ensures no_enable { result.no_enable ≡ false }
@@ -81,6 +85,7 @@ impl Queue {
         ensures placed { let s = B.value store.old in
             B.value store.new ≡ placed (dropped s (B.name message)) self.old.list (put (in_hand s (B.name message)) (list_at s self.old.list)) }
         ensures counted { AreCounted self.new.flows (list_at (B.value store.new) self.new.list) }
+        ensures flows { plain_flows self.new.flows ≡ plain_flows self.old.flows }
         ensures enables { result ≡ enables (in_hand (B.value store.old) (B.name message)) self.old.want_read self.old.no_enable }
         ensures others { OnlyCounts self.old self.new }
     {
@@ -99,6 +104,7 @@ impl Queue {
         ensures placed { let s = B.value store.old in
             B.value store.new ≡ placed (dropped s (B.name message)) self.old.list (put_back (in_hand s (B.name message)) (list_at s self.old.list)) }
         ensures counted { AreCounted self.new.flows (list_at (B.value store.new) self.new.list) }
+        ensures flows { plain_flows self.new.flows ≡ plain_flows self.old.flows }
         ensures others { OnlyCounts self.old self.new }
     {
         store.audit();
@@ -113,6 +119,7 @@ impl Queue {
         requires { AreCounted self.old.flows (list_at (B.value store.old) self.old.list) }
         ensures taken { MatchOption result (Unpopped (B.value store.old) (B.value store.new) self.old.list) (λ m. Popped (B.value store.old) (B.value store.new) self.old.list (B.name m)) }
         ensures counted { AreCounted self.new.flows (list_at (B.value store.new) self.new.list) }
+        ensures flows { plain_flows self.new.flows ≡ plain_flows self.old.flows }
         ensures want_read { MatchOption result (self.new.want_read ≡ self.old.want_read) (λ _. self.new.want_read ≡ false) }
         ensures list { self.new.list ≡ self.old.list }
         ensures no_enable { self.new.no_enable ≡ self.old.no_enable }
@@ -176,6 +183,7 @@ impl Queue {
         ensures flushed { let s = B.value store.old in
             B.value store.new ≡ placed s self.old.list (flushed (record { all = all; band = None }) (list_at s self.old.list)) }
         ensures counted { AreCounted self.new.flows (list_at (B.value store.new) self.new.list) }
+        ensures flows { plain_flows self.new.flows ≡ plain_flows self.old.flows }
         ensures empty { list_at (B.value store.new) self.old.list ≡ [] → self.new.want_read ≡ true }
         ensures filled { (list_at (B.value store.new) self.old.list ≡ [] → ⊥) → self.new.want_read ≡ self.old.want_read }
         ensures list { self.new.list ≡ self.old.list }
@@ -195,6 +203,7 @@ impl Queue {
         ensures flushed { let s = B.value store.old in
             B.value store.new ≡ placed s self.old.list (flushed (record { all = false; band = Some band }) (list_at s self.old.list)) }
         ensures counted { AreCounted self.new.flows (list_at (B.value store.new) self.new.list) }
+        ensures flows { plain_flows self.new.flows ≡ plain_flows self.old.flows }
         ensures empty { list_at (B.value store.new) self.old.list ≡ [] → self.new.want_read ≡ true }
         ensures filled { (list_at (B.value store.new) self.old.list ≡ [] → ⊥) → self.new.want_read ≡ self.old.want_read }
         ensures list { self.new.list ≡ self.old.list }
@@ -234,6 +243,23 @@ impl Queue {
         let band = usize::from(band.0);
         let flow = self.flows[band];
         self.flows[band] = flow.marked(high, low);
+    }
+
+    /// Whether no message stands on the queue's list. The cost is a step for each block of the first message.
+    pub fn is_empty<B: Blocks>(&self, store: &B) -> bool
+        ensures { result ≡ is_none_left (list_at (B.value store.now) self.now.list) }
+    {
+        store.peek(self.list).is_none()
+    }
+
+    /// Sets want-write of a band, for a writer that waits until `back_enable` lets it go.
+    pub fn let_wait(&mut self, band: Band)
+        requires { band.0 < 8 }
+        ensures flows { plain_flows self.new.flows ≡ with_writer_at band.0 (plain_flows self.old.flows) }
+        ensures counted { (q : List (List Block)) → AreCounted self.old.flows q → AreCounted self.new.flows q }
+        ensures others { OnlyCounts self.old self.new }
+    {
+        self.flows[usize::from(band.0)].want_write = true;
     }
 
     /// Lets the waiting writers of each band go whose count is at or below its low-water mark: want-write is cleared, and

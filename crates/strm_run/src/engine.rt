@@ -11,6 +11,7 @@ use crate::commands::{Command, Reading};
 use crate::lines::{LINE_MAX, reading};
 use crate::session::answer;
 use std::alloc::{AllocError, Global};
+use strm_blocks::TableStore;
 use strm_pair::Pair;
 
 /// Why a script ends before its input does.
@@ -26,7 +27,7 @@ pub enum Stop {
 #[derive(Drop)]
 pub struct Engine {
     /// The pair, once there was an `open`.
-    pub pair: Option<Pair>,
+    pub pair: Option<Pair<TableStore>>,
     /// How many lines have ended.
     pub lines: u64,
     /// The bytes so far of the next line, at most 4096.

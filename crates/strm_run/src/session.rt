@@ -11,6 +11,7 @@ ghost use Rattle.strm_run.specs.Outcomes.{LeadsTo};
 use crate::answers::Line;
 use crate::commands::Command;
 use std::alloc::{AllocError, Global};
+use strm_blocks::TableStore;
 use strm_pair::Pair;
 use strm_types::{Caller, Config, Event, QueueName, Refusal, Side};
 
@@ -56,7 +57,7 @@ fn is_short(refusal: Refusal) -> bool
 }
 
 /// A call by a command.
-fn call(pair: &mut Pair, side: Side, event: &Event<'_>) -> Answered
+fn call(pair: &mut Pair<TableStore>, side: Side, event: &Event<'_>) -> Answered
     ensures { LeadsTo (λ account. by_call (record { side = side }) (request event.now) account (plain pair.old))
         result (Some (plain pair.new)) }
 {
@@ -73,7 +74,7 @@ fn call(pair: &mut Pair, side: Side, event: &Event<'_>) -> Answered
 }
 
 /// A turn by a command.
-fn turn(pair: &mut Pair, name: QueueName) -> Answered
+fn turn(pair: &mut Pair<TableStore>, name: QueueName) -> Answered
     ensures { LeadsTo (λ account. by_turn name account (plain pair.old)) result (Some (plain pair.new)) }
 {
     match pair.turn(name) {
@@ -89,7 +90,7 @@ fn turn(pair: &mut Pair, name: QueueName) -> Answered
 }
 
 /// Turns of the first enabled queue, so many at most. They end where none is enabled, and where one is refused.
-fn run(pair: &mut Pair, turns: u32) -> Answered
+fn run(pair: &mut Pair<TableStore>, turns: u32) -> Answered
     ensures { LeadsTo (λ account. by_run turns account (plain pair.old)) result (Some (plain pair.new)) }
 {
     for taken in 0..turns {
@@ -113,7 +114,7 @@ fn run(pair: &mut Pair, turns: u32) -> Answered
 }
 
 /// A command where the pair is there.
-fn on_pair(pair: &mut Pair, command: &Command) -> Answered
+fn on_pair(pair: &mut Pair<TableStore>, command: &Command) -> Answered
     ensures { LeadsTo (λ account. answered (command_of command.now) account (Some (plain pair.old)))
         result (Some (plain pair.new)) }
 {
@@ -143,8 +144,13 @@ fn limits(blocks: u32) -> Config
     }
 }
 
-/// Makes the pair and opens its master, where the number of blocks is from 1 to 4096. Want of memory changes nothing.
-fn open(alloc: Global, pair: &mut Option<Pair>, blocks: u32) -> Result<Answered, AllocError>
+/// Makes a pair over a store of tables and opens its master, where the number of blocks is from 1 to 4096. Want of memory,
+/// for the store or for the pair, changes nothing.
+fn open(
+    alloc: Global,
+    pair: &mut Option<Pair<TableStore>>,
+    blocks: u32,
+) -> Result<Answered, AllocError>
     requires { pair.old ≡ None }
     ensures ok { IfOk result (λ found. LeadsTo (λ account. by_open blocks account) found (option_map plain pair.new)) }
     ensures err { OnErr result (pair.new ≡ pair.old) }
@@ -152,7 +158,11 @@ fn open(alloc: Global, pair: &mut Option<Pair>, blocks: u32) -> Result<Answered,
     if blocks == 0 || blocks > BLOCKS_MAX {
         return Ok(refused(Refusal::Einval));
     }
-    let mut fresh = Pair::new(alloc, limits(blocks))?;
+    let sizes = limits(blocks);
+    let store = TableStore::new(alloc, sizes.mblks, sizes.dblks)?;
+    let Ok(mut fresh) = Pair::new(alloc, sizes, store) else {
+        return Err(AllocError);
+    };
     let answered = call(&mut fresh, Side::Master, &Event::OpenMaster);
     *pair = Some(fresh);
     Ok(answered)
@@ -161,7 +171,7 @@ fn open(alloc: Global, pair: &mut Option<Pair>, blocks: u32) -> Result<Answered,
 /// What a command leads to. Want of memory changes nothing.
 pub fn answer(
     alloc: Global,
-    pair: &mut Option<Pair>,
+    pair: &mut Option<Pair<TableStore>>,
     command: &Command,
 ) -> Result<Answered, AllocError>
     ensures ok { IfOk result (λ found. LeadsTo

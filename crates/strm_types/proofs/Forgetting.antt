@@ -7,6 +7,7 @@ use Rattle.strm_types.specs.Message.{Message, part, rank_of, band_of, cells_of, 
 use Rattle.strm_types.specs.Queue.{Queue, put, put_back, put_on, put_enables, count_of, is_full, flow_of, map_messages, map_queue}
 use Rattle.strm_types.specs.Write.{Sent, sent, written, chunks_of, chunk_count}
 use Rattle.strm_types.specs.Head.{Taken, rest_of, gathered, head_read}
+use Rattle.strm_types.proofs.Ranked.{put-map, put_back-map}
 
 module _ {C D : Type 0} (f : C → D) where
   rank-forgets : (m : Message C) → rank_of (map_message f m) ≡ rank_of m
@@ -41,23 +42,11 @@ module _ {C D : Type 0} (f : C → D) where
   unfolding map_message
   rest-forgets n m = ap (λ xs. record { kind = m.kind; band = m.band; control = None; body = Some xs; plain = m.plain }) (sym (drop-map f n (cells_of m)) ∙ ap (λ xs. drop n xs) (sym (cells-forget m)))
 
-  put-at : (m x : Message C) (q : List (Message C)) (b : Bool) → map_messages f (put m q) ≡ put (map_message f m) (map_messages f q)
-      → map_messages f (cond b (x ∷ put m q) (m ∷ x ∷ q)) ≡ cond b (map_message f x ∷ put (map_message f m) (map_messages f q)) (map_message f m ∷ map_message f x ∷ map_messages f q)
-  put-at m x q true ih = ap (λ xs. map_message f x ∷ xs) ih
-  put-at m x q false ih = refl
-
   pub put-forgets : (m : Message C) (q : List (Message C)) → map_messages f (put m q) ≡ put (map_message f m) (map_messages f q)
-  put-forgets m [] = refl
-  put-forgets m (x ∷ q) = rw (rank-forgets m, rank-forgets x) (put-at m x q (nat_le (rank_of m) (rank_of x)) (put-forgets m q))
-
-  put_back-at : (m x : Message C) (q : List (Message C)) (b : Bool) → map_messages f (put_back m q) ≡ put_back (map_message f m) (map_messages f q)
-      → map_messages f (cond b (x ∷ put_back m q) (m ∷ x ∷ q)) ≡ cond b (map_message f x ∷ put_back (map_message f m) (map_messages f q)) (map_message f m ∷ map_message f x ∷ map_messages f q)
-  put_back-at m x q true ih = ap (λ xs. map_message f x ∷ xs) ih
-  put_back-at m x q false ih = refl
+  put-forgets m q = put-map (map_message f) rank_of rank_of rank-forgets m q
 
   pub put_back-forgets : (m : Message C) (q : List (Message C)) → map_messages f (put_back m q) ≡ put_back (map_message f m) (map_messages f q)
-  put_back-forgets m [] = refl
-  put_back-forgets m (x ∷ q) = rw (rank-forgets m, rank-forgets x) (put_back-at m x q (nat_lt (rank_of m) (rank_of x)) (put_back-forgets m q))
+  put_back-forgets m q = put_back-map (map_message f) rank_of rank_of rank-forgets m q
 
   count-forgets : (band : ℕ) (q : List (Message C)) → count_of band (map_messages f q) ≡ count_of band q
   count-forgets band [] = refl

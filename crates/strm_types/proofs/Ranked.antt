@@ -1,5 +1,5 @@
 -- Lists in order of rank: what put and put back do to the lanes.
-use Rattle.std.proofs.Common.{ℕ, zero, suc, ◌≡◌, ◌≤◌, ◌<◌, ◌+◌, Bool, true, false, cond, List, [], ◌∷◌, ◌++◌, refl, ap, ◌∙◌, arith}
+use Rattle.std.proofs.Common.{ℕ, zero, suc, ◌≡◌, ◌≤◌, ◌<◌, ◌+◌, Bool, true, false, cond, List, [], ◌∷◌, ◌++◌, map, refl, ap, ◌∙◌, arith}
 use Rattle.std.specs.Prelude.{sum_by, if◌then◌else◌, ◌==◌, nat_le, nat_lt}
 use Rattle.std.specs.List.{AllByRecursion}
 use Rattle.std.proofs.lemmas.Bool.Decides.{nat_tests}
@@ -147,3 +147,23 @@ module _ {A : Type 0} (rank : A → ℕ) where
   put_back-first m [] all = refl
   put_back-first m (x ∷ q) all =
       let no : nat_lt (rank m) (rank x) ≡ false = let le : rank x ≤ rank m = all.0 in grind (arith, nat_tests) in rw no refl
+
+-- a map that keeps ranks commutes with a put and with a put back
+module _ {A B : Type 0} (f : A → B) (rank : A → ℕ) (mapped : B → ℕ) (same : (x : A) → mapped (f x) ≡ rank x) where
+  put-map-at : (m x : A) (q : List A) (b : Bool) → map f (ranked.put rank m q) ≡ ranked.put mapped (f m) (map f q)
+      → map f (cond b (x ∷ ranked.put rank m q) (m ∷ x ∷ q)) ≡ cond b (f x ∷ ranked.put mapped (f m) (map f q)) (f m ∷ f x ∷ map f q)
+  put-map-at m x q true ih = ap (λ xs. f x ∷ xs) ih
+  put-map-at m x q false ih = refl
+
+  pub put-map : (m : A) (q : List A) → map f (ranked.put rank m q) ≡ ranked.put mapped (f m) (map f q)
+  put-map m [] = refl
+  put-map m (x ∷ q) = rw (same m, same x) (put-map-at m x q (nat_le (rank m) (rank x)) (put-map m q))
+
+  put_back-map-at : (m x : A) (q : List A) (b : Bool) → map f (ranked.put_back rank m q) ≡ ranked.put_back mapped (f m) (map f q)
+      → map f (cond b (x ∷ ranked.put_back rank m q) (m ∷ x ∷ q)) ≡ cond b (f x ∷ ranked.put_back mapped (f m) (map f q)) (f m ∷ f x ∷ map f q)
+  put_back-map-at m x q true ih = ap (λ xs. f x ∷ xs) ih
+  put_back-map-at m x q false ih = refl
+
+  pub put_back-map : (m : A) (q : List A) → map f (ranked.put_back rank m q) ≡ ranked.put_back mapped (f m) (map f q)
+  put_back-map m [] = refl
+  put_back-map m (x ∷ q) = rw (same m, same x) (put_back-map-at m x q (nat_lt (rank m) (rank x)) (put_back-map m q))

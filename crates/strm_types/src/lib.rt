@@ -18,4 +18,4 @@ pub use events::{Caller, Event};
 pub use kinds::{Band, MsgKind};
 pub use limits::Config;
 pub use names::{Dir, Place, QueueName, Side, Way};
-pub use refusals::Refusal;
+pub use refusals::{NoMemory, Refusal};

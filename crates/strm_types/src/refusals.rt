@@ -30,6 +30,11 @@ pub enum Refusal {
     StillShared = 10,
 }
 
+/// Memory was refused: the [`Refusal::NoMemory`] of a call that takes memory and has no other refusal.
+#[derive(Clone, Copy, Debug, Error, PartialEq, Eq)]
+#[error("memory was refused")]
+pub struct NoMemory;
+
 impl Refusal {
     /// The number of the refusal, from 1 for EINVAL to 10 for StillShared.
     pub fn number(self) -> u8

@@ -19,7 +19,7 @@ returns-clause-ok c =
     let blocks = c.args.blocks in
     let some : 0 < blocks = omega arith in
     let most : blocks ≤ 4096 = omega arith in
-    let made = c.in_ok-fresh.ensures ∙ ap new_pair c.limits.ensures in
+    let made = c.in-Ok.ensures ∙ ap new_pair c.limits-sizes.ensures in
     leads_same (λ account. by_open blocks account) _ _ _
     (λ account. open_made blocks account some most
     ∙ ap (λ p. by_call (record { side = Master }) OpenMaster account (plain p)) (sym made))

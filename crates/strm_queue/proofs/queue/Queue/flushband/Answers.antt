@@ -5,6 +5,7 @@ use Rattle.strm_blocks.specs.Blocks.{list_at}
 use Rattle.strm_blocks.specs.Outcomes.{flushed}
 use Rattle.strm_queue.proofs.Stored.{list-placed}
 use Rattle.strm_queue.proofs.Flushed.{counted-band-flushed}
+use Rattle.strm_queue.proofs.Marks.{set-flushed}
 use Rattle.strm_queue.proofs.queue.Queue.flushband.Goals as goal
 
 pub returns-clause-counted : goal.returns-clause-counted
@@ -15,3 +16,6 @@ returns-clause-counted g c =
     let list_is = c.see_empty.ensures.list ∙ c.count_band_flush.ensures.others.list in
     rw (c.see_empty.ensures.flows, list_is, c.drop_where.ensures, list-placed s k left (omega (arith, c.audit.ensures.eight, c.args.self.now.on_list)), c.count_band_flush.ensures.flows, c.from.ensures)
     (counted-band-flushed c.args.self.now.flows c.args.band (list_at s k) c.requires.band c.requires.counted)
+
+pub returns-clause-flows : goal.returns-clause-flows
+returns-clause-flows g c = rw (c.see_empty.ensures.flows, c.count_band_flush.ensures.flows) (set-flushed c.args.self.now.flows c.from.result false)

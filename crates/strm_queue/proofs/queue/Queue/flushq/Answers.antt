@@ -5,6 +5,7 @@ use Rattle.strm_blocks.specs.Blocks.{list_at}
 use Rattle.strm_blocks.specs.Outcomes.{flushed}
 use Rattle.strm_queue.proofs.Stored.{list-placed}
 use Rattle.strm_queue.proofs.Flushed.{counted-flushed}
+use Rattle.strm_queue.proofs.Marks.{all-flushed}
 use Rattle.strm_queue.proofs.queue.Queue.flushq.Goals as goal
 
 pub returns-clause-counted : goal.returns-clause-counted
@@ -15,3 +16,6 @@ returns-clause-counted g c =
     let list_is = c.see_empty.ensures.list ∙ c.count_flush.ensures.others.list in
     rw (c.see_empty.ensures.flows, list_is, c.drop_where.ensures, list-placed s k left (omega (arith, c.audit.ensures.eight, c.args.self.now.on_list)))
     (counted-flushed c.args.all c.args.self.now.flows c.count_flush.new.self.flows (list_at s k) c.count_flush.ensures.eight c.count_flush.ensures.flows c.requires)
+
+pub returns-clause-flows : goal.returns-clause-flows
+returns-clause-flows g c = rw c.see_empty.ensures.flows (all-flushed c.args.all c.args.self.now.flows c.count_flush.new.self.flows c.count_flush.ensures.eight (λ band lt. c.count_flush.ensures.flows band (omega (arith, lt, c.requires.eight))))

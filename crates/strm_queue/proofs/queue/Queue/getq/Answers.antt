@@ -3,6 +3,7 @@ use Rattle.std.proofs.Common.{ap, subst, ◌∙◌, arith}
 use Rattle.strm_blocks.specs.Blocks.{in_hand, list_at, placed}
 use Rattle.strm_queue.specs.Kept.{AllBands}
 use Rattle.strm_queue.proofs.Stored.{held-chain, take-counted, list-placed}
+use Rattle.strm_queue.proofs.Marks.{set-removed}
 use Rattle.strm_queue.proofs.queue.Queue.getq.Goals as goal
 
 pub returns-clause-counted : goal.returns-clause-counted
@@ -16,3 +17,6 @@ returns-clause-counted g c =
     let list_is = ap (λ v. list_at v k) p.after ∙ list-placed s k p.rest (omega (arith, c.audit.ensures.eight, c.args.self.now.on_list)) in
     rw (c.count_out.ensures.flows, c.count_out.ensures.others.list, list_is, c.share_of-share.ensures.band, c.share_of-share.ensures.bytes, c.share_of-share.ensures.kind, chain_is)
     (take-counted s k c.args.self.now.flows p.message p.rest c.requires p.joined low)
+
+pub returns-clause-flows : goal.returns-clause-flows
+returns-clause-flows g c = rw c.count_out.ensures.flows (set-removed c.args.self.now.flows c.share_of-share.result.band c.share_of-share.result.is_data c.share_of-share.result.bytes)

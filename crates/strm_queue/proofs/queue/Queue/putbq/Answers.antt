@@ -3,6 +3,7 @@ use Rattle.std.proofs.Common.{arith}
 use Rattle.strm_blocks.specs.Blocks.{in_hand}
 use Rattle.strm_queue.specs.Kept.{band_of}
 use Rattle.strm_queue.proofs.Stored.{count-fits, put_back-counted}
+use Rattle.strm_queue.proofs.Marks.{set-added}
 use Rattle.strm_queue.proofs.queue.Queue.putbq.Goals as goal
 
 pub count_in-requires-clause-few : goal.count_in-requires-clause-few
@@ -17,3 +18,6 @@ returns-clause-counted g c =
     let i = g.B.Blocks.name c.args.message in
     rw (c.count_in.ensures.flows, c.count_in.ensures.others.list, c.insert_front.ensures, c.share_of-share.ensures.band, c.share_of-share.ensures.bytes, c.share_of-share.ensures.kind)
     (put_back-counted s c.args.self.now.list i c.args.self.now.flows c.audit.ensures c.args.self.now.on_list c.requires.counted c.requires.band)
+
+pub returns-clause-flows : goal.returns-clause-flows
+returns-clause-flows g c = rw c.count_in.ensures.flows (set-added c.args.self.now.flows c.share_of-share.result.band c.share_of-share.result.is_data c.share_of-share.result.bytes)

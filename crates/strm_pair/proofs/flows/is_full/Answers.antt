@@ -1,0 +1,11 @@
+-- The kept flag is that of the messages on the list.
+use Rattle.std.proofs.Common.{◌∙◌}
+use Rattle.strm_blocks.specs.Blocks.{list_at}
+use Rattle.strm_pair.proofs.FlowControl.{full-same}
+use Rattle.strm_pair.proofs.flows.is_full.Goals as goal
+
+pub returns : goal.returns
+returns g c =
+    let s = g.B.Blocks.value c.args.store.now in
+    let q = c.args.queue.now in
+    c.is_full.ensures.full (list_at s q.list) c.requires.counted ∙ full-same s q c.requires

@@ -1,0 +1,19 @@
+-- A store with nothing in it is tidy, and its lists are empty.
+use Rattle.std.proofs.Common.{refl}
+use Rattle.strm_blocks.specs.Blocks.{empty_store}
+use Rattle.strm_pair.proofs.Sides.{blank, empty-tidy}
+use Rattle.strm_pair.proofs.streams.Streams.new.Goals as goal
+
+pub returns-clause-state : goal.returns-clause-state
+returns-clause-state c = λ mblks dblks.
+    let s = empty_store mblks dblks in
+    rw (c.new_end.ensures.stream s (blank mblks dblks).0, c.new_end-2.ensures.stream s (blank mblks dblks).1, c.new.ensures) refl
+
+pub returns-clause-held : goal.returns-clause-held
+returns-clause-held c = λ mblks dblks.
+    let s = empty_store mblks dblks in
+    record {
+      tidy = empty-tidy mblks dblks;
+      master = c.new_end.ensures.side s (blank mblks dblks).0;
+      slave = c.new_end-2.ensures.side s (blank mblks dblks).1;
+    }

@@ -1,0 +1,32 @@
+//! Flow control of a pair's queues: what is full, and who is let go (STREAMS Programming Guide, "Flow Control").
+
+ghost use Rattle.std.specs.Prelude.{◌≡◌, List};
+ghost use Rattle.strm_types.specs.Queue.{is_full, relieved, relieves};
+ghost use Rattle.strm_blocks.specs.Blocks.{Block, StoreValue};
+ghost use Rattle.strm_queue.specs.Kept.{AreCounted};
+ghost use Rattle.strm_queue.specs.Queues.{OnlyCounts};
+ghost use Rattle.strm_pair.specs.Stored.{queue_in, IsReady};
+
+use strm_blocks::Blocks;
+use strm_queue::Queue;
+use strm_types::Band;
+
+/// Whether band 0 of a queue is full: its count is at or above its high-water mark.
+pub(crate) fn is_full<B: Blocks>(store: &B, queue: &Queue) -> bool
+    requires { IsReady (B.value store.now) queue.now }
+    ensures { result ≡ is_full 0 (queue_in (B.value store.now) queue.now) }
+{
+    store.audit();
+    queue.is_full(Band(0))
+}
+
+/// Lets waiting writers go where the count has come down to the low-water mark, and says whether one was.
+pub(crate) fn relieve(queue: &mut Queue) -> bool
+    ensures queue { (s : StoreValue) → IsReady s queue.old → queue_in s queue.new ≡ relieved (queue_in s queue.old) }
+    ensures went { (s : StoreValue) → IsReady s queue.old → result ≡ relieves (queue_in s queue.old) }
+    ensures counted { (q : List (List Block)) → AreCounted queue.old.flows q → AreCounted queue.new.flows q }
+    ensures others { OnlyCounts queue.old queue.new }
+{
+    let goes = queue.back_enable();
+    goes.contains(&true)
+}

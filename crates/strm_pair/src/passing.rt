@@ -1,0 +1,83 @@
+//! A turn of a driver: what goes from it to the other side's head (STREAMS Programming Guide, "Service Procedures").
+
+ghost use Rattle.std.specs.Prelude.{◌≡◌, ◌≢◌, false};
+ghost use Rattle.strm_types.specs.Turns.{driver_serves, goes_on, is_none_left};
+ghost use Rattle.strm_blocks.specs.Blocks.{list_at};
+ghost use Rattle.strm_queue.specs.Kept.{AreCounted};
+ghost use Rattle.strm_pair.specs.Stored.{queue_in, IsReady, messages_on, PassedOn, MovedOn};
+ghost use Rattle.strm_pair.specs.Streams.{stream_in, CanPass, Passes};
+
+use crate::ends::End;
+use crate::flows::{is_full, relieve};
+use strm_blocks::Blocks;
+use strm_queue::Queue;
+use strm_types::{Band, Turn};
+
+// Takes the first message of a queue to another one, and says how many bytes it has.
+fn pass_on<B: Blocks>(store: &mut B, from: &mut Queue, to: &mut Queue) -> usize
+    requires ready { IsReady (B.value store.old) from.old }
+    requires counted { AreCounted to.old.flows (list_at (B.value store.old) to.old.list) }
+    requires apart { from.old.list ≢ to.old.list }
+    requires some { is_none_left (list_at (B.value store.old) from.old.list) ≡ false }
+    ensures { PassedOn (B.value store.old) (B.value store.new) from.old from.new to.old to.new result }
+{
+    let Some(message) = from.getq(store) else {
+        return 0;
+    };
+    let size = store.block_len(&message, 0);
+    let _ = to.putq(store, message);
+    size
+}
+
+// The first message goes to another queue, and waiting writers are let go where that makes room for them.
+fn advance<B: Blocks>(store: &mut B, from: &mut Queue, to: &mut Queue) -> usize
+    requires ready { IsReady (B.value store.old) from.old }
+    requires counted { AreCounted to.old.flows (list_at (B.value store.old) to.old.list) }
+    requires apart { from.old.list ≢ to.old.list }
+    requires some { is_none_left (list_at (B.value store.old) from.old.list) ≡ false }
+    ensures { MovedOn (B.value store.old) (B.value store.new) from.old from.new to.old to.new result }
+{
+    let size = pass_on(store, from, to);
+    from.want_read = from.is_empty(store);
+    if size > 0 {
+        let _ = relieve(from);
+    }
+    size
+}
+
+/// A turn of a driver: its first message goes to the other side's head, unless it may not.
+pub(crate) fn serve<B: Blocks>(store: &mut B, from: &mut End, to: &mut End) -> Turn
+    requires { CanPass (B.value store.old) from.old to.old }
+    ensures turn { let s = B.value store.old in
+        result ≡ (driver_serves (messages_on s from.old.driver.list) (stream_in s from.old) (stream_in s to.old)).turn }
+    ensures from { let s = B.value store.old in
+        stream_in (B.value store.new) from.new ≡ (driver_serves (messages_on s from.old.driver.list) (stream_in s from.old) (stream_in s to.old)).from }
+    ensures to { let s = B.value store.old in
+        stream_in (B.value store.new) to.new ≡ (driver_serves (messages_on s from.old.driver.list) (stream_in s from.old) (stream_in s to.old)).to }
+    ensures passes { Passes (B.value store.old) (B.value store.new) from.old from.new to.old to.new }
+{
+    if from.driver.is_empty(store) {
+        from.driver.want_read = true;
+        return Turn::Idle;
+    }
+    if !to.is_open {
+        from.driver.want_read = false;
+        return Turn::Blocked;
+    }
+    if is_full(store, &to.head) {
+        from.driver.want_read = false;
+        to.head.let_wait(Band(0));
+        return Turn::Blocked;
+    }
+    Turn::Moved(advance(store, &mut from.driver, &mut to.head))
+}
+
+/// Whether a turn's queue is to have another turn: it moved a message, and more stand there.
+pub(crate) fn goes_on<B: Blocks>(turn: Turn, store: &B, queue: &Queue) -> bool
+    ensures { result ≡ goes_on turn (queue_in (B.value store.now) queue.now) }
+{
+    match turn {
+        Turn::Moved(_) => !queue.is_empty(store),
+        Turn::Blocked | Turn::Idle => false,
+    }
+}

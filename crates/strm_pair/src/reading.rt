@@ -1,0 +1,126 @@
+//! What a stream head gives its readers (read(2), streamio(7I): byte-stream mode, RNORM).
+
+ghost use Rattle.std.specs.Prelude.{◌≡◌, ◌<◌, ◌≤◌, ◌+◌, ◌⊎◌, [], ◌++◌, ℕ, length, MatchOption};
+ghost use Rattle.std.specs.Bool.{OnTrue, OnFalse};
+ghost use Rattle.strm_types.specs.Head.{gathered, head_read};
+ghost use Rattle.strm_types.specs.Calls.{queue_after, lets_go};
+ghost use Rattle.strm_pair.specs.Stored.{queue_in, messages_on, IsReady, Keeps, SameFlags};
+ghost use Rattle.strm_pair.specs.Reads.{Ends, GoesOn};
+
+use crate::flows::relieve;
+use arrayvec::ArrayVec;
+use strm_blocks::Blocks;
+use strm_queue::Queue;
+
+// Adds bytes to what a read gives.
+fn add(out: &mut ArrayVec<u8, 4096>, bytes: &[u8])
+    requires { length out.old.items + length bytes.now ≤ 4096 }
+    ensures { out.new.items ≡ out.old.items ++ bytes.now }
+{
+    out.try_extend_from_slice(bytes).unwrap();
+}
+
+// Whether a message of so many bytes ends a read of so many: it has none, or more than are wanted.
+fn ends_read(len: usize, wanted: usize) -> bool
+    ensures ends { OnTrue result ((len ≡ 0) ⊎ (wanted < len)) }
+    ensures goes_on { OnFalse result ((0 < len) × (len ≤ wanted)) }
+{
+    len == 0 || wanted < len
+}
+
+// Adds up to `wanted` bytes of the first message, which is one block, to `out`, and says how many are wanted still. A
+// message that has no bytes, or more than are wanted, ends the read: what it has left is put back.
+fn take_first<B: Blocks>(
+    store: &mut B,
+    queue: &mut Queue,
+    wanted: usize,
+    out: &mut ArrayVec<u8, 4096>,
+) -> Option<usize>
+    requires ready { IsReady (B.value store.old) queue.old }
+    requires some { 0 < wanted }
+    requires room { length out.old.items + wanted ≤ 4096 }
+    ensures took { let old = messages_on (B.value store.old) queue.old.list in
+        let new = messages_on (B.value store.new) queue.old.list in
+        MatchOption result (Ends wanted old new out.old.items out.new.items) (λ more. GoesOn wanted more old new out.old.items out.new.items) }
+    ensures flags { SameFlags queue.old queue.new }
+    ensures keeps { Keeps (B.value store.old) (B.value store.new) queue.old queue.new }
+{
+    let message = queue.getq(store)?;
+    let len = store.block_len(&message, 0);
+    let part = wanted.min(len);
+    add(out, &store.bytes_at(&message, 0)[..part]);
+    if ends_read(len, wanted) {
+        store.trim_head(&message, 0, part);
+        queue.putbq(store, message);
+        return None;
+    }
+    store.free(message);
+    Some(wanted - part)
+}
+
+// Adds up to `wanted` bytes of the first messages to `out`.
+fn gather<B: Blocks>(store: &mut B, queue: &mut Queue, wanted: usize, out: &mut ArrayVec<u8, 4096>)
+    requires ready { IsReady (B.value store.old) queue.old }
+    requires room { length out.old.items + wanted ≤ 4096 }
+    ensures given { out.new.items ≡ out.old.items ++ (gathered wanted (messages_on (B.value store.old) queue.old.list)).given }
+    ensures left { messages_on (B.value store.new) queue.old.list ≡ (gathered wanted (messages_on (B.value store.old) queue.old.list)).left }
+    ensures most { length out.new.items ≤ length out.old.items + wanted }
+    ensures flags { SameFlags queue.old queue.new }
+    ensures keeps { Keeps (B.value store.old) (B.value store.new) queue.old queue.new }
+{
+    let mut wanted = wanted;
+    while wanted > 0 {
+        let Some(more) = take_first(store, queue, wanted, out) else {
+            return;
+        };
+        wanted = more;
+    }
+}
+
+// Takes a zero-length message away where one stands first, and says so.
+fn takes_empty<B: Blocks>(store: &mut B, queue: &mut Queue) -> bool
+    requires ready { IsReady (B.value store.old) queue.old }
+    ensures took { OnTrue result ((n : ℕ) → 0 < n → head_read n (messages_on (B.value store.old) queue.old.list) ≡ record { given = []; left = messages_on (B.value store.new) queue.old.list }) }
+    ensures stays { OnFalse result ((n : ℕ) → 0 < n → head_read n (messages_on (B.value store.old) queue.old.list) ≡ gathered n (messages_on (B.value store.new) queue.old.list)) }
+    ensures flags { SameFlags queue.old queue.new }
+    ensures keeps { Keeps (B.value store.old) (B.value store.new) queue.old queue.new }
+{
+    let Some(peek) = store.peek(queue.list) else {
+        return false;
+    };
+    if peek.body != Some(0) {
+        return false;
+    }
+    if let Some(message) = queue.getq(store) {
+        store.free(message);
+    }
+    true
+}
+
+/// Gives up to `n` bytes of the first messages, and says whether a waiting writer is let go. A zero-length message that
+/// stands first is taken away, and nothing is given.
+pub(crate) fn read<B: Blocks>(
+    store: &mut B,
+    queue: &mut Queue,
+    n: usize,
+    out: &mut ArrayVec<u8, 4096>,
+) -> bool
+    requires ready { IsReady (B.value store.old) queue.old }
+    requires some { 0 < n }
+    requires most { n ≤ 4096 }
+    requires fresh { out.old.items ≡ [] }
+    ensures given { out.new.items ≡ (head_read n (messages_on (B.value store.old) queue.old.list)).given }
+    ensures most_given { length out.new.items ≤ n }
+    ensures queue { let q = queue_in (B.value store.old) queue.old in
+        queue_in (B.value store.new) queue.new ≡ queue_after (head_read n q.messages) q }
+    ensures went { let q = queue_in (B.value store.old) queue.old in
+        result ≡ lets_go (head_read n q.messages) q }
+    ensures keeps { Keeps (B.value store.old) (B.value store.new) queue.old queue.new }
+{
+    queue.want_read = false;
+    if takes_empty(store, queue) {
+        return false;
+    }
+    gather(store, queue, n, out);
+    !out.is_empty() && relieve(queue)
+}
