@@ -4,39 +4,39 @@ use Rattle.std.specs.Prelude.{sum_by}
 use Rattle.std.proofs.lemmas.List.{take-append-le, drop-append-le, length-drop, length-take-le, nil_from_length}
 use Rattle.std.proofs.lemmas.List.Sums.{sum_by-cons}
 use Rattle.strm_types.specs.declared.entries.Entry.{Entry}
-use Rattle.strm_types.specs.declared.entries.Entry.TheVariants as stored
-use Rattle.strm_types.specs.declared.entries.EventShape.{EventShape}
-use Rattle.strm_types.specs.declared.entries.EventShape.TheVariants as shapes
-use Rattle.strm_types.specs.declared.entries.AnswerShape.{AnswerShape}
-use Rattle.strm_types.specs.declared.entries.AnswerShape.TheVariants as told
-use Rattle.strm_types.specs.Calls.{Write, Bytes}
-use Rattle.strm_types.specs.Journal.{Called, event_len, answer_len, entry_len, request_in, reply_in, entry_in, entries_in, room_of, room_used, payload_of, content_of}
+use Rattle.strm_types.specs.declared.entries.Entry.TheVariants.{Called, Turned}
+use Rattle.strm_types.specs.declared.events.Event.{Event}
+use Rattle.strm_types.specs.declared.events.Event.TheVariants as shapes
+use Rattle.strm_types.specs.declared.answers.Answer.{Answer}
+use Rattle.strm_types.specs.declared.answers.Answer.TheVariants as told
+use Rattle.strm_types.specs.Calls.{payload_of, content_of}
+use Rattle.strm_types.specs.Journal.{event_len, answer_len, entry_len, request_in, reply_in, entry_in, entries_in, room_of, room_used}
 
 -- bytes behind a call's own change nothing of it
-request_in-more : (shape : EventShape) (bytes more : List ℕ) → event_len shape ≤ length bytes → request_in shape (bytes ++ more) ≡ request_in shape bytes
+request_in-more : (shape : Event ℕ) (bytes more : List ℕ) → event_len shape ≤ length bytes → request_in shape (bytes ++ more) ≡ request_in shape bytes
 request_in-more shapes.OpenMaster bytes more le = refl
 request_in-more shapes.Unlock bytes more le = refl
 request_in-more shapes.OpenSlave bytes more le = refl
-request_in-more (shapes.Write len) bytes more le = ap Write (take-append-le len bytes more le)
+request_in-more (shapes.Write len) bytes more le = ap shapes.Write (take-append-le len bytes more le)
 request_in-more (shapes.Read n) bytes more le = refl
 
-reply_in-more : (shape : AnswerShape) (bytes more : List ℕ) → answer_len shape ≤ length bytes → reply_in shape (bytes ++ more) ≡ reply_in shape bytes
+reply_in-more : (shape : Answer ℕ) (bytes more : List ℕ) → answer_len shape ≤ length bytes → reply_in shape (bytes ++ more) ≡ reply_in shape bytes
 reply_in-more told.Done bytes more le = refl
 reply_in-more (told.Count n) bytes more le = refl
-reply_in-more (told.Bytes len) bytes more le = ap Bytes (take-append-le len bytes more le)
+reply_in-more (told.Bytes len) bytes more le = ap told.Bytes (take-append-le len bytes more le)
 
 -- bytes behind an entry's own change nothing of it
-entry_in-more : (entry : Entry) (bytes more : List ℕ) → entry_len entry ≤ length bytes → entry_in entry (bytes ++ more) ≡ entry_in entry bytes
-entry_in-more (stored.Called caller event answer) bytes more le =
+entry_in-more : (entry : Entry ℕ) (bytes more : List ℕ) → entry_len entry ≤ length bytes → entry_in entry (bytes ++ more) ≡ entry_in entry bytes
+entry_in-more (Called caller event answer) bytes more le =
     let first : event_len event ≤ length bytes = omega (arith, le) in
     let second : answer_len answer ≤ length (drop (event_len event) bytes) = omega (arith, le, length-drop (event_len event) bytes) in
     ap (λ a. Called caller a (reply_in answer (drop (event_len event) (bytes ++ more)))) (request_in-more event bytes more first)
     ∙ ap (λ b. Called caller (request_in event bytes) (reply_in answer b)) (drop-append-le (event_len event) bytes more first)
     ∙ ap (λ r. Called caller (request_in event bytes) r) (reply_in-more answer (drop (event_len event) bytes) more second)
-entry_in-more (stored.Turned name turn) bytes more le = refl
+entry_in-more (Turned name turn) bytes more le = refl
 
 -- one more entry, with its bytes at the end of the buffer
-pub entries_in-push : (entries : List Entry) (entry : Entry) (bytes more : List ℕ) → sum_by entry_len entries ≡ length bytes → entries_in (entries ++ entry ∷ []) (bytes ++ more) ≡ entries_in entries bytes ++ entry_in entry more ∷ []
+pub entries_in-push : (entries : List (Entry ℕ)) (entry : Entry ℕ) (bytes more : List ℕ) → sum_by entry_len entries ≡ length bytes → entries_in (entries ++ entry ∷ []) (bytes ++ more) ≡ entries_in entries bytes ++ entry_in entry more ∷ []
 entries_in-push [] entry bytes more lengths =
     let none : bytes ≡ [] = nil_from_length bytes (sym lengths) in rw none refl
 entries_in-push (e ∷ entries) entry bytes more lengths =
@@ -48,31 +48,31 @@ entries_in-push (e ∷ entries) entry bytes more lengths =
     ∙ ap (λ xs. entry_in e bytes ∷ xs) (entries_in-push entries entry (drop (entry_len e) bytes) more others)
 
 -- there are as many plain entries
-pub length-entries_in : (entries : List Entry) (bytes : List ℕ) → length (entries_in entries bytes) ≡ length entries
+pub length-entries_in : (entries : List (Entry ℕ)) (bytes : List ℕ) → length (entries_in entries bytes) ≡ length entries
 length-entries_in [] bytes = refl
 length-entries_in (e ∷ entries) bytes = ap (λ n. suc n) (length-entries_in entries (drop (entry_len e) bytes))
 
-payload-len : (shape : EventShape) (bytes : List ℕ) → event_len shape ≤ length bytes → length (payload_of (request_in shape bytes)) ≡ event_len shape
+payload-len : (shape : Event ℕ) (bytes : List ℕ) → event_len shape ≤ length bytes → length (payload_of (request_in shape bytes)) ≡ event_len shape
 payload-len shapes.OpenMaster bytes le = refl
 payload-len shapes.Unlock bytes le = refl
 payload-len shapes.OpenSlave bytes le = refl
 payload-len (shapes.Write len) bytes le = length-take-le len bytes le
 payload-len (shapes.Read n) bytes le = refl
 
-content-len : (shape : AnswerShape) (bytes : List ℕ) → answer_len shape ≤ length bytes → length (content_of (reply_in shape bytes)) ≡ answer_len shape
+content-len : (shape : Answer ℕ) (bytes : List ℕ) → answer_len shape ≤ length bytes → length (content_of (reply_in shape bytes)) ≡ answer_len shape
 content-len told.Done bytes le = refl
 content-len (told.Count n) bytes le = refl
 content-len (told.Bytes len) bytes le = length-take-le len bytes le
 
-entry_room : (entry : Entry) (bytes : List ℕ) → entry_len entry ≤ length bytes → room_of (entry_in entry bytes) ≡ entry_len entry
-entry_room (stored.Called caller event answer) bytes le =
+entry_room : (entry : Entry ℕ) (bytes : List ℕ) → entry_len entry ≤ length bytes → room_of (entry_in entry bytes) ≡ entry_len entry
+entry_room (Called caller event answer) bytes le =
     let first : event_len event ≤ length bytes = omega (arith, le) in
     let second : answer_len answer ≤ length (drop (event_len event) bytes) = omega (arith, le, length-drop (event_len event) bytes) in
     omega (arith, payload-len event bytes first, content-len answer (drop (event_len event) bytes) second)
-entry_room (stored.Turned name turn) bytes le = refl
+entry_room (Turned name turn) bytes le = refl
 
 -- and they take the bytes of the buffer
-pub room_used-stored : (entries : List Entry) (bytes : List ℕ) → sum_by entry_len entries ≡ length bytes → room_used (entries_in entries bytes) ≡ length bytes
+pub room_used-stored : (entries : List (Entry ℕ)) (bytes : List ℕ) → sum_by entry_len entries ≡ length bytes → room_used (entries_in entries bytes) ≡ length bytes
 room_used-stored [] bytes lengths = lengths
 room_used-stored (e ∷ entries) bytes lengths =
     let sums : entry_len e + sum_by entry_len entries ≡ length bytes = sym (sum_by-cons entry_len e entries) ∙ lengths in

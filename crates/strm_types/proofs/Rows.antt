@@ -3,7 +3,7 @@ use Rattle.std.proofs.Common.{ℕ, ◌≡◌, [], ◌∷◌, refl, replicate}
 use Rattle.std.specs.Prelude.{None, Some}
 use Rattle.strm_types.specs.declared.kinds.MsgKind.TheVariants.{Data, Pcproto}
 use Rattle.strm_types.specs.declared.names.Side.TheVariants.{Master, Slave}
-use Rattle.strm_types.specs.declared.answers.Turn.TheVariants.{Moved}
+use Rattle.strm_types.specs.declared.answers.Turn.TheVariants.{Moved, Idle}
 use Rattle.strm_types.specs.declared.refusals.Refusal.TheVariants.{Eagain, Enxio, Einval}
 use Rattle.strm_types.specs.Message.{Message, data_message, rank_of, band_of, size_of, cells_of, is_high_priority, is_held}
 use Rattle.strm_types.specs.Queue.{put, put_back}
@@ -11,18 +11,21 @@ use Rattle.strm_types.specs.Names.{driver_of}
 use Rattle.strm_types.specs.State.{State, opening}
 use Rattle.strm_types.specs.Write.{chunk_count}
 use Rattle.strm_types.specs.Turns.{turned}
-use Rattle.strm_types.specs.Calls.{OpenMaster, Unlock, OpenSlave, Write, Read, Count, Bytes, called}
+use Rattle.strm_types.specs.declared.events.Event.TheVariants.{OpenMaster, Unlock, OpenSlave, Write, Read}
+use Rattle.strm_types.specs.declared.answers.Answer.TheVariants.{Count, Bytes}
+use Rattle.strm_types.specs.Cells.{plain}
+use Rattle.strm_types.specs.Calls.{called}
 use Rattle.strm_types.specs.Refused.{refused_by_state, refused_at_once}
 
 -- the state after the master was opened, the slave unlocked and opened
 abbrev opened : State ℕ
-opened = (called (record { side = Master }) OpenSlave (called (record { side = Master }) Unlock (called (record { side = Master }) OpenMaster opening).state).state).state
+opened = (called plain (record { side = Master }) OpenSlave (called plain (record { side = Master }) Unlock (called plain (record { side = Master }) OpenMaster opening).state).state).state
 
 -- a write, a turn and a read: `write m "abc"` takes 3, the turn moves 3, `read s 10` gives "abc"
 abbrev after-write : State ℕ
-after-write = (called (record { side = Master }) (Write (97 ∷ 98 ∷ 99 ∷ [])) opened).state
+after-write = (called plain (record { side = Master }) (Write (97 ∷ 98 ∷ 99 ∷ [])) opened).state
 
-pub write-takes : (called (record { side = Master }) (Write (97 ∷ 98 ∷ 99 ∷ [])) opened).answer ≡ Count 3
+pub write-takes : (called plain (record { side = Master }) (Write (97 ∷ 98 ∷ 99 ∷ [])) opened).answer ≡ Count 3
 unfolding chunk_count data_message rank_of band_of size_of cells_of is_high_priority
 write-takes = refl
 
@@ -30,23 +33,23 @@ pub write-enables : after-write.enabled ≡ driver_of Master ∷ []
 unfolding chunk_count data_message rank_of band_of size_of cells_of is_high_priority
 write-enables = refl
 
-pub turn-moves : (turned (driver_of Master) after-write).turn ≡ Moved 3
+pub turn-moves : (turned plain (driver_of Master) Idle after-write).turn ≡ Moved 3
 unfolding chunk_count data_message rank_of band_of size_of cells_of is_high_priority is_held
 turn-moves = refl
 
-pub read-gives : (called (record { side = Slave }) (Read 10) (turned (driver_of Master) after-write).state).answer ≡ Bytes (97 ∷ 98 ∷ 99 ∷ [])
+pub read-gives : (called plain (record { side = Slave }) (Read 10) (turned plain (driver_of Master) Idle after-write).state).answer ≡ Bytes (97 ∷ 98 ∷ 99 ∷ [])
 unfolding chunk_count data_message rank_of band_of size_of cells_of is_high_priority is_held
 read-gives = refl
 
-pub second-turn-is-refused : (turned (driver_of Master) after-write).state.enabled ≡ []
+pub second-turn-is-refused : (turned plain (driver_of Master) Idle after-write).state.enabled ≡ []
 unfolding chunk_count data_message rank_of band_of size_of cells_of is_high_priority is_held
 second-turn-is-refused = refl
 
 -- 600 bytes: two chunks of 256 go, the third finds the band full; after a turn one more chunk may go
 abbrev after-long : State ℕ
-after-long = (called (record { side = Master }) (Write (replicate 600 122)) opened).state
+after-long = (called plain (record { side = Master }) (Write (replicate 600 122)) opened).state
 
-pub long-write-stops : (called (record { side = Master }) (Write (replicate 600 122)) opened).answer ≡ Count 512
+pub long-write-stops : (called plain (record { side = Master }) (Write (replicate 600 122)) opened).answer ≡ Count 512
 unfolding chunk_count data_message rank_of band_of size_of cells_of is_high_priority
 long-write-stops = refl
 
@@ -54,11 +57,11 @@ pub full-is-refused : refused_by_state after-long (record { side = Master }) (Wr
 unfolding chunk_count data_message rank_of band_of size_of cells_of is_high_priority
 full-is-refused = refl
 
-pub turn-makes-room : (turned (driver_of Master) after-long).turn ≡ Moved 256
+pub turn-makes-room : (turned plain (driver_of Master) Idle after-long).turn ≡ Moved 256
 unfolding chunk_count data_message rank_of band_of size_of cells_of is_high_priority is_held
 turn-makes-room = refl
 
-pub write-goes-on : (called (record { side = Master }) (Write (122 ∷ [])) (turned (driver_of Master) after-long).state).answer ≡ Count 1
+pub write-goes-on : (called plain (record { side = Master }) (Write (122 ∷ [])) (turned plain (driver_of Master) Idle after-long).state).answer ≡ Count 1
 unfolding chunk_count data_message rank_of band_of size_of cells_of is_high_priority is_held
 write-goes-on = refl
 
@@ -79,7 +82,7 @@ unfolding rank_of is_high_priority
 put-back-is-first = refl
 
 -- the slave is refused before it is unlocked, and the master's second opening
-pub locked-slave-waits : refused_by_state {C = ℕ} (called (record { side = Master }) OpenMaster opening).state (record { side = Master }) OpenSlave ≡ Some Eagain
+pub locked-slave-waits : refused_by_state {C = ℕ} (called plain (record { side = Master }) OpenMaster opening).state (record { side = Master }) OpenSlave ≡ Some Eagain
 locked-slave-waits = refl
 
 pub master-opens-once : refused_by_state {C = ℕ} opened (record { side = Master }) OpenMaster ≡ Some Einval

@@ -1,4 +1,6 @@
 pub mod Ranked
+pub mod Kinds
+pub mod Cells
 pub mod Message
 pub mod Queue
 pub mod Names

@@ -1,6 +1,7 @@
 -- A message as its users see it: without blocks (STREAMS Programming Guide, "Messages").
 use Rattle.std.specs.Prelude.{ℕ, Bool, true, false, List, [], ◌++◌, length, ◌+◌, map, if◌then◌else◌, Option, None, Some, unwrap_or, option_map, count_by}
 use Rattle.strm_types.specs.declared.kinds.MsgKind.{MsgKind}
+use Rattle.strm_types.specs.declared.limits.TheConstants.{HIGH_PRIORITY_RANK}
 use Rattle.strm_types.specs.declared.kinds.MsgKind.TheVariants.{Data, Proto, Sig, Ctl, Ioctl, Setopts}
 
 -- A message of cells: bytes, or bytes with their origin. Its control part and its data part are each absent or a list
@@ -41,9 +42,9 @@ module _ {C : Type 0} where
   unfoldable pub size_of : Message C → ℕ
   size_of m = length (cells_of m) + length m.plain
 
-  -- the rank of a message: 256 for high priority, else its band
+  -- the rank of a message: above all bands for high priority, else its band
   unfoldable pub rank_of : Message C → ℕ
-  rank_of m = if is_high_priority m.kind then 256 else m.band
+  rank_of m = if is_high_priority m.kind then HIGH_PRIORITY_RANK else m.band
 
   -- the band in which a message's bytes count: those of high priority count in band 0
   unfoldable pub band_of : Message C → ℕ

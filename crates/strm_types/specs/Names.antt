@@ -1,5 +1,5 @@
 -- Names of queues, and lists of them in which each stands once.
-use Rattle.std.specs.Prelude.{ℕ, ◌+◌, ◌≤◌, Bool, true, false, ◌&&◌, not, if◌then◌else◌, List, [], ◌∷◌, ◌++◌, filter}
+use Rattle.std.specs.Prelude.{ℕ, ◌+◌, ◌≤◌, Bool, true, false, ◌&&◌, not, if◌then◌else◌, List, [], ◌∷◌, ◌++◌, filter, Option, None, Some}
 use Rattle.std.specs.List.{list_any}
 use Rattle.strm_types.specs.declared.names.Side.{Side}
 use Rattle.strm_types.specs.declared.names.Side.TheVariants.{Master, Slave}
@@ -8,6 +8,10 @@ use Rattle.strm_types.specs.declared.names.Way.TheVariants.{Up, Down}
 use Rattle.strm_types.specs.declared.names.Place.{Place}
 use Rattle.strm_types.specs.declared.names.Place.TheVariants.{Head, Ldterm, Driver}
 use Rattle.strm_types.specs.declared.names.QueueName.{QueueName}
+use Rattle.strm_types.specs.declared.names.Dir.{Dir}
+use Rattle.strm_types.specs.declared.names.Dir.TheVariants.{MasterToSlave, SlaveToMaster}
+use Rattle.strm_types.specs.declared.names.Openness.{Openness}
+use Rattle.strm_types.specs.declared.names.Openness.TheVariants.{Never, Open, Closed}
 
 -- the other end of the pair
 abbrev pub other : Side → Side
@@ -17,6 +21,28 @@ other Slave = Master
 abbrev pub is_master : Side → Bool
 is_master Master = true
 is_master Slave = false
+
+-- the direction of what a side writes
+abbrev pub direction_from : Side → Dir
+direction_from Master = MasterToSlave
+direction_from Slave = SlaveToMaster
+
+-- the side that writes in a direction
+abbrev pub side_from : Dir → Side
+side_from MasterToSlave = Master
+side_from SlaveToMaster = Slave
+
+-- whether a side is open now
+abbrev pub is_open : Openness → Bool
+is_open Open = true
+is_open Never = false
+is_open Closed = false
+
+-- whether a side was never open
+abbrev pub is_never : Openness → Bool
+is_never Never = true
+is_never Open = false
+is_never Closed = false
 
 abbrev pub same_side : Side → Side → Bool
 same_side Master Master = true
@@ -45,6 +71,38 @@ driver_of side = record { side = side; place = Driver; way = Down }
 abbrev pub head_of : Side → QueueName
 head_of side = record { side = side; place = Head; way = Up }
 
+-- whether a queue has a service procedure: every queue but a head's
+abbrev pub has_service_at : Place → Bool
+has_service_at Head = false
+has_service_at Ldterm = true
+has_service_at Driver = true
+
+abbrev pub has_service : QueueName → Bool
+has_service name = has_service_at name.place
+
+-- the queues of a direction, from the writer's driver to the reader's head
+abbrev pub line_of : Dir → List QueueName
+line_of dir = driver_of (side_from dir) ∷ head_of (other (side_from dir)) ∷ []
+
+-- the nearest queue with service before one on a line, where so far the last one was this
+abbrev pub nearest_before : QueueName → Option QueueName → List QueueName → Option QueueName
+nearest_before name last [] = None
+nearest_before name last (n ∷ line) =
+    if same_queue n name then last else nearest_before name (if has_service n then Some n else last) line
+
+-- what a side's stream carries up comes from the other side
+abbrev pub direction_at : Way → Side → Dir
+direction_at Down side = direction_from side
+direction_at Up side = direction_from (other side)
+
+-- the direction in which a queue's messages go
+abbrev pub direction_of : QueueName → Dir
+direction_of name = direction_at name.way name.side
+
+-- the queue that is enabled when a queue has room again: the nearest earlier one with service in its direction
+abbrev pub before : QueueName → Option QueueName
+before name = nearest_before name None (line_of (direction_of name))
+
 -- whether a queue is enabled
 abbrev pub is_enabled : QueueName → List QueueName → Bool
 is_enabled name names = list_any (λ n. same_queue n name) names
@@ -56,6 +114,11 @@ enable name names = if is_enabled name names then names else names ++ name ∷ [
 -- the same on a condition
 abbrev pub enable_if : Bool → QueueName → List QueueName → List QueueName
 enable_if condition name names = if condition then enable name names else names
+
+-- the same for a queue that may not be there
+abbrev pub enable_some : Bool → Option QueueName → List QueueName → List QueueName
+enable_some condition None names = names
+enable_some condition (Some name) names = enable_if condition name names
 
 -- the names without one of them
 abbrev pub without : QueueName → List QueueName → List QueueName

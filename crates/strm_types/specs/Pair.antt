@@ -7,7 +7,9 @@ use Rattle.strm_types.specs.declared.refusals.Refusal.{Refusal}
 use Rattle.strm_types.specs.State.{State, opening}
 use Rattle.strm_types.specs.Calls.{Request}
 use Rattle.strm_types.specs.Journal.{PlainEntry}
-use Rattle.strm_types.specs.Refused.{Free, refused, turn_refused}
+use Rattle.strm_types.specs.Refused.{Free, enough, blocks_asked, refused, turn_refused}
+use Rattle.strm_types.specs.declared.limits.TheConstants.{TURN_BLOCKS}
+use Rattle.strm_types.specs.Cells.{plain}
 use Rattle.strm_types.specs.Step.{Step}
 
 -- A pair: its plain state, the state that its journal began at, the journal, the sizes that it was made with, and how
@@ -15,7 +17,7 @@ use Rattle.strm_types.specs.Step.{Step}
 pub record PairState : Type 0 where
   pub state : State ℕ
   pub base : State ℕ
-  pub journal : List (PlainEntry ℕ)
+  pub journal : List PlainEntry
   pub limits : Config
   pub free : Free
 
@@ -30,16 +32,16 @@ new_pair limits = record {
 }
 
 -- the refusal of a call on a pair, if any
-abbrev pub call_refused : PairState → Caller → Request ℕ → Option Refusal
-call_refused p caller asked = refused p.state p.journal p.limits p.free caller asked
+abbrev pub call_refused : PairState → Caller → Request → Option Refusal
+call_refused p caller asked = refused p.state p.journal p.limits (enough (blocks_asked asked) p.free) caller asked
 
 -- the refusal of a turn of a pair's queue, if any
 abbrev pub queue_refused : PairState → QueueName → Option Refusal
-queue_refused p name = turn_refused p.state p.journal p.limits p.free name
+queue_refused p name = turn_refused p.state p.journal p.limits (enough TURN_BLOCKS p.free) name
 
 -- The pair took a step, and its journal has gained the entry of it. The base and the sizes stay.
-pub record AddsEntry (old new : PairState) (entry : PlainEntry ℕ) : Type 0 where
+pub record AddsEntry (old new : PairState) (entry : PlainEntry) : Type 0 where
   pub journal : new.journal ≡ old.journal ++ entry ∷ []
-  pub step : Step old.state entry new.state
+  pub step : Step plain old.state entry new.state
   pub base : new.base ≡ old.base
   pub limits : new.limits ≡ old.limits

@@ -1,5 +1,6 @@
 -- Queues: their order, their counts and flow control (putq(9F), getq(9F), STREAMS Programming Guide, "Flow Control").
 use Rattle.std.specs.Prelude.{ℕ, zero, suc, Bool, true, false, not, ◌&&◌, ◌||◌, ◌==◌, nat_le, nat_lt, if◌then◌else◌, List, [], ◌∷◌, map, sum_by, replicate, slice_index_or, Option, None, Some}
+use Rattle.strm_types.specs.declared.limits.TheConstants.{BANDS}
 use Rattle.strm_types.specs.Ranked as ranked
 use Rattle.strm_types.specs.Message.{Message, rank_of, band_of, size_of, weight_of, is_high_priority, map_message}
 
@@ -111,11 +112,11 @@ with_writer_at band [] = []
 with_writer_at zero (flow ∷ flows) = with_writer flow ∷ flows
 with_writer_at (suc band) (flow ∷ flows) = flow ∷ with_writer_at band flows
 
--- an empty queue with the same marks in each of its eight bands
+-- an empty queue with the same marks in each of its bands
 abbrev pub new_queue : {C : Type 0} → ℕ → ℕ → Queue C
 new_queue high low = record {
   messages = [];
-  flows = replicate 8 (record { high = high; low = low; want_write = false });
+  flows = replicate BANDS (record { high = high; low = low; want_write = false });
   want_read = true;
   no_enable = false;
 }

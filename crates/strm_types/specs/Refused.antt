@@ -6,13 +6,15 @@ use Rattle.strm_types.specs.declared.events.Caller.{Caller}
 use Rattle.strm_types.specs.declared.names.QueueName.{QueueName}
 use Rattle.strm_types.specs.declared.refusals.Refusal.{Refusal}
 use Rattle.strm_types.specs.declared.refusals.Refusal.TheVariants.{Einval, Eagain, Enxio, Enosr, JournalFull}
-use Rattle.strm_types.specs.Names.{is_master, is_enabled}
+use Rattle.strm_types.specs.Names.{is_master, is_enabled, is_open, is_never}
 use Rattle.strm_types.specs.Queue.{is_full}
 use Rattle.strm_types.specs.State.{State, stream}
 use Rattle.strm_types.specs.Write.{chunk_count}
 use Rattle.strm_types.specs.Turns.{is_none_left}
-use Rattle.strm_types.specs.Calls.{Request, OpenMaster, Unlock, OpenSlave, Write, Read}
-use Rattle.strm_types.specs.Journal.{PlainEntry, payload_of, content_max, room_used}
+use Rattle.strm_types.specs.declared.limits.TheConstants.{WRITE_BLOCKS, TURN_BLOCKS}
+use Rattle.strm_types.specs.declared.events.Event.TheVariants.{OpenMaster, Unlock, OpenSlave, Write, Read}
+use Rattle.strm_types.specs.Calls.{Request, payload_of}
+use Rattle.strm_types.specs.Journal.{PlainEntry, content_max, room_used}
 
 -- how many blocks of each kind are free
 pub record Free : Type 0 where
@@ -38,54 +40,50 @@ abbrev pub enough : ℕ → Free → Bool
 enough need free = nat_le need free.mblks && nat_le need free.dblks
 
 -- how many blocks of each kind a call may take: a write one for each of its messages
-abbrev pub blocks_taken : {C : Type 0} → Request C → ℕ
-blocks_taken (Write cells) = chunk_count (length cells)
+abbrev pub blocks_taken : Request → ℕ
+blocks_taken (Write bytes) = chunk_count (length bytes)
 blocks_taken _ = 0
 
 -- how many blocks of each kind have to be free for a call: a write wants 32 more than it may take
-abbrev pub blocks_asked : {C : Type 0} → Request C → ℕ
-blocks_asked (Write cells) = 32 + chunk_count (length cells)
+abbrev pub blocks_asked : Request → ℕ
+blocks_asked (Write bytes) = WRITE_BLOCKS + chunk_count (length bytes)
 blocks_asked _ = 0
 
--- how many blocks of each kind have to be free for a driver's turn
-abbrev pub turn_blocks_asked : ℕ
-turn_blocks_asked = 8
+-- the journal takes one more entry with so many bytes
+abbrev pub has_room : List PlainEntry → Config → ℕ → Bool
+has_room entries limits bytes =
+    nat_lt (length entries) limits.journal_events && nat_le (room_used entries + bytes) limits.journal_bytes
 
 module _ {C : Type 0} where
-  -- the journal takes one more entry with so many bytes
-  abbrev pub has_room : List (PlainEntry C) → Config → ℕ → Bool
-  has_room entries limits bytes =
-      nat_lt (length entries) limits.journal_events && nat_le (room_used entries + bytes) limits.journal_bytes
-
   -- what a call is refused for before all else: its side, and then its arguments
-  abbrev pub refused_at_once : State C → Caller → Request C → Option Refusal
+  abbrev pub refused_at_once : State C → Caller → Request → Option Refusal
   refused_at_once s caller OpenMaster = None
   refused_at_once s caller Unlock =
-      or_else (unless (stream caller.side s).is_open Enxio) (unless (is_master caller.side) Einval)
-  refused_at_once s caller OpenSlave = unless s.master.is_open Enxio
-  refused_at_once s caller (Write cells) = unless (stream caller.side s).is_open Enxio
-  refused_at_once s caller (Read n) = unless (stream caller.side s).is_open Enxio
+      or_else (unless (is_open (stream caller.side s).opened) Enxio) (unless (is_master caller.side) Einval)
+  refused_at_once s caller OpenSlave = unless (is_open s.master.opened) Enxio
+  refused_at_once s caller _ = unless (is_open (stream caller.side s).opened) Enxio
 
   -- what a call is refused for after all else: what the state says
-  abbrev pub refused_by_state : State C → Caller → Request C → Option Refusal
-  refused_by_state s caller OpenMaster = unless (not s.master.is_open) Einval
-  refused_by_state s caller Unlock = None
-  refused_by_state s caller OpenSlave = or_else (unless (not s.slave.is_open) Einval) (unless (not s.locked) Eagain)
-  refused_by_state s caller (Write cells) = unless (not (is_full 0 (stream caller.side s).driver.queue)) Eagain
+  abbrev pub refused_by_state : State C → Caller → Request → Option Refusal
+  refused_by_state s caller OpenMaster = unless (is_never s.master.opened) Einval
+  refused_by_state s caller OpenSlave =
+      or_else (unless (not (is_open s.slave.opened)) Einval) (unless (not s.locked) Eagain)
+  refused_by_state s caller (Write bytes) = unless (not (is_full 0 (stream caller.side s).driver.queue)) Eagain
   refused_by_state s caller (Read n) =
       unless (n == 0 || not (is_none_left (stream caller.side s).head.queue.messages)) Eagain
+  refused_by_state s caller _ = None
 
-  -- the refusal of a call, if any
-  abbrev pub refused : State C → List (PlainEntry C) → Config → Free → Caller → Request C → Option Refusal
-  refused s entries limits free caller asked =
+  -- the refusal of a call, if any, where the pool has enough blocks for it or not
+  abbrev pub refused : State C → List PlainEntry → Config → Bool → Caller → Request → Option Refusal
+  refused s entries limits has_blocks caller asked =
       or_else (refused_at_once s caller asked)
       (or_else (unless (has_room entries limits (length (payload_of asked) + content_max asked)) JournalFull)
-      (or_else (unless (enough (blocks_asked asked) free) Enosr)
+      (or_else (unless has_blocks Enosr)
       (refused_by_state s caller asked)))
 
-  -- the refusal of a turn, if any
-  abbrev pub turn_refused : State C → List (PlainEntry C) → Config → Free → QueueName → Option Refusal
-  turn_refused s entries limits free name =
+  -- the refusal of a turn, if any, where the pool has enough blocks for it or not
+  abbrev pub turn_refused : State C → List PlainEntry → Config → Bool → QueueName → Option Refusal
+  turn_refused s entries limits has_blocks name =
       or_else (unless (is_enabled name s.enabled) Einval)
       (or_else (unless (has_room entries limits 0) JournalFull)
-      (unless (enough turn_blocks_asked free) Enosr))
+      (unless has_blocks Enosr))

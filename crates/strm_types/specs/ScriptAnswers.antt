@@ -6,7 +6,8 @@ use Rattle.strm_types.specs.declared.answers.Turn.{Turn}
 use Rattle.strm_types.specs.declared.answers.Turn.TheVariants.{Moved, Blocked, Idle}
 use Rattle.strm_types.specs.declared.refusals.Refusal.{Refusal}
 use Rattle.strm_types.specs.declared.refusals.Refusal.TheVariants.{Einval, Eagain, Enxio, Ebadmsg, Enosr, Erange, JournalFull, NoMinor, NoMemory, StillShared}
-use Rattle.strm_types.specs.Calls.{Reply, Done, Count, Bytes}
+use Rattle.strm_types.specs.declared.answers.Answer.TheVariants.{Done, Count, Bytes}
+use Rattle.strm_types.specs.Calls.{Reply}
 
 -- an answer line, without its LF
 pub data Line : Type 0 where
@@ -68,7 +69,7 @@ abbrev pub printed_line : Line → List ℕ
 printed_line line = line_text line ++ 10 ∷ []
 
 -- what a call is answered by
-abbrev pub reply_line : Result (Reply ℕ) Refusal → Line
+abbrev pub reply_line : Result (Reply) Refusal → Line
 reply_line (Ok Done) = Plain
 reply_line (Ok (Count n)) = Number n
 reply_line (Ok (Bytes bytes)) = Text bytes

@@ -1,19 +1,20 @@
 -- What a script writes: its answers, in the order of its lines.
-use Rattle.std.specs.Prelude.{ℕ, zero, suc, ◌+◌, nat_le, ◌&&◌, Bool, true, false, if◌then◌else◌, List, [], ◌∷◌, ◌++◌, length, Option, None, Some, Result, Ok, Err, unwrap_or, slice_get}
+use Rattle.std.specs.Prelude.{ℕ, zero, suc, ◌+◌, nat_le, ◌&&◌, ◌||◌, ◌==◌, Bool, true, false, if◌then◌else◌, List, [], ◌∷◌, ◌++◌, length, Option, None, Some, Result, Ok, Err, unwrap_or, slice_get}
 use Rattle.strm_types.specs.declared.limits.Config.{Config}
 use Rattle.strm_types.specs.declared.answers.Turn.{Turn}
 use Rattle.strm_types.specs.declared.events.Caller.{Caller}
 use Rattle.strm_types.specs.declared.names.Side.TheVariants.{Master, Slave}
 use Rattle.strm_types.specs.declared.names.QueueName.{QueueName}
 use Rattle.strm_types.specs.declared.refusals.Refusal.{Refusal}
-use Rattle.strm_types.specs.declared.refusals.Refusal.TheVariants.{Einval, Enxio, Enosr, JournalFull}
-use Rattle.strm_types.specs.Names.{is_enabled}
+use Rattle.strm_types.specs.declared.refusals.Refusal.TheVariants.{Einval, Enxio, Enosr}
 use Rattle.strm_types.specs.State.{State, opening}
-use Rattle.strm_types.specs.Turns.{turned}
-use Rattle.strm_types.specs.Calls as calls
+use Rattle.strm_types.specs.declared.entries.Entry.TheVariants.{Called, Turned}
+use Rattle.strm_types.specs.declared.events.Event.TheVariants as calls
+use Rattle.strm_types.specs.Cells.{plain}
+use Rattle.strm_types.specs.Turns.{turned, whole_turn}
 use Rattle.strm_types.specs.Calls.{Request, Reply, called}
-use Rattle.strm_types.specs.Journal.{PlainEntry, Called, Turned, payload_of, content_max}
-use Rattle.strm_types.specs.Refused.{or_else, unless, has_room, refused_at_once, refused_by_state}
+use Rattle.strm_types.specs.Journal.{PlainEntry}
+use Rattle.strm_types.specs.Refused.{refused, turn_refused, blocks_asked}
 use Rattle.strm_types.specs.Script.{Command, Open, Unlock, OpenSlave, Write, Read, Turn as TurnOf, Run, lines_of}
 use Rattle.strm_types.specs.ScriptReading.{Silent, Malformed, Spoken, reading}
 use Rattle.strm_types.specs.ScriptAnswers.{Line, Refused, Wrong, Ran, printed_line, reply_line, turn_line}
@@ -40,7 +41,7 @@ rest_of (_ ∷ account) = account
 -- a pair whose blocks nobody counts: its plain state, its journal and its sizes
 pub record PlainPair : Type 0 where
   pub state : State ℕ
-  pub journal : List (PlainEntry ℕ)
+  pub journal : List PlainEntry
   pub limits : Config
 
 -- the blocks of each kind that a pair gets where a script names no number
@@ -59,39 +60,33 @@ pub record Happened (A : Type 0) : Type 0 where
   pub answer : Result A Refusal
   pub pair : PlainPair
 
--- why a call or a turn is refused, with this supply of blocks
-abbrev pub call_refusal : Supply → PlainPair → Caller → Request ℕ → Option Refusal
+-- why a call or a turn is refused, with this supply of blocks; a call that asks for none has enough
+abbrev pub call_refusal : Supply → PlainPair → Caller → Request → Option Refusal
 call_refusal supply p caller asked =
-    or_else (refused_at_once p.state caller asked)
-    (or_else (unless (has_room p.journal p.limits (length (payload_of asked) + content_max asked)) JournalFull)
-    (or_else (unless (is_enough supply) Enosr)
-    (refused_by_state p.state caller asked)))
+    refused p.state p.journal p.limits (is_enough supply || (blocks_asked asked == 0)) caller asked
 
 abbrev pub turn_refusal : Supply → PlainPair → QueueName → Option Refusal
-turn_refusal supply p name =
-    or_else (unless (is_enabled name p.state.enabled) Einval)
-    (or_else (unless (has_room p.journal p.limits 0) JournalFull)
-    (unless (is_enough supply) Enosr))
+turn_refusal supply p name = turn_refused p.state p.journal p.limits (is_enough supply) name
 
 -- the pair with one more entry, in another state
-abbrev pub stepped : PlainPair → PlainEntry ℕ → State ℕ → PlainPair
+abbrev pub stepped : PlainPair → PlainEntry → State ℕ → PlainPair
 stepped p entry state = record p { state = state; journal = p.journal ++ entry ∷ [] }
 
 -- a call that is refused, if it is, or carried out
-abbrev pub call_happens : Option Refusal → PlainPair → Caller → Request ℕ → Happened (Reply ℕ)
+abbrev pub call_happens : Option Refusal → PlainPair → Caller → Request → Happened (Reply)
 call_happens (Some refusal) p caller asked = record { answer = Err refusal; pair = p }
 call_happens None p caller asked =
-    let outcome = called caller asked p.state in
+    let outcome = called plain caller asked p.state in
     record { answer = Ok outcome.answer; pair = stepped p (Called caller asked outcome.answer) outcome.state }
 
 -- a call
-unfoldable pub call_of : Supply → PlainPair → Caller → Request ℕ → Happened (Reply ℕ)
+unfoldable pub call_of : Supply → PlainPair → Caller → Request → Happened (Reply)
 call_of supply p caller asked = call_happens (call_refusal supply p caller asked) p caller asked
 
 abbrev pub turn_happens : Option Refusal → PlainPair → QueueName → Happened Turn
 turn_happens (Some refusal) p name = record { answer = Err refusal; pair = p }
 turn_happens None p name =
-    let outcome = turned name p.state in
+    let outcome = turned plain name (whole_turn name p.state) p.state in
     record { answer = Ok outcome.turn; pair = stepped p (Turned name outcome.turn) outcome.state }
 
 -- a turn of a queue
@@ -119,7 +114,7 @@ abbrev pub unanswered : Refusal → Option PlainPair → List Supply → Answere
 unanswered refusal pair account = record { line = Refused refusal; pair = pair; account = account; is_short = false }
 
 -- a call by a command
-unfoldable pub by_call : Caller → Request ℕ → List Supply → PlainPair → Answered
+unfoldable pub by_call : Caller → Request → List Supply → PlainPair → Answered
 by_call caller asked account p =
     let happened = call_of (next_of account) p caller asked in
     record {

@@ -1,9 +1,13 @@
 -- The plain state of a pair: what every call acts on.
-use Rattle.std.specs.Prelude.{ℕ, ◌+◌, Bool, true, false, List, [], ◌∷◌, length}
+use Rattle.std.specs.Prelude.{ℕ, ◌+◌, Bool, true, List, [], ◌∷◌, length}
 use Rattle.std.specs.List.{AllByRecursion}
 use Rattle.strm_types.specs.declared.names.Side.{Side}
 use Rattle.strm_types.specs.declared.names.Side.TheVariants.{Master, Slave}
 use Rattle.strm_types.specs.declared.names.QueueName.{QueueName}
+use Rattle.strm_types.specs.declared.names.Dir.{Dir}
+use Rattle.strm_types.specs.declared.names.Dir.TheVariants.{MasterToSlave, SlaveToMaster}
+use Rattle.strm_types.specs.declared.names.Openness.{Openness}
+use Rattle.strm_types.specs.declared.names.Openness.TheVariants.{Never}
 use Rattle.strm_types.specs.Queue.{Queue, IsOrdered, new_queue, map_queue}
 
 -- a stream head: what it has for its readers
@@ -16,18 +20,33 @@ pub record Driver (C : Type 0) : Type 0 where
 
 -- the stream of one side
 pub record Stream (C : Type 0) : Type 0 where
-  pub is_open : Bool
+  pub opened : Openness
   pub head : Head C
   pub driver : Driver C
 
--- a pair: its two streams, whether the slave is locked, the enabled queues in order of enabling, and the number that
--- the next ioctl gets
+-- what was booked of a direction so far: how many bytes were written, and how many were made on the way
+pub record Book : Type 0 where
+  pub written : ℕ
+  pub made : ℕ
+
+-- A pair: its two streams, whether the slave is locked, the enabled queues in order of enabling, the number that the next
+-- ioctl gets, and the books of the two directions.
 pub record State (C : Type 0) : Type 0 where
   pub master : Stream C
   pub slave : Stream C
   pub locked : Bool
   pub enabled : List QueueName
   pub next_ioctl : ℕ
+  pub from_master : Book
+  pub from_slave : Book
+
+-- a book in which nothing stands
+abbrev pub new_book : Book
+new_book = record { written = 0; made = 0 }
+
+-- the book with more bytes written
+abbrev pub with_written : ℕ → Book → Book
+with_written count book = record book { written = book.written + count }
 
 module _ {C : Type 0} where
   -- a head as it is made: marks 5120 and 1024
@@ -40,11 +59,19 @@ module _ {C : Type 0} where
 
   -- a stream that nobody opened yet
   abbrev pub new_stream : Stream C
-  new_stream = record { is_open = false; head = new_head; driver = new_driver }
+  new_stream = record { opened = Never; head = new_head; driver = new_driver }
 
   -- a pair as it is made
   abbrev pub opening : State C
-  opening = record { master = new_stream; slave = new_stream; locked = true; enabled = []; next_ioctl = 1 }
+  opening = record {
+    master = new_stream;
+    slave = new_stream;
+    locked = true;
+    enabled = [];
+    next_ioctl = 1;
+    from_master = new_book;
+    from_slave = new_book;
+  }
 
   -- the stream of a side
   abbrev pub stream : Side → State C → Stream C
@@ -55,6 +82,16 @@ module _ {C : Type 0} where
   abbrev pub with_stream : Side → Stream C → State C → State C
   with_stream Master new s = record s { master = new }
   with_stream Slave new s = record s { slave = new }
+
+  -- the book of a direction
+  abbrev pub book : Dir → State C → Book
+  book MasterToSlave s = s.from_master
+  book SlaveToMaster s = s.from_slave
+
+  -- the state with another book of a direction
+  abbrev pub with_book : Dir → Book → State C → State C
+  with_book MasterToSlave new s = record s { from_master = new }
+  with_book SlaveToMaster new s = record s { from_slave = new }
 
   abbrev pub with_head_queue : Queue C → Stream C → Stream C
   with_head_queue q t = record t { head = record { queue = q } }
@@ -76,7 +113,15 @@ messages_in s = length s.master.head.queue.messages + length s.master.driver.que
 
 -- the same state of other cells, as where their origins are forgotten
 abbrev pub map_stream : {C D : Type 0} → (C → D) → Stream C → Stream D
-map_stream f t = record { is_open = t.is_open; head = record { queue = map_queue f t.head.queue }; driver = record { queue = map_queue f t.driver.queue } }
+map_stream f t = record { opened = t.opened; head = record { queue = map_queue f t.head.queue }; driver = record { queue = map_queue f t.driver.queue } }
 
 abbrev pub map_state : {C D : Type 0} → (C → D) → State C → State D
-map_state f s = record { master = map_stream f s.master; slave = map_stream f s.slave; locked = s.locked; enabled = s.enabled; next_ioctl = s.next_ioctl }
+map_state f s = record {
+  master = map_stream f s.master;
+  slave = map_stream f s.slave;
+  locked = s.locked;
+  enabled = s.enabled;
+  next_ioctl = s.next_ioctl;
+  from_master = s.from_master;
+  from_slave = s.from_slave;
+}

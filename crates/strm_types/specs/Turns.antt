@@ -8,7 +8,8 @@ use Rattle.strm_types.specs.declared.names.Place.TheVariants.{Head, Ldterm, Driv
 use Rattle.strm_types.specs.declared.names.QueueName.{QueueName}
 use Rattle.strm_types.specs.Message.{Message, size_of, band_of, is_held}
 use Rattle.strm_types.specs.Queue.{Queue, is_full, put_on, relieved, with_writer_at}
-use Rattle.strm_types.specs.Names.{other, driver_of, without, enable_if}
+use Rattle.strm_types.specs.Cells.{Cells}
+use Rattle.strm_types.specs.Names.{other, driver_of, is_open, without, enable_if}
 use Rattle.strm_types.specs.State.{State, Stream, stream, with_stream, with_driver_queue, with_head_queue}
 
 -- what a turn of a driver's queue does: its answer, the stream that it is of, and the other side's
@@ -27,6 +28,11 @@ is_none_left [] = true
 is_none_left (_ ∷ _) = false
 
 module _ {C : Type 0} where
+  -- how many bytes the first message has
+  abbrev pub first_size : List (Message C) → ℕ
+  first_size [] = 0
+  first_size (m ∷ _) = size_of m
+
   -- the queue after a turn that may not treat its first message, which stays
   abbrev pub held_back : Queue C → Queue C
   held_back q = record q { want_read = false }
@@ -47,7 +53,7 @@ module _ {C : Type 0} where
   driver_serves [] from to =
       record { turn = Idle; from = with_driver_queue (record from.driver.queue { want_read = true }) from; to = to }
   driver_serves (m ∷ rest) from to =
-      if not to.is_open then record { turn = Blocked; from = with_driver_queue (held_back from.driver.queue) from; to = to }
+      if not (is_open to.opened) then record { turn = Blocked; from = with_driver_queue (held_back from.driver.queue) from; to = to }
       else (if is_stopped m to.head.queue
       then record {
         turn = Blocked;
@@ -79,11 +85,21 @@ module _ {C : Type 0} where
       }
 
   -- by what the queue belongs to: heads have no service procedure, and no module stands on a stream yet
-  abbrev pub turned_at : Place → Side → State C → TurnOutcome C
-  turned_at Driver side s = driver_turned side s
-  turned_at Head side s = record { turn = Idle; state = s }
-  turned_at Ldterm side s = record { turn = Idle; state = s }
+  abbrev pub turned_at : Cells C → Place → Side → Turn → State C → TurnOutcome C
+  turned_at cells Driver side turn s = driver_turned side s
+  turned_at cells Head side turn s = record { turn = Idle; state = s }
+  turned_at cells Ldterm side turn s = record { turn = Idle; state = s }
 
-  -- a turn of an enabled queue
-  abbrev pub turned : QueueName → State C → TurnOutcome C
-  turned name s = turned_at name.place name.side (record s { enabled = without name s.enabled })
+  -- A turn of an enabled queue, which is answered so. Where a service procedure may stop within a message, the answer says
+  -- how far it went.
+  abbrev pub turned : Cells C → QueueName → Turn → State C → TurnOutcome C
+  turned cells name turn s = turned_at cells name.place name.side turn (record s { enabled = without name s.enabled })
+
+  -- the answer of a turn that treats the first message of its queue whole
+  abbrev pub whole_at : Place → Stream C → Turn
+  whole_at Driver from = Moved (first_size from.driver.queue.messages)
+  whole_at Head from = Idle
+  whole_at Ldterm from = Idle
+
+  abbrev pub whole_turn : QueueName → State C → Turn
+  whole_turn name s = whole_at name.place (stream name.side s)

@@ -1,19 +1,15 @@
 //! What calls and turns answer.
 
-use arrayvec::ArrayVec;
-
-/// The most bytes that one read gives.
-pub const READ_MAX: usize = 4096;
-
-/// What a call answers that isn't refused.
-#[derive(Debug, Drop)]
-pub enum Answer {
+/// What a call answers that isn't refused, over what stands for its bytes: the bytes themselves, or how many they are
+/// (`Answer<usize>`), where they stand apart.
+#[derive(Clone, Copy, Debug, Drop, PartialEq, Eq)]
+pub enum Answer<T> {
     /// The call is done, and there is nothing to tell.
     Done,
     /// How many bytes a write took.
     Count(usize),
     /// The bytes that a read gives.
-    Bytes(ArrayVec<u8, 4096>),
+    Bytes(T),
 }
 
 /// What a turn of a queue's service procedure answers.

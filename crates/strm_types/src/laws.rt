@@ -8,6 +8,7 @@ ghost use Rattle.strm_types.specs.Queue.{Queue, lane, lanes_down, IsOrdered, put
 ghost use Rattle.strm_types.specs.State.{State};
 ghost use Rattle.strm_types.specs.Write.{written, Sent};
 ghost use Rattle.strm_types.specs.Head.{head_read, Taken};
+ghost use Rattle.strm_types.specs.Cells.{Cells};
 ghost use Rattle.strm_types.specs.Journal.{PlainEntry};
 ghost use Rattle.strm_types.specs.Step.{replay};
 
@@ -51,7 +52,7 @@ pub fn count_is_that_of_its_lanes<C>()
 
 /// A longer journal goes on from where the shorter one leads.
 pub fn replay_goes_on<C>()
-    ensures { (s : State C) (es fs : List (PlainEntry C)) → replay s (es ++ fs) ≡ replay (replay s es) fs }
+    ensures { (cells : Cells C) (s : State C) (es fs : List PlainEntry) → replay cells s (es ++ fs) ≡ replay cells (replay cells s es) fs }
 {}
 
 /// Forgetting the origins of bytes commutes with putq(9F), putbq(9F), getq(9F), a write and a read.

@@ -12,10 +12,13 @@ mod limits;
 mod names;
 mod refusals;
 
-pub use answers::{Answer, READ_MAX, Turn};
-pub use entries::{AnswerShape, Entry, EventShape};
+pub use answers::{Answer, Turn};
+pub use entries::Entry;
 pub use events::{Caller, Event};
 pub use kinds::{Band, MsgKind};
-pub use limits::Config;
-pub use names::{Dir, Place, QueueName, Side, Way};
+pub use limits::{
+    BANDS, BLOCK_SIZE, Config, HIGH_PRIORITY_RANK, LISTS, READ_MAX, TURN_BLOCKS, WRITE_BLOCKS,
+    chunk_count,
+};
+pub use names::{Dir, Openness, Place, QueueName, Side, Way};
 pub use refusals::{NoMemory, Refusal};

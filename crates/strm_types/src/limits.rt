@@ -1,4 +1,28 @@
-//! The sizes that a pair is made with.
+//! Limits that all crates share, and the sizes that a pair is made with.
+
+ghost use Rattle.std.specs.Prelude.{◌≡◌, ◌<◌, ◌^◌};
+ghost use Rattle.strm_types.specs.Write.{chunk_count};
+
+/// How many bytes a data block holds.
+pub const BLOCK_SIZE: usize = 256;
+
+/// How many lists of messages a store has.
+pub const LISTS: usize = 8;
+
+/// How many bands a queue has: 0 for ordinary messages, up to 7.
+pub const BANDS: usize = 8;
+
+/// The rank of messages of high priority, above that of any band.
+pub const HIGH_PRIORITY_RANK: usize = 256;
+
+/// The most bytes that one read gives.
+pub const READ_MAX: usize = 4096;
+
+/// How many blocks of each kind have to be free for a write, beside those that it takes.
+pub const WRITE_BLOCKS: usize = 32;
+
+/// How many blocks of each kind have to be free for a turn of a driver.
+pub const TURN_BLOCKS: usize = 8;
 
 /// The sizes of a pair. All of it is reserved when the pair is made.
 #[derive(Clone, Copy, Debug, PartialEq, Eq)]
@@ -11,4 +35,15 @@ pub struct Config {
     pub journal_events: usize,
     /// How many bytes of payloads and answers the journal can hold.
     pub journal_bytes: usize,
+}
+
+/// How many blocks so many bytes want, and how many messages a write of them makes: one for each begun 256, at least
+/// one.
+#[tactic(auto, unfolding(crate::specs::Write::chunk_count))]
+pub fn chunk_count(bytes: usize) -> usize
+    requires { bytes < 2 ^ 63 }
+    ensures value { result ≡ chunk_count bytes }
+    ensures small { result < 2 ^ 62 }
+{
+    ((bytes + (BLOCK_SIZE - 1)) / BLOCK_SIZE).max(1)
 }

@@ -1,11 +1,76 @@
 //! Names of the two ends of a pair, of the directions between them, and of the queues on the way.
 
+ghost use Rattle.std.specs.Prelude.{◌≡◌};
+ghost use Rattle.strm_types.specs.Names as names;
+
 /// An end of a pair: the master, which a terminal emulator holds, or the slave, which a shell has as its terminal.
 #[derive(Clone, Copy, Debug, Default, PartialEq, Eq)]
 pub enum Side {
     #[default]
     Master,
     Slave,
+}
+
+impl Side {
+    /// The other end.
+    pub fn other(self) -> Side
+        ensures { result ≡ names.other self }
+    {
+        match self {
+            Side::Master => Side::Slave,
+            Side::Slave => Side::Master,
+        }
+    }
+
+    /// The direction of what this side writes.
+    pub fn direction(self) -> Dir
+        ensures { result ≡ names.direction_from self }
+    {
+        match self {
+            Side::Master => Dir::MasterToSlave,
+            Side::Slave => Dir::SlaveToMaster,
+        }
+    }
+
+    /// The name of its driver's queue.
+    pub fn driver(self) -> QueueName
+        ensures { result ≡ names.driver_of self }
+    {
+        QueueName {
+            side: self,
+            place: Place::Driver,
+            way: Way::Down,
+        }
+    }
+
+    /// The name of its head's queue.
+    pub fn head(self) -> QueueName
+        ensures { result ≡ names.head_of self }
+    {
+        QueueName {
+            side: self,
+            place: Place::Head,
+            way: Way::Up,
+        }
+    }
+}
+
+/// Whether a side of a pair was opened. A closed master is never opened again, a closed slave may be.
+#[derive(Clone, Copy, Debug, Default, PartialEq, Eq)]
+pub enum Openness {
+    #[default]
+    Never,
+    Open,
+    Closed,
+}
+
+impl Openness {
+    /// Whether the side is open now.
+    pub fn is_open(self) -> bool
+        ensures { result ≡ names.is_open self }
+    {
+        matches!(self, Openness::Open)
+    }
 }
 
 /// A direction of a pair: from the master to the slave, as what is typed goes, or from the slave to the master, as
@@ -40,4 +105,13 @@ pub struct QueueName {
     pub side: Side,
     pub place: Place,
     pub way: Way,
+}
+
+impl QueueName {
+    /// Whether the queue has a service procedure: every queue but a head's.
+    pub fn has_service(self) -> bool
+        ensures { result ≡ names.has_service self }
+    {
+        !matches!(self.place, Place::Head)
+    }
 }
