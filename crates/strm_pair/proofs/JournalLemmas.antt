@@ -14,7 +14,7 @@ both true true h = (refl, refl)
 both true false h = absurd (cc)
 both false b h = absurd (cc)
 
-pub room-means : (entries : List Entry) (bytes : List ℕ) (most_entries most_bytes n : ℕ) → sum_by entry_len entries ≡ length bytes → has_room_for (entries_in entries bytes) most_entries most_bytes n ≡ true → (length entries < most_entries) × (length bytes + n ≤ most_bytes)
+pub room-means : (entries : List (Entry ℕ)) (bytes : List ℕ) (most_entries most_bytes n : ℕ) → sum_by entry_len entries ≡ length bytes → has_room_for (entries_in entries bytes) most_entries most_bytes n ≡ true → (length entries < most_entries) × (length bytes + n ≤ most_bytes)
 room-means entries bytes most_entries most_bytes n lengths room =
     let parts = both _ _ room in
     let few : nat_lt (length entries) most_entries ≡ true = ap (λ k. nat_lt k most_entries) (sym (length-entries_in entries bytes)) ∙ parts.0 in
@@ -22,7 +22,7 @@ room-means entries bytes most_entries most_bytes n lengths room =
     (grind (arith, nat_tests), grind (arith, nat_tests))
 
 -- room for more bytes is room for fewer
-pub room-less : (entries : List (PlainEntry ℕ)) (limits : Config) (most_entries most_bytes more n : ℕ) → most_entries ≡ limits.journal_events → most_bytes ≡ limits.journal_bytes → n ≤ more → has_room entries limits more ≡ true → has_room_for entries most_entries most_bytes n ≡ true
+pub room-less : (entries : List PlainEntry) (limits : Config) (most_entries most_bytes more n : ℕ) → most_entries ≡ limits.journal_events → most_bytes ≡ limits.journal_bytes → n ≤ more → has_room entries limits more ≡ true → has_room_for entries most_entries most_bytes n ≡ true
 room-less entries limits most_entries most_bytes more n events bytes less room =
     let parts : (nat_lt (length entries) limits.journal_events ≡ true) × (nat_le (room_used entries + more) limits.journal_bytes ≡ true) = both (nat_lt (length entries) limits.journal_events) (nat_le (room_used entries + more) limits.journal_bytes) room in
     let fits : nat_le (room_used entries + n) limits.journal_bytes ≡ true = let more_fits : nat_le (room_used entries + more) limits.journal_bytes ≡ true = parts.1 in grind (arith, nat_tests) in

@@ -16,3 +16,5 @@ pub mod Shown
 pub mod DataLemmas
 pub mod StreamLemmas
 pub mod JournalLemmas
+mod PlainWrites
+mod Refusing

@@ -6,6 +6,8 @@ use Rattle.strm_types.specs.declared.names.QueueName.{QueueName}
 use Rattle.strm_types.specs.Names.{driver_of, enable_if}
 use Rattle.strm_types.specs.Queue as plain
 use Rattle.strm_types.specs.Turns.{is_none_left}
+use Rattle.strm_types.specs.declared.names.Openness.TheVariants.{Open}
+use Rattle.strm_types.specs.State.{State}
 use Rattle.strm_types.specs.Calls.{opened_slave}
 use Rattle.strm_blocks.specs.Blocks.{Block, StoreValue, list_at}
 use Rattle.strm_msg.specs.Messages.{message_of}
@@ -34,8 +36,8 @@ waiting s new p held cl =
 
 pub opened-state : (s new : StoreValue) (p : Streams) (q : Queue) (names : List QueueName) → AreHeld s p → Cleared s new → q.list ≡ 4 → plain_flows q.flows ≡ replicate 8 (record { high = 5120; low = 1024; want_write = false }) → q.want_read ≡ true → q.no_enable ≡ false
     → names ≡ enable_if (not (is_none_left (list_at new p.master.driver.list))) (driver_of Master) p.enabled
-    → record { master = stream_in new p.master; slave = record { is_open = true; head = record { queue = queue_in new q }; driver = record { queue = queue_in new p.slave.driver } }; locked = p.locked; enabled = names; next_ioctl = 1 } ≡ opened_slave (state_in s p)
-opened-state s new p q names held cl list flows want_read no_enable names_are =
+    → (t : State ℕ) → record t { master = stream_in new p.master; slave = record { opened = Open; head = record { queue = queue_in new q }; driver = record { queue = queue_in new p.slave.driver } }; locked = p.locked; enabled = names } ≡ opened_slave (state_in s p t)
+opened-state s new p q names held cl list flows want_read no_enable names_are t =
     let head_apart : p.master.head.list ≢ 4 = λ e. absurd (omega (arith, held.master.head_list, e)) in
     let driver_apart : p.master.driver.list ≢ 4 = λ e. absurd (omega (arith, held.master.driver_list, e)) in
     let slave_apart : p.slave.driver.list ≢ 4 = λ e. absurd (omega (arith, held.slave.driver_list, e)) in

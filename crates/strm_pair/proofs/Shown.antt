@@ -3,7 +3,7 @@ use Rattle.std.proofs.Common.{◌≡◌, ◌∙◌, ◌-◌, ℕ, length, map, r
 use Rattle.std.proofs.lemmas.List.{length-map}
 use Rattle.strm_types.specs.declared.limits.Config.{Config}
 use Rattle.strm_types.specs.Queue.{IsOrdered}
-use Rattle.strm_types.specs.State.{AreOrdered, messages_in}
+use Rattle.strm_types.specs.State.{State, AreOrdered, messages_in}
 use Rattle.strm_types.specs.Refused.{free_beside}
 use Rattle.strm_types.proofs.Data.{data-ordered}
 use Rattle.strm_blocks.specs.Blocks.{StoreValue, list_at, empty_store, used, free_m, free_d}
@@ -20,15 +20,15 @@ use Rattle.strm_pair.proofs.FreeBlocks.{free_d-tidy, used-tidy}
 ordered-at : (s : StoreValue) (k : ℕ) → IsTidy s → IsOrdered (messages_on s k)
 ordered-at s k tidy = subst IsOrdered (sym (data-messages s.dblks (list_at s k) (tidy.written k))) (data-ordered (map text_of (list_at s k)))
 
-pub ordered : (s : StoreValue) (p : Streams) → AreHeld s p → AreOrdered (state_in s p)
-ordered s p held = (ordered-at s p.master.head.list held.tidy, (ordered-at s p.master.driver.list held.tidy, (ordered-at s p.slave.head.list held.tidy, (ordered-at s p.slave.driver.list held.tidy, tt))))
+pub ordered : (s : StoreValue) (p : Streams) (t : State ℕ) → AreHeld s p → AreOrdered (state_in s p t)
+ordered s p t held = (ordered-at s p.master.head.list held.tidy, (ordered-at s p.master.driver.list held.tidy, (ordered-at s p.slave.head.list held.tidy, (ordered-at s p.slave.driver.list held.tidy, tt))))
 
 -- as many blocks of each kind are in use as messages stand on the queues
 long : (s : StoreValue) (k n : ℕ) → k ≡ n → length (messages_on s k) ≡ length (list_at s n)
 long s k n is = length-map (list_at s k) message_of ∙ ap (λ j. length (list_at s j)) is
 
-used-shown : (s : StoreValue) (p : Streams) → AreHeld s p → used s ≡ messages_in (state_in s p)
-used-shown s p held =
+used-shown : (s : StoreValue) (p : Streams) (t : State ℕ) → AreHeld s p → used s ≡ messages_in (state_in s p t)
+used-shown s p t held =
     omega (
       arith,
       used-tidy s held.tidy,
@@ -42,11 +42,11 @@ used-shown s p held =
       ap length held.slave.spare_down,
     )
 
-pub free-shown : (s : StoreValue) (p : Streams) (limits : Config) → AreHeld s p → s.mblks ≡ limits.mblks → s.dblks ≡ limits.dblks → free_in s ≡ free_beside (messages_in (state_in s p)) limits
-free-shown s p limits held mblks dblks =
-    let used_is = used-shown s p held in
-    let m : free_m s ≡ limits.mblks - messages_in (state_in s p) = omega (arith, free_m-is s, used_is, mblks) in
-    let d : free_d s ≡ limits.dblks - messages_in (state_in s p) = omega (arith, free_d-tidy s held.tidy, used_is, dblks) in
+pub free-shown : (s : StoreValue) (p : Streams) (t : State ℕ) (limits : Config) → AreHeld s p → s.mblks ≡ limits.mblks → s.dblks ≡ limits.dblks → free_in s ≡ free_beside (messages_in (state_in s p t)) limits
+free-shown s p t limits held mblks dblks =
+    let used_is = used-shown s p t held in
+    let m : free_m s ≡ limits.mblks - messages_in (state_in s p t) = omega (arith, free_m-is s, used_is, mblks) in
+    let d : free_d s ≡ limits.dblks - messages_in (state_in s p t) = omega (arith, free_d-tidy s held.tidy, used_is, dblks) in
     rw (m, d) refl
 
 -- a store with nothing in it has all blocks free

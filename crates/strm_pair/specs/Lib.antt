@@ -4,3 +4,4 @@ pub mod Streams
 pub mod Journals
 pub mod Pairs
 pub mod PairViews
+pub mod PlainCalls

@@ -1,7 +1,8 @@
 -- What a pair over a store stands for, and what holds of each.
-use Rattle.std.specs.Prelude.{◌≡◌}
+use Rattle.std.specs.Prelude.{ℕ, ◌≡◌}
 use Rattle.strm_types.specs.declared.limits.Config.{Config}
-use Rattle.strm_types.specs.State.{opening}
+use Rattle.strm_types.specs.Cells.{plain}
+use Rattle.strm_types.specs.State.{State, opening}
 use Rattle.strm_types.specs.Step.{replay, IsLegal}
 use Rattle.strm_types.specs.Pair.{PairState}
 use Rattle.strm_blocks.specs.Blocks.{StoreValue}
@@ -9,10 +10,14 @@ use Rattle.strm_pair.specs.declared.streams.Streams.{Streams}
 use Rattle.strm_pair.specs.declared.journal.Journal.{Journal}
 use Rattle.strm_pair.specs.Pairs.{state_in, free_in, journal_of, AreHeld}
 
+-- the state to which a journal leads from the opening
+abbrev pub led_to : Journal → State ℕ
+led_to journal = replay plain opening (journal_of journal)
+
 -- the pair that the store, the streams and the journal stand for
 abbrev pub pair_of : StoreValue → Streams → Journal → Config → PairState
 pair_of s streams journal limits = record {
-  state = state_in s streams;
+  state = state_in s streams (led_to journal);
   base = opening;
   journal = journal_of journal;
   limits = limits;
@@ -23,8 +28,8 @@ pair_of s streams journal limits = record {
 -- numbers that are kept beside the blocks are those of the blocks, and nothing is in hand; and the sizes are those that
 -- the pair was made with.
 pub record IsKept (s : StoreValue) (streams : Streams) (journal : Journal) (limits : Config) : Type 0 where
-  pub replayed : state_in s streams ≡ replay opening (journal_of journal)
-  pub legal : IsLegal opening (journal_of journal)
+  pub replayed : state_in s streams (led_to journal) ≡ led_to journal
+  pub legal : IsLegal plain opening (journal_of journal)
   pub held : AreHeld s streams
   pub mblks : s.mblks ≡ limits.mblks
   pub dblks : s.dblks ≡ limits.dblks

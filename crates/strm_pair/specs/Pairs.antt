@@ -11,9 +11,14 @@ use Rattle.strm_pair.specs.declared.ends.End.{End}
 use Rattle.strm_pair.specs.declared.journal.Journal.{Journal}
 use Rattle.strm_pair.specs.Streams.{stream_in, AreSides}
 
--- the plain state
-abbrev pub state_in : StoreValue → Streams → State ℕ
-state_in s p = record { master = stream_in s p.master; slave = stream_in s p.slave; locked = p.locked; enabled = p.enabled; next_ioctl = 1 }
+-- The plain state. What no part of the code keeps yet, the number of the next ioctl and the books, is that of a state
+-- beside it.
+abbrev pub state_in : StoreValue → Streams → State ℕ → State ℕ
+state_in s p beside = record beside { master = stream_in s p.master; slave = stream_in s p.slave; locked = p.locked; enabled = p.enabled }
+
+-- What the store and the streams stand for changed as a change of plain states says, whatever stands beside.
+abbrev pub LeadsTo : StoreValue → StoreValue → Streams → Streams → (State ℕ → State ℕ) → Type 0
+LeadsTo old new p q change = (beside : State ℕ) → state_in new q (change (state_in old p beside)) ≡ change (state_in old p beside)
 
 -- the stream of a side
 abbrev pub end_at : Side → Streams → End
@@ -34,5 +39,5 @@ pub record SamePool (old new : StoreValue) : Type 0 where
   pub dblks : new.dblks ≡ old.dblks
 
 -- the plain journal
-unfoldable pub journal_of : Journal → List (PlainEntry ℕ)
+unfoldable pub journal_of : Journal → List PlainEntry
 journal_of j = entries_in j.entries.items j.bytes.items

@@ -8,7 +8,7 @@ use Rattle.strm_pair.specs.Stored.{queue_in, IsTidy}
 
 -- the plain stream of a side
 abbrev pub stream_in : StoreValue → End → Stream ℕ
-stream_in s e = record { is_open = e.is_open; head = record { queue = queue_in s e.head }; driver = record { queue = queue_in s e.driver } }
+stream_in s e = record { opened = e.opened; head = record { queue = queue_in s e.head }; driver = record { queue = queue_in s e.driver } }
 
 -- the four lists from a number on are empty
 pub record IsBlank (s : StoreValue) (first : ℕ) : Type 0 where

@@ -1,66 +1,23 @@
 //! The journal of a pair.
 
 ghost use Rattle.std.specs.Prelude.{◌≡◌, ◌+◌, ◌≤◌, ◌<◌, [], ◌∷◌, ◌++◌, length, vec_capacity, true, IfOk};
-ghost use Rattle.strm_types.specs.Journal.{entry_in, entry_len, payload_of, content_of, Called, Turned};
-ghost use Rattle.strm_types.specs.Calls.{request, reply};
-ghost use Rattle.strm_pair.specs.Journals.{IsStored, IsEventShape, IsAnswerShape, has_room_for};
+ghost use Rattle.strm_types.specs.declared.entries.Entry.TheVariants.{Called, Turned};
+ghost use Rattle.strm_types.specs.Calls.{request, payload_of};
+ghost use Rattle.strm_types.specs.Journal.{entry_in, entry_len, answer_len, reply_in};
+ghost use Rattle.strm_pair.specs.Journals.{IsStored, has_room_for};
 
 use std::alloc::{AllocError, Global};
-use strm_types::{Answer, AnswerShape, Caller, Entry, Event, EventShape, QueueName, Turn};
+use strm_types::{Answer, Caller, Entry, Event, QueueName, Turn};
 
 /// All that was carried out on a pair, in order: the entries, and their bytes in a buffer. Both have their room from
 /// the beginning.
 #[derive(Drop)]
 pub(crate) struct Journal {
-    pub entries: Vec<Entry>,
+    pub entries: Vec<Entry<usize>>,
     pub bytes: Vec<u8>,
     pub most_entries: usize,
     pub most_bytes: usize,
     pub ghost stored: { IsStored entries.items bytes.items (vec_capacity entries) (vec_capacity bytes) most_entries most_bytes },
-}
-
-// A call without its bytes.
-fn event_shape(event: &Event<'_>) -> EventShape
-    ensures { IsEventShape result (request event.now) }
-{
-    match event {
-        Event::OpenMaster => EventShape::OpenMaster,
-        Event::Unlock => EventShape::Unlock,
-        Event::OpenSlave => EventShape::OpenSlave,
-        Event::Write { bytes } => EventShape::Write { len: bytes.len() },
-        Event::Read { n } => EventShape::Read { n: *n },
-    }
-}
-
-// An answer without its bytes.
-fn answer_shape(answer: &Answer) -> AnswerShape
-    ensures { IsAnswerShape result (reply answer.now) }
-{
-    match answer {
-        Answer::Done => AnswerShape::Done,
-        Answer::Count(n) => AnswerShape::Count(*n),
-        Answer::Bytes(bytes) => AnswerShape::Bytes { len: bytes.len() },
-    }
-}
-
-/// The bytes of a call that the journal keeps.
-pub(crate) fn payload<'a>(event: &Event<'a>) -> &'a [u8]
-    ensures { result.now ≡ payload_of (request event.now) }
-{
-    match event {
-        Event::Write { bytes } => bytes,
-        Event::OpenMaster | Event::Unlock | Event::OpenSlave | Event::Read { .. } => &[],
-    }
-}
-
-// The bytes of an answer that the journal keeps.
-fn content(answer: &Answer) -> &[u8]
-    ensures { result.now ≡ content_of (reply answer.now) }
-{
-    match answer {
-        Answer::Bytes(bytes) => bytes.as_slice(),
-        Answer::Done | Answer::Count(_) => &[],
-    }
 }
 
 // Adds bytes to a buffer that has room for them.
@@ -97,7 +54,7 @@ impl Journal {
     }
 
     // Adds an entry with its bytes.
-    fn add(&mut self, entry: Entry, payload: &[u8], content: &[u8])
+    fn add(&mut self, entry: Entry<usize>, payload: &[u8], content: &[u8])
         requires lengths { entry_len entry ≡ length payload.now + length content.now }
         requires room_entries { length self.old.entries.items < self.old.most_entries }
         requires room_bytes { length self.old.bytes.items + (length payload.now + length content.now) ≤ self.old.most_bytes }
@@ -110,19 +67,26 @@ impl Journal {
         append(&mut self.bytes, content);
     }
 
-    /// Adds a call with its answer.
-    pub fn add_call(&mut self, caller: Caller, event: &Event<'_>, answer: &Answer)
-        requires room { has_room_for (journal_of self.old) self.old.most_entries self.old.most_bytes (length (payload_of (request event.now)) + length (content_of (reply answer.now))) ≡ true }
-        ensures added { journal_of self.new ≡ journal_of self.old ++ Called caller (request event.now) (reply answer.now) ∷ [] }
+    /// Adds a call with its answer, whose bytes are `content`.
+    pub fn add_call(
+        &mut self,
+        caller: Caller,
+        event: &Event<&[u8]>,
+        answer: Answer<usize>,
+        content: &[u8],
+    )
+        requires filled { answer_len answer ≡ length content.now }
+        requires room { has_room_for (journal_of self.old) self.old.most_entries self.old.most_bytes (length (payload_of (request event.now)) + length content.now) ≡ true }
+        ensures added { journal_of self.new ≡ journal_of self.old ++ Called caller (request event.now) (reply_in answer content.now) ∷ [] }
         ensures most_entries { self.new.most_entries ≡ self.old.most_entries }
         ensures most_bytes { self.new.most_bytes ≡ self.old.most_bytes }
     {
         let entry = Entry::Called {
             caller,
-            event: event_shape(event),
-            answer: answer_shape(answer),
+            event: event.shape(),
+            answer,
         };
-        self.add(entry, payload(event), content(answer));
+        self.add(entry, event.payload(), content);
     }
 
     /// Adds a turn with its answer.

@@ -1,22 +1,28 @@
 //! The pair: calls, turns, and the journal of what was carried out.
 
 ghost use Rattle.std.specs.Prelude.{◌≡◌, ◌≤◌, ◌<◌, ◌+◌, length, MatchResult, MatchOption, IsOk, Err, IfOk, slice_get};
-ghost use Rattle.strm_types.specs.Calls.{request, reply};
+ghost use Rattle.strm_types.specs.Calls.{request, map_answer};
+ghost use Rattle.strm_types.specs.Cells.{plain};
+ghost use Rattle.strm_types.specs.declared.entries.Entry.TheVariants.{Called, Turned};
 ghost use Rattle.strm_types.specs.Pair.{new_pair, call_refused, queue_refused, AddsEntry};
-ghost use Rattle.strm_types.specs.Journal.{Called, Turned, entries_in};
+ghost use Rattle.strm_types.specs.Journal.{entries_in, reply_in, answer_len};
 ghost use Rattle.strm_types.specs.Refused.{enough, has_room};
 ghost use Rattle.strm_types.specs.Step.{replay, IsLegal};
 ghost use Rattle.strm_types.specs.State.{AreOrdered, messages_in};
 ghost use Rattle.strm_types.specs.Refused.{free_beside};
 ghost use Rattle.strm_blocks.specs.Blocks.{empty_store};
 
-use crate::journal::{Journal, payload};
+use crate::journal::Journal;
 use crate::refusals::{blocks_asked, content_most};
 use crate::streams::Streams;
+use arrayvec::ArrayVec;
 use std::alloc::Global;
 use std::marker::Model;
 use strm_blocks::Blocks;
-use strm_types::{Answer, Caller, Config, Entry, Event, NoMemory, QueueName, Refusal, Turn};
+use strm_types::{
+    Answer, Caller, Config, Entry, Event, NoMemory, QueueName, ReadBytes, Refusal, TURN_BLOCKS,
+    Turn,
+};
 
 /// A pair of a master and a slave, whose messages stand in a store of its own. Contracts see it as its plain state, its
 /// journal with the state that it began at, the sizes that it was made with, and the numbers of free blocks.
@@ -31,7 +37,7 @@ pub struct Pair<B: Blocks + Drop> {
 /// What a pair's journal holds: its entries, and their bytes in order.
 #[derive(Clone, Copy)]
 pub struct Recorded<'a> {
-    pub entries: &'a [Entry],
+    pub entries: &'a [Entry<usize>],
     pub bytes: &'a [u8],
 }
 
@@ -104,13 +110,13 @@ impl<B: Blocks + Drop> Pair<B> {
     }
 
     // The refusal of a call, if any.
-    fn refusal(&self, caller: Caller, event: &Event<'_>) -> Option<Refusal>
+    fn refusal(&self, caller: Caller, event: &Event<&[u8]>) -> Option<Refusal>
         ensures { result ≡ call_refused self.now caller (request event.now) }
     {
         if let Some(refusal) = self.streams.refused_at_once(caller, event) {
             return Some(refusal);
         }
-        if !self.has_room(payload(event).len() + content_most(event)) {
+        if !self.has_room(event.payload().len() + content_most(event)) {
             return Some(Refusal::JournalFull);
         }
         if !self.has_blocks(blocks_asked(event)) {
@@ -129,26 +135,52 @@ impl<B: Blocks + Drop> Pair<B> {
         if !self.has_room(0) {
             return Some(Refusal::JournalFull);
         }
-        if !self.has_blocks(8) {
+        if !self.has_blocks(TURN_BLOCKS) {
             return Some(Refusal::Enosr);
         }
         None
     }
 
+    /// Makes a call, and tells it as [`Pair::call`] does, with the bytes of a read in the answer. An answer has room for
+    /// 4096 bytes, and whoever makes many calls keeps a buffer and takes `call`.
+    pub fn apply(
+        &mut self,
+        caller: Caller,
+        event: &Event<&[u8]>,
+    ) -> Result<Answer<ReadBytes>, Refusal>
+        ensures refused { MatchOption (call_refused self.old caller (request event.now)) (IsOk result) (λ r. (result ≡ Err r) × (self.new ≡ self.old)) }
+        ensures adds { IfOk result (λ answer. AddsEntry self.old self.new (Called caller (request event.now) (map_answer (λ b. b.items) answer))) }
+    {
+        let mut out = ArrayVec::new();
+        match self.call(caller, event, &mut out) {
+            Err(refusal) => Err(refusal),
+            Ok(Answer::Done) => Ok(Answer::Done),
+            Ok(Answer::Count(n)) => Ok(Answer::Count(n)),
+            Ok(Answer::Bytes(_)) => Ok(Answer::Bytes(out)),
+        }
+    }
+
     /// Makes a call. It is refused for the first of: its side isn't open (ENXIO); an argument is wrong (EINVAL); the
     /// journal is full; too few blocks are free (ENOSR); the state doesn't allow it (EAGAIN, EINVAL). A refused call
-    /// changes nothing. Else the call is carried out, and the journal gains it with its answer.
+    /// changes nothing, and `out` stays. Else the call is carried out, and the journal gains it with its answer; `out` has
+    /// the bytes that it gives, which are none for any call but a read.
     ///
     /// The cost is in proportion to the bytes that the call moves. No memory is taken.
-    pub fn apply(&mut self, caller: Caller, event: &Event<'_>) -> Result<Answer, Refusal>
-        ensures refused { MatchOption (call_refused self.old caller (request event.now)) (IsOk result) (λ r. (result ≡ Err r) × (self.new ≡ self.old)) }
-        ensures adds { IfOk result (λ answer. AddsEntry self.old self.new (Called caller (request event.now) (reply answer))) }
+    pub fn call(
+        &mut self,
+        caller: Caller,
+        event: &Event<&[u8]>,
+        out: &mut ReadBytes,
+    ) -> Result<Answer<usize>, Refusal>
+        ensures refused { MatchOption (call_refused self.old caller (request event.now)) (IsOk result) (λ r. (result ≡ Err r) × ((self.new ≡ self.old) × (out.new ≡ out.old))) }
+        ensures adds { IfOk result (λ answer. AddsEntry self.old self.new (Called caller (request event.now) (reply_in answer out.new.items))) }
+        ensures filled { IfOk result (λ answer. answer_len answer ≡ length out.new.items) }
     {
         if let Some(refusal) = self.refusal(caller, event) {
             return Err(refusal);
         }
-        let answer = self.streams.carry_out(&mut self.store, caller, event);
-        self.journal.add_call(caller, event, &answer);
+        let answer = self.streams.carry_out(&mut self.store, caller, event, out);
+        self.journal.add_call(caller, event, answer, out.as_slice());
         Ok(answer)
     }
 
@@ -174,8 +206,8 @@ impl<B: Blocks + Drop> Pair<B> {
     /// blocks that are free are those that the messages on the queues leave.
     pub fn journal(&self) -> Recorded<'_>
         ensures entries { entries_in result.entries.now result.bytes.now ≡ self.now.journal }
-        ensures replayed { self.now.state ≡ replay self.now.base self.now.journal }
-        ensures legal { IsLegal self.now.base self.now.journal }
+        ensures replayed { self.now.state ≡ replay plain self.now.base self.now.journal }
+        ensures legal { IsLegal plain self.now.base self.now.journal }
         ensures ordered { AreOrdered self.now.state }
         ensures blocks { self.now.free ≡ free_beside (messages_in self.now.state) self.now.limits }
     {

@@ -60,7 +60,7 @@ pub(crate) fn serve<B: Blocks>(store: &mut B, from: &mut End, to: &mut End) -> T
         from.driver.want_read = true;
         return Turn::Idle;
     }
-    if !to.is_open {
+    if !to.opened.is_open() {
         from.driver.want_read = false;
         return Turn::Blocked;
     }

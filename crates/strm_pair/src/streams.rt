@@ -1,25 +1,28 @@
 //! Both streams of a pair, and what calls and turns do to them, on the store in which their messages stand.
 
-ghost use Rattle.std.specs.Prelude.{ℕ, ◌≡◌, ◌+◌, ◌≤◌, ◌<◌, ◌^◌, length, min};
-ghost use Rattle.strm_types.specs.State.{opening, new_stream};
-ghost use Rattle.strm_types.specs.Calls.{called, request, reply, Count, Bytes, wrote, read_at, opened_slave};
+ghost use Rattle.std.specs.Prelude.{ℕ, ◌≡◌, ◌+◌, ◌≤◌, [], length, min};
+ghost use Rattle.strm_types.specs.Cells.{plain};
+ghost use Rattle.strm_types.specs.State.{State, opening, new_stream};
+ghost use Rattle.strm_types.specs.declared.answers.Answer.TheVariants.{Count, Bytes};
+ghost use Rattle.strm_types.specs.Calls.{called, request, opened_slave};
 ghost use Rattle.strm_types.specs.Turns.{turned, driver_turned};
 ghost use Rattle.strm_types.specs.Refused.{blocks_taken};
 ghost use Rattle.strm_types.specs.Write.{chunk_count};
-ghost use Rattle.strm_types.specs.Journal.{content_of, content_max};
-ghost use Rattle.strm_types.specs.Names.{driver_of, other};
+ghost use Rattle.strm_types.specs.Journal.{reply_in, answer_len, content_max};
 ghost use Rattle.strm_blocks.specs.Blocks.{StoreValue, free_m, free_d, empty_store};
 ghost use Rattle.strm_pair.specs.Streams.{IsBlank, IsSide, stream_in};
+ghost use Rattle.strm_pair.specs.PlainCalls.{wrote_plain, read_plain};
 
 use crate::enabled::Enabled;
 use crate::ends::End;
 use crate::passing::{goes_on, serve};
 use crate::reading::read;
 use crate::sending::send;
-use arrayvec::ArrayVec;
 use strm_blocks::Blocks;
 use strm_queue::{HEAD_HIGH, HEAD_LOW, OTHER_HIGH, OTHER_LOW, Queue};
-use strm_types::{Answer, Caller, Event, Place, QueueName, READ_MAX, Side, Turn, Way};
+use strm_types::{
+    Answer, Caller, Event, Openness, Place, QueueName, READ_MAX, ReadBytes, Side, Turn, chunk_count,
+};
 
 /// The streams of a pair, whether its slave is locked, and the queues that are enabled.
 #[derive(Drop)]
@@ -30,37 +33,6 @@ pub(crate) struct Streams {
     pub enabled: Enabled,
 }
 
-/// How many messages a write of so many bytes makes: one for each begun 256, at least one.
-#[tactic(auto, unfolding(strm_types::specs::Write::chunk_count))]
-pub(crate) fn chunk_count(bytes: usize) -> usize
-    requires { bytes < 2 ^ 63 }
-    ensures value { result ≡ chunk_count bytes }
-    ensures small { result < 2 ^ 62 }
-{
-    ((bytes + 255) / 256).max(1)
-}
-
-// The name of a driver's queue.
-fn driver_of(side: Side) -> QueueName
-    ensures { result ≡ driver_of side }
-{
-    QueueName {
-        side,
-        place: Place::Driver,
-        way: Way::Down,
-    }
-}
-
-// The other end.
-fn other(side: Side) -> Side
-    ensures { result ≡ other side }
-{
-    match side {
-        Side::Master => Side::Slave,
-        Side::Slave => Side::Master,
-    }
-}
-
 // A stream that nobody opened, whose queues stand on the lists from a number on: the head's, the driver's, and two that
 // are kept for the queues of a module.
 fn new_end(first: usize) -> End
@@ -69,18 +41,18 @@ fn new_end(first: usize) -> End
     ensures stream { (s : StoreValue) → IsBlank s first → stream_in s result ≡ new_stream }
 {
     End {
-        is_open: false,
+        opened: Openness::Never,
         head: Queue::new(first, HEAD_HIGH, HEAD_LOW),
         driver: Queue::new(first + 1, OTHER_HIGH, OTHER_LOW),
     }
 }
 
 impl Streams {
-    ghost use Rattle.strm_pair.specs.Pairs.{state_in, AreHeld, SamePool};
+    ghost use Rattle.strm_pair.specs.Pairs.{state_in, LeadsTo, AreHeld, SamePool};
 
     /// The streams of a new pair.
     pub fn new() -> Streams
-        ensures state { (mblks dblks : ℕ) → state_in (empty_store mblks dblks) result ≡ opening }
+        ensures state { (mblks dblks : ℕ) → state_in (empty_store mblks dblks) result opening ≡ opening }
         ensures held { (mblks dblks : ℕ) → AreHeld (empty_store mblks dblks) result }
     {
         Streams {
@@ -94,15 +66,15 @@ impl Streams {
     /// Opens the slave: its head is as new, and what waits for it may come.
     pub fn open_slave<B: Blocks>(&mut self, store: &mut B)
         requires { AreHeld (B.value store.old) self.old }
-        ensures state { state_in (B.value store.new) self.new ≡ opened_slave (state_in (B.value store.old) self.old) }
+        ensures state { (t : State ℕ) → state_in (B.value store.new) self.new t ≡ opened_slave (state_in (B.value store.old) self.old t) }
         ensures held { AreHeld (B.value store.new) self.new }
         ensures pool { SamePool (B.value store.old) (B.value store.new) }
     {
-        self.slave.is_open = true;
+        self.slave.opened = Openness::Open;
         self.slave.head.flushq(store, true);
         self.slave.head = Queue::new(self.slave.head.list, HEAD_HIGH, HEAD_LOW);
         if !self.master.driver.is_empty(store) {
-            self.enabled.enable(driver_of(Side::Master));
+            self.enabled.enable(Side::Master.driver());
         }
     }
 
@@ -111,8 +83,8 @@ impl Streams {
         requires held { AreHeld (B.value store.old) self.old }
         requires room_m { chunk_count (length bytes.now) ≤ free_m (B.value store.old) }
         requires room_d { chunk_count (length bytes.now) ≤ free_d (B.value store.old) }
-        ensures answer { Count result ≡ (wrote side bytes.now (state_in (B.value store.old) self.old)).answer }
-        ensures state { state_in (B.value store.new) self.new ≡ (wrote side bytes.now (state_in (B.value store.old) self.old)).state }
+        ensures answer { (t : State ℕ) → Count result ≡ (wrote_plain side bytes.now (state_in (B.value store.old) self.old t)).answer }
+        ensures state { LeadsTo (B.value store.old) (B.value store.new) self.old self.new (λ s. (wrote_plain side bytes.now s).state) }
         ensures held { AreHeld (B.value store.new) self.new }
         ensures pool { SamePool (B.value store.old) (B.value store.new) }
     {
@@ -122,54 +94,56 @@ impl Streams {
             Side::Slave => send(store, &mut self.slave.driver, bytes, chunks),
         };
         if down.enables {
-            self.enabled.enable(driver_of(side));
+            self.enabled.enable(side.driver());
         }
         down.taken
     }
 
-    /// Reads up to `n` bytes from a side's head.
-    pub fn read<B: Blocks>(&mut self, store: &mut B, side: Side, n: u32) -> ArrayVec<u8, 4096>
-        requires { AreHeld (B.value store.old) self.old }
-        ensures answer { Bytes result.items ≡ (read_at side n (state_in (B.value store.old) self.old)).answer }
-        ensures most { length result.items ≤ min n READ_MAX }
-        ensures state { state_in (B.value store.new) self.new ≡ (read_at side n (state_in (B.value store.old) self.old)).state }
+    /// Reads up to `n` bytes from a side's head into `out`.
+    pub fn read<B: Blocks>(&mut self, store: &mut B, side: Side, n: u32, out: &mut ReadBytes)
+        requires held { AreHeld (B.value store.old) self.old }
+        requires fresh { out.old.items ≡ [] }
+        ensures answer { (t : State ℕ) → Bytes out.new.items ≡ (read_plain side n (state_in (B.value store.old) self.old t)).answer }
+        ensures most { length out.new.items ≤ min n READ_MAX }
+        ensures state { LeadsTo (B.value store.old) (B.value store.new) self.old self.new (λ s. (read_plain side n s).state) }
         ensures held { AreHeld (B.value store.new) self.new }
         ensures pool { SamePool (B.value store.old) (B.value store.new) }
     {
-        let mut bytes = ArrayVec::new();
         if n == 0 {
-            return bytes;
+            return;
         }
         let wanted = (n as usize).min(READ_MAX);
         let goes = match side {
-            Side::Master => read(store, &mut self.master.head, wanted, &mut bytes),
-            Side::Slave => read(store, &mut self.slave.head, wanted, &mut bytes),
+            Side::Master => read(store, &mut self.master.head, wanted, out),
+            Side::Slave => read(store, &mut self.slave.head, wanted, out),
         };
         if goes {
-            self.enabled.enable(driver_of(other(side)));
+            self.enabled.enable(side.other().driver());
         }
-        bytes
     }
 
-    /// Carries out a call that nothing refuses.
+    /// Carries out a call that nothing refuses. What a read gives stands in `out`, which is empty else.
     pub fn carry_out<B: Blocks>(
         &mut self,
         store: &mut B,
         caller: Caller,
-        event: &Event<'_>,
-    ) -> Answer
+        event: &Event<&[u8]>,
+        out: &mut ReadBytes,
+    ) -> Answer<usize>
         requires held { AreHeld (B.value store.old) self.old }
         requires room_m { blocks_taken (request event.now) ≤ free_m (B.value store.old) }
         requires room_d { blocks_taken (request event.now) ≤ free_d (B.value store.old) }
-        ensures answer { reply result ≡ (called caller (request event.now) (state_in (B.value store.old) self.old)).answer }
-        ensures content { length (content_of (reply result)) ≤ content_max (request event.now) }
-        ensures state { state_in (B.value store.new) self.new ≡ (called caller (request event.now) (state_in (B.value store.old) self.old)).state }
+        ensures answer { (t : State ℕ) → reply_in result out.new.items ≡ (called plain caller (request event.now) (state_in (B.value store.old) self.old t)).answer }
+        ensures filled { answer_len result ≡ length out.new.items }
+        ensures content { length out.new.items ≤ content_max (request event.now) }
+        ensures state { LeadsTo (B.value store.old) (B.value store.new) self.old self.new (λ s. (called plain caller (request event.now) s).state) }
         ensures held { AreHeld (B.value store.new) self.new }
         ensures pool { SamePool (B.value store.old) (B.value store.new) }
     {
+        out.clear();
         match event {
             Event::OpenMaster => {
-                self.master.is_open = true;
+                self.master.opened = Openness::Open;
                 Answer::Done
             }
             Event::Unlock => {
@@ -181,15 +155,18 @@ impl Streams {
                 Answer::Done
             }
             Event::Write { bytes } => Answer::Count(self.write(store, caller.side, bytes)),
-            Event::Read { n } => Answer::Bytes(self.read(store, caller.side, *n)),
+            Event::Read { n } => {
+                self.read(store, caller.side, *n, out);
+                Answer::Bytes(out.len())
+            }
         }
     }
 
     // A turn of a side's driver, which is off the list of enabled queues.
     fn turn_driver<B: Blocks>(&mut self, store: &mut B, side: Side) -> Turn
         requires { AreHeld (B.value store.old) self.old }
-        ensures turn { result ≡ (driver_turned side (state_in (B.value store.old) self.old)).turn }
-        ensures state { state_in (B.value store.new) self.new ≡ (driver_turned side (state_in (B.value store.old) self.old)).state }
+        ensures turn { (t : State ℕ) → result ≡ (driver_turned side (state_in (B.value store.old) self.old t)).turn }
+        ensures state { LeadsTo (B.value store.old) (B.value store.new) self.old self.new (λ s. (driver_turned side s).state) }
         ensures held { AreHeld (B.value store.new) self.new }
         ensures pool { SamePool (B.value store.old) (B.value store.new) }
     {
@@ -197,13 +174,13 @@ impl Streams {
             Side::Master => {
                 let turn = serve(store, &mut self.master, &mut self.slave);
                 let more = goes_on(turn, store, &self.master.driver);
-                self.enabled.enable_if(more, driver_of(Side::Master));
+                self.enabled.enable_if(more, Side::Master.driver());
                 turn
             }
             Side::Slave => {
                 let turn = serve(store, &mut self.slave, &mut self.master);
                 let more = goes_on(turn, store, &self.slave.driver);
-                self.enabled.enable_if(more, driver_of(Side::Slave));
+                self.enabled.enable_if(more, Side::Slave.driver());
                 turn
             }
         }
@@ -212,8 +189,8 @@ impl Streams {
     /// A turn of an enabled queue.
     pub fn turn<B: Blocks>(&mut self, store: &mut B, name: QueueName) -> Turn
         requires { AreHeld (B.value store.old) self.old }
-        ensures turn { result ≡ (turned name (state_in (B.value store.old) self.old)).turn }
-        ensures state { state_in (B.value store.new) self.new ≡ (turned name (state_in (B.value store.old) self.old)).state }
+        ensures turn { (t : State ℕ) → result ≡ (turned plain name result (state_in (B.value store.old) self.old t)).turn }
+        ensures state { LeadsTo (B.value store.old) (B.value store.new) self.old self.new (λ s. (turned plain name result s).state) }
         ensures held { AreHeld (B.value store.new) self.new }
         ensures pool { SamePool (B.value store.old) (B.value store.new) }
     {

@@ -1,5 +1,11 @@
 //! What calls and turns answer.
 
+use crate::limits::READ_MAX;
+use arrayvec::ArrayVec;
+
+/// The bytes that one read gives.
+pub type ReadBytes = ArrayVec<u8, READ_MAX>;
+
 /// What a call answers that isn't refused, over what stands for its bytes: the bytes themselves, or how many they are
 /// (`Answer<usize>`), where they stand apart.
 #[derive(Clone, Copy, Debug, Drop, PartialEq, Eq)]

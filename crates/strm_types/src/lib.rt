@@ -12,7 +12,7 @@ mod limits;
 mod names;
 mod refusals;
 
-pub use answers::{Answer, Turn};
+pub use answers::{Answer, ReadBytes, Turn};
 pub use entries::Entry;
 pub use events::{Caller, Event};
 pub use kinds::{Band, MsgKind};

@@ -13,4 +13,4 @@ unfolding journal_of
 add-requires-clause-room_bytes c =
     let j = c.args.self.now in
     let fits = (room-means j.entries.items j.bytes.items j.most_entries j.most_bytes _ j.stored.lengths c.requires.room).1 in
-    rw (c.payload.ensures, c.content.ensures) fits
+    rw c.payload.ensures fits

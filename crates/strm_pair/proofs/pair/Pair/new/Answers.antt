@@ -1,7 +1,9 @@
 -- A pair over a store with nothing in it is as new.
 use Rattle.std.proofs.Common.{◌∙◌, ap, sym, subst, refl}
 use Rattle.strm_types.specs.State.{opening}
-use Rattle.strm_types.specs.Step.{replay, IsLegal}
+use Rattle.strm_types.specs.Cells.{plain}
+use Rattle.strm_types.specs.Step.{IsLegal}
+use Rattle.strm_pair.proofs.Steps.{led-nowhere}
 use Rattle.strm_pair.specs.Pairs.{state_in, AreHeld}
 use Rattle.strm_pair.specs.PairViews.{pair_of}
 use Rattle.strm_pair.proofs.Shown.{free-empty}
@@ -13,8 +15,8 @@ invariant_of-result g c =
     let d = c.args.limits.dblks in
     let j = c.in-Ok.ensures in
     record {
-      replayed = ap (λ s. state_in s c.new-2.result) c.requires ∙ c.new-2.ensures.state m d ∙ ap (λ js. replay opening js) (sym j.empty);
-      legal = subst (λ js. IsLegal opening js) (sym j.empty) tt;
+      replayed = ap (λ t. state_in (g.B.Blocks.value c.args.store) c.new-2.result t) (led-nowhere c.in-Ok.journal j.empty) ∙ ap (λ s. state_in s c.new-2.result opening) c.requires ∙ c.new-2.ensures.state m d ∙ sym (led-nowhere c.in-Ok.journal j.empty);
+      legal = subst (λ js. IsLegal plain opening js) (sym j.empty) tt;
       held = subst (λ s. AreHeld s c.new-2.result) (sym c.requires) (c.new-2.ensures.held m d);
       mblks = ap (λ s. s.mblks) c.requires;
       dblks = ap (λ s. s.dblks) c.requires;
@@ -27,4 +29,4 @@ returns g c =
     let m = c.args.limits.mblks in
     let d = c.args.limits.dblks in
     ap (λ s. pair_of s c.new-2.result c.in-Ok.journal c.args.limits) c.requires
-    ∙ rw (c.new-2.ensures.state m d, c.in-Ok.ensures.empty, free-empty m d) refl
+    ∙ rw (led-nowhere c.in-Ok.journal c.in-Ok.ensures.empty, c.new-2.ensures.state m d, c.in-Ok.ensures.empty, free-empty m d) refl

@@ -2,6 +2,7 @@
 use Rattle.std.proofs.Common.{◌∙◌, true, ap, refl}
 use Rattle.std.specs.Prelude.{not}
 use Rattle.strm_types.specs.declared.names.Side.TheVariants.{Master}
+use Rattle.strm_types.specs.declared.names.Openness.TheVariants.{Open}
 use Rattle.strm_types.specs.Names.{driver_of, enable, enable_if}
 use Rattle.strm_pair.proofs.Opened.{opened-state}
 use Rattle.strm_pair.proofs.Sides.{cleared, opened-sides}
@@ -16,7 +17,7 @@ returns-then-not-is_empty-clause-state g c =
     let cl = cleared s new p.slave.head.list c.requires.tidy c.requires.slave.head_list c.flushq.ensures.flushed in
     let list = q.ensures.list ∙ c.flushq.ensures.list ∙ c.requires.slave.head_list in
     opened-state s new p q.result c.enable.new.self c.requires cl list q.ensures.flows q.ensures.want_read q.ensures.no_enable
-    (c.enable.ensures ∙ ap (λ n. enable n p.enabled) c.driver_of.ensures ∙ ap (λ b. enable_if (not b) (driver_of Master) p.enabled) c.if-not-is_empty.ensures)
+    (c.enable.ensures ∙ ap (λ n. enable n p.enabled) c.driver.ensures ∙ ap (λ b. enable_if (not b) (driver_of Master) p.enabled) c.if-not-is_empty.ensures)
 
 pub returns-then-not-is_empty-clause-held : goal.returns-then-not-is_empty-clause-held
 returns-then-not-is_empty-clause-held g c =
@@ -24,7 +25,7 @@ returns-then-not-is_empty-clause-held g c =
     let new = g.B.Blocks.value c.flushq.new.store in
     let p = c.args.self.now in
     let cl = cleared s new p.slave.head.list c.requires.tidy c.requires.slave.head_list c.flushq.ensures.flushed in
-    opened-sides s new p (record { is_open = true; head = c.new-self.result; driver = p.slave.driver }) c.requires cl (c.new-self.ensures.list ∙ c.flushq.ensures.list ∙ c.requires.slave.head_list) c.new-self.ensures.counted refl
+    opened-sides s new p (record { opened = Open; head = c.new-self.result; driver = p.slave.driver }) c.requires cl (c.new-self.ensures.list ∙ c.flushq.ensures.list ∙ c.requires.slave.head_list) c.new-self.ensures.counted refl
 
 pub returns-else-not-is_empty-clause-state : goal.returns-else-not-is_empty-clause-state
 returns-else-not-is_empty-clause-state g c =
@@ -43,4 +44,4 @@ returns-else-not-is_empty-clause-held g c =
     let new = g.B.Blocks.value c.flushq.new.store in
     let p = c.args.self.now in
     let cl = cleared s new p.slave.head.list c.requires.tidy c.requires.slave.head_list c.flushq.ensures.flushed in
-    opened-sides s new p (record { is_open = true; head = c.new-self.result; driver = p.slave.driver }) c.requires cl (c.new-self.ensures.list ∙ c.flushq.ensures.list ∙ c.requires.slave.head_list) c.new-self.ensures.counted refl
+    opened-sides s new p (record { opened = Open; head = c.new-self.result; driver = p.slave.driver }) c.requires cl (c.new-self.ensures.list ∙ c.flushq.ensures.list ∙ c.requires.slave.head_list) c.new-self.ensures.counted refl

@@ -1,0 +1,60 @@
+-- A call that isn't refused is a step, and the journal gains it with its answer.
+use Rattle.std.proofs.Common.{◌≡◌, ◌∙◌, ◌++◌, ◌∷◌, [], ap, sym, refl, subst}
+use Rattle.std.specs.Prelude.{None}
+use Rattle.strm_types.specs.declared.entries.Entry.TheVariants.{Called}
+use Rattle.strm_types.specs.Cells.{plain}
+use Rattle.strm_types.specs.Calls.{request}
+use Rattle.strm_types.specs.Journal.{PlainEntry, reply_in}
+use Rattle.strm_types.specs.Step.{IsCall, after}
+use Rattle.strm_types.specs.Refused.{enough, blocks_asked}
+use Rattle.strm_types.specs.Pair.{PairState, AddsEntry, call_refused}
+use Rattle.strm_types.proofs.Replay.{call-allowed}
+use Rattle.strm_pair.specs.Pairs.{state_in, journal_of, free_in}
+use Rattle.strm_pair.specs.PairViews.{pair_of, led_to}
+use Rattle.strm_pair.proofs.Steps.{kept-step, step-shown}
+use Rattle.strm_pair.proofs.pair.Pair.call.Goals as goal
+
+pub invariant_of-self : goal.invariant_of-self
+invariant_of-self g c =
+    let p = c.self.inside in
+    let s = g.B.Blocks.value p.store in
+    let new = g.B.Blocks.value c.carry_out-answer.new.store in
+    let asked = request c.args.event.now in
+    let out = c.carry_out-answer.new.out.items in
+    let old = state_in s p.streams (led_to p.journal) in
+    let entry : PlainEntry = Called c.args.caller asked (reply_in c.carry_out-answer.result out) in
+    let allowed : call_refused (pair_of s p.streams p.journal p.limits) c.args.caller asked ≡ None = ap (λ (v : PairState). call_refused v c.args.caller asked) c.self.view_is ∙ sym c.refusal.ensures ∙ c.in_default.is in
+    let added : journal_of c.add_call.new.self ≡ journal_of p.journal ++ entry ∷ [] = c.add_call.ensures.added ∙ ap (λ b. journal_of p.journal ++ Called c.args.caller asked (reply_in c.carry_out-answer.result b) ∷ []) c.as_slice.ensures.value in
+    kept-step s new p.streams c.carry_out-answer.new.self p.journal c.add_call.new.self p.limits entry c.self.invariant
+    (record {
+      allowed = (call-allowed old (journal_of p.journal) p.limits (enough (blocks_asked asked) (free_in s)) c.args.caller asked allowed).0;
+      answered = sym (c.carry_out-answer.ensures.answer (led_to p.journal));
+      leads = refl;
+    })
+    (c.carry_out-answer.ensures.state (led_to p.journal)) c.carry_out-answer.ensures.held c.carry_out-answer.ensures.pool added c.add_call.ensures.most_entries c.add_call.ensures.most_bytes
+
+pub returns-clause-adds : goal.returns-clause-adds
+returns-clause-adds g c =
+    let p = c.self.inside in
+    let s = g.B.Blocks.value p.store in
+    let new = g.B.Blocks.value c.carry_out-answer.new.store in
+    let q = c.carry_out-answer.new.self in
+    let k = c.add_call.new.self in
+    let asked = request c.args.event.now in
+    let out = c.carry_out-answer.new.out.items in
+    let old = state_in s p.streams (led_to p.journal) in
+    let entry : PlainEntry = Called c.args.caller asked (reply_in c.carry_out-answer.result out) in
+    let allowed : call_refused (pair_of s p.streams p.journal p.limits) c.args.caller asked ≡ None = ap (λ (v : PairState). call_refused v c.args.caller asked) c.self.view_is ∙ sym c.refusal.ensures ∙ c.in_default.is in
+    let added : journal_of k ≡ journal_of p.journal ++ entry ∷ [] = c.add_call.ensures.added ∙ ap (λ b. journal_of p.journal ++ Called c.args.caller asked (reply_in c.carry_out-answer.result b) ∷ []) c.as_slice.ensures.value in
+    let taken : IsCall plain old c.args.caller asked (reply_in c.carry_out-answer.result out) (after plain old entry) = record {
+      allowed = (call-allowed old (journal_of p.journal) p.limits (enough (blocks_asked asked) (free_in s)) c.args.caller asked allowed).0;
+      answered = sym (c.carry_out-answer.ensures.answer (led_to p.journal));
+      leads = refl;
+    } in
+    subst (λ (v : PairState). AddsEntry v (pair_of new q k p.limits) entry) c.self.view_is
+    (record {
+      journal = added;
+      step = step-shown s new p.streams q p.journal k p.limits entry c.self.invariant added (c.carry_out-answer.ensures.state (led_to p.journal)) taken;
+      base = refl;
+      limits = refl;
+    })

@@ -1,0 +1,4 @@
+use Rattle.strm_pair.proofs.streams.Streams.refused_at_once.Goals as goal
+
+pub returns-in-OpenSlave : goal.returns-in-OpenSlave
+returns-in-OpenSlave c = λ s t. rw c.in-OpenSlave.is (c.unopened-in-OpenSlave.ensures s t)
