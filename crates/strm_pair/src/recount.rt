@@ -63,14 +63,15 @@ impl PlainQueue {
     // Puts pieces of 256 bytes on the queue while it isn't full, at least one, and says how many bytes went.
     fn send(&mut self, alloc: Global, bytes: &[u8]) -> Result<usize, Fail> {
         let mut taken = 0usize;
+        let mut rest = bytes;
         for _ in 0..messages_of(bytes) {
             if self.is_full() {
                 break;
             }
-            let (_, rest) = bytes.split_at(taken.min(bytes.len()));
-            let (chunk, _) = rest.split_at(rest.len().min(256));
+            let (chunk, more) = rest.split_at(rest.len().min(256));
             self.messages.push_back(chunk.to_vec(alloc)?)?;
             taken = taken.saturating_add(chunk.len());
+            rest = more;
         }
         Ok(taken)
     }
@@ -79,7 +80,11 @@ impl PlainQueue {
     fn give(&mut self, alloc: Global, wanted: usize) -> Result<Vec<u8>, Fail> {
         let mut given = Vec::new(alloc);
         self.want_read = false;
-        if self.messages.front().is_some_and(|first| first.is_empty()) {
+        let is_empty = match self.messages.front() {
+            Some(first) => first.is_empty(),
+            None => false,
+        };
+        if is_empty {
             let _ = self.messages.pop_front();
             return Ok(given);
         }

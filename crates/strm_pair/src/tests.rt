@@ -32,32 +32,57 @@ const SIZES: Config = Config {
     journal_bytes: 262144,
 };
 
-// Whether a call took so many bytes.
-fn is_count(answer: Result<Answer, Refusal>, wanted: usize) -> bool {
-    match answer {
-        Ok(Answer::Count(n)) => n == wanted,
-        _ => false,
+// What came of a call: done, so many bytes taken, these bytes given, or refused so.
+#[derive(Clone, Copy, PartialEq, Eq)]
+enum Came<'a> {
+    Done,
+    Count(usize),
+    Bytes(&'a [u8]),
+    Refused(Refusal),
+}
+
+// A step of a run, and what must come of it: a call, a turn, how many queues are enabled and which one first, how many
+// blocks are free, and how many entries and which bytes the journal has.
+#[derive(Clone, Copy)]
+enum Step<'a> {
+    Call(Caller, Event<'a>, Came<'a>),
+    Turn(QueueName, Result<Turn, Refusal>),
+    Enabled(usize, Option<QueueName>),
+    Free(usize, usize),
+    Entered(usize, &'a [u8]),
+}
+
+// Whether this came of a call.
+fn is_what_came(answer: Result<Answer, Refusal>, wanted: Came<'_>) -> bool {
+    let came = match &answer {
+        Ok(Answer::Done) => Came::Done,
+        Ok(Answer::Count(n)) => Came::Count(*n),
+        Ok(Answer::Bytes(bytes)) => Came::Bytes(bytes.as_slice()),
+        Err(refusal) => Came::Refused(*refusal),
+    };
+    came == wanted
+}
+
+// Whether what must come of a step comes of it.
+fn goes(pair: &mut Pair<TableStore>, step: &Step<'_>) -> bool {
+    match step {
+        Step::Call(caller, event, came) => is_what_came(pair.apply(*caller, event), *came),
+        Step::Turn(queue, answer) => pair.turn(*queue) == *answer,
+        Step::Enabled(count, first) => {
+            pair.enabled().len() == *count && pair.first_enabled() == *first
+        }
+        Step::Free(mblks, dblks) => pair.free_blocks() == (*mblks, *dblks),
+        Step::Entered(count, bytes) => {
+            let journal = pair.journal();
+            journal.entries.len() == *count && journal.bytes == *bytes
+        }
     }
 }
 
-// Whether a call gave these bytes.
-fn is_bytes(answer: Result<Answer, Refusal>, wanted: &[u8]) -> bool {
-    match answer {
-        Ok(Answer::Bytes(bytes)) => bytes.as_slice() == wanted,
-        _ => false,
-    }
-}
-
-// Whether a call is done.
-fn is_done(answer: Result<Answer, Refusal>) -> bool {
-    matches!(answer, Ok(Answer::Done))
-}
-
-// Whether a call is refused so.
-fn is_refused(answer: Result<Answer, Refusal>, wanted: Refusal) -> bool {
-    match answer {
-        Err(refusal) => refusal == wanted,
-        Ok(_) => false,
+// Goes through the steps of a run.
+fn follow(rt: &impl Abort, pair: &mut Pair<TableStore>, steps: &[Step<'_>]) {
+    for index in 0..steps.len() {
+        assert!(rt; goes(pair, &steps[index]), "at step {index}");
     }
 }
 
@@ -75,71 +100,81 @@ pub(crate) fn over_tables(alloc: Global, sizes: Config) -> Result<Pair<TableStor
     }
 }
 
-// A pair with both sides open.
-fn opened(rt: &impl Abort, alloc: Global, sizes: Config) -> Result<Pair<TableStore>, Fail>
+// Opens both sides of a pair of these sizes, and goes through the steps of a run.
+fn follow_opened(
+    rt: &impl Abort,
+    alloc: Global,
+    sizes: Config,
+    steps: &[Step<'_>],
+) -> Result<(), Fail>
     requires mblks { 0 < sizes.mblks }
     requires few_mblks { sizes.mblks ≤ 65536 }
     requires dblks { 0 < sizes.dblks }
     requires few_dblks { sizes.dblks ≤ 65536 }
 {
     let mut pair = over_tables(alloc, sizes)?;
-    assert!(rt; is_done(pair.apply(MASTER, &Event::OpenMaster)));
-    assert!(rt; is_done(pair.apply(MASTER, &Event::Unlock)));
-    assert!(rt; is_done(pair.apply(MASTER, &Event::OpenSlave)));
-    Ok(pair)
+    let opening = [
+        Step::Call(MASTER, Event::OpenMaster, Came::Done),
+        Step::Call(MASTER, Event::Unlock, Came::Done),
+        Step::Call(MASTER, Event::OpenSlave, Came::Done),
+    ];
+    follow(rt, &mut pair, &opening);
+    follow(rt, &mut pair, steps);
+    Ok(())
+}
+
+// Writes one byte where there are so many blocks of each kind, and this must come of it.
+fn write_with(rt: &impl Abort, alloc: Global, blocks: usize, came: Came<'_>) -> Result<(), Fail>
+    requires some { 0 < blocks }
+    requires few { blocks ≤ 65536 }
+{
+    let sizes = Config {
+        mblks: blocks,
+        dblks: blocks,
+        journal_events: 10,
+        journal_bytes: 10,
+    };
+    let steps = [Step::Call(MASTER, Event::Write { bytes: b"a" }, came)];
+    follow_opened(rt, alloc, sizes, &steps)
 }
 
 #[test]
 fn bytes_cross_to_the_slave(rt: HostRuntime) -> Result<(), Fail> {
-    let mut pair = opened(&rt, rt.alloc(), SIZES)?;
-    assert!(rt; is_count(pair.apply(MASTER, &Event::Write { bytes: b"abc" }), 3));
-    assert_eq!(rt; pair.first_enabled(), Some(MASTER_DRIVER));
-    assert_eq!(rt; pair.turn(MASTER_DRIVER), Ok(Turn::Moved(3)));
-    assert_eq!(rt; pair.enabled().len(), 0);
-    assert!(rt; is_bytes(pair.apply(SLAVE, &Event::Read { n: 2 }), b"ab"));
-    assert!(rt; is_bytes(pair.apply(SLAVE, &Event::Read { n: 10 }), b"c"));
-    assert!(rt; is_refused(pair.apply(SLAVE, &Event::Read { n: 10 }), Refusal::Eagain));
-    assert!(rt; is_bytes(pair.apply(SLAVE, &Event::Read { n: 0 }), b""));
-    assert_eq!(rt; pair.free_blocks(), (256, 256));
-    assert_eq!(rt; pair.journal().entries.len(), 8);
-    assert!(rt; pair.journal().bytes == b"abcabc".as_slice());
-    Ok(())
+    let steps = [
+        Step::Call(MASTER, Event::Write { bytes: b"abc" }, Came::Count(3)),
+        Step::Enabled(1, Some(MASTER_DRIVER)),
+        Step::Turn(MASTER_DRIVER, Ok(Turn::Moved(3))),
+        Step::Enabled(0, None),
+        Step::Call(SLAVE, Event::Read { n: 2 }, Came::Bytes(b"ab")),
+        Step::Call(SLAVE, Event::Read { n: 10 }, Came::Bytes(b"c")),
+        Step::Call(SLAVE, Event::Read { n: 10 }, Came::Refused(Refusal::Eagain)),
+        Step::Call(SLAVE, Event::Read { n: 0 }, Came::Bytes(b"")),
+        Step::Free(256, 256),
+        Step::Entered(8, b"abcabc"),
+    ];
+    follow_opened(&rt, rt.alloc(), SIZES, &steps)
 }
 
 #[test]
 fn a_full_driver_holds_writers(rt: HostRuntime) -> Result<(), Fail> {
-    let mut pair = opened(&rt, rt.alloc(), SIZES)?;
     let long = [b'z'; 600];
-    assert!(rt; is_count(pair.apply(MASTER, &Event::Write { bytes: &long }), 512));
-    assert!(rt;
-        is_refused(
-            pair.apply(MASTER, &Event::Write { bytes: b"z" }),
-            Refusal::Eagain
-        )
-    );
-    assert_eq!(rt; pair.turn(MASTER_DRIVER), Ok(Turn::Moved(256)));
-    assert!(rt; is_count(pair.apply(MASTER, &Event::Write { bytes: b"z" }), 1));
-    Ok(())
+    let steps = [
+        Step::Call(MASTER, Event::Write { bytes: &long }, Came::Count(512)),
+        Step::Call(
+            MASTER,
+            Event::Write { bytes: b"z" },
+            Came::Refused(Refusal::Eagain),
+        ),
+        Step::Turn(MASTER_DRIVER, Ok(Turn::Moved(256))),
+        Step::Call(MASTER, Event::Write { bytes: b"z" }, Came::Count(1)),
+    ];
+    follow_opened(&rt, rt.alloc(), SIZES, &steps)
 }
 
 #[test]
 fn thirty_two_blocks_are_kept_back(rt: HostRuntime) -> Result<(), Fail> {
-    for (blocks, takes) in [(32, false), (33, true)] {
-        let sizes = Config {
-            mblks: blocks,
-            dblks: blocks,
-            journal_events: 10,
-            journal_bytes: 10,
-        };
-        let mut pair = opened(&rt, rt.alloc(), sizes)?;
-        let answer = pair.apply(MASTER, &Event::Write { bytes: b"a" });
-        if takes {
-            assert!(rt; is_count(answer, 1));
-        } else {
-            assert!(rt; is_refused(answer, Refusal::Enosr));
-        }
-    }
-    Ok(())
+    write_with(&rt, rt.alloc(), 32, Came::Refused(Refusal::Enosr))?;
+    write_with(&rt, rt.alloc(), 33, Came::Count(1))
 }
 
 #[test]
@@ -150,46 +185,39 @@ fn a_full_journal_refuses(rt: HostRuntime) -> Result<(), Fail> {
         journal_events: 3,
         journal_bytes: 100,
     };
-    let mut pair = opened(&rt, rt.alloc(), sizes)?;
-    assert!(rt;
-        is_refused(
-            pair.apply(MASTER, &Event::Write { bytes: b"a" }),
-            Refusal::JournalFull
-        )
-    );
-    assert!(rt;
-        is_refused(
-            pair.apply(MASTER, &Event::Read { n: 1 }),
-            Refusal::JournalFull
-        )
-    );
-    assert_eq!(rt; pair.journal().entries.len(), 3);
-    Ok(())
+    let full = Came::Refused(Refusal::JournalFull);
+    let steps = [
+        Step::Call(MASTER, Event::Write { bytes: b"a" }, full),
+        Step::Call(MASTER, Event::Read { n: 1 }, full),
+        Step::Entered(3, b""),
+    ];
+    follow_opened(&rt, rt.alloc(), sizes, &steps)
 }
 
 #[test]
 fn bad_calls_are_refused_by_name(rt: HostRuntime) -> Result<(), Fail> {
+    let not_open = Came::Refused(Refusal::Enxio);
+    let invalid = Came::Refused(Refusal::Einval);
+    let again = Came::Refused(Refusal::Eagain);
+    let steps = [
+        Step::Call(MASTER, Event::Read { n: 1 }, not_open),
+        Step::Call(SLAVE, Event::OpenSlave, not_open),
+        Step::Call(SLAVE, Event::OpenMaster, Came::Done),
+        Step::Call(MASTER, Event::OpenMaster, invalid),
+        Step::Call(MASTER, Event::OpenSlave, again),
+        Step::Call(SLAVE, Event::Unlock, not_open),
+        Step::Call(MASTER, Event::Unlock, Came::Done),
+        Step::Call(MASTER, Event::Unlock, Came::Done),
+        Step::Call(MASTER, Event::OpenSlave, Came::Done),
+        Step::Call(MASTER, Event::OpenSlave, invalid),
+        Step::Call(SLAVE, Event::Unlock, invalid),
+        Step::Turn(MASTER_DRIVER, Err(Refusal::Einval)),
+        Step::Turn(SLAVE_HEAD, Err(Refusal::Einval)),
+        Step::Call(SLAVE, Event::Read { n: u32::MAX }, again),
+        Step::Entered(4, b""),
+    ];
     let mut pair = over_tables(rt.alloc(), SIZES)?;
-    assert!(rt; is_refused(pair.apply(MASTER, &Event::Read { n: 1 }), Refusal::Enxio));
-    assert!(rt; is_refused(pair.apply(SLAVE, &Event::OpenSlave), Refusal::Enxio));
-    assert!(rt; is_done(pair.apply(SLAVE, &Event::OpenMaster)));
-    assert!(rt; is_refused(pair.apply(MASTER, &Event::OpenMaster), Refusal::Einval));
-    assert!(rt; is_refused(pair.apply(MASTER, &Event::OpenSlave), Refusal::Eagain));
-    assert!(rt; is_refused(pair.apply(SLAVE, &Event::Unlock), Refusal::Enxio));
-    assert!(rt; is_done(pair.apply(MASTER, &Event::Unlock)));
-    assert!(rt; is_done(pair.apply(MASTER, &Event::Unlock)));
-    assert!(rt; is_done(pair.apply(MASTER, &Event::OpenSlave)));
-    assert!(rt; is_refused(pair.apply(MASTER, &Event::OpenSlave), Refusal::Einval));
-    assert!(rt; is_refused(pair.apply(SLAVE, &Event::Unlock), Refusal::Einval));
-    assert_eq!(rt; pair.turn(MASTER_DRIVER), Err(Refusal::Einval));
-    assert_eq!(rt; pair.turn(SLAVE_HEAD), Err(Refusal::Einval));
-    assert!(rt;
-        is_refused(
-            pair.apply(SLAVE, &Event::Read { n: u32::MAX }),
-            Refusal::Eagain
-        )
-    );
-    assert_eq!(rt; pair.journal().entries.len(), 4);
+    follow(&rt, &mut pair, &steps);
     Ok(())
 }
 
@@ -201,33 +229,24 @@ fn a_huge_write_is_taken_up_to_the_mark(rt: HostRuntime) -> Result<(), Fail> {
         journal_events: 10,
         journal_bytes: 2097152,
     };
-    let mut pair = opened(&rt, rt.alloc(), sizes)?;
     let huge = vec![in rt.alloc(); 7u8; 1048576]?;
-    assert!(rt;
-        is_count(
-            pair.apply(
-                SLAVE,
-                &Event::Write {
-                    bytes: huge.as_slice()
-                }
-            ),
-            512
-        )
-    );
-    Ok(())
+    let bytes = huge.as_slice();
+    let steps = [Step::Call(SLAVE, Event::Write { bytes }, Came::Count(512))];
+    follow_opened(&rt, rt.alloc(), sizes, &steps)
 }
 
 #[test]
 fn an_empty_write_reads_as_nothing(rt: HostRuntime) -> Result<(), Fail> {
-    let mut pair = opened(&rt, rt.alloc(), SIZES)?;
-    assert!(rt; is_count(pair.apply(MASTER, &Event::Write { bytes: b"a" }), 1));
-    assert!(rt; is_count(pair.apply(MASTER, &Event::Write { bytes: b"" }), 0));
-    assert!(rt; is_count(pair.apply(MASTER, &Event::Write { bytes: b"b" }), 1));
-    for moved in [1, 0, 1] {
-        assert_eq!(rt; pair.turn(MASTER_DRIVER), Ok(Turn::Moved(moved)));
-    }
-    for wanted in ["a", "", "b"] {
-        assert!(rt; is_bytes(pair.apply(SLAVE, &Event::Read { n: 9 }), wanted.as_bytes()));
-    }
-    Ok(())
+    let steps = [
+        Step::Call(MASTER, Event::Write { bytes: b"a" }, Came::Count(1)),
+        Step::Call(MASTER, Event::Write { bytes: b"" }, Came::Count(0)),
+        Step::Call(MASTER, Event::Write { bytes: b"b" }, Came::Count(1)),
+        Step::Turn(MASTER_DRIVER, Ok(Turn::Moved(1))),
+        Step::Turn(MASTER_DRIVER, Ok(Turn::Moved(0))),
+        Step::Turn(MASTER_DRIVER, Ok(Turn::Moved(1))),
+        Step::Call(SLAVE, Event::Read { n: 9 }, Came::Bytes(b"a")),
+        Step::Call(SLAVE, Event::Read { n: 9 }, Came::Bytes(b"")),
+        Step::Call(SLAVE, Event::Read { n: 9 }, Came::Bytes(b"b")),
+    ];
+    follow_opened(&rt, rt.alloc(), SIZES, &steps)
 }
