@@ -6,10 +6,7 @@ use crate::pair::kept::Kept;
 use std::alloc::Global;
 use std::collections::VecDeque;
 use std::test::Fail;
-use strm_types::{
-    AnswerShape, Caller, Config, Entry, Event, EventShape, Place, QueueName, Refusal, Side, Turn,
-    Way,
-};
+use strm_types::{Answer, Caller, Config, Entry, Event, Place, QueueName, Refusal, Side, Turn};
 
 // A queue: its messages, the first one first, its marks, whether it wants to be read, and whether a writer waits.
 #[derive(Drop)]
@@ -131,23 +128,15 @@ fn new_head(alloc: Global) -> PlainQueue {
     PlainQueue::new(alloc, 5120, 1024)
 }
 
-fn driver_of(side: Side) -> QueueName {
-    QueueName {
-        side,
-        place: Place::Driver,
-        way: Way::Down,
-    }
-}
-
 // How many of the journal's bytes belong to an entry.
-fn entry_len(entry: &Entry) -> usize {
+fn entry_len(entry: &Entry<usize>) -> usize {
     match entry {
         Entry::Called {
-            event: EventShape::Write { len },
+            event: Event::Write { bytes },
             ..
-        } => *len,
+        } => *bytes,
         Entry::Called {
-            answer: AnswerShape::Bytes { len },
+            answer: Answer::Bytes(len),
             ..
         } => *len,
         _ => 0,
@@ -235,7 +224,7 @@ impl PlainPair {
     }
 
     /// The next entry of a journal with its bytes, if there is one.
-    pub fn next_of<'a>(&self, journal: Recorded<'a>) -> Option<(Entry, &'a [u8])> {
+    pub fn next_of<'a>(&self, journal: Recorded<'a>) -> Option<(Entry<usize>, &'a [u8])> {
         let entry = *journal.entries.get(self.entries)?;
         let (_, behind) = journal.bytes.split_at_checked(self.bytes)?;
         let (bytes, _) = behind.split_at_checked(entry_len(&entry))?;
@@ -248,7 +237,7 @@ impl PlainPair {
     }
 
     /// Goes on by an entry with its bytes, and says whether the answer there is this pair's.
-    pub fn replay(&mut self, entry: &Entry, bytes: &[u8]) -> Result<bool, Fail> {
+    pub fn replay(&mut self, entry: &Entry<usize>, bytes: &[u8]) -> Result<bool, Fail> {
         self.entries = self.entries.saturating_add(1);
         self.bytes = self.bytes.saturating_add(bytes.len());
         match *entry {
@@ -264,25 +253,25 @@ impl PlainPair {
     fn replay_call(
         &mut self,
         side: Side,
-        event: EventShape,
-        answer: AnswerShape,
+        event: Event<usize>,
+        answer: Answer<usize>,
         bytes: &[u8],
     ) -> Result<bool, Fail> {
         match event {
-            EventShape::OpenMaster => self.master.is_open = true,
-            EventShape::Unlock => self.locked = false,
-            EventShape::OpenSlave => self.open_slave()?,
-            EventShape::Write { .. } => {
+            Event::OpenMaster => self.master.is_open = true,
+            Event::Unlock => self.locked = false,
+            Event::OpenSlave => self.open_slave()?,
+            Event::Write { .. } => {
                 let taken = self.write(side, bytes)?;
-                return Ok(answer == AnswerShape::Count(taken));
+                return Ok(answer == Answer::Count(taken));
             }
-            EventShape::Read { n } => {
+            Event::Read { n } => {
                 let given = self.read(side, n as usize)?;
                 let len = given.len();
-                return Ok(answer == AnswerShape::Bytes { len } && given.as_slice() == bytes);
+                return Ok(answer == Answer::Bytes(len) && given.as_slice() == bytes);
             }
         }
-        Ok(answer == AnswerShape::Done && bytes.is_empty())
+        Ok(answer == Answer::Done && bytes.is_empty())
     }
 
     fn end(&self, side: Side) -> &PlainEnd {
@@ -300,7 +289,7 @@ impl PlainPair {
     }
 
     fn enable_driver(&mut self, side: Side) -> Result<(), Fail> {
-        let name = driver_of(side);
+        let name = side.driver();
         if !self.enabled.as_slice().contains(&name) {
             self.enabled.push(name)?;
         }
@@ -335,11 +324,7 @@ impl PlainPair {
         let head = &mut self.end_mut(side).head;
         let given = head.give(alloc, n.min(4096))?;
         if !given.is_empty() && head.relieve() {
-            let writer = match side {
-                Side::Master => Side::Slave,
-                Side::Slave => Side::Master,
-            };
-            self.enable_driver(writer)?;
+            self.enable_driver(side.other())?;
         }
         Ok(given)
     }
@@ -386,7 +371,7 @@ impl PlainPair {
     }
 
     /// What a call is refused for, if anything.
-    pub fn refusal(&self, caller: Caller, event: &Event<'_>) -> Option<Refusal> {
+    pub fn refusal(&self, caller: Caller, event: &Event<&[u8]>) -> Option<Refusal> {
         let (bytes, blocks) = match event {
             Event::Write { bytes } => (bytes.len(), messages_of(bytes).saturating_add(32)),
             Event::Read { n } => ((*n as usize).min(4096), 0),
@@ -406,7 +391,7 @@ impl PlainPair {
     }
 
     // Whether the stream that a call needs is open.
-    fn may_be_asked(&self, side: Side, event: &Event<'_>) -> bool {
+    fn may_be_asked(&self, side: Side, event: &Event<&[u8]>) -> bool {
         match event {
             Event::OpenMaster => true,
             Event::OpenSlave => self.master.is_open,
@@ -414,7 +399,7 @@ impl PlainPair {
         }
     }
 
-    fn refused_by_state(&self, side: Side, event: &Event<'_>) -> Option<Refusal> {
+    fn refused_by_state(&self, side: Side, event: &Event<&[u8]>) -> Option<Refusal> {
         let end = self.end(side);
         match event {
             Event::OpenMaster if self.master.is_open => Some(Refusal::Einval),

@@ -7,7 +7,9 @@ use std::alloc::Global;
 use std::process::Abort;
 use std::test::Fail;
 use strm_blocks::TableStore;
-use strm_types::{Answer, Caller, Config, Event, Place, QueueName, Refusal, Side, Turn, Way};
+use strm_types::{
+    Answer, Caller, Config, Event, Place, QueueName, ReadBytes, Refusal, Side, Turn, Way,
+};
 
 const MASTER: Caller = Caller { side: Side::Master };
 
@@ -45,7 +47,7 @@ enum Came<'a> {
 // blocks are free, and how many entries and which bytes the journal has.
 #[derive(Clone, Copy)]
 enum Step<'a> {
-    Call(Caller, Event<'a>, Came<'a>),
+    Call(Caller, Event<&'a [u8]>, Came<'a>),
     Turn(QueueName, Result<Turn, Refusal>),
     Enabled(usize, Option<QueueName>),
     Free(usize, usize),
@@ -53,7 +55,7 @@ enum Step<'a> {
 }
 
 // Whether this came of a call.
-fn is_what_came(answer: Result<Answer, Refusal>, wanted: Came<'_>) -> bool {
+fn is_what_came(answer: Result<Answer<ReadBytes>, Refusal>, wanted: Came<'_>) -> bool {
     let came = match &answer {
         Ok(Answer::Done) => Came::Done,
         Ok(Answer::Count(n)) => Came::Count(*n),

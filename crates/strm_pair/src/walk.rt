@@ -10,8 +10,7 @@ use std::process::Abort;
 use std::test::Fail;
 use strm_blocks::TableStore;
 use strm_types::{
-    Answer, AnswerShape, Caller, Config, Entry, Event, EventShape, Place, QueueName, Refusal, Side,
-    Turn, Way,
+    Answer, Caller, Config, Entry, Event, Place, QueueName, ReadBytes, Refusal, Side, Turn, Way,
 };
 
 // A pair, the model to which its journal has led, the last random number, and how often what was met.
@@ -102,32 +101,28 @@ fn queue_of(x: u64) -> QueueName {
 }
 
 // Whether an entry with its bytes tells of this call with this answer.
-fn tells(entry: &Entry, bytes: &[u8], caller: Caller, event: &Event<'_>, answer: &Answer) -> bool {
-    let Entry::Called {
-        caller: who,
-        event: shape,
-        answer: told,
-    } = *entry
-    else {
-        return false;
+fn tells(
+    entry: &Entry<usize>,
+    bytes: &[u8],
+    caller: Caller,
+    event: &Event<&[u8]>,
+    answer: &Answer<ReadBytes>,
+) -> bool {
+    let shape = match answer {
+        Answer::Done => Answer::Done,
+        Answer::Count(count) => Answer::Count(*count),
+        Answer::Bytes(given) => Answer::Bytes(given.len()),
     };
-    let asked = match event {
-        Event::OpenMaster => shape == EventShape::OpenMaster,
-        Event::Unlock => shape == EventShape::Unlock,
-        Event::OpenSlave => shape == EventShape::OpenSlave,
-        Event::Write { bytes: written } => {
-            shape == EventShape::Write { len: written.len() } && *written == bytes
-        }
-        Event::Read { n } => shape == EventShape::Read { n: *n },
+    let content = match answer {
+        Answer::Bytes(given) => given.as_slice(),
+        _ => event.payload(),
     };
-    let answered = match answer {
-        Answer::Done => told == AnswerShape::Done,
-        Answer::Count(count) => told == AnswerShape::Count(*count),
-        Answer::Bytes(given) => {
-            told == AnswerShape::Bytes { len: given.len() } && given.as_slice() == bytes
-        }
+    let told = Entry::Called {
+        caller,
+        event: event.shape(),
+        answer: shape,
     };
-    who == caller && asked && answered
+    *entry == told && content == bytes
 }
 
 impl Walk {
@@ -167,7 +162,7 @@ impl Walk {
     }
 
     // Whether a call is answered as the model says, and adds one entry that tells so, or none where it is refused.
-    fn calls(&mut self, side: Side, event: &Event<'_>) -> Result<bool, Fail> {
+    fn calls(&mut self, side: Side, event: &Event<&[u8]>) -> Result<bool, Fail> {
         let caller = Caller { side };
         let refusal = self.model.refusal(caller, event);
         let answer = match self.pair.apply(caller, event) {
