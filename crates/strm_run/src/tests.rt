@@ -4,7 +4,8 @@
 mod scripts;
 
 use crate::script::{ScriptEnd, run_script};
-use std::alloc::Global;
+use crate::tests::scripts::Scene;
+use std::alloc::{AllocError, Global};
 use std::io::{self, Error, ErrorKind, Read, Write};
 use std::process::Abort;
 use std::test::Fail;
@@ -40,83 +41,45 @@ fn plays(
     let mut written = Vec::new(alloc);
     let ended = run_script(alloc, &mut reader, &mut written);
     let script = String::from_utf8_lossy(alloc, script)?;
-    let wanted = String::from_utf8_lossy(alloc, answers)?;
-    let said = String::from_utf8_lossy(alloc, written.as_slice())?;
-    assert_eq!(rt; said.as_str(), wanted.as_str(), "after {script}");
+    assert!(rt; written.as_slice() == answers, "after {script}");
     assert_eq!(rt; ended, end, "after {script}");
     Ok(())
 }
 
-// A scene, as far as it is read.
-#[derive(Drop)]
-struct Scene {
-    commands: Vec<u8>,
-    answers: Vec<u8>,
-    end: ScriptEnd,
+// Plays a scene: its commands, against its answers.
+fn plays_scene(rt: &impl Abort, alloc: Global, scene: &Scene) -> Result<(), Fail> {
+    let mut commands = Vec::new(alloc);
+    let mut answers = Vec::new(alloc);
+    for line in scene.2.lines() {
+        match line.strip_prefix("  ") {
+            Some(answer) => add_line(&mut answers, answer)?,
+            None => add_line(&mut commands, line)?,
+        }
+    }
+    plays(rt, alloc, commands.as_slice(), answers.as_slice(), scene.1)
 }
 
-impl Scene {
-    fn new(alloc: Global) -> Scene {
-        Scene {
-            commands: Vec::new(alloc),
-            answers: Vec::new(alloc),
-            end: WELL,
-        }
-    }
-
-    // Takes a line of the scene: an answer under its command, the end that a line of `=` tells, or a command.
-    fn take(&mut self, line: &str) -> Result<(), Fail> {
-        if let Some(answer) = line.strip_prefix("  ") {
-            self.answers.extend_from_slice(answer.as_bytes())?;
-            self.answers.push(b'\n')?;
-        } else if let Some(number) = line.strip_prefix("= short ") {
-            self.end.short = Some(number.parse::<u64>()?);
-        } else if let Some(number) = line.strip_prefix("= status ") {
-            self.end.status = number.parse::<u8>()?;
-        } else {
-            self.commands.extend_from_slice(line.as_bytes())?;
-            self.commands.push(b'\n')?;
-        }
-        Ok(())
-    }
-
-    fn plays(&self, rt: &impl Abort, alloc: Global) -> Result<(), Fail> {
-        let commands = self.commands.as_slice();
-        plays(rt, alloc, commands, self.answers.as_slice(), self.end)
-    }
+// Puts a line and its LF behind a text.
+fn add_line(text: &mut Vec<u8>, line: &str) -> Result<(), AllocError> {
+    text.extend_from_slice(line.as_bytes())?;
+    text.push(b'\n')?;
+    Ok(())
 }
 
-// Plays each scene of a text, and says how many there are.
-fn plays_scenes(rt: &impl Abort, alloc: Global, text: &str) -> Result<usize, Fail> {
-    let mut count = 0usize;
-    let mut scene = Scene::new(alloc);
-    for line in text.lines() {
-        if line.starts_with('!') {
-            if count > 0 {
-                scene.plays(rt, alloc)?;
-            }
-            count = count.saturating_add(1);
-            scene = Scene::new(alloc);
-        } else if count > 0 {
-            scene.take(line)?;
-        }
+// Plays scenes in turn.
+fn plays_scenes(rt: &impl Abort, alloc: Global, scenes: &[Scene]) -> Result<(), Fail> {
+    for scene in scenes {
+        plays_scene(rt, alloc, scene)?;
     }
-    scene.plays(rt, alloc)?;
-    Ok(count)
+    Ok(())
 }
 
 #[test]
 fn each_scene_answers_as_it_says(rt: HostRuntime) -> Result<(), Fail> {
-    for (scenes, count) in [
-        (scripts::OPENING, 7),
-        (scripts::WRITING_AND_READING, 7),
-        (scripts::TURNS, 4),
-        (scripts::LINES_AND_TEXTS, 13),
-    ] {
-        let played = plays_scenes(&rt, rt.alloc(), scenes)?;
-        assert_eq!(rt; played, count, "in {scenes}");
-    }
-    Ok(())
+    plays_scenes(&rt, rt.alloc(), &scripts::OPENING)?;
+    plays_scenes(&rt, rt.alloc(), &scripts::WRITING_AND_READING)?;
+    plays_scenes(&rt, rt.alloc(), &scripts::TURNS)?;
+    plays_scenes(&rt, rt.alloc(), &scripts::LINES_AND_TEXTS)
 }
 
 #[test]
@@ -177,6 +140,17 @@ impl Read for FailingReader<'_> {
     }
 }
 
+// How many lines end in a text.
+fn count_lines(text: &[u8]) -> usize {
+    let mut count = 0usize;
+    for byte in text {
+        if *byte == b'\n' {
+            count = count.saturating_add(1);
+        }
+    }
+    count
+}
+
 #[test]
 fn a_reader_that_fails_leaves_the_answers_of_whole_lines(rt: HostRuntime) -> Result<(), Fail> {
     for calls in 0..=FIRST_RUN.len() {
@@ -191,9 +165,8 @@ fn a_reader_that_fails_leaves_the_answers_of_whole_lines(rt: HostRuntime) -> Res
             FIRST_ANSWERS.starts_with(written.as_slice()),
             "at call {calls}"
         );
-        let ends = FIRST_RUN[..calls].iter().filter(|b| **b == b'\n').count();
-        let lines = written.iter().filter(|b| **b == b'\n').count();
-        assert_eq!(rt; lines, ends, "at call {calls}");
+        let lines = count_lines(written.as_slice());
+        assert_eq!(rt; lines, count_lines(&FIRST_RUN[..calls]), "at call {calls}");
     }
     let mut reader = FailingReader {
         bytes: FIRST_RUN,
@@ -205,11 +178,12 @@ fn a_reader_that_fails_leaves_the_answers_of_whole_lines(rt: HostRuntime) -> Res
     Ok(())
 }
 
-// A writer that takes one byte a call, up to the call that fails.
+// A writer that takes one byte a call, up to the call that fails, and whose flushes go well or not.
 #[derive(Drop)]
 struct FailingWriter {
     written: Vec<u8>,
     calls_left: usize,
+    flushes: bool,
 }
 
 impl Write for FailingWriter {
@@ -226,7 +200,11 @@ impl Write for FailingWriter {
     }
 
     fn flush(&mut self) -> io::Result<()> {
-        Ok(())
+        if self.flushes {
+            Ok(())
+        } else {
+            Err(Error::from(ErrorKind::Other))
+        }
     }
 }
 
@@ -237,6 +215,7 @@ fn a_writer_that_fails_has_the_front_of_the_answers(rt: HostRuntime) -> Result<(
         let mut writer = FailingWriter {
             written: Vec::new(rt.alloc()),
             calls_left: calls,
+            flushes: true,
         };
         let ended = run_script(rt.alloc(), &mut reader, &mut writer);
         let all = calls == FIRST_ANSWERS.len();
@@ -251,24 +230,16 @@ fn a_writer_that_fails_has_the_front_of_the_answers(rt: HostRuntime) -> Result<(
     Ok(())
 }
 
-// A writer of which a flush fails.
-#[derive(Drop)]
-struct Unflushed;
-
-impl Write for Unflushed {
-    fn write(&mut self, buf: &[u8]) -> io::Result<usize> {
-        Ok(buf.len())
-    }
-
-    fn flush(&mut self) -> io::Result<()> {
-        Err(Error::from(ErrorKind::Other))
-    }
-}
-
 #[test]
 fn a_flush_that_fails_is_a_write_fault(rt: HostRuntime) {
     let mut reader = FIRST_RUN;
-    assert_eq!(rt; run_script(rt.alloc(), &mut reader, &mut Unflushed), BROKEN);
+    let mut writer = FailingWriter {
+        written: Vec::new(rt.alloc()),
+        calls_left: usize::MAX,
+        flushes: false,
+    };
+    assert_eq!(rt; run_script(rt.alloc(), &mut reader, &mut writer), BROKEN);
+    assert!(rt; writer.written.as_slice() == FIRST_ANSWERS);
 }
 
 #[test]

@@ -1,19 +1,35 @@
-//! Scripts and their answers, a file of titled scenes for each subject. A scene begins with a line of `!` and its title.
-//! Its commands stand at the margin, and the answer to each stands under it, indented by two spaces. Where a script
-//! doesn't end with status 0, or a line of it got ENOSR, a line of `=` says so.
+//! Scripts and their answers, a table of scenes for each subject. A scene has a title, how its script ends, and its text:
+//! commands stand at the margin, and the answer to each stands under it, indented by two spaces.
+
+use super::{MALFORMED, WELL};
+use crate::script::ScriptEnd;
+
+/// A scene: its title, how its script ends, and its text.
+pub type Scene = (&'static str, ScriptEnd, &'static str);
+
+// A script in whose line 4 a call got ENOSR.
+const SHORT_AT_4: ScriptEnd = ScriptEnd {
+    status: 0,
+    short: Some(4),
+};
 
 /// How a pair is made and opened.
-pub const OPENING: &str = r#"
-!A pair is opened, unlocked, and its slave is opened
-open
+pub const OPENING: [Scene; 7] = [
+    (
+        "A pair is opened, unlocked, and its slave is opened",
+        WELL,
+        r#"open
   ok
 unlock
   ok
 slave
   ok
-
-!The slave waits for the unlocking
-open
+"#,
+    ),
+    (
+        "The slave waits for the unlocking",
+        WELL,
+        r#"open
   ok
 slave
   err EAGAIN
@@ -21,17 +37,23 @@ unlock
   ok
 slave
   ok
-
-!Unlocking twice does no harm
-open
+"#,
+    ),
+    (
+        "Unlocking twice does no harm",
+        WELL,
+        r#"open
   ok
 unlock
   ok
 unlock
   ok
-
-!There is one pair, and its slave is opened once
-open
+"#,
+    ),
+    (
+        "There is one pair, and its slave is opened once",
+        WELL,
+        r#"open
   ok
 open
   err EINVAL
@@ -43,9 +65,12 @@ slave
   ok
 slave
   err EINVAL
-
-!Nothing is there before the opening
-unlock
+"#,
+    ),
+    (
+        "Nothing is there before the opening",
+        WELL,
+        r#"unlock
   err ENXIO
 slave
   err ENXIO
@@ -57,9 +82,12 @@ turn m.drv.w
   err ENXIO
 run 1
   err ENXIO
-
-!A pair has 1 to 4096 blocks of each kind
-open 0
+"#,
+    ),
+    (
+        "A pair has 1 to 4096 blocks of each kind",
+        WELL,
+        r#"open 0
   err EINVAL
 open 4097
   err EINVAL
@@ -67,20 +95,27 @@ open 4294967295
   err EINVAL
 open 0000004096
   ok
-
-!The slave's stream isn't open before the slave is
-open
+"#,
+    ),
+    (
+        "The slave's stream isn't open before the slave is",
+        WELL,
+        r#"open
   ok
 write s "a"
   err ENXIO
 read s 1
   err ENXIO
-"#;
+"#,
+    ),
+];
 
 /// What goes from one side to the other.
-pub const WRITING_AND_READING: &str = r#"
-!What is written to the master is read from the slave, after a turn
-open
+pub const WRITING_AND_READING: [Scene; 7] = [
+    (
+        "What is written to the master is read from the slave, after a turn",
+        WELL,
+        r#"open
   ok
 unlock
   ok
@@ -94,9 +129,12 @@ run 10
   ran 1
 read s 10
   data 3 "abc"
-
-!The other direction is the same
-open
+"#,
+    ),
+    (
+        "The other direction is the same",
+        WELL,
+        r#"open
   ok
 unlock
   ok
@@ -108,9 +146,12 @@ run 10
   ran 1
 read m 10
   data 2 "ls"
-
-!A read takes a part, and the rest stays
-open
+"#,
+    ),
+    (
+        "A read takes a part, and the rest stays",
+        WELL,
+        r#"open
   ok
 unlock
   ok
@@ -128,9 +169,12 @@ read s 100
   data 3 "llo"
 read s 1
   err EAGAIN
-
-!An empty write sends a message of no bytes, which a read takes away
-open
+"#,
+    ),
+    (
+        "An empty write sends a message of no bytes, which a read takes away",
+        WELL,
+        r#"open
   ok
 unlock
   ok
@@ -144,9 +188,12 @@ read s 10
   data 0 ""
 read s 10
   err EAGAIN
-
-!A write goes in chunks, until the driver's queue is full
-open
+"#,
+    ),
+    (
+        "A write goes in chunks, until the driver's queue is full",
+        WELL,
+        r#"open
   ok
 unlock
   ok
@@ -160,9 +207,12 @@ turn m.drv.w
   ok 256
 write m "z"
   ok 1
-
-!A write needs 32 blocks of each kind more than it makes
-open 32
+"#,
+    ),
+    (
+        "A write needs 32 blocks of each kind more than it makes",
+        SHORT_AT_4,
+        r#"open 32
   ok
 unlock
   ok
@@ -170,10 +220,12 @@ slave
   ok
 write m "a"
   err ENOSR
-= short 4
-
-!With one block more it goes
-open 33
+"#,
+    ),
+    (
+        "With one block more it goes",
+        WELL,
+        r#"open 33
   ok
 unlock
   ok
@@ -181,12 +233,16 @@ slave
   ok
 write m "a"
   ok 1
-"#;
+"#,
+    ),
+];
 
 /// What the service procedures do, and when.
-pub const TURNS: &str = r#"
-!A turn of a queue that isn't enabled is refused
-open
+pub const TURNS: [Scene; 4] = [
+    (
+        "A turn of a queue that isn't enabled is refused",
+        WELL,
+        r#"open
   ok
 turn m.drv.w
   err EINVAL
@@ -194,9 +250,12 @@ turn s.head.r
   err EINVAL
 turn m.ldterm.w
   err EINVAL
-
-!Nothing runs where nothing is enabled, or where no turn is asked for
-open
+"#,
+    ),
+    (
+        "Nothing runs where nothing is enabled, or where no turn is asked for",
+        WELL,
+        r#"open
   ok
 unlock
   ok
@@ -206,9 +265,12 @@ write m "a"
   ok 1
 run 0
   ran 0
-
-!A message waits until the slave is open
-open
+"#,
+    ),
+    (
+        "A message waits until the slave is open",
+        WELL,
+        r#"open
   ok
 unlock
   ok
@@ -224,9 +286,12 @@ run 10
   ran 1
 read s 10
   data 1 "a"
-
-!Each turn takes one message
-open
+"#,
+    ),
+    (
+        "Each turn takes one message",
+        WELL,
+        r#"open
   ok
 unlock
   ok
@@ -244,61 +309,81 @@ run 10
   ran 1
 read s 10
   data 1 "b"
-"#;
+"#,
+    ),
+];
 
 /// How a script is spelled.
-pub const LINES_AND_TEXTS: &str = r#"
-!Comments and empty lines give no answer, and count as lines
-open
+pub const LINES_AND_TEXTS: [Scene; 13] = [
+    (
+        "Comments and empty lines give no answer, and count as lines",
+        MALFORMED,
+        r#"open
   ok
 
 # a remark
 
 write m "a\q"
   err line 5
-= status 1
-
-!A malformed line ends the script, before `open` too
-shut
+"#,
+    ),
+    (
+        "A malformed line ends the script, before `open` too",
+        MALFORMED,
+        r#"shut
   err line 1
-= status 1
-
-!Words are parted by one space
-open  1
+"#,
+    ),
+    (
+        "Words are parted by one space",
+        MALFORMED,
+        r#"open  1
   err line 1
-= status 1
-
-!A line has nothing behind its command
-open 
+"#,
+    ),
+    (
+        "A line has nothing behind its command",
+        MALFORMED,
+        r#"open 
   err line 1
-= status 1
-
-!A number has 1 to 10 digits
-open 00000000001
+"#,
+    ),
+    (
+        "A number has 1 to 10 digits",
+        MALFORMED,
+        r#"open 00000000001
   err line 1
-= status 1
-
-!The largest number is 4294967295
-open 4294967296
+"#,
+    ),
+    (
+        "The largest number is 4294967295",
+        MALFORMED,
+        r#"open 4294967296
   err line 1
-= status 1
-
-!A text wants both its quotes
-open
+"#,
+    ),
+    (
+        "A text wants both its quotes",
+        MALFORMED,
+        r#"open
   ok
 write m "a
   err line 2
-= status 1
-
-!A text is one text
-open
+"#,
+    ),
+    (
+        "A text is one text",
+        MALFORMED,
+        r#"open
   ok
 write m "a"b"
   err line 2
-= status 1
-
-!Escapes are read, and printed
-open
+"#,
+    ),
+    (
+        "Escapes are read, and printed",
+        WELL,
+        r#"open
   ok
 unlock
   ok
@@ -310,32 +395,42 @@ run 1
   ran 1
 read s 100
   data 8 "\n\r\t\"\\A\x7f\xff"
-
-!An escape has two digits
-open
+"#,
+    ),
+    (
+        "An escape has two digits",
+        MALFORMED,
+        r#"open
   ok
 write m "\x4"
   err line 2
-= status 1
-
-!Only the small x is an escape
-open
+"#,
+    ),
+    (
+        "Only the small x is an escape",
+        MALFORMED,
+        r#"open
   ok
 write m "\X41"
   err line 2
-= status 1
-
-!A side is m or s
-open
+"#,
+    ),
+    (
+        "A side is m or s",
+        MALFORMED,
+        r#"open
   ok
 read t 1
   err line 2
-= status 1
-
-!A queue is named by side, place and way
-open
+"#,
+    ),
+    (
+        "A queue is named by side, place and way",
+        MALFORMED,
+        r#"open
   ok
 turn m.drv
   err line 2
-= status 1
-"#;
+"#,
+    ),
+];

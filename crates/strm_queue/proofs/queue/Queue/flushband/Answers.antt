@@ -19,3 +19,6 @@ returns-clause-counted g c =
 
 pub returns-clause-flows : goal.returns-clause-flows
 returns-clause-flows g c = rw (c.see_empty.ensures.flows, c.count_band_flush.ensures.flows) (set-flushed c.args.self.now.flows c.from.result false)
+
+pub returns-clause-flushed : goal.returns-clause-flushed
+returns-clause-flushed g c = c.drop_where.ensures

@@ -19,3 +19,6 @@ returns-clause-counted g c =
 
 pub returns-clause-flows : goal.returns-clause-flows
 returns-clause-flows g c = rw c.see_empty.ensures.flows (all-flushed c.args.all c.args.self.now.flows c.count_flush.new.self.flows c.count_flush.ensures.eight (λ band lt. c.count_flush.ensures.flows band (omega (arith, lt, c.requires.eight))))
+
+pub returns-clause-flushed : goal.returns-clause-flushed
+returns-clause-flushed g c = c.drop_where.ensures

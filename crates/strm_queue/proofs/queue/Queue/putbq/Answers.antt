@@ -21,3 +21,6 @@ returns-clause-counted g c =
 
 pub returns-clause-flows : goal.returns-clause-flows
 returns-clause-flows g c = rw c.count_in.ensures.flows (set-added c.args.self.now.flows c.share_of-share.result.band c.share_of-share.result.is_data c.share_of-share.result.bytes)
+
+pub returns-clause-placed : goal.returns-clause-placed
+returns-clause-placed g c = cc
