@@ -64,34 +64,114 @@ fn trim_last_byte<B: Blocks>(store: &mut B, message: &B::Mp)
     }
 }
 
-// Whether a copy and a duplicate of a message's last block show what it shows.
-fn copies_show_the_same<B: Blocks>(store: &mut B, message: &B::Mp) -> Result<bool, NoBlocks>
+// How many bytes a copy of a message's last block shows, which is freed again.
+fn len_of_copy<B: Blocks>(store: &mut B, message: &B::Mp) -> Result<usize, NoBlocks>
     requires { IsInHand (B.value store.old) (B.name message.now) }
-    ensures { IfOk result (λ _. IsInHand (B.value store.new) (B.name message.now)) }
+    ensures { B.value store.new ≡ B.value store.old }
 {
     let last = store.blocks(message) - 1;
-    let len = store.block_len(message, last);
     let copied = store.copy(message, last)?;
     store.audit();
-    let same = store.block_len(&copied, 0) == len;
+    let len = store.block_len(&copied, 0);
     store.free(copied);
+    Ok(len)
+}
+
+// How many bytes a duplicate of a message's last block shows, which is freed again.
+fn len_of_dup<B: Blocks>(store: &mut B, message: &B::Mp) -> Result<usize, NoBlocks>
+    requires { IsInHand (B.value store.old) (B.name message.now) }
+    ensures { B.value store.new ≡ B.value store.old }
+{
     let last = store.blocks(message) - 1;
     let shared = store.dup(message, last)?;
     store.audit();
-    let same = same && store.block_len(&shared, 0) == len;
+    let len = store.block_len(&shared, 0);
     store.free(shared);
-    Ok(same)
+    Ok(len)
+}
+
+// Whether the first block of a message can't be duplicated once more.
+fn is_full<B: Blocks>(store: &mut B, message: &B::Mp) -> bool
+    requires { IsInHand (B.value store.old) (B.name message.now) }
+    ensures { B.value store.new ≡ B.value store.old }
+{
+    store.audit();
+    let Ok(twin) = store.dup(message, 0) else {
+        return true;
+    };
+    store.free(twin);
+    false
+}
+
+// How many blocks are free beside a data block of so many references, and whether it can have no more.
+fn beside_pile<B: Blocks>(
+    store: &mut B,
+    references: usize,
+) -> Result<((usize, usize), bool), NoBlocks>
+    requires { 0 < references }
+{
+    let first = store.alloc(MsgKind::Data)?;
+    let pile = piled(store, first, references - 1)?;
+    let free = store.free_blocks();
+    let full = is_full(store, &pile);
+    store.free(pile);
+    Ok((free, full))
+}
+
+// What is seen of a message of band 3 at the front of list 2, and its name when it was taken off again.
+fn through_a_list<B: Blocks>(store: &mut B, message: B::Mp) -> Option<(Peek, B::Mp)>
+    requires { IsInHand (B.value store.old) (B.name message) }
+    ensures { IfSome result (λ taken. IsInHand (B.value store.new) (B.name taken.1)) }
+{
+    store.set_band(&message, Band(3));
+    store.insert_back(2, message);
+    let peek = store.peek(2)?;
+    let taken = store.pop(2)?;
+    Some((peek, taken))
+}
+
+// Whether a message of band 3 has two blocks, of which the second is of M_DATA and shows these bytes.
+fn ends_in<B: Blocks>(store: &B, message: &B::Mp, bytes: &[u8]) -> bool
+    requires { IsInHand (B.value store.now) (B.name message.now) }
+{
+    store.blocks(message) == 2
+        && store.band(message) == Band(3)
+        && store.kind(message, 1) == MsgKind::Data
+        && store.bytes_at(message, 1) == bytes
+}
+
+// Puts the first block of a message on list 7, and lets the rest stay in hand.
+fn part<B: Blocks>(store: &mut B, message: B::Mp)
+    requires { IsInHand (B.value store.old) (B.name message) }
+{
+    let (first, _rest) = store.unlink(message);
+    store.insert_front(7, first);
+}
+
+// Whether a message of two parts is seen as it is made, after each call on it. Its parts are then on list 7 and in hand.
+fn is_seen<B: Blocks>(store: &mut B) -> Result<bool, NoBlocks> {
+    let message = of_two_parts(store, b"ab", b"cdef")?;
+    trim_first_byte(store, &message);
+    trim_last_byte(store, &message);
+    let lens = (len_of_copy(store, &message)?, len_of_dup(store, &message)?);
+    let Some((peek, message)) = through_a_list(store, message) else {
+        return Ok(false);
+    };
+    let wanted = Peek {
+        kind: MsgKind::Proto,
+        band: Band(3),
+        control: Some(2),
+        body: Some(2),
+    };
+    let shown = ends_in(store, &message, b"de");
+    part(store, message);
+    Ok(lens == (2, 2) && peek == wanted && shown)
 }
 
 #[test]
 fn a_data_block_has_at_most_255_references(rt: HostRuntime) -> Result<(), Fail> {
     let mut store = TableStore::new(rt.alloc(), 300, 300)?;
-    let first = store.alloc(MsgKind::Data)?;
-    let pile = piled(&mut store, first, 254)?;
-    store.audit();
-    assert_eq!(rt; store.free_blocks(), (45, 299));
-    assert!(rt; store.dup(&pile, 0).is_err());
-    store.free(pile);
+    assert_eq!(rt; beside_pile(&mut store, 255)?, ((45, 299), true));
     assert_eq!(rt; store.free_blocks(), (300, 300));
     Ok(())
 }
@@ -99,27 +179,7 @@ fn a_data_block_has_at_most_255_references(rt: HostRuntime) -> Result<(), Fail> 
 #[test]
 fn each_call_does_its_work(rt: HostRuntime) -> Result<(), Fail> {
     let mut store = TableStore::new(rt.alloc(), 8, 8)?;
-    let message = of_two_parts(&mut store, b"ab", b"cdef")?;
-    trim_first_byte(&mut store, &message);
-    trim_last_byte(&mut store, &message);
-    assert!(rt; copies_show_the_same(&mut store, &message)?);
-    store.set_band(&message, Band(3));
-    store.insert_back(2, message);
-    let peek = Peek {
-        kind: MsgKind::Proto,
-        band: Band(3),
-        control: Some(2),
-        body: Some(2),
-    };
-    assert_eq!(rt; store.peek(2), Some(peek));
-    if let Some(message) = store.pop(2) {
-        assert_eq!(rt; store.blocks(&message), 2);
-        assert_eq!(rt; store.kind(&message, 1), MsgKind::Data);
-        assert_eq!(rt; store.band(&message).0, 3);
-        assert!(rt; store.bytes_at(&message, 1) == b"de".as_slice());
-        let (first, _rest) = store.unlink(message);
-        store.insert_front(7, first);
-    }
+    assert!(rt; is_seen(&mut store)?);
     assert_eq!(rt; store.free_blocks(), (6, 6));
     store.drop_where(
         7,

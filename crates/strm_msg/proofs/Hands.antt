@@ -114,3 +114,20 @@ module _ (s : StoreValue) (i : ℕ) where
 
   pub changed-same : changed s i (in_hand s i) ≡ s
   changed-same = ap (λ xs. record s { hand = xs }) (same-replaced i s.hand)
+
+-- a message that goes is the same loss, whatever its chain
+without-replaced : (i : ℕ) (chain : List Block) (hand : List Held) → without i (with_chain i chain hand) ≡ without i hand
+without-replaced i chain [] = refl
+without-replaced i chain (h ∷ hand) =
+    let ih = without-replaced i chain hand in
+    elim (cases_eq h.name i) [
+      | inl e ↦
+          (let hit : eqb h.name i ≡ true = ap (λ k. eqb k i) e ∙ same-name i in
+          ap (λ v. without i (cond v (record h { chain = chain } ∷ hand) (h ∷ with_chain i chain hand))) hit ∙ ap (λ v. cond v hand (record h { chain = chain } ∷ without i hand)) hit ∙ sym (ap (λ v. cond v hand (h ∷ without i hand)) hit))
+      | inr ne ↦
+          (let miss : eqb h.name i ≡ false = other-name h.name i ne in
+          ap (λ v. without i (cond v (record h { chain = chain } ∷ hand) (h ∷ with_chain i chain hand))) miss ∙ ap (λ v. cond v (with_chain i chain hand) (h ∷ without i (with_chain i chain hand))) miss ∙ ap (λ xs. h ∷ xs) ih ∙ sym (ap (λ v. cond v hand (h ∷ without i hand)) miss))
+    ]
+
+pub dropped-changed : (s : StoreValue) (i : ℕ) (chain : List Block) → dropped (changed s i chain) i ≡ dropped s i
+dropped-changed s i chain = ap (λ xs. record s { hand = xs }) (without-replaced i chain s.hand)
