@@ -42,8 +42,8 @@ refused_long old new NoMemory b h long ne = fails_none old new (b ∷ []) h.0 h.
 pub obeyed_line : (command : Command) (old new : Engine) (r : Result (Unit {0}) Stop) → Obeyed command old new r → new.lines ≡ old.lines
     → reading old.line.items ≡ Spoken command → AnswersLine old new r
 obeyed_line command old new (Ok _) h lines line = record {
-  text = printed_line (line_of h.0.line);
-  goes = rw (lines, h.1.short) (goes_spoken (point_of old) command h.0 (pair_of new) line h.1.leads);
+  text = printed_line (line_of new.out.items h.0.line);
+  goes = rw (lines, h.1.short) (goes_spoken (point_of old) command h.0 new.out.items (pair_of new) line h.1.leads);
   answers = h.2;
 }
 obeyed_line command old new (Err Malformed) h lines line = absurd h
@@ -53,7 +53,7 @@ obeyed_line command old new (Err NoMemory) h lines line =
       | inr done ↦ record {
         text = [];
         breaks = Breaks-unsaid (point_of old) _ (10 ∷ []) _ new.short
-            (goes_spoken (point_of old) command done.0 (pair_of new) line done.1.leads) (sym done.1.short);
+            (goes_spoken (point_of old) command done.0 new.out.items (pair_of new) line done.1.leads) (sym done.1.short);
         answers = h.1 ∙ sym (append-nil old.answers.items);
       }
     ]

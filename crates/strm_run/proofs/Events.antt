@@ -1,19 +1,31 @@
 -- The calls and turns of a pair, as the plain session has them.
-use Rattle.std.proofs.Common.{◌≡◌, ℕ, zero, suc, ◌+◌, ◌-◌, ◌<◌, ◌≤◌, Bool, true, false, List, [], ◌∷◌, ◌++◌, Option, None, Some, Result, Ok, Err, IsOk, IfOk, MatchOption, slice_get, refl, arith, sym, ap, ◌∙◌, inl, inr, append_assoc, ◌⊎◌, leb, ◌&&◌}
+use Rattle.std.proofs.Common.{◌≡◌, ℕ, zero, suc, ◌+◌, ◌-◌, ◌<◌, ◌≤◌, Bool, true, false, List, [], ◌∷◌, ◌++◌, length, take, Option, None, Some, Result, Ok, Err, IsOk, IfOk, MatchOption, slice_get, refl, arith, sym, ap, ◌∙◌, inl, inr, append_assoc, ◌⊎◌, leb, ◌&&◌, ◌||◌, ◌==◌}
 use Rattle.strm_types.specs.declared.answers.Answer.{Answer}
 use Rattle.strm_types.specs.declared.answers.Turn.{Turn}
 use Rattle.strm_types.specs.declared.events.Caller.{Caller}
 use Rattle.strm_types.specs.declared.names.QueueName.{QueueName}
 use Rattle.strm_types.specs.declared.refusals.Refusal.{Refusal}
-use Rattle.strm_types.specs.Calls.{Request, Reply, reply}
-use Rattle.strm_types.specs.Journal.{Called, Turned}
-use Rattle.strm_types.specs.Refused.{enough, blocks_asked, turn_blocks_asked}
+use Rattle.strm_types.specs.declared.limits.TheConstants.{TURN_BLOCKS}
+use Rattle.strm_types.specs.declared.names.Side.{Side}
+use Rattle.strm_types.specs.declared.names.Place.{Place}
+use Rattle.strm_types.specs.declared.names.Place.TheVariants.{Head, Ldterm, Driver}
+use Rattle.strm_types.specs.declared.entries.Entry.TheVariants.{Called, Turned}
+use Rattle.strm_types.specs.Cells as cells
+use Rattle.strm_types.specs.State.{State}
+use Rattle.strm_types.specs.Turns.{TurnOutcome, turned, turned_at, whole_turn}
+use Rattle.strm_types.specs.Names.{without}
+use Rattle.strm_types.specs.declared.answers.Answer.TheVariants as answers
+use Rattle.strm_types.specs.Calls.{Request, Reply, map_answer}
+use Rattle.strm_types.specs.Journal.{PlainEntry, reply_in, answer_len}
+use Rattle.std.proofs.Math.Seq.{take-length}
+use Rattle.strm_types.specs.Refused.{Free, enough, blocks_asked}
 use Rattle.strm_types.specs.Pair.{PairState, call_refused, queue_refused, AddsEntry}
 use Rattle.strm_types.specs.ScriptAnswers.{Ran, reply_line, turn_line}
 use Rattle.strm_types.specs.ScriptRun as script
 use Rattle.strm_types.specs.ScriptRun.{Supply, Enough, TooFew, is_enough, PlainPair, Happened, call_refusal, turn_refusal, call_happens, turn_happens, call_of, turn_of, is_short, is_enosr, Turns, no_turns, counted, turns_of, by_call, by_turn, by_run, by_open, unanswered, new_plain, next_of, rest_of}
 use Rattle.std.proofs.lemmas.Bool.{le-leb, lt-leb}
-use Rattle.strm_types.specs.Calls as calls
+use Rattle.std.proofs.lemmas.Bool.Decides.{nat_tests}
+use Rattle.strm_types.specs.declared.events.Event.TheVariants as calls
 use Rattle.strm_types.specs.declared.names.Side.TheVariants.{Master}
 use Rattle.strm_types.specs.declared.refusals.Refusal.TheVariants.{Einval}
 use Rattle.strm_run.specs.declared.answers.Line.TheVariants as lines
@@ -33,27 +45,34 @@ is_enough-supply_of true = refl
 is_enough-supply_of false = refl
 
 -- the answer of a call, with its bytes
-abbrev pub replied : Result Answer Refusal → Result (Reply ℕ) Refusal
-replied (Ok answer) = Ok (reply answer)
-replied (Err refusal) = Err refusal
+abbrev pub replied : List ℕ → Result (Answer ℕ) Refusal → Result Reply Refusal
+replied bytes (Ok answer) = Ok (map_answer (λ _. bytes) answer)
+replied bytes (Err refusal) = Err refusal
 
 -- a call of the code, and a turn, happen as they do to the plain pair
-pub record CallHappens (old new : PairState) (caller : Caller) (asked : Request ℕ) (r : Result Answer Refusal) : Type 0 where
+pub record CallHappens (old new : PairState) (caller : Caller) (asked : Request) (bytes : List ℕ) (r : Result (Answer ℕ) Refusal) : Type 0 where
   pub supply : Supply
-  pub same : call_of supply (plain old) caller asked ≡ record { answer = replied r; pair = plain new }
+  pub same : call_of supply (plain old) caller asked ≡ record { answer = replied bytes r; pair = plain new }
 
 pub record TurnHappens (old new : PairState) (name : QueueName) (r : Result Turn Refusal) : Type 0 where
   pub supply : Supply
   pub same : turn_of supply (plain old) name ≡ record { answer = r; pair = plain new }
 
-call_as : (o : Option Refusal) (old new : PairState) (caller : Caller) (asked : Request ℕ) (r : Result Answer Refusal)
-    → MatchOption o (IsOk r) (λ x. (r ≡ Err x) × (new ≡ old))
-    → IfOk r (λ answer. AddsEntry old new (Called caller asked (reply answer)))
-    → call_happens o (plain old) caller asked ≡ record { answer = replied r; pair = plain new }
-call_as (Some refusal) old new caller asked r h adds =
-    λ i. record { answer = replied (sym h.0 i); pair = plain (sym h.1 i) }
-call_as None old new caller asked (Err x) h adds = cc
-call_as None old new caller asked (Ok answer) h adds =
+-- an answer whose bytes are all that stand apart
+whole-reply : (answer : Answer ℕ) (bytes : List ℕ) → answer_len answer ≡ length bytes → reply_in answer bytes ≡ map_answer (λ _. bytes) answer
+whole-reply answers.Done bytes filled = refl
+whole-reply (answers.Count n) bytes filled = refl
+whole-reply (answers.Bytes len) bytes filled = ap answers.Bytes (ap (λ n. take n bytes) filled ∙ take-length bytes)
+
+call_as : (P : Type 0) (o : Option Refusal) (old new : PairState) (caller : Caller) (asked : Request) (bytes : List ℕ) (r : Result (Answer ℕ) Refusal)
+    → MatchOption o (IsOk r) (λ x. (r ≡ Err x) × ((new ≡ old) × P))
+    → IfOk r (λ answer. AddsEntry old new (Called caller asked (reply_in answer bytes)))
+    → IfOk r (λ answer. answer_len answer ≡ length bytes)
+    → call_happens o (plain old) caller asked ≡ record { answer = replied bytes r; pair = plain new }
+call_as P (Some refusal) old new caller asked bytes r h adds filled =
+    λ i. record { answer = replied bytes (sym h.0 i); pair = plain (sym h.1.0 i) }
+call_as P None old new caller asked bytes (Err x) h adds filled = cc
+call_as P None old new caller asked bytes (Ok answer) h adds filled =
     (λ i. record {
       answer = Ok (adds.step.answered i);
       pair = record {
@@ -63,19 +82,38 @@ call_as None old new caller asked (Ok answer) h adds =
       };
     })
     ∙ (λ i. record {
-      answer = Ok (reply answer);
+      answer = Ok (whole-reply answer bytes filled i);
       pair = record { state = new.state; journal = sym adds.journal i; limits = sym adds.limits i };
     })
 
-pub CallHappens-from : (old new : PairState) (caller : Caller) (asked : Request ℕ) (r : Result Answer Refusal)
-    → MatchOption (call_refused old caller asked) (IsOk r) (λ x. (r ≡ Err x) × (new ≡ old))
-    → IfOk r (λ answer. AddsEntry old new (Called caller asked (reply answer)))
-    → CallHappens old new caller asked r
+-- what the pool had for a call, which has enough where it asks for nothing
+asked-at : (n : ℕ) (free : Free) (b : Bool) → enough n free ≡ b → (is_enough (supply_of b) || (n == 0)) ≡ b
+unfolding supply_of
+asked-at n free true e = refl
+asked-at n free false e = grind (arith, nat_tests)
+
+asked-supply : (n : ℕ) (free : Free) → (is_enough (supply_of (enough n free)) || (n == 0)) ≡ enough n free
+asked-supply n free = asked-at n free (enough n free) refl
+
+pub CallHappens-from : (P : Type 0) (old new : PairState) (caller : Caller) (asked : Request) (bytes : List ℕ) (r : Result (Answer ℕ) Refusal)
+    → MatchOption (call_refused old caller asked) (IsOk r) (λ x. (r ≡ Err x) × ((new ≡ old) × P))
+    → IfOk r (λ answer. AddsEntry old new (Called caller asked (reply_in answer bytes)))
+    → IfOk r (λ answer. answer_len answer ≡ length bytes)
+    → CallHappens old new caller asked bytes r
 unfolding call_of
-CallHappens-from old new caller asked r h adds = record {
+CallHappens-from P old new caller asked bytes r h adds filled = record {
   supply = supply_of (enough (blocks_asked asked) old.free);
-  same = rw (is_enough-supply_of (enough (blocks_asked asked) old.free)) (call_as (call_refused old caller asked) old new caller asked r h adds);
+  same = rw (asked-supply (blocks_asked asked) old.free) (call_as P (call_refused old caller asked) old new caller asked bytes r h adds filled);
 }
+
+-- a driver's turn treats its message whole or not at all
+whole-at : (place : Place) (side : Side) (a b : Turn) (s : State ℕ) → turned_at cells.plain place side a s ≡ turned_at cells.plain place side b s
+whole-at Head side a b s = refl
+whole-at Ldterm side a b s = refl
+whole-at Driver side a b s = refl
+
+turned-whole : (name : QueueName) (a b : Turn) (s : State ℕ) → turned cells.plain name a s ≡ turned cells.plain name b s
+turned-whole name a b s = whole-at name.place name.side a b (record s { enabled = without name s.enabled })
 
 turn_as : (o : Option Refusal) (old new : PairState) (name : QueueName) (r : Result Turn Refusal)
     → MatchOption o (IsOk r) (λ x. (r ≡ Err x) × (new ≡ old))
@@ -84,7 +122,11 @@ turn_as : (o : Option Refusal) (old new : PairState) (name : QueueName) (r : Res
 turn_as (Some refusal) old new name r h adds = λ i. record { answer = sym h.0 i; pair = plain (sym h.1 i) }
 turn_as None old new name (Err x) h adds = cc
 turn_as None old new name (Ok turn) h adds =
-    (λ i. record {
+    ap (λ (o : TurnOutcome ℕ). record {
+      answer = Ok o.turn;
+      pair = record { state = o.state; journal = old.journal ++ Turned name o.turn ∷ []; limits = old.limits };
+    }) (turned-whole name (whole_turn name old.state) turn old.state)
+    ∙ (λ i. record {
       answer = Ok (adds.step.answered i);
       pair = record {
         state = adds.step.leads i;
@@ -103,19 +145,19 @@ pub TurnHappens-from : (old new : PairState) (name : QueueName) (r : Result Turn
     → TurnHappens old new name r
 unfolding turn_of
 TurnHappens-from old new name r h adds = record {
-  supply = supply_of (enough turn_blocks_asked old.free);
-  same = rw (is_enough-supply_of (enough turn_blocks_asked old.free)) (turn_as (queue_refused old name) old new name r h adds);
+  supply = supply_of (enough TURN_BLOCKS old.free);
+  same = rw (is_enough-supply_of (enough TURN_BLOCKS old.free)) (turn_as (queue_refused old name) old new name r h adds);
 }
 
 -- the answer of a command that makes a call, and of one that gives a turn
-pub answers_call : (old new : PairState) (caller : Caller) (asked : Request ℕ) (r : Result Answer Refusal) (found : Answered)
-    → CallHappens old new caller asked r → line_of found.line ≡ reply_line (replied r) → found.short ≡ is_short (replied r)
-    → LeadsTo (λ account. by_call caller asked account (plain old)) found (Some (plain new))
+pub answers_call : (old new : PairState) (caller : Caller) (asked : Request) (bytes : List ℕ) (r : Result (Answer ℕ) Refusal) (found : Answered)
+    → CallHappens old new caller asked bytes r → line_of bytes found.line ≡ reply_line (replied bytes r) → found.short ≡ is_short (replied bytes r)
+    → LeadsTo (λ account. by_call caller asked account (plain old)) found bytes (Some (plain new))
 unfolding by_call
-answers_call old new caller asked r found h line short = record {
+answers_call old new caller asked bytes r found h line short = record {
   events = h.supply ∷ [];
   leads = λ account.
-      ap (λ (happened : Happened (Reply ℕ)). record {
+      ap (λ (happened : Happened (Reply)). record {
         line = reply_line happened.answer;
         pair = Some happened.pair;
         account = account;
@@ -124,11 +166,11 @@ answers_call old new caller asked r found h line short = record {
       ∙ (λ i. record { line = sym line i; pair = Some (plain new); account = account; is_short = sym short i });
 }
 
-pub answers_turn : (old new : PairState) (name : QueueName) (r : Result Turn Refusal) (found : Answered)
-    → TurnHappens old new name r → line_of found.line ≡ turn_line r → found.short ≡ is_short r
-    → LeadsTo (λ account. by_turn name account (plain old)) found (Some (plain new))
+pub answers_turn : (bytes : List ℕ) (old new : PairState) (name : QueueName) (r : Result Turn Refusal) (found : Answered)
+    → TurnHappens old new name r → line_of bytes found.line ≡ turn_line r → found.short ≡ is_short r
+    → LeadsTo (λ account. by_turn name account (plain old)) found bytes (Some (plain new))
 unfolding by_turn
-answers_turn old new name r found h line short = record {
+answers_turn bytes old new name r found h line short = record {
   events = h.supply ∷ [];
   leads = λ account.
       ap (λ (happened : Happened Turn). record {
@@ -203,12 +245,12 @@ RunsTo-more turns taken begun old new name turn r below so first h e = record {
 }
 
 -- the turns end here
-pub run_ends : (turns taken : ℕ) (begun : PlainPair) (now after : PlainPair) (found : Answered) (front : List Supply) (short : Bool)
+pub run_ends : (turns taken : ℕ) (begun : PlainPair) (now after : PlainPair) (found : Answered) (bytes : List ℕ) (front : List Supply) (short : Bool)
     → RunsTo turns taken begun now → ((account : List Supply) → turns_of (turns - taken) (front ++ account) now ≡ no_turns short account after)
-    → line_of found.line ≡ Ran taken → found.short ≡ short
-    → LeadsTo (λ account. by_run turns account begun) found (Some after)
+    → line_of bytes found.line ≡ Ran taken → found.short ≡ short
+    → LeadsTo (λ account. by_run turns account begun) found bytes (Some after)
 unfolding by_run
-run_ends turns taken begun now after found front short so ends line same = record {
+run_ends turns taken begun now after found bytes front short so ends line same = record {
   events = so.events ++ front;
   leads = λ account.
       let all = ap (λ events. turns_of turns events begun) (append_assoc so.events front account)
@@ -219,20 +261,20 @@ run_ends turns taken begun now after found front short so ends line same = recor
       ∙ (λ i. record { line = sym line i; pair = Some after; account = account; is_short = sym same i });
 }
 
-pub run_none : (turns taken : ℕ) (begun : PlainPair) (old : PairState) (found : Answered)
+pub run_none : (bytes : List ℕ) (turns taken : ℕ) (begun : PlainPair) (old : PairState) (found : Answered)
     → RunsTo turns taken begun (plain old) → slice_get old.state.enabled 0 ≡ None
-    → line_of found.line ≡ Ran taken → found.short ≡ false
-    → LeadsTo (λ account. by_run turns account begun) found (Some (plain old))
-run_none turns taken begun old found so none line short =
-    run_ends turns taken begun (plain old) (plain old) found [] false so (λ account. turns_none (turns - taken) account (plain old) none) line short
+    → line_of bytes found.line ≡ Ran taken → found.short ≡ false
+    → LeadsTo (λ account. by_run turns account begun) found bytes (Some (plain old))
+run_none bytes turns taken begun old found so none line short =
+    run_ends turns taken begun (plain old) (plain old) found bytes [] false so (λ account. turns_none (turns - taken) account (plain old) none) line short
 
-pub run_refused : (turns taken : ℕ) (begun : PlainPair) (old new : PairState) (name : QueueName) (refusal : Refusal) (r : Result Turn Refusal) (found : Answered)
+pub run_refused : (bytes : List ℕ) (turns taken : ℕ) (begun : PlainPair) (old new : PairState) (name : QueueName) (refusal : Refusal) (r : Result Turn Refusal) (found : Answered)
     → taken < turns → RunsTo turns taken begun (plain old) → slice_get old.state.enabled 0 ≡ Some name
     → TurnHappens old new name r → r ≡ Err refusal
-    → line_of found.line ≡ Ran taken → found.short ≡ is_enosr refusal
-    → LeadsTo (λ account. by_run turns account begun) found (Some (plain new))
-run_refused turns taken begun old new name refusal r found below so first h e line short =
-    run_ends turns taken begun (plain old) (plain new) found (h.supply ∷ []) (is_enosr refusal) so
+    → line_of bytes found.line ≡ Ran taken → found.short ≡ is_enosr refusal
+    → LeadsTo (λ account. by_run turns account begun) found bytes (Some (plain new))
+run_refused bytes turns taken begun old new name refusal r found below so first h e line short =
+    run_ends turns taken begun (plain old) (plain new) found bytes (h.supply ∷ []) (is_enosr refusal) so
     (λ account.
     let left : turns - taken ≡ suc (turns - (taken + 1)) = omega arith in
     ap (λ n. turns_of n (h.supply ∷ account) (plain old)) left
@@ -240,30 +282,30 @@ run_refused turns taken begun old new name refusal r found below so first h e li
     (h.same ∙ ap (λ x. record { answer = x; pair = plain new }) e))
     line short
 
-pub run_all : (turns : ℕ) (begun : PlainPair) (old : PairState) (found : Answered) (taken : ℕ) → turns ≤ taken
-    → RunsTo turns taken begun (plain old) → line_of found.line ≡ Ran taken → found.short ≡ false
-    → LeadsTo (λ account. by_run turns account begun) found (Some (plain old))
-run_all turns begun old found taken past so line short =
-    run_ends turns taken begun (plain old) (plain old) found [] false so
+pub run_all : (bytes : List ℕ) (turns : ℕ) (begun : PlainPair) (old : PairState) (found : Answered) (taken : ℕ) → turns ≤ taken
+    → RunsTo turns taken begun (plain old) → line_of bytes found.line ≡ Ran taken → found.short ≡ false
+    → LeadsTo (λ account. by_run turns account begun) found bytes (Some (plain old))
+run_all bytes turns begun old found taken past so line short =
+    run_ends turns taken begun (plain old) (plain old) found bytes [] false so
     (λ account.
     let none : turns - taken ≡ 0 = omega arith in
     ap (λ n. turns_of n account (plain old)) none ∙ turns_zero account (plain old))
     line short
 
 -- a command that no call answers
-pub leads_unanswered : (command : List Supply → script.Answered) (refusal : Refusal) (pair : Option PlainPair) (found : Answered)
+pub leads_unanswered : (bytes : List ℕ) (command : List Supply → script.Answered) (refusal : Refusal) (pair : Option PlainPair) (found : Answered)
     → found ≡ record { line = lines.Refused refusal; short = false }
     → ((account : List Supply) → command account ≡ unanswered refusal pair account)
-    → LeadsTo command found pair
-leads_unanswered command refusal pair found e same = record {
+    → LeadsTo command found bytes pair
+leads_unanswered bytes command refusal pair found e same = record {
   events = [];
-  leads = λ account. same account ∙ ap (λ x. answered_as x pair account) (sym e);
+  leads = λ account. same account ∙ ap (λ x. answered_as x bytes pair account) (sym e);
 }
 
 -- the same command
-pub leads_same : (command said : List Supply → script.Answered) (pair : Option PlainPair) (found : Answered)
-    → ((account : List Supply) → command account ≡ said account) → LeadsTo said found pair → LeadsTo command found pair
-leads_same command said pair found same h = record {
+pub leads_same : (bytes : List ℕ) (command said : List Supply → script.Answered) (pair : Option PlainPair) (found : Answered)
+    → ((account : List Supply) → command account ≡ said account) → LeadsTo said found bytes pair → LeadsTo command found bytes pair
+leads_same bytes command said pair found same h = record {
   events = h.events;
   leads = λ account. same (h.events ++ account) ∙ h.leads account;
 }

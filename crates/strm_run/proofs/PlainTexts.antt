@@ -1,5 +1,5 @@
 -- Events that aren't short are answered as if all events had the blocks that they ask for.
-use Rattle.std.proofs.Common.{◌≡◌, ℕ, zero, suc, ◌-◌, ◌≤◌, Bool, true, false, List, [], ◌∷◌, ◌++◌, take, Option, None, Some, Result, Ok, Err, refl, sym, ap, ◌∙◌, slice_get, arith, append_assoc, inl, inr, nat_le, ◌&&◌, unwrap_or, ◌⊎◌}
+use Rattle.std.proofs.Common.{◌≡◌, ℕ, zero, suc, ◌-◌, ◌≤◌, Bool, true, false, List, [], ◌∷◌, ◌++◌, take, Option, None, Some, Result, Ok, Err, refl, sym, ap, ◌∙◌, slice_get, arith, append_assoc, inl, inr, nat_le, ◌&&◌, unwrap_or, ◌⊎◌, ◌==◌}
 use Rattle.std.proofs.lemmas.Bool.{cases_Bool, false≢true}
 use Rattle.strm_types.specs.declared.answers.Turn.{Turn}
 use Rattle.strm_types.specs.declared.events.Caller.{Caller}
@@ -8,9 +8,9 @@ use Rattle.strm_types.specs.declared.refusals.Refusal.{Refusal}
 use Rattle.strm_types.specs.declared.refusals.Refusal.TheVariants.{Einval, Enosr}
 use Rattle.strm_types.specs.declared.names.Side.TheVariants.{Master, Slave}
 use Rattle.strm_types.specs.Names.{is_enabled}
-use Rattle.strm_types.specs.Calls as calls
+use Rattle.strm_types.specs.declared.events.Event.TheVariants as calls
 use Rattle.strm_types.specs.Calls.{Request, Reply}
-use Rattle.strm_types.specs.Refused.{or_else, unless, refused_at_once, refused_by_state}
+use Rattle.strm_types.specs.Refused.{or_else, unless, refused, refused_at_once, refused_by_state, blocks_asked}
 use Rattle.strm_types.specs.Script.{Command, Open, Unlock, OpenSlave, Write, Read, Turn as TurnOf, Run}
 use Rattle.strm_types.specs.ScriptReading.{Reading, Silent, Malformed, Spoken, reading}
 use Rattle.strm_types.specs.ScriptAnswers.{printed_line, reply_line, turn_line, Ran, Wrong}
@@ -26,13 +26,18 @@ same_refusal (Some r) b c d h = refl
 same_refusal None (Some r) c d h = refl
 same_refusal None None c d h = absurd (false≢true (sym h))
 
-call-same : (supply : Supply) (p : PlainPair) (caller : Caller) (asked : Request ℕ) → is_short (call_of supply p caller asked).answer ≡ false
+refused-same : (b : Bool) (p : PlainPair) (caller : Caller) (asked : Request) → is_want (refused p.state p.journal p.limits b caller asked) ≡ false
+    → refused p.state p.journal p.limits b caller asked ≡ refused p.state p.journal p.limits true caller asked
+refused-same true p caller asked h = refl
+refused-same false p caller asked h = same_refusal (refused_at_once p.state caller asked) _ (Some Enosr) (refused_by_state p.state caller asked) h
+
+call-same : (supply : Supply) (p : PlainPair) (caller : Caller) (asked : Request) → is_short (call_of supply p caller asked).answer ≡ false
     → call_of supply p caller asked ≡ call_of Enough p caller asked
 unfolding call_of
 call-same Enough p caller asked h = refl
 call-same TooFew p caller asked h =
     ap (λ o. call_happens o p caller asked)
-    (same_refusal (refused_at_once p.state caller asked) _ (Some Enosr) (refused_by_state p.state caller asked)
+    (refused-same (blocks_asked asked == 0) p caller asked
     (sym (call_happens-short (call_refusal TooFew p caller asked) p caller asked) ∙ h))
 
 turn-same : (supply : Supply) (p : PlainPair) (name : QueueName) → is_short (turn_of supply p name).answer ≡ false
@@ -89,12 +94,12 @@ record SameAnswer (a b : script.Answered) : Type 0 where
   line : a.line ≡ b.line
   pair : a.pair ≡ b.pair
 
-call_answer : (supply : Supply) (p : PlainPair) (caller : Caller) (asked : Request ℕ) (account : List Supply)
+call_answer : (supply : Supply) (p : PlainPair) (caller : Caller) (asked : Request) (account : List Supply)
     → is_short (call_of (next_of account) p caller asked).answer ≡ false → SameAnswer (by_call caller asked account p) (by_call caller asked [] p)
 unfolding by_call
 call_answer supply p caller asked account h =
     let same = call-same (next_of account) p caller asked h in
-    record { line = ap (λ (x : Happened (Reply ℕ)). reply_line x.answer) same; pair = ap (λ (x : Happened (Reply ℕ)). Some x.pair) same }
+    record { line = ap (λ (x : Happened (Reply)). reply_line x.answer) same; pair = ap (λ (x : Happened (Reply)). Some x.pair) same }
 
 open-same : (blocks : ℕ) (account : List Supply) → (by_open blocks account).is_short ≡ false → SameAnswer (by_open blocks account) (by_open blocks [])
 unfolding by_open by_call

@@ -7,7 +7,7 @@ use Rattle.strm_types.specs.declared.names.QueueName.{QueueName}
 use Rattle.strm_types.specs.declared.refusals.Refusal.{Refusal}
 use Rattle.strm_types.specs.declared.refusals.Refusal.TheVariants.{Einval, Eagain, Enxio, JournalFull}
 use Rattle.strm_types.specs.State.{State}
-use Rattle.strm_types.specs.Calls as calls
+use Rattle.strm_types.specs.declared.events.Event.TheVariants as calls
 use Rattle.strm_types.specs.Calls.{Request, Reply}
 use Rattle.strm_types.specs.Refused.{or_else, unless, refused_at_once, refused_by_state}
 use Rattle.strm_types.specs.Script.{Command, Open, Unlock, OpenSlave, Write, Read, Turn as TurnOf, Run}
@@ -34,21 +34,21 @@ none-want : is_want None ≡ false
 unfolding is_want
 none-want = refl
 
-at_once-want : (s : State ℕ) (caller : Caller) (asked : Request ℕ) → is_want (refused_at_once s caller asked) ≡ false
+at_once-want : (s : State ℕ) (caller : Caller) (asked : Request) → is_want (refused_at_once s caller asked) ≡ false
 at_once-want s caller calls.OpenMaster = none-want
 at_once-want s caller calls.Unlock = or_else-want _ _ (unless-want _ Enxio refl) (unless-want _ Einval refl)
 at_once-want s caller calls.OpenSlave = unless-want _ Enxio refl
 at_once-want s caller (calls.Write cells) = unless-want _ Enxio refl
 at_once-want s caller (calls.Read n) = unless-want _ Enxio refl
 
-by_state-want : (s : State ℕ) (caller : Caller) (asked : Request ℕ) → is_want (refused_by_state s caller asked) ≡ false
+by_state-want : (s : State ℕ) (caller : Caller) (asked : Request) → is_want (refused_by_state s caller asked) ≡ false
 by_state-want s caller calls.OpenMaster = unless-want _ Einval refl
 by_state-want s caller calls.Unlock = none-want
 by_state-want s caller calls.OpenSlave = or_else-want _ _ (unless-want _ Einval refl) (unless-want _ Eagain refl)
 by_state-want s caller (calls.Write cells) = unless-want _ Eagain refl
 by_state-want s caller (calls.Read n) = unless-want _ Eagain refl
 
-pub call_happens-short : (o : Option Refusal) (p : PlainPair) (caller : Caller) (asked : Request ℕ) → is_short (call_happens o p caller asked).answer ≡ is_want o
+pub call_happens-short : (o : Option Refusal) (p : PlainPair) (caller : Caller) (asked : Request) → is_short (call_happens o p caller asked).answer ≡ is_want o
 unfolding is_want
 call_happens-short None p caller asked = refl
 call_happens-short (Some r) p caller asked = refl
@@ -58,7 +58,7 @@ unfolding is_want
 turn_happens-short None p name = refl
 turn_happens-short (Some r) p name = refl
 
-pub call-enough : (p : PlainPair) (caller : Caller) (asked : Request ℕ) → is_short (call_of Enough p caller asked).answer ≡ false
+pub call-enough : (p : PlainPair) (caller : Caller) (asked : Request) → is_short (call_of Enough p caller asked).answer ≡ false
 unfolding call_of
 call-enough p caller asked =
     call_happens-short (call_refusal Enough p caller asked) p caller asked

@@ -130,20 +130,20 @@ goes_silent p h = record {
 }
 
 -- the end of a line with a command
-pub goes_spoken : (p : Point) (command : Command) (found : Answered) (after : Option PlainPair)
-    → reading p.line ≡ Spoken command → LeadsTo (λ account. answered command account p.pair) found after
-    → Goes p (10 ∷ []) (printed_line (line_of found.line))
+pub goes_spoken : (p : Point) (command : Command) (found : Answered) (given : List ℕ) (after : Option PlainPair)
+    → reading p.line ≡ Spoken command → LeadsTo (λ account. answered command account p.pair) found given after
+    → Goes p (10 ∷ []) (printed_line (line_of given found.line))
     (record { pair = after; lines = suc p.lines; line = []; short = first_of p.short (line_if found.short (suc p.lines)) })
 unfolding told_at
-goes_spoken p command found after h lead = record {
+goes_spoken p command found given after h lead = record {
   events = lead.events;
   goes = λ account bytes.
       let rest = told_from (suc (suc p.lines)) account after (lines_behind [] bytes) in
       ap (told_after [] p.short)
       (ap (told_from (suc p.lines) (lead.events ++ account) p.pair) (lines_ended p.line bytes)
-      ∙ told_spoken (suc p.lines) (lead.events ++ account) p.pair p.line (lines_behind [] bytes) command (answered_as found after account) h (lead.leads account))
+      ∙ told_spoken (suc p.lines) (lead.events ++ account) p.pair p.line (lines_behind [] bytes) command (answered_as found given after account) h (lead.leads account))
       ∙ (λ k. record {
-        text = printed_line (line_of found.line) ++ rest.text;
+        text = printed_line (line_of given found.line) ++ rest.text;
         short = first_of-assoc p.short (line_if found.short (suc p.lines)) rest.short k;
         fault = rest.fault;
       });

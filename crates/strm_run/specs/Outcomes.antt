@@ -1,16 +1,16 @@
 -- What a command of the code leads to.
-use Rattle.std.specs.Prelude.{◌≡◌, List, ◌++◌, Option}
+use Rattle.std.specs.Prelude.{◌≡◌, ℕ, List, ◌++◌, Option}
 use Rattle.strm_types.specs.ScriptRun as script
 use Rattle.strm_types.specs.ScriptRun.{Supply, PlainPair}
 use Rattle.strm_run.specs.Lines.{line_of}
 use Rattle.strm_run.specs.declared.session.Answered.{Answered}
 
 -- what the code answers, as the definitions of script text have it
-abbrev pub answered_as : Answered → Option PlainPair → List Supply → script.Answered
-answered_as found pair account =
-    record { line = line_of found.line; pair = pair; account = account; is_short = found.short }
+abbrev pub answered_as : Answered → List ℕ → Option PlainPair → List Supply → script.Answered
+answered_as found bytes pair account =
+    record { line = line_of bytes found.line; pair = pair; account = account; is_short = found.short }
 
 -- The code does what a command leads to, for some account of its events, whatever the account of those behind them.
-pub record LeadsTo (command : List Supply → script.Answered) (found : Answered) (pair : Option PlainPair) : Type 0 where
+pub record LeadsTo (command : List Supply → script.Answered) (found : Answered) (bytes : List ℕ) (pair : Option PlainPair) : Type 0 where
   pub events : List Supply
-  pub leads : (account : List Supply) → command (events ++ account) ≡ answered_as found pair account
+  pub leads : (account : List Supply) → command (events ++ account) ≡ answered_as found bytes pair account

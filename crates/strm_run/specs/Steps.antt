@@ -36,12 +36,12 @@ Refused old new NoMemory = (new.short ≡ old.short) × (new.answers.items ≡ o
 
 -- a command led to an outcome
 pub record Obeys (command : Command) (old new : Engine) (found : Answered) : Type 0 where
-  pub leads : LeadsTo (λ account. answered command account (pair_of old)) found (pair_of new)
+  pub leads : LeadsTo (λ account. answered command account (pair_of old)) found new.out.items (pair_of new)
   pub short : new.short ≡ first_of old.short (line_if found.short (suc old.lines))
 
 -- the engine has carried out a command, and said its answer; or it had no memory for the one or the other
 abbrev pub Obeyed : Command → Engine → Engine → Result (Unit {0}) Stop → Type 0
-Obeyed command old new (Ok _) = (found : Answered) × Obeys command old new found × (new.answers.items ≡ old.answers.items ++ printed_line (line_of found.line))
+Obeyed command old new (Ok _) = (found : Answered) × Obeys command old new found × (new.answers.items ≡ old.answers.items ++ printed_line (line_of new.out.items found.line))
 Obeyed command old new (Err Malformed) = ⊥
 Obeyed command old new (Err NoMemory) = ((new.short ≡ old.short) ⊎ ((found : Answered) × Obeys command old new found)) × (new.answers.items ≡ old.answers.items)
 

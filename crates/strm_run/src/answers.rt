@@ -7,11 +7,11 @@ ghost use Rattle.strm_run.specs.Lines.{line_of};
 use std::fmt;
 use strm_types::{Answer, Refusal, Turn};
 
-/// An answer line, without its LF.
-#[derive(Debug, Drop)]
+/// An answer line, without its LF. The bytes that a call gave stand apart.
+#[derive(Clone, Copy, Debug, PartialEq, Eq)]
 pub enum Line {
-    /// A call or a turn was answered.
-    Done(Answer),
+    /// A call was answered.
+    Done(Answer<usize>),
     /// A turn was taken.
     Turned(Turn),
     /// So many turns were taken.
@@ -20,6 +20,13 @@ pub enum Line {
     Refused(Refusal),
     /// The line of this number is malformed.
     Wrong(u64),
+}
+
+/// An answer line with the bytes that a call gave, as it is printed.
+#[derive(Clone, Copy)]
+pub struct Shown<'a> {
+    pub line: &'a Line,
+    pub bytes: &'a [u8],
 }
 
 /// A hexadecimal digit, in lower case.
@@ -95,18 +102,17 @@ fn name(refusal: Refusal) -> &'static str
     }
 }
 
-impl fmt::Display for Line {
-    ghost output = { λ line. Some (line_text (line_of line)) };
+impl fmt::Display for Shown<'_> {
+    ghost output = { λ shown. Some (line_text (line_of shown.bytes.now shown.line.now)) };
 
     #[tactic(auto, unfolding(strm_types::specs::ScriptAnswers::line_text))]
     fn fmt<W: fmt::Write>(&self, f: &mut fmt::Formatter<W>) -> fmt::Result {
-        match self {
+        match self.line {
             Line::Done(Answer::Done) => write!(f, "ok"),
             Line::Done(Answer::Count(n)) => write!(f, "ok {n}"),
-            Line::Done(Answer::Bytes(bytes)) => {
-                let bytes = bytes.as_slice();
-                let count = bytes.len();
-                let text = Quoted(bytes);
+            Line::Done(Answer::Bytes(_)) => {
+                let count = self.bytes.len();
+                let text = Quoted(self.bytes);
                 write!(f, "data {count} {text}")
             }
             Line::Turned(Turn::Moved(n)) => write!(f, "ok {n}"),

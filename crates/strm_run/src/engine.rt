@@ -6,13 +6,14 @@ ghost use Rattle.strm_types.specs.ScriptRun.{first_of, line_if};
 ghost use Rattle.strm_run.specs.Commands.{command_of};
 ghost use Rattle.strm_run.specs.Lines.{line_of};
 
-use crate::answers::Line;
+use crate::answers::{Line, Shown};
 use crate::commands::{Command, Reading};
 use crate::lines::{LINE_MAX, reading};
 use crate::session::answer;
 use std::alloc::{AllocError, Global};
 use strm_blocks::TableStore;
 use strm_pair::Pair;
+use strm_types::ReadBytes;
 
 /// Why a script ends before its input does.
 #[derive(Clone, Copy, Debug, PartialEq, Eq)]
@@ -36,14 +37,17 @@ pub struct Engine {
     pub short: Option<u64>,
     /// The answers that aren't written yet.
     pub answers: Vec<u8>,
+    /// The bytes that the last call gave.
+    pub out: ReadBytes,
 }
 
 /// Puts an answer line behind the others. Want of memory changes nothing.
-fn say(alloc: Global, line: &Line, answers: &mut Vec<u8>) -> Result<(), AllocError>
-    ensures ok { OnOk result (answers.new.items ≡ answers.old.items ++ printed_line (line_of line.now)) }
+fn say(alloc: Global, line: &Line, bytes: &[u8], answers: &mut Vec<u8>) -> Result<(), AllocError>
+    ensures ok { OnOk result (answers.new.items ≡ answers.old.items ++ printed_line (line_of bytes.now line.now)) }
     ensures err { OnErr result (answers.new.items ≡ answers.old.items) }
 {
-    let text = format!(in alloc; "{line}\n")?;
+    let shown = Shown { line, bytes };
+    let text = format!(in alloc; "{shown}\n")?;
     answers.extend_from_slice(text.as_bytes())?;
     Ok(())
 }
@@ -61,6 +65,7 @@ impl Engine {
             line: Vec::new(alloc),
             short: None,
             answers: Vec::new(alloc),
+            out: ReadBytes::new(),
         }
     }
 
@@ -81,7 +86,7 @@ impl Engine {
         ensures lines { self.new.lines ≡ self.old.lines }
     {
         let line = Line::Wrong(self.lines + 1);
-        if say(alloc, &line, &mut self.answers).is_ok() {
+        if say(alloc, &line, &[], &mut self.answers).is_ok() {
             Stop::Malformed
         } else {
             Stop::NoMemory
@@ -94,11 +99,18 @@ impl Engine {
         ensures obeyed { Obeyed (command_of command.now) self.old self.new result }
         ensures lines { self.new.lines ≡ self.old.lines }
     {
-        let Ok(answered) = answer(alloc, &mut self.pair, command) else {
+        let Ok(answered) = answer(alloc, &mut self.pair, command, &mut self.out) else {
             return Err(Stop::NoMemory);
         };
         self.note(answered.short);
-        if say(alloc, &answered.line, &mut self.answers).is_ok() {
+        if say(
+            alloc,
+            &answered.line,
+            self.out.as_slice(),
+            &mut self.answers,
+        )
+        .is_ok()
+        {
             Ok(())
         } else {
             Err(Stop::NoMemory)

@@ -1,6 +1,6 @@
 //! What commands lead to on the pair of a script.
 
-ghost use Rattle.std.specs.Prelude.{◌≡◌, false, Some, None, IfOk, OnErr, option_map};
+ghost use Rattle.std.specs.Prelude.{◌≡◌, ℕ, List, false, Some, None, IfOk, OnErr, option_map};
 ghost use Rattle.strm_types.specs.Calls.{request};
 ghost use Rattle.strm_types.specs.ScriptAnswers as script;
 ghost use Rattle.strm_types.specs.ScriptRun.{by_call, by_turn, by_run, by_open, answered, unanswered, script_limits, is_enosr};
@@ -13,7 +13,7 @@ use crate::commands::Command;
 use std::alloc::{AllocError, Global};
 use strm_blocks::TableStore;
 use strm_pair::Pair;
-use strm_types::{Caller, Config, Event, QueueName, Refusal, Side};
+use strm_types::{Caller, Config, Event, QueueName, ReadBytes, Refusal, Side};
 
 /// How many blocks of each kind a pair gets where a script names no number.
 const USUAL_BLOCKS: u32 = 256;
@@ -27,8 +27,8 @@ const JOURNAL_EVENTS: usize = 8192;
 /// How many bytes the journal of a script's pair holds.
 const JOURNAL_BYTES: usize = 262144;
 
-/// What a command leads to.
-#[derive(Debug, Drop)]
+/// What a command leads to. The bytes that it gives stand in a buffer apart.
+#[derive(Clone, Copy, Debug)]
 pub struct Answered {
     /// The line that answers it.
     pub line: Line,
@@ -57,11 +57,16 @@ fn is_short(refusal: Refusal) -> bool
 }
 
 /// A call by a command.
-fn call(pair: &mut Pair<TableStore>, side: Side, event: &Event<'_>) -> Answered
+fn call(
+    pair: &mut Pair<TableStore>,
+    side: Side,
+    event: &Event<&[u8]>,
+    out: &mut ReadBytes,
+) -> Answered
     ensures { LeadsTo (λ account. by_call (record { side = side }) (request event.now) account (plain pair.old))
-        result (Some (plain pair.new)) }
+        result out.new.items (Some (plain pair.new)) }
 {
-    match pair.apply(Caller { side }, event) {
+    match pair.call(Caller { side }, event, out) {
         Ok(answer) => Answered {
             line: Line::Done(answer),
             short: false,
@@ -75,7 +80,7 @@ fn call(pair: &mut Pair<TableStore>, side: Side, event: &Event<'_>) -> Answered
 
 /// A turn by a command.
 fn turn(pair: &mut Pair<TableStore>, name: QueueName) -> Answered
-    ensures { LeadsTo (λ account. by_turn name account (plain pair.old)) result (Some (plain pair.new)) }
+    ensures { (bytes : List ℕ) → LeadsTo (λ account. by_turn name account (plain pair.old)) result bytes (Some (plain pair.new)) }
 {
     match pair.turn(name) {
         Ok(turn) => Answered {
@@ -91,7 +96,7 @@ fn turn(pair: &mut Pair<TableStore>, name: QueueName) -> Answered
 
 /// Turns of the first enabled queue, so many at most. They end where none is enabled, and where one is refused.
 fn run(pair: &mut Pair<TableStore>, turns: u32) -> Answered
-    ensures { LeadsTo (λ account. by_run turns account (plain pair.old)) result (Some (plain pair.new)) }
+    ensures { (bytes : List ℕ) → LeadsTo (λ account. by_run turns account (plain pair.old)) result bytes (Some (plain pair.new)) }
 {
     for taken in 0..turns {
         let Some(name) = pair.first_enabled() else {
@@ -114,19 +119,19 @@ fn run(pair: &mut Pair<TableStore>, turns: u32) -> Answered
 }
 
 /// A command where the pair is there.
-fn on_pair(pair: &mut Pair<TableStore>, command: &Command) -> Answered
+fn on_pair(pair: &mut Pair<TableStore>, command: &Command, out: &mut ReadBytes) -> Answered
     ensures { LeadsTo (λ account. answered (command_of command.now) account (Some (plain pair.old)))
-        result (Some (plain pair.new)) }
+        result out.new.items (Some (plain pair.new)) }
 {
     match command {
         Command::Open { blocks: _ } => refused(Refusal::Einval),
-        Command::Unlock => call(pair, Side::Master, &Event::Unlock),
-        Command::OpenSlave => call(pair, Side::Slave, &Event::OpenSlave),
+        Command::Unlock => call(pair, Side::Master, &Event::Unlock, out),
+        Command::OpenSlave => call(pair, Side::Slave, &Event::OpenSlave, out),
         Command::Write { side, bytes } => {
             let bytes = bytes.as_slice();
-            call(pair, *side, &Event::Write { bytes })
+            call(pair, *side, &Event::Write { bytes }, out)
         }
-        Command::Read { side, n } => call(pair, *side, &Event::Read { n: *n }),
+        Command::Read { side, n } => call(pair, *side, &Event::Read { n: *n }, out),
         Command::Turn { name } => turn(pair, *name),
         Command::Run { turns } => run(pair, *turns),
     }
@@ -150,9 +155,10 @@ fn open(
     alloc: Global,
     pair: &mut Option<Pair<TableStore>>,
     blocks: u32,
+    out: &mut ReadBytes,
 ) -> Result<Answered, AllocError>
     requires { pair.old ≡ None }
-    ensures ok { IfOk result (λ found. LeadsTo (λ account. by_open blocks account) found (option_map plain pair.new)) }
+    ensures ok { IfOk result (λ found. LeadsTo (λ account. by_open blocks account) found out.new.items (option_map plain pair.new)) }
     ensures err { OnErr result (pair.new ≡ pair.old) }
 {
     if blocks == 0 || blocks > BLOCKS_MAX {
@@ -163,27 +169,28 @@ fn open(
     let Ok(mut fresh) = Pair::new(alloc, sizes, store) else {
         return Err(AllocError);
     };
-    let answered = call(&mut fresh, Side::Master, &Event::OpenMaster);
+    let answered = call(&mut fresh, Side::Master, &Event::OpenMaster, out);
     *pair = Some(fresh);
     Ok(answered)
 }
 
-/// What a command leads to. Want of memory changes nothing.
+/// What a command leads to, with the bytes that it gives in `out`. Want of memory changes nothing of the pair.
 pub fn answer(
     alloc: Global,
     pair: &mut Option<Pair<TableStore>>,
     command: &Command,
+    out: &mut ReadBytes,
 ) -> Result<Answered, AllocError>
     ensures ok { IfOk result (λ found. LeadsTo
         (λ account. answered (command_of command.now) account (option_map plain pair.old))
-        found (option_map plain pair.new)) }
+        found out.new.items (option_map plain pair.new)) }
     ensures err { OnErr result (pair.new ≡ pair.old) }
 {
     if let Some(pair) = pair {
-        return Ok(on_pair(pair, command));
+        return Ok(on_pair(pair, command, out));
     }
     match command {
-        Command::Open { blocks } => open(alloc, pair, blocks.unwrap_or(USUAL_BLOCKS)),
+        Command::Open { blocks } => open(alloc, pair, blocks.unwrap_or(USUAL_BLOCKS), out),
         _ => Ok(refused(Refusal::Enxio)),
     }
 }

@@ -27,22 +27,22 @@ closed (Run turns) h account = refl
 pub returns-in_default-command : goal.returns-in_default-command
 returns-in_default-command c = record {
   ok = rw c.in_default.is
-      (leads_unanswered (λ account. answered (command_of c.args.command.now) account None) Enxio None c.refused.result c.refused.ensures
+      (leads_unanswered _ (λ account. answered (command_of c.args.command.now) account None) Enxio None c.refused.result c.refused.ensures
       (closed c.args.command.now c.in_default-command.not-Open));
   err = tt;
 }
 
 -- an `open` with the blocks that it names, or as many as is usual
-opens : (command : Command) (pair : Option PairState) (new : Option PlainPair) (blocks : Option ℕ) (n : ℕ) (found : Answered)
-    → command ≡ Open blocks → pair ≡ None → n ≡ unwrap_or blocks 256 → LeadsTo (λ account. by_open n account) found new
-    → LeadsTo (λ account. answered (command_of command) account (option_map plain pair)) found new
+opens : (bytes : List ℕ) (command : Command) (pair : Option PairState) (new : Option PlainPair) (blocks : Option ℕ) (n : ℕ) (found : Answered)
+    → command ≡ Open blocks → pair ≡ None → n ≡ unwrap_or blocks 256 → LeadsTo (λ account. by_open n account) found bytes new
+    → LeadsTo (λ account. answered (command_of command) account (option_map plain pair)) found bytes new
 unfolding answered
-opens command pair new blocks n found said none count h =
-    leads_same (λ account. answered (command_of command) account (option_map plain pair)) (λ account. by_open n account) new found
+opens bytes command pair new blocks n found said none count h =
+    leads_same bytes (λ account. answered (command_of command) account (option_map plain pair)) (λ account. by_open n account) new found
     (λ account. (λ i. answered (command_of (said i)) account (option_map plain (none i))) ∙ ap (λ k. by_open k account) (sym count)) h
 
 pub returns-in-Open-clause-ok : goal.returns-in-Open-clause-ok
 returns-in-Open-clause-ok c =
     IfOk-weaker c.open.result _ _
-    (λ found h. opens c.args.command.now c.args.pair.now _ c.in-Open.blocks c.unwrap_or.result found c.in-Open.is c.in_default.is c.unwrap_or.ensures h)
+    (λ found h. opens _ c.args.command.now c.args.pair.now _ c.in-Open.blocks c.unwrap_or.result found c.in-Open.is c.in_default.is c.unwrap_or.ensures h)
     c.open.ensures.ok

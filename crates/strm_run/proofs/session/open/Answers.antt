@@ -1,6 +1,6 @@
 use Rattle.std.proofs.Common.{◌<◌, ◌≤◌, None, inl, inr, arith, ap, sym, ◌∙◌}
 use Rattle.strm_types.specs.ScriptRun.{by_open, by_call}
-use Rattle.strm_types.specs.Calls.{OpenMaster}
+use Rattle.strm_types.specs.declared.events.Event.TheVariants.{OpenMaster}
 use Rattle.strm_types.specs.Pair.{new_pair}
 use Rattle.strm_types.specs.declared.names.Side.TheVariants.{Master}
 use Rattle.strm_run.specs.Plain.{plain}
@@ -11,7 +11,7 @@ use Rattle.strm_run.proofs.session.open.Goals as goal
 pub returns-then-blocks-eq0-clause-ok : goal.returns-then-blocks-eq0-clause-ok
 returns-then-blocks-eq0-clause-ok c =
     rw c.requires
-    (leads_unanswered (λ account. by_open c.args.blocks account) Einval None c.refused.result c.refused.ensures
+    (leads_unanswered _ (λ account. by_open c.args.blocks account) Einval None c.refused.result c.refused.ensures
     (λ account. open_refused c.args.blocks account (elim c.then-blocks-eq0.either [ inl e ↦ inl e | inr h ↦ inr h.1 ])))
 
 pub returns-clause-ok : goal.returns-clause-ok
@@ -20,7 +20,7 @@ returns-clause-ok c =
     let some : 0 < blocks = omega arith in
     let most : blocks ≤ 4096 = omega arith in
     let made = c.in-Ok.ensures ∙ ap new_pair c.limits-sizes.ensures in
-    leads_same (λ account. by_open blocks account) _ _ _
+    leads_same _ (λ account. by_open blocks account) _ _ _
     (λ account. open_made blocks account some most
     ∙ ap (λ p. by_call (record { side = Master }) OpenMaster account (plain p)) (sym made))
     c.call-answered.ensures

@@ -8,14 +8,14 @@ pub loop-taken-init : goal.loop-taken-init
 loop-taken-init c = RunsTo-start c.args.turns (plain c.args.pair.now)
 
 pub returns-in_default : goal.returns-in_default
-returns-in_default c =
+returns-in_default c = λ bytes.
     let l = c.loop-taken in
-    run_none c.args.turns l.taken (plain c.args.pair.now) l.pair _ l.invariant (sym c.first_enabled.ensures ∙ c.in_default.is) refl refl
+    run_none bytes c.args.turns l.taken (plain c.args.pair.now) l.pair _ l.invariant (sym c.first_enabled.ensures ∙ c.in_default.is) refl refl
 
 pub returns-in-Err : goal.returns-in-Err
-returns-in-Err c =
+returns-in-Err c = λ bytes.
     let l = c.loop-taken in
-    run_refused c.args.turns l.taken (plain c.args.pair.now) l.pair c.turn.new.self c.in-Some.name c.in-Err.refusal c.turn.result _
+    run_refused bytes c.args.turns l.taken (plain c.args.pair.now) l.pair c.turn.new.self c.in-Some.name c.in-Err.refusal c.turn.result _
     c.loop-taken-test.true l.invariant (sym c.first_enabled.ensures ∙ c.in-Some.is)
     (TurnHappens-from l.pair c.turn.new.self c.in-Some.name c.turn.result c.turn.ensures.refused c.turn.ensures.adds)
     c.in-Err.is refl c.is_short.ensures
@@ -29,8 +29,8 @@ loop-taken-preserved c =
     c.in_default-turn.is
 
 pub returns : goal.returns
-returns c =
+returns c = λ bytes.
     let l = c.loop-taken in
     let done : c.args.turns ≤ l.taken = omega arith in
     let all : l.taken ≡ c.args.turns = omega arith in
-    run_all c.args.turns (plain c.args.pair.now) l.pair _ l.taken done l.invariant (ap Ran (sym all)) refl
+    run_all bytes c.args.turns (plain c.args.pair.now) l.pair _ l.taken done l.invariant (ap Ran (sym all)) refl
