@@ -87,11 +87,22 @@ fn an_empty_script_says_nothing(rt: HostRuntime) -> Result<(), Fail> {
     plays(&rt, rt.alloc(), b"", b"", WELL)
 }
 
+// Scripts whose last line lacks its LF, their answers, and how they end.
+const LAST_LINES: [(&[u8], &[u8], ScriptEnd); 2] = [
+    (b"open\nunlock", b"ok\nok\n", WELL),
+    (
+        b"open\nunlock\nslave\nwrite m \"ab\\x0",
+        b"ok\nok\nok\nerr line 4\n",
+        MALFORMED,
+    ),
+];
+
 #[test]
 fn a_last_line_may_lack_its_end(rt: HostRuntime) -> Result<(), Fail> {
-    plays(&rt, rt.alloc(), b"open\nunlock", b"ok\nok\n", WELL)?;
-    let cut = b"open\nunlock\nslave\nwrite m \"ab\\x0";
-    plays(&rt, rt.alloc(), cut, b"ok\nok\nok\nerr line 4\n", MALFORMED)
+    for case in &LAST_LINES {
+        plays(&rt, rt.alloc(), case.0, case.1, case.2)?;
+    }
+    Ok(())
 }
 
 #[test]
