@@ -1,6 +1,7 @@
 -- A call that isn't refused is a step, and the journal gains it with its answer.
-use Rattle.std.proofs.Common.{◌≡◌, ◌∙◌, ap, sym}
+use Rattle.std.proofs.Common.{◌≡◌, ◌∙◌, ap, sym, rules, arith}
 use Rattle.std.specs.Prelude.{None}
+use Rattle.std.proofs.lemmas.Grind.{common_steps}
 use Rattle.strm_types.specs.Calls.{request, reply}
 use Rattle.strm_types.specs.Journal.{Called}
 use Rattle.strm_types.specs.Pair.{PairState, call_refused}
@@ -24,3 +25,15 @@ invariant_of-self g c =
       leads = sym c.carry_out-answer.ensures.state;
     })
     c.carry_out-answer.ensures.held c.carry_out-answer.ensures.pool c.add_call.ensures.added c.add_call.ensures.most_entries c.add_call.ensures.most_bytes
+
+pub returns-in-Some-clause-refused : goal.returns-in-Some-clause-refused
+returns-in-Some-clause-refused g c = search rules steps 300000
+
+pub returns-in-Some-clause-adds : goal.returns-in-Some-clause-adds
+returns-in-Some-clause-adds g c = search rules steps 300000
+
+pub returns-clause-refused : goal.returns-clause-refused
+returns-clause-refused g c = grind (arith, common_steps) steps 2000000
+
+pub returns-clause-adds : goal.returns-clause-adds
+returns-clause-adds g c = search rules steps 3000000

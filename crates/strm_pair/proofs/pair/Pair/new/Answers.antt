@@ -1,5 +1,5 @@
 -- A pair over a store with nothing in it is as new.
-use Rattle.std.proofs.Common.{◌∙◌, ap, sym, subst, refl}
+use Rattle.std.proofs.Common.{◌∙◌, ap, sym, subst, refl, rules}
 use Rattle.strm_types.specs.State.{opening}
 use Rattle.strm_types.specs.Step.{replay, IsLegal}
 use Rattle.strm_pair.specs.Pairs.{state_in, AreHeld}
@@ -28,3 +28,6 @@ returns g c =
     let d = c.args.limits.dblks in
     ap (λ s. pair_of s c.new-2.result c.in-Ok.journal c.args.limits) c.requires
     ∙ rw (c.new-2.ensures.state m d, c.in-Ok.ensures.empty, free-empty m d) refl
+
+pub returns-in_default : goal.returns-in_default
+returns-in_default g c = search rules steps 300000

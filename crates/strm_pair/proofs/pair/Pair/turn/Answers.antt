@@ -1,5 +1,5 @@
 -- A turn that isn't refused is a step, and the journal gains it.
-use Rattle.std.proofs.Common.{◌≡◌, ◌∙◌, ap, sym}
+use Rattle.std.proofs.Common.{◌≡◌, ◌∙◌, ap, sym, rules}
 use Rattle.std.specs.Prelude.{None}
 use Rattle.strm_types.specs.Journal.{Turned}
 use Rattle.strm_types.specs.Pair.{PairState, queue_refused}
@@ -22,3 +22,15 @@ invariant_of-self g c =
       leads = sym c.turn-turn.ensures.state;
     })
     c.turn-turn.ensures.held c.turn-turn.ensures.pool c.add_turn.ensures.added c.add_turn.ensures.most_entries c.add_turn.ensures.most_bytes
+
+pub returns-in-Some-clause-refused : goal.returns-in-Some-clause-refused
+returns-in-Some-clause-refused g c = search rules steps 300000
+
+pub returns-in-Some-clause-adds : goal.returns-in-Some-clause-adds
+returns-in-Some-clause-adds g c = search rules steps 300000
+
+pub returns-clause-refused : goal.returns-clause-refused
+returns-clause-refused g c = search rules steps 300000
+
+pub returns-clause-adds : goal.returns-clause-adds
+returns-clause-adds g c = search rules steps 3000000

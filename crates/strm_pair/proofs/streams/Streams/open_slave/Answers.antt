@@ -1,5 +1,5 @@
 -- The slave's head is emptied and as new, and all else stays.
-use Rattle.std.proofs.Common.{◌∙◌, true, ap, refl}
+use Rattle.std.proofs.Common.{◌∙◌, true, ap, refl, rules}
 use Rattle.std.specs.Prelude.{not}
 use Rattle.strm_types.specs.declared.names.Side.TheVariants.{Master}
 use Rattle.strm_types.specs.Names.{driver_of, enable, enable_if}
@@ -44,3 +44,9 @@ returns-else-not-is_empty-clause-held g c =
     let p = c.args.self.now in
     let cl = cleared s new p.slave.head.list c.requires.tidy c.requires.slave.head_list c.flushq.ensures.flushed in
     opened-sides s new p (record { is_open = true; head = c.new-self.result; driver = p.slave.driver }) c.requires cl (c.new-self.ensures.list ∙ c.flushq.ensures.list ∙ c.requires.slave.head_list) c.new-self.ensures.counted refl
+
+pub returns-then-not-is_empty-clause-pool : goal.returns-then-not-is_empty-clause-pool
+returns-then-not-is_empty-clause-pool g c = search rules steps 300000
+
+pub returns-else-not-is_empty-clause-pool : goal.returns-else-not-is_empty-clause-pool
+returns-else-not-is_empty-clause-pool g c = search rules steps 300000
