@@ -1,5 +1,5 @@
 -- The first message is one of data, and goes unless the head is full.
-use Rattle.std.proofs.Common.{◌∙◌, ℕ, sym, ap}
+use Rattle.std.proofs.Common.{◌∙◌, ℕ, sym, ap, rules}
 use Rattle.strm_types.specs.State.{with_head_queue, with_driver_queue}
 use Rattle.strm_types.specs.declared.answers.Turn.TheVariants.{Moved}
 use Rattle.strm_types.specs.Turns.{Served, driver_serves}
@@ -68,3 +68,12 @@ returns-clause-to g c =
     ap (λ q. record { opened = h.opened; head = record { queue = queue_in new c.advance.new.to }; driver = record { queue = q } }) (queue-same s new h.driver (a.others h.driver.list c.requires.driver_across c.requires.driver_beside))
     ∙ ap (λ q. with_head_queue q to) a.put
     ∙ sym (ap (λ (t : Served ℕ). t.to) (ap (λ ms. driver_serves ms from to) a.first ∙ e))
+
+pub invariant_of-from-then-is_full : goal.invariant_of-from-then-is_full
+invariant_of-from-then-is_full g c = search rules steps 300000
+
+pub let_wait-requires : goal.let_wait-requires
+let_wait-requires g c = search rules steps 300000
+
+pub returns-then-is_full-clause-passes : goal.returns-then-is_full-clause-passes
+returns-then-is_full-clause-passes g c = search rules steps 3000000

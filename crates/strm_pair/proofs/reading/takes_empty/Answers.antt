@@ -1,5 +1,5 @@
 -- What is seen of the first message tells whether it has bytes.
-use Rattle.std.proofs.Common.{◌≡◌, ◌∙◌, [], length, map, sym, ap}
+use Rattle.std.proofs.Common.{◌≡◌, ◌∙◌, [], length, map, sym, ap, rules}
 use Rattle.strm_types.specs.Head.{gathered, head_read}
 use Rattle.strm_pair.specs.Stored.{messages_on}
 use Rattle.strm_pair.proofs.Chains.{text_of}
@@ -36,3 +36,15 @@ returns-in-Some-getq-clause-took g c = λ n some.
 pub returns-in-Some-getq-clause-keeps : goal.returns-in-Some-getq-clause-keeps
 returns-in-Some-getq-clause-keeps g c =
     freed-keeps (g.B.Blocks.value c.args.store.now) (g.B.Blocks.value c.getq.new.store) (g.B.Blocks.value c.free.new.self) c.args.queue.now c.getq.new.self (g.B.Blocks.name c.in-Some-getq.message) c.requires.ready.tidy c.in-Some-getq.ensures.taken c.free.ensures c.getq.ensures.list c.getq.ensures.counted
+
+pub returns-then-ne-clause-took : goal.returns-then-ne-clause-took
+returns-then-ne-clause-took g c = search rules steps 300000
+
+pub returns-then-ne-clause-flags : goal.returns-then-ne-clause-flags
+returns-then-ne-clause-flags g c = search rules steps 300000
+
+pub returns-then-ne-clause-keeps : goal.returns-then-ne-clause-keeps
+returns-then-ne-clause-keeps g c = search rules steps 300000
+
+pub returns-in-Some-getq-clause-stays : goal.returns-in-Some-getq-clause-stays
+returns-in-Some-getq-clause-stays g c = search rules steps 300000

@@ -1,5 +1,5 @@
 -- The chunk is one block of a message that is made, and put on the queue.
-use Rattle.std.proofs.Common.{◌+◌, inl, inr, length, sym, ap, ◌∙◌, arith}
+use Rattle.std.proofs.Common.{◌+◌, inl, inr, length, sym, ap, ◌∙◌, arith, rules}
 use Rattle.std.specs.Prelude.{◌∷◌, []}
 use Rattle.strm_types.specs.Message.{data_message}
 use Rattle.strm_types.specs.Queue.{put_on}
@@ -72,3 +72,9 @@ returns-clause-keeps g c =
     let m = one-made s (g.B.Blocks.value c.from_bytes.new.store) i c.args.chunk.now c.requires.ready.tidy c.requires.small c.in-Ok.ensures c.audit.ensures in
     let p = sent-on s (g.B.Blocks.value c.from_bytes.new.store) (g.B.Blocks.value c.putq.new.store) q.list i c.args.chunk.now c.requires.ready.tidy q.on_list m c.putq.ensures.placed in
     put-keeps s (g.B.Blocks.value c.putq.new.store) q c.putq.new.self (m.block ∷ []) (put (m.block ∷ []) (list_at s q.list)) p c.putq.ensures.others.list c.putq.ensures.counted
+
+pub putq-requires-clause-counted : goal.putq-requires-clause-counted
+putq-requires-clause-counted g c = search rules steps 300000
+
+pub putq-requires-clause-in_hand : goal.putq-requires-clause-in_hand
+putq-requires-clause-in_hand g c = search rules steps 300000

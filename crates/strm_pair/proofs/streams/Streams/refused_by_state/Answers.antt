@@ -1,4 +1,4 @@
-use Rattle.std.proofs.Common.{subst, sym}
+use Rattle.std.proofs.Common.{subst, sym, rules}
 use Rattle.strm_pair.specs.declared.ends.End.{End}
 use Rattle.strm_pair.specs.Stored.{IsReady}
 use Rattle.strm_pair.proofs.Sides.{driver-ready}
@@ -8,3 +8,15 @@ pub is_full-requires : goal.is_full-requires
 is_full-requires g c =
     let s = g.B.Blocks.value c.args.store.now in
     subst (λ (e : End). IsReady s e.driver) (sym c.end.ensures.end) (driver-ready s c.args.self.now c.requires c.args.caller.side)
+
+pub returns-in-Unlock : goal.returns-in-Unlock
+returns-in-Unlock g c = search rules steps 300000
+
+pub returns-in-OpenSlave : goal.returns-in-OpenSlave
+returns-in-OpenSlave g c = search rules steps 300000
+
+pub returns-in-Write : goal.returns-in-Write
+returns-in-Write g c = search rules steps 300000
+
+pub returns-after-n-eq0 : goal.returns-after-n-eq0
+returns-after-n-eq0 g c = search rules steps 300000

@@ -1,0 +1,6 @@
+-- What is told is the first of the list that the pair holds.
+use Rattle.std.proofs.Common.{rules}
+use Rattle.strm_pair.proofs.pair.Pair.first_enabled.Goals as goal
+
+pub returns : goal.returns
+returns g c = search rules steps 300000
