@@ -1,7 +1,7 @@
 -- A message that was made or pulled up is in hand, beside all that were.
-use Rattle.std.proofs.Common.{ℕ, ℤ, ◌≡◌, ◌≢◌, ◌≤◌, true, false, cond, ◌==◌, List, [], ◌∷◌, ap, ◌∙◌, arith}
+use Rattle.std.proofs.Common.{ℕ, ℤ, ◌≡◌, ◌≢◌, ◌≤◌, true, false, cond, ◌==◌, List, [], ◌∷◌, ap, sym, ◌∙◌, arith}
 use Rattle.std.proofs.lemmas.List.Sums.{sum_by-cons}
-use Rattle.strm_blocks.specs.Blocks.{Block, Held, StoreValue, IsInHand, IsFreshName, in_hand, dropped, times_in, without}
+use Rattle.strm_blocks.specs.Blocks.{Block, Held, StoreValue, IsInHand, IsFreshName, in_hand, held, dropped, times_in, without}
 use Rattle.strm_blocks.proofs.Laws.{IsInHand-dropped, in_hand-dropped}
 use Rattle.strm_msg.specs.Made.{Made, copies_of}
 use Rattle.strm_msg.specs.Pulled.{PulledUp, pulled}
@@ -38,3 +38,14 @@ module _ {old new : StoreValue} {i j : ℕ} {n : ℤ} (up : PulledUp old new i j
     pulled-keeps-chain =
         let ne = held-apart (dropped old i) j [] k (fresh-dropped old i j up.fresh_name) (IsInHand-dropped old i k apart here) in
         ap (λ t. in_hand t k) up.after ∙ stays-chain (dropped old i) j (pulled up.number up.count (in_hand old i)) k ne ∙ in_hand-dropped old i k apart
+
+-- a message that comes beside one in hand
+module _ {old new : StoreValue} {j : ℕ} {chain : List Block} (i : ℕ) (here : IsInHand old i) (fresh : IsFreshName old j) (after : new ≡ held old j chain) where
+  pub came-first : IsInHand new i
+  came-first = ap (λ t. times_in i t.hand) after ∙ stays old j chain i fresh here
+
+  pub came-second : IsInHand new j
+  came-second = ap (λ t. times_in j t.hand) after ∙ held-is old j chain fresh
+
+  pub came-apart : i ≢ j
+  came-apart = λ same. held-apart old j chain i fresh here (sym same)

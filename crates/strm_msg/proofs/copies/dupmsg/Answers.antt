@@ -1,5 +1,7 @@
-use Rattle.std.proofs.Common.{ap, arith, length}
-use Rattle.strm_msg.proofs.Sharing.{shared-first, shared-fails, shared-next, shared-keeps, shared-keeps-chain}
+use Rattle.std.proofs.Common.{ap, arith, length, ◌∙◌}
+use Rattle.strm_msg.proofs.Sharing.{shared-first, shared-fails, shared-next, shared-keeps, shared-keeps-chain, shared-in_hand}
+use Rattle.strm_blocks.specs.Blocks.{times_in}
+use Rattle.strm_msg.proofs.InHand.{came-first, came-second, came-apart}
 use Rattle.strm_msg.proofs.copies.dupmsg.Goals as goal
 
 pub loop-at-init : goal.loop-at-init
@@ -21,3 +23,15 @@ loop-at-preserved g c =
 pub returns-in-Err : goal.returns-in-Err
 returns-in-Err g c =
     shared-fails (g.B.Blocks.name c.args.message.now) c.loop-at.at c.loop-at.invariant c.requires (omega arith) c.in-Err.ensures c.free.ensures
+
+pub link-twin-requires-clause-first_in_hand : goal.link-twin-requires-clause-first_in_hand
+link-twin-requires-clause-first_in_hand g c = came-first (g.B.Blocks.name c.loop-at.twin) (shared-in_hand c.loop-at.invariant) c.in-Ok.ensures.fresh_name c.in-Ok.ensures.after
+
+pub link-twin-requires-clause-second_in_hand : goal.link-twin-requires-clause-second_in_hand
+link-twin-requires-clause-second_in_hand g c = came-second (g.B.Blocks.name c.loop-at.twin) (shared-in_hand c.loop-at.invariant) c.in-Ok.ensures.fresh_name c.in-Ok.ensures.after
+
+pub link-twin-requires-clause-apart : goal.link-twin-requires-clause-apart
+link-twin-requires-clause-apart g c = came-apart (g.B.Blocks.name c.loop-at.twin) (shared-in_hand c.loop-at.invariant) c.in-Ok.ensures.fresh_name c.in-Ok.ensures.after
+
+pub free-requires : goal.free-requires
+free-requires g c = ap (λ t. times_in (g.B.Blocks.name c.loop-at.twin) t.hand) c.in-Err.ensures.same ∙ shared-in_hand c.loop-at.invariant

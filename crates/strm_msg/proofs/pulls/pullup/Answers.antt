@@ -23,3 +23,9 @@ returns g c =
     let fits : SFits w64 c.args.n = search rules in
     let asked : asked_of c.args.n c.run_at-run.result.len ≡ Some c.in-Ok.count = ap (λ z. asked_of z c.run_at-run.result.len) (sym (to_z-of_z w64 c.args.n fits)) ∙ c.in-Ok.ensures.0 in
     pulled-up (g.B.Blocks.name c.args.message) c.in-Ok.count c.requires c.in-Ok-join.ensures c.link-whole.ensures.kept_name c.link-whole.ensures.linked c.args.n c.run_at-run.ensures.len asked c.in-Ok.ensures.1 c.drop_joined.ensures.kept_name c.drop_joined.ensures.dropped
+
+pub returns-in-Err : goal.returns-in-Err
+returns-in-Err g c = search rules steps 100000
+
+pub returns-in-Err-join : goal.returns-in-Err-join
+returns-in-Err-join g c = search rules steps 300000
