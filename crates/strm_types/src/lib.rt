@@ -20,5 +20,5 @@ pub use limits::{
     BANDS, BLOCK_SIZE, Config, HIGH_PRIORITY_RANK, LISTS, READ_MAX, TURN_BLOCKS, WRITE_BLOCKS,
     chunk_count,
 };
-pub use names::{Dir, Openness, Place, QueueName, Side, Way};
+pub use names::{Dir, Openness, Place, QueueName, Side, Way, line};
 pub use refusals::{NoMemory, Refusal};

@@ -107,11 +107,57 @@ pub struct QueueName {
     pub way: Way,
 }
 
+/// The queues of a direction that exist, from the writer's driver to the reader's head.
+pub fn line(direction: Dir) -> [QueueName; 2]
+    ensures { result ≡ names.line_of direction }
+{
+    let writer = match direction {
+        Dir::MasterToSlave => Side::Master,
+        Dir::SlaveToMaster => Side::Slave,
+    };
+    [writer.driver(), writer.other().head()]
+}
+
 impl QueueName {
     /// Whether the queue has a service procedure: every queue but a head's.
     pub fn has_service(self) -> bool
         ensures { result ≡ names.has_service self }
     {
         !matches!(self.place, Place::Head)
+    }
+
+    /// Whether two names are of one queue.
+    pub fn is_same(self, other: QueueName) -> bool
+        ensures { result ≡ names.same_queue self other }
+    {
+        self == other
+    }
+
+    /// The direction in which the queue's messages go.
+    pub fn direction(self) -> Dir
+        ensures { result ≡ names.direction_of self }
+    {
+        match self.way {
+            Way::Down => self.side.direction(),
+            Way::Up => self.side.other().direction(),
+        }
+    }
+
+    /// The nearest earlier queue with a service procedure in the queue's direction, which is enabled when the queue has
+    /// room again (canput(9F), "back-enabling" of the STREAMS Programming Guide).
+    pub fn before(self) -> Option<QueueName>
+        ensures { result ≡ names.before self }
+    {
+        let queues = line(self.direction());
+        let mut last = None;
+        for queue in &queues {
+            if queue.is_same(self) {
+                return last;
+            }
+            if queue.has_service() {
+                last = Some(*queue);
+            }
+        }
+        None
     }
 }
