@@ -4,7 +4,8 @@ use Rattle.std.specs.Prelude.{sum_by, take_while}
 use Rattle.std.specs.List.{AllByRecursion}
 use Rattle.std.proofs.lemmas.List.Sums.{sum_by-cons, get_or-le-sum_by, take_while-cons}
 use Rattle.strm_blocks.specs.Blocks.{Block, StoreValue, block_at}
-use Rattle.strm_blocks.specs.Outcomes.{PeekedFirst, part_len, control_len, body_len, is_control_kind, is_body_kind}
+use Rattle.strm_types.specs.Kinds.{is_control_kind, is_body_kind}
+use Rattle.strm_blocks.specs.Outcomes.{PeekedFirst, part_len, control_len, body_len}
 use Rattle.strm_blocks.specs.Parts.{with_len, control_run, body_run}
 use Rattle.strm_blocks.specs.Message.{message_at, no_message, row_at, no_row, without_at, weigh, naming, block_count, askew}
 use Rattle.strm_blocks.specs.Table.{shown, chain_of, value_of, IsTableStore}

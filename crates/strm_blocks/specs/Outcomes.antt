@@ -1,8 +1,8 @@
 -- What the calls of a store lead to, where they have a result (STREAMS Programming Guide, "Message Structure").
 use Rattle.std.specs.Prelude.{ℕ, Bool, true, false, not, ◌≡◌, ◌<◌, ◌⊎◌, List, [], ◌∷◌, length, filter, sum_by, take_while, Option, None, Some, option_map}
+use Rattle.strm_types.specs.Kinds.{is_control_kind, is_body_kind}
 use Rattle.strm_types.specs.Flush.{is_flushed}
 use Rattle.strm_types.specs.declared.kinds.MsgKind.{MsgKind}
-use Rattle.strm_types.specs.declared.kinds.MsgKind.TheVariants as kinds
 use Rattle.strm_blocks.specs.declared.asked.Peek.{Peek}
 use Rattle.strm_blocks.specs.declared.asked.FlushWhat.{FlushWhat}
 use Rattle.strm_blocks.specs.Blocks.{Block, StoreValue, in_hand, held, changed, placed, list_at, references, free_m, free_d, IsFreshName, new_block, copy_of, block_at}
@@ -72,17 +72,6 @@ pub record Popped (old new : StoreValue) (list name : ℕ) : Type 0 where
 pub record Unpopped (old new : StoreValue) (list : ℕ) : Type 0 where
   pub none : list_at old list ≡ []
   pub same : new ≡ old
-
--- M_PROTO and M_PCPROTO blocks, which at the front of a message are its control part
-unfoldable pub is_control_kind : MsgKind → Bool
-is_control_kind kinds.Proto = true
-is_control_kind kinds.Pcproto = true
-is_control_kind _ = false
-
--- M_DATA blocks, which are a message's data part
-unfoldable pub is_body_kind : MsgKind → Bool
-is_body_kind kinds.Data = true
-is_body_kind _ = false
 
 -- how many bytes blocks have; nothing where there is no block
 abbrev pub part_len : List Block → Option ℕ

@@ -1,6 +1,6 @@
 -- How long the parts of a message are, as sums that run along its blocks.
 use Rattle.std.specs.Prelude.{ℕ, ◌+◌, ◌-◌, if◌then◌else◌, List, [], ◌∷◌, Option, Some, unwrap_or}
-use Rattle.strm_blocks.specs.Outcomes.{is_control_kind, is_body_kind}
+use Rattle.strm_types.specs.Kinds.{is_control_kind, is_body_kind}
 use Rattle.strm_blocks.specs.declared.message.MessageBlock.{MessageBlock}
 
 -- a length with that of one more block

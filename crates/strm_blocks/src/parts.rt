@@ -4,9 +4,9 @@ ghost use Rattle.std.specs.List.{prefix_len};
 ghost use Rattle.strm_blocks.specs.Message.{rank_in};
 ghost use Rattle.strm_blocks.specs.Parts.{control_run, body_run};
 
-use crate::kinds::{is_body_kind, is_control_kind, is_high_priority};
 use crate::message::{Message, MessageBlock};
 use std::collections::LinkedList;
+use strm_types::HIGH_PRIORITY_RANK;
 
 /// The rank of a message: 256 for high priority, else its band.
 pub(crate) fn rank_of(blocks: &LinkedList<MessageBlock>) -> usize
@@ -14,7 +14,7 @@ pub(crate) fn rank_of(blocks: &LinkedList<MessageBlock>) -> usize
 {
     match blocks.front() {
         None => 0,
-        Some(block) if is_high_priority(block.kind) => 256,
+        Some(block) if block.kind.is_high_priority() => HIGH_PRIORITY_RANK,
         Some(block) => usize::from(block.band),
     }
 }
@@ -57,7 +57,7 @@ pub(crate) fn control_len(blocks: &LinkedList<MessageBlock>) -> Option<usize>
     let mut rest = blocks.iter();
     let mut found = None;
     while let Some(block) = rest.next() {
-        if !is_control_kind(block.kind) {
+        if !block.kind.is_control_kind() {
             return found;
         }
         let before = found.unwrap_or(0);
@@ -74,7 +74,7 @@ pub(crate) fn body_len(blocks: &LinkedList<MessageBlock>) -> Option<usize>
     let mut rest = blocks.iter();
     let mut found = None;
     while let Some(block) = rest.next() {
-        if is_body_kind(block.kind) {
+        if block.kind.is_body_kind() {
             let before = found.unwrap_or(0);
             found = Some(before + block.end.saturating_sub(block.start));
         }

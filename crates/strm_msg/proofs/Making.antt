@@ -5,7 +5,8 @@ use Rattle.std.proofs.lemmas.Bool.Decides.{nat_tests}
 use Rattle.std.proofs.lemmas.List.{length-append, take_more}
 use Rattle.std.proofs.lemmas.List.Sums.{sum_by-cons, sum_by-append}
 use Rattle.strm_blocks.specs.Blocks.{Block, StoreValue, block_at, no_block, in_hand, held, dropped, changed, IsInHand, IsFreshName, times_in, references, names_of, free_m, free_d, copy_of}
-use Rattle.strm_blocks.specs.Outcomes.{Copied, NoneFree, is_control_kind, is_body_kind}
+use Rattle.strm_types.specs.Kinds.{is_control_kind, is_body_kind}
+use Rattle.strm_blocks.specs.Outcomes.{Copied, NoneFree}
 use Rattle.strm_msg.specs.Bytes.{bytes_of, control_blocks, control_bytes, data_blocks, data_bytes}
 use Rattle.strm_msg.proofs.Parts.{control-blocks-cons}
 use Rattle.strm_msg.specs.Made.{Made, TooFew, copies_of}

@@ -3,7 +3,7 @@ use Rattle.std.proofs.Common.{ℕ, ◌≡◌, ◌<◌, ◌+◌, true, false, con
 use Rattle.std.proofs.lemmas.List.{length-append}
 use Rattle.std.proofs.lemmas.List.Sums.{take_while-cons}
 use Rattle.strm_blocks.specs.Blocks.{Block, block_at, no_block}
-use Rattle.strm_blocks.specs.Outcomes.{is_control_kind, is_body_kind}
+use Rattle.strm_types.specs.Kinds.{is_control_kind, is_body_kind}
 use Rattle.strm_msg.specs.Bytes.{bytes_of, control_blocks, control_bytes, data_blocks, data_bytes, length_of_part}
 
 -- the chain from a place on, by its first block

@@ -5,7 +5,7 @@ use Rattle.std.proofs.lemmas.Bool.Decides.{nat_tests}
 use Rattle.std.proofs.lemmas.List.{take-append-drop, take_all, drop_all}
 use Rattle.strm_types.specs.declared.kinds.MsgKind.{MsgKind}
 use Rattle.strm_blocks.specs.Blocks.{Block, block_at, trimmed_head}
-use Rattle.strm_blocks.specs.Outcomes.{is_control_kind, is_body_kind}
+use Rattle.strm_types.specs.Kinds.{is_control_kind, is_body_kind}
 use Rattle.strm_msg.specs.Bytes.{bytes_of, control_blocks, control_bytes, data_blocks, data_bytes}
 use Rattle.strm_msg.specs.Runs.{same_kind}
 use Rattle.strm_msg.specs.Pulled.{run_of, without_joined, joined, pulled}

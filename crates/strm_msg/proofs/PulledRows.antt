@@ -3,7 +3,8 @@ use Rattle.std.proofs.Common.{ℕ, pos, negsuc, ◌≡◌, List, [], ◌∷◌, 
 use Rattle.strm_types.specs.declared.kinds.MsgKind.TheVariants.{Data, Proto}
 use Rattle.strm_types.specs.declared.refusals.Refusal.TheVariants.{Einval, Erange}
 use Rattle.strm_blocks.specs.Blocks.{Block}
-use Rattle.strm_msg.specs.Runs.{number_of, same_kind}
+use Rattle.strm_types.specs.Kinds.{kind_number}
+use Rattle.strm_msg.specs.Runs.{same_kind}
 use Rattle.strm_msg.specs.Pulled.{asked_of, count_refusal, pulled}
 
 -- four control bytes in two blocks with an empty one between them, of which only the first is of band 3, and a data byte
@@ -17,23 +18,23 @@ abbrev parts : List Block
 parts = control_block 5 (1 ∷ 2 ∷ []) 10 ∷ control_block 6 [] 256 ∷ control_block 7 (3 ∷ 4 ∷ []) 0 ∷ data_block ∷ []
 
 pub within-a-block : pulled 9 1 parts ≡ control_block 9 (1 ∷ []) 255 ∷ control_block 5 (2 ∷ []) 10 ∷ control_block 6 [] 256 ∷ control_block 7 (3 ∷ 4 ∷ []) 0 ∷ data_block ∷ []
-unfolding number_of same_kind
+unfolding kind_number same_kind
 within-a-block = refl
 
 pub empty-block-goes-too : pulled 9 2 parts ≡ control_block 9 (1 ∷ 2 ∷ []) 254 ∷ control_block 7 (3 ∷ 4 ∷ []) 0 ∷ data_block ∷ []
-unfolding number_of same_kind
+unfolding kind_number same_kind
 empty-block-goes-too = refl
 
 pub across-blocks : pulled 9 3 parts ≡ control_block 9 (1 ∷ 2 ∷ 3 ∷ []) 253 ∷ control_block 7 (4 ∷ []) 0 ∷ data_block ∷ []
-unfolding number_of same_kind
+unfolding kind_number same_kind
 across-blocks = refl
 
 pub whole-run : pulled 9 4 parts ≡ control_block 9 (1 ∷ 2 ∷ 3 ∷ 4 ∷ []) 252 ∷ data_block ∷ []
-unfolding number_of same_kind
+unfolding kind_number same_kind
 whole-run = refl
 
 pub nothing : pulled 9 0 parts ≡ control_block 9 [] 256 ∷ parts
-unfolding number_of same_kind
+unfolding kind_number same_kind
 nothing = refl
 
 -- how many bytes of a run of 300 are joined, and why not

@@ -8,7 +8,7 @@ use Rattle.std.proofs.lemmas.List.Edits.{paste_none}
 use Rattle.strm_types.specs.declared.kinds.MsgKind.{MsgKind}
 use Rattle.strm_types.specs.declared.kinds.MsgKind.TheVariants as kinds
 use Rattle.strm_blocks.specs.Blocks.{Block, StoreValue, block_at, no_block, in_hand, changed, with_block, trimmed_head, IsInHand, times_in}
-use Rattle.strm_blocks.specs.Outcomes.{is_control_kind, is_body_kind}
+use Rattle.strm_types.specs.Kinds.{is_control_kind, is_body_kind}
 use Rattle.strm_msg.specs.Bytes.{bytes_of, control_blocks, control_bytes, data_blocks, data_bytes}
 use Rattle.strm_msg.specs.Taken.{without_data, filled}
 use Rattle.strm_msg.proofs.Hands.{changed-chain, changed-twice, changed-in_hand, changed-same}

@@ -2,7 +2,7 @@
 use Rattle.std.specs.Prelude.{ℕ, List, [], ◌∷◌, filter, take_while, Option, None, Some, length}
 use Rattle.std.specs.List.{flat_map}
 use Rattle.strm_blocks.specs.Blocks.{Block}
-use Rattle.strm_blocks.specs.Outcomes.{is_control_kind, is_body_kind}
+use Rattle.strm_types.specs.Kinds.{is_control_kind, is_body_kind}
 
 -- the bytes of all blocks of a chain, one behind the other
 abbrev pub bytes_of : List Block → List ℕ

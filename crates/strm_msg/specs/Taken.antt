@@ -1,7 +1,7 @@
 -- What is left of a message whose data bytes were taken or trimmed (adjmsg(9F)).
 use Rattle.std.specs.Prelude.{ℕ, ◌-◌, if◌then◌else◌, List, [], ◌∷◌, ◌++◌, length, take, drop}
 use Rattle.strm_blocks.specs.Blocks.{Block, trimmed_head}
-use Rattle.strm_blocks.specs.Outcomes.{is_body_kind}
+use Rattle.strm_types.specs.Kinds.{is_body_kind}
 
 -- a chain without the first so many bytes of its M_DATA blocks, which stay, emptied
 abbrev pub without_data : ℕ → List Block → List Block

@@ -5,16 +5,7 @@ ghost use Rattle.strm_blocks.specs.Outcomes.{Copied, NoneFree};
 ghost use Rattle.strm_msg.specs.Made.{MadeOf, TooFew, piece};
 
 use strm_blocks::{Blocks, NoBlocks};
-use strm_types::{Band, MsgKind};
-
-/// How many blocks hold so many bytes: one for each begun 256, at least one.
-fn chunk_count(len: usize) -> usize
-    ensures { result ≡ write.chunk_count len }
-{
-    let whole = len / 256;
-    let count = if len % 256 == 0 { whole } else { whole + 1 };
-    count.max(1)
-}
+use strm_types::{Band, MsgKind, chunk_count};
 
 /// The chunk of that number, from 0: 256 bytes, or what is left.
 fn chunk_at(bytes: &[u8], at: usize) -> &[u8]

@@ -4,7 +4,6 @@ ghost use Rattle.strm_blocks.specs.Blocks.{IsInHand, in_hand, changed, block_at,
 ghost use Rattle.strm_msg.specs.Bytes.{control_bytes, data_bytes};
 ghost use Rattle.strm_msg.specs.Taken.{without_data, filled};
 
-use crate::kinds::is_body_kind;
 use strm_blocks::Blocks;
 
 /// Copies bytes into a buffer from a place on, as many as it has room for. Returns how many.
@@ -56,7 +55,7 @@ pub fn take_data<B: Blocks>(store: &mut B, message: &B::Mp, buffer: &mut [u8]) -
     let count = store.blocks(message);
     let mut done = 0;
     for at in 0..count {
-        if is_body_kind(store.kind(message, at)) {
+        if store.kind(message, at).is_body_kind() {
             done += take_from_block(store, message, at, buffer, done);
         }
     }

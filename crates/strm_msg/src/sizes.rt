@@ -3,7 +3,6 @@ ghost use Rattle.std.specs.Prelude.{◌≡◌, length};
 ghost use Rattle.strm_blocks.specs.Blocks.{IsInHand, in_hand};
 ghost use Rattle.strm_msg.specs.Bytes.{control_blocks, data_blocks, data_bytes, length_of_part};
 
-use crate::kinds::{is_body_kind, is_control_kind};
 use strm_blocks::Blocks;
 
 /// How many bytes the M_DATA blocks of a message have, whatever stands between them: `msgdsize(9F)`.
@@ -15,7 +14,7 @@ pub fn msgdsize<B: Blocks>(store: &B, message: &B::Mp) -> usize
     let mut size = 0;
     for at in 0..store.blocks(message) {
         let kind = store.kind(message, at);
-        if is_body_kind(kind) {
+        if kind.is_body_kind() {
             size += store.block_len(message, at);
         }
     }
@@ -30,7 +29,7 @@ pub fn control_len<B: Blocks>(store: &B, message: &B::Mp) -> Option<usize>
     store.audit();
     let mut found = None;
     for at in 0..store.blocks(message) {
-        if !is_control_kind(store.kind(message, at)) {
+        if !store.kind(message, at).is_control_kind() {
             return found;
         }
         let before = found.unwrap_or(0);
@@ -47,7 +46,7 @@ pub fn data_len<B: Blocks>(store: &B, message: &B::Mp) -> Option<usize>
     store.audit();
     let mut found = None;
     for at in 0..store.blocks(message) {
-        if is_body_kind(store.kind(message, at)) {
+        if store.kind(message, at).is_body_kind() {
             let before = found.unwrap_or(0);
             found = Some(before + store.block_len(message, at));
         }

@@ -11,7 +11,8 @@ use Rattle.strm_types.proofs.Data.{data-band, data-size}
 use Rattle.strm_types.proofs.Ranked.{put-map, put_back-map}
 use Rattle.strm_blocks.specs.Blocks as blocks
 use Rattle.strm_blocks.specs.Blocks.{Block, block_at}
-use Rattle.strm_blocks.specs.Outcomes.{is_control_kind, is_body_kind, body_len}
+use Rattle.strm_types.specs.Kinds.{is_control_kind, is_body_kind}
+use Rattle.strm_blocks.specs.Outcomes.{body_len}
 use Rattle.strm_msg.specs.Bytes.{bytes_of, control_blocks, data_blocks}
 use Rattle.strm_msg.specs.Messages.{message_of, part_of}
 use Rattle.strm_queue.specs.Kept as kept

@@ -3,7 +3,7 @@ use Rattle.std.specs.Prelude.{ℕ, min, ◌==◌, if◌then◌else◌, List, []}
 use Rattle.strm_types.specs.declared.limits.TheConstants.{READ_MAX}
 use Rattle.strm_types.specs.declared.names.Side.{Side}
 use Rattle.strm_types.specs.declared.answers.Answer.TheVariants.{Count, Bytes}
-use Rattle.strm_types.specs.Names.{other, driver_of, direction_from, enable_if}
+use Rattle.strm_types.specs.Names.{driver_of, head_of, before, direction_from, enable_if, enable_some}
 use Rattle.strm_types.specs.State.{State, stream, with_stream, with_driver_queue, with_head_queue, book, with_book, with_written}
 use Rattle.strm_types.specs.Calls.{Outcome, queue_after, lets_go}
 use Rattle.strm_types.specs.Head.{head_read}
@@ -32,6 +32,6 @@ read_plain side n s =
     else record {
       answer = Bytes taken.given;
       state = record (with_stream side (with_head_queue (queue_after taken above.head.queue) above) s) {
-        enabled = enable_if (lets_go taken above.head.queue) (driver_of (other side)) s.enabled;
+        enabled = enable_some (lets_go taken above.head.queue) (before (head_of side)) s.enabled;
       };
     }

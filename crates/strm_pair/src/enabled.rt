@@ -1,7 +1,7 @@
 //! The list of enabled queues.
 
 ghost use Rattle.std.specs.Prelude.{◌≡◌, [], length};
-ghost use Rattle.strm_types.specs.Names.{is_enabled, enable, enable_if, without, same_queue};
+ghost use Rattle.strm_types.specs.Names.{is_enabled, enable, enable_if, enable_found, without};
 
 use arrayvec::ArrayVec;
 use std::marker::Model;
@@ -23,13 +23,6 @@ impl Model for Enabled {
     ghost view = { λ e. e.names.items };
 
     ghost invariant = { λ e. IsOnce e.names.items };
-}
-
-// Whether two names are of one queue.
-fn is_same(a: QueueName, b: QueueName) -> bool
-    ensures { result ≡ same_queue a b }
-{
-    a == b
 }
 
 impl Enabled {
@@ -65,6 +58,15 @@ impl Enabled {
         }
     }
 
+    /// Enables a queue, if there is one.
+    pub fn enable_found(&mut self, name: Option<QueueName>)
+        ensures { self.new ≡ enable_found name self.old }
+    {
+        if let Some(name) = name {
+            self.enable(name);
+        }
+    }
+
     /// Enables a queue on a condition.
     pub fn enable_if(&mut self, condition: bool, name: QueueName)
         ensures { self.new ≡ enable_if condition name self.old }
@@ -80,7 +82,7 @@ impl Enabled {
     {
         let mut rest = ArrayVec::new();
         for other in self.names.as_slice() {
-            if !is_same(*other, name) {
+            if !other.is_same(name) {
                 rest.push(*other);
             }
         }

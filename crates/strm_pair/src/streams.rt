@@ -118,7 +118,7 @@ impl Streams {
             Side::Slave => read(store, &mut self.slave.head, wanted, out),
         };
         if goes {
-            self.enabled.enable(side.other().driver());
+            self.enabled.enable_found(side.head().before());
         }
     }
 

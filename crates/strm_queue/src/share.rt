@@ -7,7 +7,6 @@ ghost use Rattle.strm_blocks.specs.Blocks.{IsInHand, in_hand, block_at};
 ghost use Rattle.strm_queue.specs.Kept.{bytes_of, band_of, is_data};
 
 use strm_blocks::Blocks;
-use strm_types::MsgKind;
 
 /// The band in which a message counts, how many bytes it has, whether it is of a kind that a flush of data takes, and
 /// whether it is of high priority.
@@ -25,54 +24,6 @@ impl Share {
         ensures { result ≡ (self.is_high || (not no_enable && (nat_lt 0 self.band || want_read))) }
     {
         self.is_high || (!no_enable && (self.band > 0 || want_read))
-    }
-}
-
-/// Whether a kind is of high priority.
-#[tactic(auto, unfolding(strm_types::specs::Message::is_high_priority))]
-pub(crate) fn is_high_priority(kind: MsgKind) -> bool
-    ensures { result ≡ is_high_priority kind }
-{
-    match kind {
-        MsgKind::Data
-        | MsgKind::Proto
-        | MsgKind::Sig
-        | MsgKind::Ctl
-        | MsgKind::Ioctl
-        | MsgKind::Setopts => false,
-        MsgKind::Iocack
-        | MsgKind::Iocnak
-        | MsgKind::Pcproto
-        | MsgKind::Pcsig
-        | MsgKind::Read
-        | MsgKind::Flush
-        | MsgKind::Stop
-        | MsgKind::Start
-        | MsgKind::Hangup
-        | MsgKind::Error => true,
-    }
-}
-
-/// Whether a flush of data takes a kind.
-#[tactic(auto, unfolding(strm_types::specs::Flush::is_data_kind))]
-pub(crate) fn is_data_kind(kind: MsgKind) -> bool
-    ensures { result ≡ is_data_kind kind }
-{
-    match kind {
-        MsgKind::Data | MsgKind::Proto | MsgKind::Pcproto => true,
-        MsgKind::Sig
-        | MsgKind::Ctl
-        | MsgKind::Ioctl
-        | MsgKind::Setopts
-        | MsgKind::Iocack
-        | MsgKind::Iocnak
-        | MsgKind::Pcsig
-        | MsgKind::Read
-        | MsgKind::Flush
-        | MsgKind::Stop
-        | MsgKind::Start
-        | MsgKind::Hangup
-        | MsgKind::Error => false,
     }
 }
 
@@ -100,13 +51,13 @@ pub(crate) fn share_of<B: Blocks>(store: &B, message: &B::Mp) -> Share
     let _some = store.blocks(message);
     let kind = store.kind(message, 0);
     Share {
-        band: if is_high_priority(kind) {
+        band: if kind.is_high_priority() {
             0
         } else {
             usize::from(store.band(message).0)
         },
         bytes: bytes_in(store, message),
-        is_data: is_data_kind(kind),
-        is_high: is_high_priority(kind),
+        is_data: kind.is_data_kind(),
+        is_high: kind.is_high_priority(),
     }
 }

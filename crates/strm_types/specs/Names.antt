@@ -115,10 +115,14 @@ enable name names = if is_enabled name names then names else names ++ name ∷ [
 abbrev pub enable_if : Bool → QueueName → List QueueName → List QueueName
 enable_if condition name names = if condition then enable name names else names
 
--- the same for a queue that may not be there
+-- the names with a queue more that may not be there
+abbrev pub enable_found : Option QueueName → List QueueName → List QueueName
+enable_found None names = names
+enable_found (Some name) names = enable name names
+
+-- the same on a condition
 abbrev pub enable_some : Bool → Option QueueName → List QueueName → List QueueName
-enable_some condition None names = names
-enable_some condition (Some name) names = enable_if condition name names
+enable_some condition name names = if condition then enable_found name names else names
 
 -- the names without one of them
 abbrev pub without : QueueName → List QueueName → List QueueName

@@ -1,7 +1,7 @@
 use Rattle.std.proofs.Common.{◌∙◌, ap, sym, arith, length}
 use Rattle.std.proofs.lemmas.List.{take_all}
 use Rattle.strm_blocks.specs.Blocks.{in_hand, changed}
-use Rattle.strm_blocks.specs.Outcomes.{is_body_kind}
+use Rattle.strm_types.specs.Kinds.{is_body_kind}
 use Rattle.strm_msg.specs.Bytes.{data_bytes}
 use Rattle.strm_msg.specs.Taken.{filled}
 use Rattle.strm_msg.proofs.Taking.{going-first, going-data, going-other, take-length, take-in_hand, take-all, take-left, take-control}

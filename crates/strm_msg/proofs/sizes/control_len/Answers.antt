@@ -1,7 +1,7 @@
 use Rattle.std.proofs.Common.{◌≡◌, ◌∙◌, ◌≤◌, ◌<◌, ap, sym, arith, false, length}
 use Rattle.std.proofs.lemmas.List.{drop_all}
 use Rattle.strm_blocks.specs.Blocks.{in_hand, block_at}
-use Rattle.strm_blocks.specs.Outcomes.{is_control_kind}
+use Rattle.strm_types.specs.Kinds.{is_control_kind}
 use Rattle.strm_msg.proofs.Bounds.{blocks-few}
 use Rattle.strm_msg.proofs.Parts.{control_run, control-run-is, control-run-stops}
 use Rattle.strm_msg.proofs.sizes.control_len.Goals as goal
