@@ -18,3 +18,4 @@ pub mod StreamLemmas
 pub mod JournalLemmas
 mod PlainWrites
 mod Refusing
+mod Fresh

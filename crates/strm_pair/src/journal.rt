@@ -46,6 +46,16 @@ impl Journal {
         })
     }
 
+    /// Forgets all entries, and keeps its room.
+    pub fn clear(&mut self)
+        ensures empty { journal_of self.new ≡ [] }
+        ensures most_entries { self.new.most_entries ≡ self.old.most_entries }
+        ensures most_bytes { self.new.most_bytes ≡ self.old.most_bytes }
+    {
+        self.entries.clear();
+        self.bytes.clear();
+    }
+
     /// Whether one more entry with so many bytes fits.
     pub fn has_room(&self, bytes: usize) -> bool
         ensures { result ≡ has_room_for (journal_of self.now) self.now.most_entries self.now.most_bytes bytes }

@@ -9,6 +9,7 @@ ghost use Rattle.strm_types.specs.Journal.{entries_in, reply_in, answer_len};
 ghost use Rattle.strm_types.specs.Refused.{enough, has_room};
 ghost use Rattle.strm_types.specs.Step.{replay, IsLegal};
 ghost use Rattle.strm_types.specs.State.{AreOrdered, messages_in};
+ghost use Rattle.strm_pair.specs.Shows.{Shows};
 ghost use Rattle.strm_types.specs.Refused.{free_beside};
 ghost use Rattle.strm_blocks.specs.Blocks.{empty_store};
 
@@ -72,6 +73,16 @@ impl<B: Blocks + Drop> Pair<B> {
         })
     }
 
+    /// Makes the pair as new, in place: nobody opened it, and its store and its journal are empty. It takes no memory. The
+    /// cost is a step for each message block in use.
+    pub fn reset(&mut self)
+        ensures { self.new ≡ new_pair self.old.limits }
+    {
+        self.store.reset();
+        self.streams = Streams::new();
+        self.journal.clear();
+    }
+
     /// The queues that are enabled, in order of enabling.
     pub fn enabled(&self) -> &[QueueName]
         ensures { result.now ≡ self.now.state.enabled }
@@ -92,6 +103,13 @@ impl<B: Blocks + Drop> Pair<B> {
         ensures dblks { result.1 ≡ self.now.free.dblks }
     {
         self.store.free_blocks()
+    }
+
+    /// The store, whose lists show the queues of the state, each chain read along its links from read place to write place.
+    pub fn store(&self) -> &B
+        ensures { Shows (B.value result.now) self.now.state }
+    {
+        &self.store
     }
 
     // Whether so many blocks of each kind are free.

@@ -1,0 +1,36 @@
+-- A pair over a store with nothing in it, with an empty journal, is as new.
+use Rattle.std.proofs.Common.{ℕ, ◌≡◌, [], ap, sym, subst, refl, ◌∙◌}
+use Rattle.strm_types.specs.declared.limits.Config.{Config}
+use Rattle.strm_types.specs.State.{opening}
+use Rattle.strm_types.specs.Cells.{plain}
+use Rattle.strm_types.specs.Step.{IsLegal}
+use Rattle.strm_types.specs.Pair.{new_pair}
+use Rattle.strm_blocks.specs.Blocks.{StoreValue, empty_store}
+use Rattle.strm_pair.specs.declared.streams.Streams.{Streams}
+use Rattle.strm_pair.specs.declared.journal.Journal.{Journal}
+use Rattle.strm_pair.specs.Pairs.{state_in, AreHeld, journal_of}
+use Rattle.strm_pair.specs.PairViews.{pair_of, IsKept}
+use Rattle.strm_pair.proofs.Shown.{free-empty}
+use Rattle.strm_pair.proofs.Steps.{led-nowhere}
+
+-- streams as new, beside a store with nothing in it
+pub record AreFresh (mblks dblks : ℕ) (p : Streams) : Type 0 where
+  pub state : state_in (empty_store mblks dblks) p opening ≡ opening
+  pub held : AreHeld (empty_store mblks dblks) p
+
+pub fresh-kept : (s : StoreValue) (p : Streams) (j : Journal) (limits : Config) → s ≡ empty_store limits.mblks limits.dblks → AreFresh limits.mblks limits.dblks p
+    → journal_of j ≡ [] → j.most_entries ≡ limits.journal_events → j.most_bytes ≡ limits.journal_bytes → IsKept s p j limits
+fresh-kept s p j limits blank fresh empty events bytes = record {
+  replayed = ap (λ t. state_in s p t) (led-nowhere j empty) ∙ ap (λ v. state_in v p opening) blank ∙ fresh.state ∙ sym (led-nowhere j empty);
+  legal = subst (λ js. IsLegal plain opening js) (sym empty) tt;
+  held = subst (λ v. AreHeld v p) (sym blank) fresh.held;
+  mblks = ap (λ (v : StoreValue). v.mblks) blank;
+  dblks = ap (λ (v : StoreValue). v.dblks) blank;
+  events = events;
+  bytes = bytes;
+}
+
+pub fresh-shown : (s : StoreValue) (p : Streams) (j : Journal) (limits : Config) → s ≡ empty_store limits.mblks limits.dblks → AreFresh limits.mblks limits.dblks p → journal_of j ≡ [] → pair_of s p j limits ≡ new_pair limits
+fresh-shown s p j limits blank fresh empty =
+    ap (λ v. pair_of v p j limits) blank
+    ∙ rw (led-nowhere j empty, fresh.state, empty, free-empty limits.mblks limits.dblks) refl

@@ -1,0 +1,19 @@
+-- The queues of the state are those that the store's lists show.
+use Rattle.std.proofs.Common.{ℕ, ◌≡◌, ap, sym, subst}
+use Rattle.strm_types.specs.Pair.{PairState}
+use Rattle.strm_pair.specs.Stored.{messages_on}
+use Rattle.strm_pair.specs.Shows.{Shows}
+use Rattle.strm_pair.proofs.pair.Pair.store.Goals as goal
+
+pub returns : goal.returns
+returns g c =
+    let p = c.self.inside in
+    let s = g.B.Blocks.value p.store in
+    let kept = c.self.invariant.held in
+    subst (λ (v : PairState). Shows s v.state) c.self.view_is (record {
+      hand = kept.tidy.hand;
+      master_head = ap (messages_on s) (sym kept.master.head_list);
+      master_driver = ap (messages_on s) (sym kept.master.driver_list);
+      slave_head = ap (messages_on s) (sym kept.slave.head_list);
+      slave_driver = ap (messages_on s) (sym kept.slave.driver_list);
+    })
