@@ -4,11 +4,16 @@
 ghost use Rattle.std.specs.Prelude.{◌≡◌, ℕ, ◌+◌, ◌≤◌, ◌<◌, ◌==◌, List, [], ◌∷◌, ◌++◌, map, Some, if◌then◌else◌, count_by, take, Bool};
 ghost use Rattle.std.specs.List.{AllByRecursion};
 ghost use Rattle.strm_types.specs.Message.{Message, rank_of, weight_of, map_message};
-ghost use Rattle.strm_types.specs.Queue.{Queue, lane, lanes_down, IsOrdered, put, put_back, put_all, take_first, count_of, bytes_of, weight, map_messages, map_queue};
-ghost use Rattle.strm_types.specs.State.{State};
-ghost use Rattle.strm_types.specs.Write.{written, Sent};
-ghost use Rattle.strm_types.specs.Head.{head_read, Taken};
-ghost use Rattle.strm_types.specs.Cells.{Cells};
+ghost use Rattle.strm_types.specs.Queue.{Queue, lane, lanes_down, IsOrdered, put, put_back, put_all, take_first, count_of, bytes_of, weight, map_messages};
+ghost use Rattle.strm_types.specs.declared.answers.Turn.{Turn};
+ghost use Rattle.strm_types.specs.declared.events.Caller.{Caller};
+ghost use Rattle.strm_types.specs.declared.names.QueueName.{QueueName};
+ghost use Rattle.strm_types.specs.State.{State, map_state};
+ghost use Rattle.strm_types.specs.Write.{written};
+ghost use Rattle.strm_types.specs.Head.{head_read};
+ghost use Rattle.strm_types.specs.Cells.{Cells, AreCells, plain};
+ghost use Rattle.strm_types.specs.Calls.{Request, called, map_outcome};
+ghost use Rattle.strm_types.specs.Turns.{turned, map_turn_outcome};
 ghost use Rattle.strm_types.specs.Journal.{PlainEntry};
 ghost use Rattle.strm_types.specs.Step.{replay};
 
@@ -55,13 +60,20 @@ pub fn replay_goes_on<C>()
     ensures { (cells : Cells C) (s : State C) (es fs : List PlainEntry) → replay cells s (es ++ fs) ≡ replay cells (replay cells s es) fs }
 {}
 
-/// Forgetting the origins of bytes commutes with putq(9F), putbq(9F), getq(9F), a write and a read.
+/// Forgetting the origins of bytes commutes with putq(9F), putbq(9F) and getq(9F).
 pub fn forgetting_commutes<C, D>()
     ensures put { (f : C → D) (m : Message C) (q : List (Message C)) → map_messages f (put m q) ≡ put (map_message f m) (map_messages f q) }
     ensures put_back { (f : C → D) (m : Message C) (q : List (Message C)) → map_messages f (put_back m q) ≡ put_back (map_message f m) (map_messages f q) }
     ensures taken { (f : C → D) (m : Message C) (q rest : List (Message C)) → take_first q ≡ Some (m, rest) → take_first (map_messages f q) ≡ Some (map_message f m, map_messages f rest) }
-    ensures write { (f : C → D) (cells : List C) (q : Queue C) → written (map f cells) (map_queue f q) ≡ record { taken = (written cells q).taken; queue = map_queue f (written cells q).queue; enables = (written cells q).enables } }
-    ensures read { (f : C → D) (n : ℕ) (q : List (Message C)) → head_read n (map_messages f q) ≡ record { given = map f (head_read n q).given; left = map_messages f (head_read n q).left } }
+{}
+
+/// Whatever stands for bytes, a call (open(2), unlockpt(3C), write(2), read(2)) and a turn of a service procedure
+/// (STREAMS Programming Guide, "Service Procedures") answer and do the same as on plain bytes; and so do all entries of a
+/// journal.
+pub fn steps_forget_origins<C>()
+    ensures call { (cells : Cells C) (caller : Caller) (asked : Request) (s : State C) → AreCells cells → called plain caller asked (map_state cells.byte s) ≡ map_outcome cells.byte (called cells caller asked s) }
+    ensures turn { (cells : Cells C) (name : QueueName) (turn : Turn) (s : State C) → AreCells cells → turned plain name turn (map_state cells.byte s) ≡ map_turn_outcome cells.byte (turned cells name turn s) }
+    ensures replay { (cells : Cells C) (s : State C) (es : List PlainEntry) → AreCells cells → replay plain (map_state cells.byte s) es ≡ map_state cells.byte (replay cells s es) }
 {}
 
 /// Nothing is lost or made: whatever test on bytes is chosen, as 'is this very byte', a put adds what the message has, a
