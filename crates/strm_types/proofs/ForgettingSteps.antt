@@ -43,11 +43,31 @@ sent_on side s down =
     }
 
 -- what a read makes of what was taken, with this answer
-abbrev taken_from : {C : Type 0} → Side → State C → Reply → Queue C → Bool → Outcome C
+abbrev pub taken_from : {C : Type 0} → Side → State C → Reply → Queue C → Bool → Outcome C
 taken_from side s answer q lets = record {
   answer = answer;
   state = record (with_stream side (with_head_queue q (stream side s)) s) {
     enabled = enable_some lets (before (head_of side)) s.enabled;
+  };
+}
+
+abbrev moved_with : {E : Type 0} → Bool → Bool → List (Message E) → Queue E → Queue E
+moved_with none zero rest q = let after = record q { messages = rest; want_read = none } in cond zero after (relieved after)
+
+-- what a driver's turn does, by whether it may and what it makes of the queues
+abbrev pub served_as : {E : Type 0} → Bool → Bool → ℕ → Queue E → Queue E → List Flow → Stream E → Stream E → Served E
+served_as opened stopped size taken given waiting from to =
+    cond (not opened) (record { turn = Blocked; from = with_driver_queue (held_back from.driver.queue) from; to = to })
+    (cond stopped
+    (record { turn = Blocked; from = with_driver_queue (held_back from.driver.queue) from; to = with_head_queue (record to.head.queue { flows = waiting }) to })
+    (record { turn = Moved size; from = with_driver_queue taken from; to = with_head_queue given to }))
+
+-- a turn of a driver's queue from what the driver does
+abbrev pub turned_by : {E : Type 0} → Side → Bool → Served E → State E → TurnOutcome E
+turned_by side more served s = record {
+  turn = served.turn;
+  state = record (with_stream (other side) served.to (with_stream side served.from s)) {
+    enabled = enable_if more (driver_of side) s.enabled;
   };
 }
 
@@ -116,9 +136,6 @@ module _ {C D : Type 0} (f : C → D) where
       ∙ ap (λ (band : ℕ). is_held m.kind && is_full band (map_queue f q)) (band-forgets f m)
       ∙ ap (λ (full : Bool). is_held m.kind && full) (full-forgets f (band_of m) q)
 
-  abbrev moved_with : {E : Type 0} → Bool → Bool → List (Message E) → Queue E → Queue E
-  moved_with none zero rest q = let after = record q { messages = rest; want_read = none } in cond zero after (relieved after)
-
   moved_with-forgets : (none zero : Bool) (rest : List (Message C)) (q : Queue C) → moved_with none zero (map_messages f rest) (map_queue f q) ≡ map_queue f (moved_with none zero rest q)
   moved_with-forgets none true rest q = refl
   moved_with-forgets none false rest q = sym (relieved-forgets (record q { messages = rest; want_read = none }))
@@ -133,14 +150,6 @@ module _ {C D : Type 0} (f : C → D) where
 
   abbrev map_served : Served C → Served D
   map_served served = record { turn = served.turn; from = map_stream f served.from; to = map_stream f served.to }
-
-  -- what a driver's turn does, by whether it may and what it makes of the queues
-  abbrev served_as : {E : Type 0} → Bool → Bool → ℕ → Queue E → Queue E → List Flow → Stream E → Stream E → Served E
-  served_as opened stopped size taken given waiting from to =
-      cond (not opened) (record { turn = Blocked; from = with_driver_queue (held_back from.driver.queue) from; to = to })
-      (cond stopped
-      (record { turn = Blocked; from = with_driver_queue (held_back from.driver.queue) from; to = with_head_queue (record to.head.queue { flows = waiting }) to })
-      (record { turn = Moved size; from = with_driver_queue taken from; to = with_head_queue given to }))
 
   served_as-forgets : (opened stopped : Bool) (size : ℕ) (taken given : Queue C) (waiting : List Flow) (from to : Stream C) → served_as opened stopped size (map_queue f taken) (map_queue f given) waiting (map_stream f from) (map_stream f to) ≡ map_served (served_as opened stopped size taken given waiting from to)
   served_as-forgets false stopped size taken given waiting from to = refl
@@ -160,15 +169,6 @@ module _ {C D : Type 0} (f : C → D) where
       ∙ ap (λ (given : Queue D). served_as opened (is_stopped m to.head.queue) (size_of m) (map_queue f (moved_on (size_of m) rest from.driver.queue)) given (with_writer_at (band_of image) to.head.queue.flows) (map_stream f from) (map_stream f to)) (put_on-forgets m to.head.queue)
       ∙ ap (λ (waiting : List Flow). served_as opened (is_stopped m to.head.queue) (size_of m) (map_queue f (moved_on (size_of m) rest from.driver.queue)) (map_queue f (put_on m to.head.queue)) waiting (map_stream f from) (map_stream f to)) (flows-forget m to.head.queue)
       ∙ served_as-forgets opened (is_stopped m to.head.queue) (size_of m) (moved_on (size_of m) rest from.driver.queue) (put_on m to.head.queue) (with_writer_at (band_of m) to.head.queue.flows) from to
-
-  -- a turn of a driver's queue from what the driver does
-  abbrev turned_by : {E : Type 0} → Side → Bool → Served E → State E → TurnOutcome E
-  turned_by side more served s = record {
-    turn = served.turn;
-    state = record (with_stream (other side) served.to (with_stream side served.from s)) {
-      enabled = enable_if more (driver_of side) s.enabled;
-    };
-  }
 
   turned_by-forgets : (side : Side) (more : Bool) (served : Served C) (s : State C) → turned_by side more (map_served served) (map_state f s) ≡ map_turn_outcome f (turned_by side more served s)
   turned_by-forgets Master more served s = refl
