@@ -95,6 +95,10 @@ payloads = refl
 pub contents : map content_of (Bytes (97 ∷ []) ∷ Count 1 ∷ Done ∷ []) ≡ (97 ∷ []) ∷ [] ∷ [] ∷ []
 contents = refl
 
+-- of one entry the answer's bytes stand behind those of the call
+pub answer-behind-its-call : entries_in (Called (caller Master) (Write 1) (Bytes 2) ∷ []) (97 ∷ 98 ∷ 99 ∷ []) ≡ Called (caller Master) (Write (97 ∷ [])) (Bytes (98 ∷ 99 ∷ [])) ∷ []
+answer-behind-its-call = refl
+
 -- what refuses a call
 
 abbrev ordinary : List ℕ → Message ℕ

@@ -4,7 +4,7 @@ use Rattle.std.specs.Prelude.{codes, Option, None, Some}
 use Rattle.std.specs.Fmt.{decimal}
 use Rattle.strm_types.specs.Message.{data_message, is_held, rank_of, band_of, size_of, cells_of, is_high_priority}
 use Rattle.strm_types.specs.Write.{chunk_count}
-use Rattle.strm_types.specs.Script.{digit_of}
+use Rattle.strm_types.specs.Script.{Open, digit_of}
 use Rattle.strm_types.specs.ScriptReading.{number_from, number_in, text_from, text_in, side_in, place_in, way_in, queue_in, open_in, unlock_in, slave_in, write_in, read_in, turn_in, run_in, command_in, reading}
 use Rattle.strm_types.specs.ScriptAnswers.{line_text}
 use Rattle.strm_types.specs.ScriptRun.{Enough, TooFew, Told, script_limits, call_of, turn_of, by_call, by_turn, turns_of, by_run, by_open, answered, told_from}
@@ -24,6 +24,11 @@ ended lines n = record { text = text lines (codes "err line " ++ decimal n ++ 10
 
 pub pair-of-a-script : script_limits 16 ≡ record { mblks = 16; dblks = 16; journal_events = 8192; journal_bytes = 262144 }
 pair-of-a-script = refl
+
+-- where a script names no number, its pair has 256 blocks of each kind
+pub usual-pair : (answered (Open None) [] None).pair ≡ (answered (Open (Some 256)) [] None).pair
+unfolding answered by_open by_call call_of
+usual-pair = refl
 
 -- lines count from 1, silent ones too, and nothing is said behind a malformed one
 pub malformed-line-ends-a-script : told_from 1 [] None (codes "# a" ∷ [] ∷ codes "unlock" ∷ codes "bad" ∷ codes "open" ∷ []) ≡ ended (codes "err ENXIO" ∷ []) 4
