@@ -47,6 +47,10 @@ pub write-asks-for-32-more : map blocks_asked writes ≡ 33 ∷ 33 ∷ 33 ∷ 34
 unfolding chunk_count
 write-asks-for-32-more = refl
 
+-- blocks of each kind are counted apart
+pub blocks-beside-those-in-use : free_beside 9 (record { mblks = 40; dblks = 30; journal_events = 0; journal_bytes = 0 }) ≡ free 31 21
+blocks-beside-those-in-use = refl
+
 -- of 256 blocks 224 may be taken a byte at a time: the 224th such write finds 33 free, the next one 32
 pub one-byte-writes-that-fit : map (λ used. enough (blocks_asked (Write (97 ∷ []))) (free_beside used (sizes 256 0 0))) (223 ∷ 224 ∷ []) ≡ true ∷ false ∷ []
 unfolding chunk_count
