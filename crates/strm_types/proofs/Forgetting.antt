@@ -14,7 +14,7 @@ module _ {C D : Type 0} (f : C → D) where
   unfolding rank_of map_message
   rank-forgets m = refl
 
-  band-forgets : (m : Message C) → band_of (map_message f m) ≡ band_of m
+  pub band-forgets : (m : Message C) → band_of (map_message f m) ≡ band_of m
   unfolding band_of map_message
   band-forgets m = refl
 
@@ -30,7 +30,7 @@ module _ {C D : Type 0} (f : C → D) where
   unfolding map_message
   plain-forgets m = refl
 
-  size-forgets : (m : Message C) → size_of (map_message f m) ≡ size_of m
+  pub size-forgets : (m : Message C) → size_of (map_message f m) ≡ size_of m
   unfolding size_of
   size-forgets m = omega (arith, ap length (cells-forget m), length-map (cells_of m) f, plain-forgets m)
 
@@ -48,13 +48,13 @@ module _ {C D : Type 0} (f : C → D) where
   pub put_back-forgets : (m : Message C) (q : List (Message C)) → map_messages f (put_back m q) ≡ put_back (map_message f m) (map_messages f q)
   put_back-forgets m q = put_back-map (map_message f) rank_of rank_of rank-forgets m q
 
-  count-forgets : (band : ℕ) (q : List (Message C)) → count_of band (map_messages f q) ≡ count_of band q
+  pub count-forgets : (band : ℕ) (q : List (Message C)) → count_of band (map_messages f q) ≡ count_of band q
   count-forgets band [] = refl
   count-forgets band (m ∷ q) =
       let here : (if band_of (map_message f m) == band then size_of (map_message f m) else 0) ≡ (if band_of m == band then size_of m else 0) = rw (band-forgets m, size-forgets m) refl in
       omega (arith, here, count-forgets band q, sum_by-cons (λ x. if band_of x == band then size_of x else 0) (map_message f m) (map_messages f q), sum_by-cons (λ x. if band_of x == band then size_of x else 0) m q)
 
-  full-forgets : (band : ℕ) (q : Queue C) → is_full band (map_queue f q) ≡ is_full band q
+  pub full-forgets : (band : ℕ) (q : Queue C) → is_full band (map_queue f q) ≡ is_full band q
   full-forgets band q = ap (λ n. nat_le (flow_of band q).high n) (count-forgets band q.messages)
 
   -- what a write sends, of other cells

@@ -1,5 +1,5 @@
 -- Plain bytes are cells, and so are bytes with their origin.
-use Rattle.std.proofs.Common.{ℕ, suc, ◌≡◌, List, [], ◌∷◌, map, refl, ap, ◌∙◌}
+use Rattle.std.proofs.Common.{ℕ, suc, ◌≡◌, List, [], ◌∷◌, refl, ap, ◌∙◌}
 use Rattle.strm_types.specs.declared.names.Dir.{Dir}
 use Rattle.strm_types.specs.Cells.{Cells, AreCells, plain, tagged, cells_written, bytes_of}
 

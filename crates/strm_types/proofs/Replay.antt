@@ -41,11 +41,11 @@ module _ {C : Type 0} (cells : Cells C) where
       legal-push base es e legal (subst (λ q. Step cells q e (after cells q e)) is (subst (λ u. Step cells s e u) (sym (after-step s t e step)) step))
 
 -- a refusal that doesn't come
-unless-none : (b : Bool) (r : Refusal) → unless b r ≡ None → b ≡ true
+pub unless-none : (b : Bool) (r : Refusal) → unless b r ≡ None → b ≡ true
 unless-none true r h = refl
 unless-none false r h = absurd (cc)
 
-or_else-none : (a b : Option Refusal) → or_else a b ≡ None → (a ≡ None) × (b ≡ None)
+pub or_else-none : (a b : Option Refusal) → or_else a b ≡ None → (a ≡ None) × (b ≡ None)
 or_else-none None b h = (refl, h)
 or_else-none (Some r) b h = absurd (cc)
 

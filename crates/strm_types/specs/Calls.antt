@@ -1,5 +1,5 @@
 -- The calls on a pair: what each one does where nothing refuses it.
-use Rattle.std.specs.Prelude.{ℕ, Bool, true, false, not, min, ◌==◌, if◌then◌else◌, List, [], map}
+use Rattle.std.specs.Prelude.{ℕ, Bool, false, not, min, ◌==◌, if◌then◌else◌, List, []}
 use denote.Ref.{Bor}
 use Rattle.strm_types.specs.declared.limits.TheConstants.{READ_MAX}
 use Rattle.strm_types.specs.declared.answers.Answer.{Answer}
@@ -8,12 +8,12 @@ use Rattle.strm_types.specs.declared.events.Event.{Event}
 use Rattle.strm_types.specs.declared.events.Event.TheVariants.{OpenMaster, Unlock, OpenSlave, Write, Read}
 use Rattle.strm_types.specs.declared.events.Caller.{Caller}
 use Rattle.strm_types.specs.declared.names.Side.{Side}
-use Rattle.strm_types.specs.declared.names.Side.TheVariants.{Master, Slave}
+use Rattle.strm_types.specs.declared.names.Side.TheVariants.{Master}
 use Rattle.strm_types.specs.declared.names.Openness.TheVariants.{Open}
 use Rattle.strm_types.specs.Cells.{Cells, cells_written, bytes_of}
 use Rattle.strm_types.specs.Names.{driver_of, head_of, direction_from, before, enable_if, enable_some}
 use Rattle.strm_types.specs.Queue.{Queue, left_with, relieved, relieves}
-use Rattle.strm_types.specs.State.{State, stream, with_stream, with_driver_queue, with_head_queue, new_head, book, with_book, with_written}
+use Rattle.strm_types.specs.State.{State, stream, with_stream, with_driver_queue, with_head_queue, new_head, book, with_book, with_written, map_state}
 use Rattle.strm_types.specs.Head.{Taken, head_read}
 use Rattle.strm_types.specs.Write.{written}
 use Rattle.strm_types.specs.Turns.{is_none_left}
@@ -57,6 +57,10 @@ content_of _ = []
 pub record Outcome (C : Type 0) : Type 0 where
   pub answer : Reply
   pub state : State C
+
+-- the same with a state of other cells
+abbrev pub map_outcome : {C D : Type 0} → (C → D) → Outcome C → Outcome D
+map_outcome f outcome = record { answer = outcome.answer; state = map_state f outcome.state }
 
 module _ {C : Type 0} where
   -- a call that has nothing to tell

@@ -13,6 +13,7 @@ pub mod Calls
 pub mod Refused
 pub mod Journal
 pub mod Step
+pub mod Kept
 pub mod Pair
 pub mod Script
 pub mod ScriptReading

@@ -11,7 +11,7 @@ use Rattle.strm_types.specs.Queue.{is_full}
 use Rattle.strm_types.specs.State.{State, stream}
 use Rattle.strm_types.specs.Write.{chunk_count}
 use Rattle.strm_types.specs.Turns.{is_none_left}
-use Rattle.strm_types.specs.declared.limits.TheConstants.{WRITE_BLOCKS, TURN_BLOCKS}
+use Rattle.strm_types.specs.declared.limits.TheConstants.{WRITE_BLOCKS}
 use Rattle.strm_types.specs.declared.events.Event.TheVariants.{OpenMaster, Unlock, OpenSlave, Write, Read}
 use Rattle.strm_types.specs.Calls.{Request, payload_of}
 use Rattle.strm_types.specs.Journal.{PlainEntry, content_max, room_used}

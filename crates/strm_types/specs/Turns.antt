@@ -10,7 +10,7 @@ use Rattle.strm_types.specs.Message.{Message, size_of, band_of, is_held}
 use Rattle.strm_types.specs.Queue.{Queue, is_full, put_on, relieved, with_writer_at}
 use Rattle.strm_types.specs.Cells.{Cells}
 use Rattle.strm_types.specs.Names.{other, driver_of, is_open, without, enable_if}
-use Rattle.strm_types.specs.State.{State, Stream, stream, with_stream, with_driver_queue, with_head_queue}
+use Rattle.strm_types.specs.State.{State, Stream, stream, with_stream, with_driver_queue, with_head_queue, map_state}
 
 -- what a turn of a driver's queue does: its answer, the stream that it is of, and the other side's
 pub record Served (C : Type 0) : Type 0 where
@@ -22,6 +22,10 @@ pub record Served (C : Type 0) : Type 0 where
 pub record TurnOutcome (C : Type 0) : Type 0 where
   pub turn : Turn
   pub state : State C
+
+-- the same with a state of other cells
+abbrev pub map_turn_outcome : {C D : Type 0} → (C → D) → TurnOutcome C → TurnOutcome D
+map_turn_outcome f outcome = record { turn = outcome.turn; state = map_state f outcome.state }
 
 abbrev pub is_none_left : {A : Type 0} → List A → Bool
 is_none_left [] = true

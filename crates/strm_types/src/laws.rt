@@ -1,16 +1,20 @@
 //! What follows from the definitions of `specs/`, in the words of the manual pages. Each law is the contract of a function
 //! that does nothing. A law over all kinds of cells holds of bytes and of bytes with their origin alike.
 
-ghost use Rattle.std.specs.Prelude.{◌≡◌, ℕ, ◌+◌, ◌≤◌, ◌<◌, ◌==◌, List, [], ◌∷◌, ◌++◌, map, Some, if◌then◌else◌, count_by, take, Bool};
+ghost use Rattle.std.specs.Prelude.{◌≡◌, ℕ, ◌+◌, ◌≤◌, ◌<◌, ◌==◌, List, [], ◌∷◌, ◌++◌, Some, if◌then◌else◌, count_by, Bool};
 ghost use Rattle.std.specs.List.{AllByRecursion};
 ghost use Rattle.strm_types.specs.Message.{Message, rank_of, weight_of, map_message};
-ghost use Rattle.strm_types.specs.Queue.{Queue, lane, lanes_down, IsOrdered, put, put_back, put_all, take_first, count_of, bytes_of, weight, map_messages, map_queue};
-ghost use Rattle.strm_types.specs.State.{State};
-ghost use Rattle.strm_types.specs.Write.{written, Sent};
-ghost use Rattle.strm_types.specs.Head.{head_read, Taken};
-ghost use Rattle.strm_types.specs.Cells.{Cells};
+ghost use Rattle.strm_types.specs.Queue.{lane, lanes_down, IsOrdered, put, put_back, put_all, take_first, count_of, bytes_of, weight, map_messages};
+ghost use Rattle.strm_types.specs.declared.answers.Turn.{Turn};
+ghost use Rattle.strm_types.specs.declared.events.Caller.{Caller};
+ghost use Rattle.strm_types.specs.declared.names.QueueName.{QueueName};
+ghost use Rattle.strm_types.specs.State.{State, map_state, opening};
+ghost use Rattle.strm_types.specs.Kept.{NothingUnread, state_weight, came, gone};
+ghost use Rattle.strm_types.specs.Cells.{Cells, AreCells, plain};
+ghost use Rattle.strm_types.specs.Calls.{Request, called, map_outcome};
+ghost use Rattle.strm_types.specs.Turns.{turned, map_turn_outcome};
 ghost use Rattle.strm_types.specs.Journal.{PlainEntry};
-ghost use Rattle.strm_types.specs.Step.{replay};
+ghost use Rattle.strm_types.specs.Step.{Step, replay};
 
 /// putq(9F): in an ordered queue the lane of the message's rank has it at its end, no other lane changes, and the queue
 /// stays in order.
@@ -55,21 +59,31 @@ pub fn replay_goes_on<C>()
     ensures { (cells : Cells C) (s : State C) (es fs : List PlainEntry) → replay cells s (es ++ fs) ≡ replay cells (replay cells s es) fs }
 {}
 
-/// Forgetting the origins of bytes commutes with putq(9F), putbq(9F), getq(9F), a write and a read.
+/// Forgetting the origins of bytes commutes with putq(9F), putbq(9F) and getq(9F).
 pub fn forgetting_commutes<C, D>()
     ensures put { (f : C → D) (m : Message C) (q : List (Message C)) → map_messages f (put m q) ≡ put (map_message f m) (map_messages f q) }
     ensures put_back { (f : C → D) (m : Message C) (q : List (Message C)) → map_messages f (put_back m q) ≡ put_back (map_message f m) (map_messages f q) }
     ensures taken { (f : C → D) (m : Message C) (q rest : List (Message C)) → take_first q ≡ Some (m, rest) → take_first (map_messages f q) ≡ Some (map_message f m, map_messages f rest) }
-    ensures write { (f : C → D) (cells : List C) (q : Queue C) → written (map f cells) (map_queue f q) ≡ record { taken = (written cells q).taken; queue = map_queue f (written cells q).queue; enables = (written cells q).enables } }
-    ensures read { (f : C → D) (n : ℕ) (q : List (Message C)) → head_read n (map_messages f q) ≡ record { given = map f (head_read n q).given; left = map_messages f (head_read n q).left } }
 {}
 
-/// Nothing is lost or made: whatever test on bytes is chosen, as 'is this very byte', a put adds what the message has, a
-/// take takes it away, a write adds the bytes that it takes, and a read gives what leaves the queue.
+/// Whatever stands for bytes, a call (open(2), unlockpt(3C), write(2), read(2)) and a turn of a service procedure
+/// (STREAMS Programming Guide, "Service Procedures") answer and do the same as on plain bytes; and so do all entries of a
+/// journal.
+pub fn steps_forget_origins<C>()
+    ensures call { (cells : Cells C) (caller : Caller) (asked : Request) (s : State C) → AreCells cells → called plain caller asked (map_state cells.byte s) ≡ map_outcome cells.byte (called cells caller asked s) }
+    ensures turn { (cells : Cells C) (name : QueueName) (turn : Turn) (s : State C) → AreCells cells → turned plain name turn (map_state cells.byte s) ≡ map_turn_outcome cells.byte (turned cells name turn s) }
+    ensures replay { (cells : Cells C) (s : State C) (es : List PlainEntry) → AreCells cells → replay plain (map_state cells.byte s) es ≡ map_state cells.byte (replay cells s es) }
+{}
+
+/// Nothing is lost or made: whatever test on bytes is chosen, as 'is this very byte', what stands on a pair's queues behind
+/// a call or a turn, and what a read(2) gave, is what stood there before, and what a write(2) took. A head that is opened
+/// is as new, so this wants that a side that isn't open has nothing for its readers, as it is in a new pair and behind each
+/// step. On a queue a put adds what the message has, and a take takes it away.
 pub fn bytes_are_kept<C>()
+    ensures step { (cells : Cells C) (p : C → Bool) (old new : State C) (entry : PlainEntry) → NothingUnread old → Step cells old entry new → state_weight p new + count_by p (gone cells old entry) ≡ state_weight p old + count_by p (came cells old entry) }
+    ensures unread { (cells : Cells C) (old new : State C) (entry : PlainEntry) → NothingUnread old → Step cells old entry new → NothingUnread new }
+    ensures opening { (s : State C) → s ≡ opening → NothingUnread s }
     ensures put { (p : C → Bool) (m : Message C) (q : List (Message C)) → weight p (put m q) ≡ weight_of p m + weight p q }
     ensures put_back { (p : C → Bool) (m : Message C) (q : List (Message C)) → weight p (put_back m q) ≡ weight_of p m + weight p q }
     ensures taken { (p : C → Bool) (m : Message C) (q rest : List (Message C)) → take_first q ≡ Some (m, rest) → weight p q ≡ weight_of p m + weight p rest }
-    ensures write { (p : C → Bool) (cells : List C) (q : Queue C) → weight p (written cells q).queue.messages ≡ count_by p (take (written cells q).taken cells) + weight p q.messages }
-    ensures read { (p : C → Bool) (n : ℕ) (q : List (Message C)) → count_by p (head_read n q).given + weight p (head_read n q).left ≡ weight p q }
 {}

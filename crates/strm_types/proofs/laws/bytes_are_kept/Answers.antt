@@ -1,4 +1,7 @@
-use Rattle.strm_types.proofs.Weights.{weight-put, weight-put_back, weight-written, weight-read}
+use Rattle.std.proofs.Common.{sym, subst}
+use Rattle.strm_types.specs.Kept.{NothingUnread}
+use Rattle.strm_types.proofs.Kept.{step-keeps, step-unread, opening-unread}
+use Rattle.strm_types.proofs.Weights.{weight-put, weight-put_back}
 use Rattle.strm_types.proofs.FirstTaken.{taken-weight}
 use Rattle.strm_types.proofs.laws.bytes_are_kept.Goals as goal
 
@@ -11,8 +14,11 @@ returns-clause-put_back g c = λ p m q. weight-put_back p m q
 pub returns-clause-taken : goal.returns-clause-taken
 returns-clause-taken g c = λ p m q rest is. taken-weight p m q rest is
 
-pub returns-clause-write : goal.returns-clause-write
-returns-clause-write g c = λ p cells q. weight-written p cells q
+pub returns-clause-step : goal.returns-clause-step
+returns-clause-step g c = λ cells p old new entry unread step. step-keeps p cells old new entry unread step
 
-pub returns-clause-read : goal.returns-clause-read
-returns-clause-read g c = λ p n q. weight-read p n q
+pub returns-clause-unread : goal.returns-clause-unread
+returns-clause-unread g c = λ cells old new entry unread step. step-unread cells old new entry unread step
+
+pub returns-clause-opening : goal.returns-clause-opening
+returns-clause-opening g c = λ s is. subst (λ t. NothingUnread t) (sym is) opening-unread

@@ -1,5 +1,4 @@
-use Rattle.std.proofs.Common.{sym}
-use Rattle.strm_types.proofs.Forgetting.{put-forgets, put_back-forgets, written-forgets, head_read-forgets}
+use Rattle.strm_types.proofs.Forgetting.{put-forgets, put_back-forgets}
 use Rattle.strm_types.proofs.FirstTaken.{taken-forgets}
 use Rattle.strm_types.proofs.laws.forgetting_commutes.Goals as goal
 
@@ -11,9 +10,3 @@ returns-clause-put_back g c = λ f m q. put_back-forgets f m q
 
 pub returns-clause-taken : goal.returns-clause-taken
 returns-clause-taken g c = λ f m q rest is. taken-forgets f m q rest is
-
-pub returns-clause-write : goal.returns-clause-write
-returns-clause-write g c = λ f cells q. sym (written-forgets f cells q)
-
-pub returns-clause-read : goal.returns-clause-read
-returns-clause-read g c = λ f n q. sym (head_read-forgets f n q)

@@ -1,0 +1,92 @@
+-- What the definitions of names and of refusals' numbers compute, case by case.
+use Rattle.std.proofs.Common.{◌≡◌, true, false, List, [], ◌∷◌, map, refl, replicate}
+use Rattle.std.specs.Prelude.{filter, None, Some}
+use Rattle.strm_types.specs.declared.names.Side.{Side}
+use Rattle.strm_types.specs.declared.names.Side.TheVariants.{Master, Slave}
+use Rattle.strm_types.specs.declared.names.Way.{Way}
+use Rattle.strm_types.specs.declared.names.Way.TheVariants.{Up, Down}
+use Rattle.strm_types.specs.declared.names.Place.{Place}
+use Rattle.strm_types.specs.declared.names.Place.TheVariants.{Head, Ldterm, Driver}
+use Rattle.strm_types.specs.declared.names.QueueName.{QueueName}
+use Rattle.strm_types.specs.declared.names.Dir.TheVariants.{MasterToSlave, SlaveToMaster}
+use Rattle.strm_types.specs.declared.names.Openness.TheVariants.{Never, Open, Closed}
+use Rattle.strm_types.specs.declared.refusals.Refusal.TheVariants.{Einval, Eagain, Enxio, Ebadmsg, Enosr, Erange, JournalFull, NoMinor, NoMemory, StillShared}
+use Rattle.strm_types.specs.Numbers.{number_of}
+use Rattle.strm_types.specs.Names.{other, is_master, direction_from, side_from, is_open, is_never, driver_of, head_of, has_service, line_of, nearest_before, direction_of, before, is_enabled, enable, enable_if, enable_some, without, times}
+
+pub refusals-have-numbers : map number_of (Einval ∷ Eagain ∷ Enxio ∷ Ebadmsg ∷ Enosr ∷ Erange ∷ JournalFull ∷ NoMinor ∷ NoMemory ∷ StillShared ∷ []) ≡ 1 ∷ 2 ∷ 3 ∷ 4 ∷ 5 ∷ 6 ∷ 7 ∷ 8 ∷ 9 ∷ 10 ∷ []
+refusals-have-numbers = refl
+
+abbrev named : Side → Place → Way → QueueName
+named side place way = record { side = side; place = place; way = way }
+
+-- the six names of a side, and all twelve
+abbrev names_of : Side → List QueueName
+names_of side = named side Head Up ∷ named side Head Down ∷ named side Ldterm Up ∷ named side Ldterm Down ∷ named side Driver Up ∷ named side Driver Down ∷ []
+
+abbrev all_names : List QueueName
+all_names = named Master Head Up ∷ named Master Head Down ∷ named Master Ldterm Up ∷ named Master Ldterm Down ∷ named Master Driver Up ∷ named Master Driver Down ∷ names_of Slave
+
+pub sides-and-directions : map other (Master ∷ Slave ∷ []) ≡ Slave ∷ Master ∷ []
+sides-and-directions = refl
+
+pub master-is-one : map is_master (Master ∷ Slave ∷ []) ≡ true ∷ false ∷ []
+master-is-one = refl
+
+pub directions-of-writers : map direction_from (Master ∷ Slave ∷ []) ≡ MasterToSlave ∷ SlaveToMaster ∷ []
+directions-of-writers = refl
+
+pub writers-of-directions : map side_from (MasterToSlave ∷ SlaveToMaster ∷ []) ≡ Master ∷ Slave ∷ []
+writers-of-directions = refl
+
+pub open-now : map is_open (Never ∷ Open ∷ Closed ∷ []) ≡ false ∷ true ∷ false ∷ []
+open-now = refl
+
+pub never-open : map is_never (Never ∷ Open ∷ Closed ∷ []) ≡ true ∷ false ∷ false ∷ []
+never-open = refl
+
+pub names-of-drivers-and-heads : driver_of Slave ∷ head_of Slave ∷ [] ≡ named Slave Driver Down ∷ named Slave Head Up ∷ []
+names-of-drivers-and-heads = refl
+
+-- each name is itself alone
+pub names-are-apart : map (λ name. times name all_names) all_names ≡ replicate 12 1
+names-are-apart = refl
+
+pub heads-have-no-service : filter has_service (names_of Slave) ≡ named Slave Ldterm Up ∷ named Slave Ldterm Down ∷ named Slave Driver Up ∷ named Slave Driver Down ∷ []
+heads-have-no-service = refl
+
+pub lines-of-directions : map line_of (MasterToSlave ∷ SlaveToMaster ∷ []) ≡ (driver_of Master ∷ head_of Slave ∷ []) ∷ (driver_of Slave ∷ head_of Master ∷ []) ∷ []
+lines-of-directions = refl
+
+pub directions-of-queues : map direction_of (head_of Master ∷ driver_of Master ∷ head_of Slave ∷ driver_of Slave ∷ []) ≡ SlaveToMaster ∷ MasterToSlave ∷ MasterToSlave ∷ SlaveToMaster ∷ []
+directions-of-queues = refl
+
+-- what is enabled when a queue has room again: for a head the other side's driver, for others nothing
+pub before-each-queue : map before all_names ≡ Some (driver_of Slave) ∷ None ∷ None ∷ None ∷ None ∷ None ∷ Some (driver_of Master) ∷ None ∷ None ∷ None ∷ None ∷ None ∷ []
+before-each-queue = refl
+
+-- the nearest one with service: the line discipline before the head, and not the driver before that; heads are passed
+pub nearest-with-service : nearest_before (head_of Slave) None (driver_of Master ∷ named Slave Ldterm Up ∷ head_of Master ∷ head_of Slave ∷ named Master Ldterm Up ∷ []) ≡ Some (named Slave Ldterm Up)
+nearest-with-service = refl
+
+-- enabling: at the end, and once
+abbrev both : List QueueName
+both = driver_of Slave ∷ driver_of Master ∷ []
+
+pub enabled-behind-others : enable (driver_of Master) (driver_of Slave ∷ []) ≡ both
+enabled-behind-others = refl
+
+pub enabled-once : enable (driver_of Slave) both ≡ both
+enabled-once = refl
+
+pub enabled-or-not : map (λ name. is_enabled name both) (driver_of Master ∷ driver_of Slave ∷ head_of Master ∷ []) ≡ true ∷ true ∷ false ∷ []
+enabled-or-not = refl
+
+pub enabled-on-a-condition : enable_if true (driver_of Master) [] ∷ enable_if false (driver_of Master) [] ∷ [] ≡ (driver_of Master ∷ []) ∷ [] ∷ []
+enabled-on-a-condition = refl
+
+pub enabled-if-there : enable_some true (Some (driver_of Master)) [] ∷ enable_some false (Some (driver_of Master)) [] ∷ enable_some true None [] ∷ [] ≡ (driver_of Master ∷ []) ∷ [] ∷ [] ∷ []
+enabled-if-there = refl
+
+pub disabled-alone : without (driver_of Slave) both ≡ driver_of Master ∷ []
+disabled-alone = refl

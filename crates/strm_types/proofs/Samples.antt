@@ -1,0 +1,26 @@
+-- Messages and queues for the rows.
+use Rattle.std.proofs.Common.{ℕ, Bool, true, false, List, [], ◌∷◌}
+use Rattle.std.specs.Prelude.{None, Some}
+use Rattle.strm_types.specs.declared.kinds.MsgKind.TheVariants.{Data, Proto, Setopts, Pcproto}
+use Rattle.strm_types.specs.Message.{Message}
+use Rattle.strm_types.specs.Queue.{Queue, Flow}
+
+-- an M_PROTO of band 2, an M_PCPROTO that names band 3, an M_SETOPTS of band 1 whose four bytes are no cells
+abbrev pub proto : Message ℕ
+proto = record { kind = Proto; band = 2; control = Some (1 ∷ 2 ∷ []); body = Some (3 ∷ 4 ∷ 5 ∷ []); plain = [] }
+
+abbrev pub urgent : Message ℕ
+urgent = record { kind = Pcproto; band = 3; control = Some (9 ∷ []); body = None; plain = [] }
+
+abbrev pub options : Message ℕ
+options = record { kind = Setopts; band = 1; control = None; body = None; plain = 1 ∷ 2 ∷ 3 ∷ 4 ∷ [] }
+
+-- an ordinary message of these bytes
+abbrev pub ordinary : List ℕ → Message ℕ
+ordinary bytes = record { kind = Data; band = 0; control = None; body = Some bytes; plain = [] }
+
+abbrev pub flow : ℕ → ℕ → Bool → Flow
+flow high low want_write = record { high = high; low = low; want_write = want_write }
+
+abbrev pub queue : List (Message ℕ) → List Flow → Queue ℕ
+queue messages flows = record { messages = messages; flows = flows; want_read = true; no_enable = false }

@@ -1,0 +1,51 @@
+-- That no byte is lost or made: what stands on a pair's queues, what a step brings there and what it takes away.
+use Rattle.std.specs.Prelude.{◌≡◌, ℕ, ◌+◌, min, Bool, false, List, [], take}
+use Rattle.strm_types.specs.declared.limits.TheConstants.{READ_MAX}
+use Rattle.strm_types.specs.declared.names.Side.{Side}
+use Rattle.strm_types.specs.declared.events.Event.TheVariants.{OpenMaster, Unlock, OpenSlave, Write, Read}
+use Rattle.strm_types.specs.declared.entries.Entry.TheVariants.{Called, Turned}
+use Rattle.strm_types.specs.Cells.{Cells, cells_written}
+use Rattle.strm_types.specs.Names.{direction_from, is_open}
+use Rattle.strm_types.specs.Queue.{weight}
+use Rattle.strm_types.specs.State.{State, Stream, stream, book}
+use Rattle.strm_types.specs.Head.{head_read}
+use Rattle.strm_types.specs.Write.{written}
+use Rattle.strm_types.specs.Journal.{PlainEntry}
+
+module _ {C : Type 0} where
+  -- how many cells on the queues of a stream, and on those of a pair, pass a test
+  abbrev pub stream_weight : (C → Bool) → Stream C → ℕ
+  stream_weight p t = weight p t.head.queue.messages + weight p t.driver.queue.messages
+
+  abbrev pub state_weight : (C → Bool) → State C → ℕ
+  state_weight p s = stream_weight p s.master + stream_weight p s.slave
+
+  -- A side that isn't open has nothing for its readers. A head that is opened is as new, so else it could lose bytes.
+  pub record NothingUnread (s : State C) : Type 0 where
+    pub master : is_open s.master.opened ≡ false → s.master.head.queue.messages ≡ []
+    pub slave : is_open s.slave.opened ≡ false → s.slave.head.queue.messages ≡ []
+
+  -- the cells that a write on a side's stream takes: the first ones of its bytes
+  abbrev pub cells_taken : Cells C → Side → List ℕ → State C → List C
+  cells_taken cells side bytes s =
+      let dir = direction_from side in
+      let all = cells_written cells dir (book dir s).written bytes in
+      take (written all (stream side s).driver.queue).taken all
+
+  -- the cells that an entry brings: what a write takes
+  abbrev pub came : Cells C → State C → PlainEntry → List C
+  came cells s (Called caller (Write bytes) answer) = cells_taken cells caller.side bytes s
+  came cells s (Called caller (Read n) answer) = []
+  came cells s (Called caller OpenMaster answer) = []
+  came cells s (Called caller Unlock answer) = []
+  came cells s (Called caller OpenSlave answer) = []
+  came cells s (Turned name turn) = []
+
+  -- the cells that an entry takes away: what a read gives
+  abbrev pub gone : Cells C → State C → PlainEntry → List C
+  gone cells s (Called caller (Read n) answer) = (head_read (min n READ_MAX) (stream caller.side s).head.queue.messages).given
+  gone cells s (Called caller (Write bytes) answer) = []
+  gone cells s (Called caller OpenMaster answer) = []
+  gone cells s (Called caller Unlock answer) = []
+  gone cells s (Called caller OpenSlave answer) = []
+  gone cells s (Turned name turn) = []
