@@ -11,11 +11,11 @@ use Rattle.strm_types.specs.Names.{is_enabled}
 use Rattle.strm_types.specs.declared.events.Event.TheVariants as calls
 use Rattle.strm_types.specs.Calls.{Request, Reply}
 use Rattle.strm_types.specs.Refused.{or_else, unless, refused, refused_at_once, refused_by_state, blocks_asked}
-use Rattle.strm_types.specs.Script.{Command, Open, Unlock, OpenSlave, Write, Read, Turn as TurnOf, Run}
-use Rattle.strm_types.specs.ScriptReading.{Reading, Silent, Malformed, Spoken, reading}
-use Rattle.strm_types.specs.ScriptAnswers.{printed_line, reply_line, turn_line, Ran, Wrong}
-use Rattle.strm_types.specs.ScriptRun as script
-use Rattle.strm_types.specs.ScriptRun.{Supply, Enough, TooFew, next_of, rest_of, PlainPair, Happened, call_refusal, turn_refusal, call_happens, turn_happens, call_of, turn_of, is_short, is_enosr, turns_of, by_call, by_turn, by_run, by_open, answered, told_from, told_after, first_of, line_if, Told, new_plain}
+use Rattle.strm_run.specs.Script.{Command, Open, Unlock, OpenSlave, Write, Read, Turn as TurnOf, Run}
+use Rattle.strm_run.specs.ScriptReading.{Reading, Silent, Malformed, Spoken, reading}
+use Rattle.strm_run.specs.ScriptAnswers.{printed_line, reply_line, turn_line, Ran, Wrong}
+use Rattle.strm_run.specs.ScriptRun as script
+use Rattle.strm_run.specs.ScriptRun.{Supply, Enough, TooFew, next_of, rest_of, PlainPair, Happened, call_refusal, turn_refusal, call_happens, turn_happens, call_of, turn_of, is_short, is_enosr, turns_of, by_call, by_turn, by_run, by_open, answered, told_from, told_after, first_of, line_if, Told, new_plain}
 use Rattle.strm_run.proofs.Supplies.{is_want, call_happens-short, turn_happens-short, answered-enough}
 use Rattle.strm_run.proofs.Events.{turns_none, turns_err, turns_ok, turns_zero}
 

@@ -8,8 +8,8 @@ use Rattle.strm_types.specs.declared.names.Place.TheVariants.{Head, Ldterm, Driv
 use Rattle.strm_types.specs.declared.names.Way.{Way}
 use Rattle.strm_types.specs.declared.names.Way.TheVariants.{Up, Down}
 use Rattle.strm_types.specs.declared.names.QueueName.{QueueName}
-use Rattle.strm_types.specs.Script.{Command, Open, Unlock, OpenSlave, Write, Read, Turn, Run, side_name, place_name, way_name, queue_name, is_silent, IsSpelled}
-use Rattle.strm_types.specs.ScriptReading.{Silent, Malformed, Spoken, spoken, reading, either_of, and_then, after, at_end, whole, Front, before, number_in, text_in, side_in, place_in, way_in, queue_in, placed_in, sided_in, behind_side, open_in, unlock_in, slave_in, write_in, read_in, turn_in, run_in, command_in}
+use Rattle.strm_run.specs.Script.{Command, Open, Unlock, OpenSlave, Write, Read, Turn, Run, side_name, place_name, way_name, queue_name, is_silent, IsSpelled}
+use Rattle.strm_run.specs.ScriptReading.{Silent, Malformed, Spoken, spoken, reading, either_of, and_then, after, at_end, whole, Front, before, number_in, text_in, side_in, place_in, way_in, queue_in, placed_in, sided_in, behind_side, open_in, unlock_in, slave_in, write_in, read_in, turn_in, run_in, command_in}
 use Rattle.strm_run.proofs.Grammar.{and_then-found, option_map-found, after-found, number-found, number-only, text-found, text-only}
 
 -- the one or the other found it

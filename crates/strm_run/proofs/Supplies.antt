@@ -10,10 +10,10 @@ use Rattle.strm_types.specs.State.{State}
 use Rattle.strm_types.specs.declared.events.Event.TheVariants as calls
 use Rattle.strm_types.specs.Calls.{Request, Reply}
 use Rattle.strm_types.specs.Refused.{or_else, unless, refused_at_once, refused_by_state}
-use Rattle.strm_types.specs.Script.{Command, Open, Unlock, OpenSlave, Write, Read, Turn as TurnOf, Run}
-use Rattle.strm_types.specs.ScriptReading.{Reading, Silent, Malformed, Spoken, reading}
-use Rattle.strm_types.specs.ScriptRun as script
-use Rattle.strm_types.specs.ScriptRun.{Supply, Enough, TooFew, PlainPair, Happened, call_refusal, turn_refusal, call_happens, turn_happens, call_of, turn_of, is_short, is_enosr, turns_of, no_turns, counted, by_call, by_turn, by_run, by_open, answered, told_from, new_plain}
+use Rattle.strm_run.specs.Script.{Command, Open, Unlock, OpenSlave, Write, Read, Turn as TurnOf, Run}
+use Rattle.strm_run.specs.ScriptReading.{Reading, Silent, Malformed, Spoken, reading}
+use Rattle.strm_run.specs.ScriptRun as script
+use Rattle.strm_run.specs.ScriptRun.{Supply, Enough, TooFew, PlainPair, Happened, call_refusal, turn_refusal, call_happens, turn_happens, call_of, turn_of, is_short, is_enosr, turns_of, no_turns, counted, by_call, by_turn, by_run, by_open, answered, told_from, new_plain}
 use Rattle.strm_run.proofs.Events.{turns_none, turns_err, turns_ok, turns_zero}
 
 -- a refusal is for want of blocks

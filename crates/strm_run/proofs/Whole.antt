@@ -2,10 +2,10 @@
 use Rattle.std.proofs.Common.{◌≡◌, ℕ, suc, Bool, true, List, [], ◌∷◌, ◌++◌, Option, None, Some, Ok, Err, refl, sym, ap, ◌∙◌, append_assoc, append-nil, arith, inl, inr, subst, take}
 use Rattle.std.proofs.lemmas.Bool.Decides.{eqb_tells}
 use Rattle.std.specs.Io.KnownBytes.{Appends, Keeps, Consumes, IsAtEnd}
-use Rattle.strm_types.specs.Script.{lines_of, begun_with}
-use Rattle.strm_types.specs.ScriptReading.{Reading, Silent, Malformed as MalformedLine, Spoken, reading}
-use Rattle.strm_types.specs.ScriptAnswers.{printed_line, Wrong}
-use Rattle.strm_types.specs.ScriptRun.{Supply, PlainPair, Told, told_from, told, answered}
+use Rattle.strm_run.specs.Script.{lines_of, begun_with}
+use Rattle.strm_run.specs.ScriptReading.{Reading, Silent, Malformed as MalformedLine, Spoken, reading}
+use Rattle.strm_run.specs.ScriptAnswers.{printed_line, Wrong}
+use Rattle.strm_run.specs.ScriptRun.{Supply, PlainPair, Told, told_from, told, answered}
 use Rattle.strm_run.specs.Points.{Point, beginning, last_line, lines_behind, told_at, Shows, Says}
 use Rattle.strm_run.specs.Steps.{point_of, Ready, Took, Steps, Finishes, EndsInput}
 use Rattle.strm_run.specs.Output.{Writes}

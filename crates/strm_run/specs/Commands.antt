@@ -1,7 +1,7 @@
 -- The commands and readings of the code, as the definitions of script text have them.
 use Rattle.std.specs.Prelude.{Option, option_map}
-use Rattle.strm_types.specs.Script as script
-use Rattle.strm_types.specs.ScriptReading as readings
+use Rattle.strm_run.specs.Script as script
+use Rattle.strm_run.specs.ScriptReading as readings
 use Rattle.strm_run.specs.declared.commands.Command.{Command}
 use Rattle.strm_run.specs.declared.commands.Command.TheVariants.{Open, Unlock, OpenSlave, Write, Read, Turn, Run}
 use Rattle.strm_run.specs.declared.commands.Reading.{Reading}

@@ -1,9 +1,9 @@
 -- A whole run of a script: what was written for the bytes that were read, and how the run ended.
 use Rattle.std.specs.Prelude.{◌≡◌, ℕ, ◌≤◌, List, ◌++◌, Option, None, Some, IfSome, ◌-◌, take}
 use Rattle.std.specs.Io.KnownBytes.{Appends}
-use Rattle.strm_types.specs.Script.{lines_of}
-use Rattle.strm_types.specs.ScriptAnswers.{printed_line, Wrong}
-use Rattle.strm_types.specs.ScriptRun.{Supply, told, script_lines, plain_lines, plain_text}
+use Rattle.strm_run.specs.Script.{lines_of}
+use Rattle.strm_run.specs.ScriptAnswers.{printed_line, Wrong}
+use Rattle.strm_run.specs.ScriptRun.{Supply, told, script_lines, plain_lines, plain_text}
 
 -- a run that wrote the whole text, to the end of the input
 pub record IsWhole (account : List Supply) (bytes written : List ℕ) : Type 0 where

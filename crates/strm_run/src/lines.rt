@@ -1,9 +1,9 @@
 //! What a line of a script says. Each command has a reader of its own.
 
 ghost use Rattle.std.specs.Prelude.{◌≡◌, ◌≤◌, IfOk, length};
-ghost use Rattle.strm_types.specs.Script as script;
-ghost use Rattle.strm_types.specs.Script.{IsSpelled};
-ghost use Rattle.strm_types.specs.ScriptReading.{open_in, unlock_in, slave_in, write_in, read_in, turn_in, run_in, command_in, reading, Spoken};
+ghost use Rattle.strm_run.specs.Script as script;
+ghost use Rattle.strm_run.specs.Script.{IsSpelled};
+ghost use Rattle.strm_run.specs.ScriptReading.{open_in, unlock_in, slave_in, write_in, read_in, turn_in, run_in, command_in, reading, Spoken};
 ghost use Rattle.strm_run.specs.Commands.{commands_of, reading_of};
 
 use crate::commands::{Command, Reading};
@@ -16,7 +16,7 @@ use std::alloc::{AllocError, Global};
 pub const LINE_MAX: usize = 4096;
 
 /// `open`, or `open N`.
-#[tactic(auto, unfolding(strm_types::specs::ScriptReading::open_in))]
+#[tactic(auto, unfolding(crate::specs::ScriptReading::open_in))]
 fn open(line: &[u8]) -> Option<Command>
     ensures { commands_of result ≡ open_in line.now }
 {
@@ -32,7 +32,7 @@ fn open(line: &[u8]) -> Option<Command>
 }
 
 /// `unlock`.
-#[tactic(auto, unfolding(strm_types::specs::ScriptReading::unlock_in))]
+#[tactic(auto, unfolding(crate::specs::ScriptReading::unlock_in))]
 fn unlock(line: &[u8]) -> Option<Command>
     ensures { commands_of result ≡ unlock_in line.now }
 {
@@ -43,7 +43,7 @@ fn unlock(line: &[u8]) -> Option<Command>
 }
 
 /// `slave`.
-#[tactic(auto, unfolding(strm_types::specs::ScriptReading::slave_in))]
+#[tactic(auto, unfolding(crate::specs::ScriptReading::slave_in))]
 fn slave(line: &[u8]) -> Option<Command>
     ensures { commands_of result ≡ slave_in line.now }
 {
@@ -54,7 +54,7 @@ fn slave(line: &[u8]) -> Option<Command>
 }
 
 /// `write X TEXT`.
-#[tactic(auto, unfolding(strm_types::specs::ScriptReading::write_in))]
+#[tactic(auto, unfolding(crate::specs::ScriptReading::write_in))]
 fn write(alloc: Global, line: &[u8]) -> Result<Option<Command>, AllocError>
     ensures { IfOk result (λ found. commands_of found ≡ write_in line.now) }
 {
@@ -74,7 +74,7 @@ fn write(alloc: Global, line: &[u8]) -> Result<Option<Command>, AllocError>
 }
 
 /// `read X N`.
-#[tactic(auto, unfolding(strm_types::specs::ScriptReading::read_in))]
+#[tactic(auto, unfolding(crate::specs::ScriptReading::read_in))]
 fn read(line: &[u8]) -> Option<Command>
     ensures { commands_of result ≡ read_in line.now }
 {
@@ -84,7 +84,7 @@ fn read(line: &[u8]) -> Option<Command>
 }
 
 /// `turn QUEUE`.
-#[tactic(auto, unfolding(strm_types::specs::ScriptReading::turn_in))]
+#[tactic(auto, unfolding(crate::specs::ScriptReading::turn_in))]
 fn turn(line: &[u8]) -> Option<Command>
     ensures { commands_of result ≡ turn_in line.now }
 {
@@ -93,7 +93,7 @@ fn turn(line: &[u8]) -> Option<Command>
 }
 
 /// `run N`.
-#[tactic(auto, unfolding(strm_types::specs::ScriptReading::run_in))]
+#[tactic(auto, unfolding(crate::specs::ScriptReading::run_in))]
 fn run(line: &[u8]) -> Option<Command>
     ensures { commands_of result ≡ run_in line.now }
 {
@@ -102,7 +102,7 @@ fn run(line: &[u8]) -> Option<Command>
 }
 
 /// The command that a line spells.
-#[tactic(auto, unfolding(strm_types::specs::ScriptReading::command_in))]
+#[tactic(auto, unfolding(crate::specs::ScriptReading::command_in))]
 fn command(alloc: Global, line: &[u8]) -> Result<Option<Command>, AllocError>
     ensures { IfOk result (λ found. commands_of found ≡ command_in line.now) }
 {
@@ -128,7 +128,7 @@ fn command(alloc: Global, line: &[u8]) -> Result<Option<Command>, AllocError>
 }
 
 /// What a line says, by its length, its first byte and its command.
-#[tactic(auto, unfolding(strm_types::specs::ScriptReading::reading))]
+#[tactic(auto, unfolding(crate::specs::ScriptReading::reading))]
 fn said(alloc: Global, line: &[u8]) -> Result<Reading, AllocError>
     ensures { IfOk result (λ found. reading_of found ≡ reading line.now) }
 {

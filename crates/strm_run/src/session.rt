@@ -2,8 +2,8 @@
 
 ghost use Rattle.std.specs.Prelude.{◌≡◌, ℕ, List, false, Some, None, IfOk, OnErr, option_map};
 ghost use Rattle.strm_types.specs.Calls.{request};
-ghost use Rattle.strm_types.specs.ScriptAnswers as script;
-ghost use Rattle.strm_types.specs.ScriptRun.{by_call, by_turn, by_run, by_open, answered, unanswered, script_limits, is_enosr};
+ghost use Rattle.strm_run.specs.ScriptAnswers as script;
+ghost use Rattle.strm_run.specs.ScriptRun.{by_call, by_turn, by_run, by_open, answered, unanswered, script_limits, is_enosr};
 ghost use Rattle.strm_run.specs.Commands.{command_of};
 ghost use Rattle.strm_run.specs.Plain.{plain};
 ghost use Rattle.strm_run.specs.Outcomes.{LeadsTo};

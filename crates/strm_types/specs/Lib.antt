@@ -14,8 +14,4 @@ pub mod Refused
 pub mod Journal
 pub mod Step
 pub mod Pair
-pub mod Script
-pub mod ScriptReading
-pub mod ScriptAnswers
-pub mod ScriptRun
 pub mod Numbers

@@ -1,6 +1,6 @@
 use Rattle.std.proofs.Common.{◌≡◌, ℕ, List, Option, None, ap, sym, refl, ◌∙◌, unwrap_or, option_map}
 use Rattle.std.proofs.lemmas.Result.{IfOk-weaker}
-use Rattle.strm_types.specs.ScriptRun.{Supply, PlainPair, answered, unanswered, by_open}
+use Rattle.strm_run.specs.ScriptRun.{Supply, PlainPair, answered, unanswered, by_open}
 use Rattle.strm_types.specs.declared.refusals.Refusal.TheVariants.{Enxio}
 use Rattle.strm_run.specs.Commands.{command_of}
 use Rattle.strm_types.specs.Pair.{PairState}

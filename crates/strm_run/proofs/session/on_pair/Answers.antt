@@ -1,5 +1,5 @@
 use Rattle.std.proofs.Common.{◌≡◌, ℕ, List, Option, ap, sym, refl}
-use Rattle.strm_types.specs.ScriptRun.{PlainPair, answered}
+use Rattle.strm_run.specs.ScriptRun.{PlainPair, answered}
 use Rattle.strm_types.specs.declared.refusals.Refusal.TheVariants.{Einval}
 use Rattle.strm_run.specs.Commands.{command_of}
 use Rattle.strm_run.specs.Outcomes.{LeadsTo}

@@ -15,9 +15,9 @@ use Rattle.strm_types.specs.Turns.{turned, whole_turn}
 use Rattle.strm_types.specs.Calls.{Request, Reply, called}
 use Rattle.strm_types.specs.Journal.{PlainEntry}
 use Rattle.strm_types.specs.Refused.{refused, turn_refused, blocks_asked}
-use Rattle.strm_types.specs.Script.{Command, Open, Unlock, OpenSlave, Write, Read, Turn as TurnOf, Run, lines_of}
-use Rattle.strm_types.specs.ScriptReading.{Silent, Malformed, Spoken, reading}
-use Rattle.strm_types.specs.ScriptAnswers.{Line, Refused, Wrong, Ran, printed_line, reply_line, turn_line}
+use Rattle.strm_run.specs.Script.{Command, Open, Unlock, OpenSlave, Write, Read, Turn as TurnOf, Run, lines_of}
+use Rattle.strm_run.specs.ScriptReading.{Silent, Malformed, Spoken, reading}
+use Rattle.strm_run.specs.ScriptAnswers.{Line, Refused, Wrong, Ran, printed_line, reply_line, turn_line}
 
 -- What the pool of blocks had for an event. An account says it of each call and each turn of a script, in their order;
 -- behind its end the pool has enough.

@@ -8,7 +8,7 @@ use Rattle.strm_types.specs.declared.names.Way.TheVariants.{Up, Down}
 use Rattle.strm_types.specs.declared.names.Place.{Place}
 use Rattle.strm_types.specs.declared.names.Place.TheVariants.{Head, Ldterm, Driver}
 use Rattle.strm_types.specs.declared.names.QueueName.{QueueName}
-use Rattle.strm_types.specs.Script.{Command, Open, Unlock, OpenSlave, Write, Read, Turn, Run, line_max, number_max, digit_of, hex_of, escaped, is_silent}
+use Rattle.strm_run.specs.Script.{Command, Open, Unlock, OpenSlave, Write, Read, Turn, Run, line_max, number_max, digit_of, hex_of, escaped, is_silent}
 
 -- what a line says
 pub data Reading : Type 0 where
