@@ -3,7 +3,7 @@
 ghost use Rattle.std.specs.Prelude.{◌≡◌, ◌≤◌, IfOk, length};
 ghost use Rattle.strm_run.specs.Script as script;
 ghost use Rattle.strm_run.specs.Script.{IsSpelled};
-ghost use Rattle.strm_run.specs.ScriptReading.{open_in, unlock_in, slave_in, write_in, read_in, turn_in, run_in, command_in, reading, Spoken};
+ghost use Rattle.strm_run.specs.ScriptReading.{open_in, named_in, write_in, read_in, turn_in, run_in, command_in, reading, Spoken};
 ghost use Rattle.strm_run.specs.Commands.{commands_of, reading_of};
 
 use crate::commands::{Command, Reading};
@@ -11,6 +11,7 @@ use crate::numbers::number;
 use crate::texts::text;
 use crate::words::{after, queue, side};
 use std::alloc::{AllocError, Global};
+use strm_types::{Event, Side};
 
 /// The most bytes of a line, without its LF.
 pub const LINE_MAX: usize = 4096;
@@ -31,26 +32,17 @@ fn open(line: &[u8]) -> Option<Command>
     }
 }
 
-/// `unlock`.
-#[tactic(auto, unfolding(crate::specs::ScriptReading::unlock_in))]
-fn unlock(line: &[u8]) -> Option<Command>
-    ensures { commands_of result ≡ unlock_in line.now }
+/// A call that is spelled by its name alone: `unlock`, `slave`.
+#[tactic(auto, unfolding(crate::specs::ScriptReading::named_in))]
+fn named(line: &[u8]) -> Option<Command>
+    ensures { commands_of result ≡ named_in line.now }
 {
-    match line {
-        b"unlock" => Some(Command::Unlock),
-        _ => None,
-    }
-}
-
-/// `slave`.
-#[tactic(auto, unfolding(crate::specs::ScriptReading::slave_in))]
-fn slave(line: &[u8]) -> Option<Command>
-    ensures { commands_of result ≡ slave_in line.now }
-{
-    match line {
-        b"slave" => Some(Command::OpenSlave),
-        _ => None,
-    }
+    let (side, event) = match line {
+        b"unlock" => (Side::Master, Event::Unlock),
+        b"slave" => (Side::Slave, Event::OpenSlave),
+        _ => return None,
+    };
+    Some(Command::Call { side, event })
 }
 
 /// `write X TEXT`.
@@ -68,7 +60,10 @@ fn write(alloc: Global, line: &[u8]) -> Result<Option<Command>, AllocError>
         return Ok(None);
     };
     match text(alloc, rest)? {
-        Some(bytes) => Ok(Some(Command::Write { side, bytes })),
+        Some(bytes) => {
+            let event = Event::Write { bytes };
+            Ok(Some(Command::Call { side, event }))
+        }
         None => Ok(None),
     }
 }
@@ -80,7 +75,8 @@ fn read(line: &[u8]) -> Option<Command>
 {
     let (side, rest) = side(after(line, b"read ")?)?;
     let n = number(after(rest, b" ")?)?;
-    Some(Command::Read { side, n })
+    let event = Event::Read { n };
+    Some(Command::Call { side, event })
 }
 
 /// `turn QUEUE`.
@@ -109,10 +105,7 @@ fn command(alloc: Global, line: &[u8]) -> Result<Option<Command>, AllocError>
     if let Some(command) = open(line) {
         return Ok(Some(command));
     }
-    if let Some(command) = unlock(line) {
-        return Ok(Some(command));
-    }
-    if let Some(command) = slave(line) {
+    if let Some(command) = named(line) {
         return Ok(Some(command));
     }
     if let Some(command) = write(alloc, line)? {
