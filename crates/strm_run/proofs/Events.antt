@@ -16,7 +16,7 @@ use Rattle.strm_types.specs.Turns.{TurnOutcome, turned, turned_at, whole_turn}
 use Rattle.strm_types.specs.Names.{without}
 use Rattle.strm_types.specs.declared.answers.Answer.TheVariants as answers
 use Rattle.strm_types.specs.Calls.{Request, Reply, map_answer}
-use Rattle.strm_types.specs.Journal.{PlainEntry, reply_in, answer_len}
+use Rattle.strm_types.specs.Journal.{reply_in, answer_len}
 use Rattle.std.proofs.Math.Seq.{take-length}
 use Rattle.strm_types.specs.Refused.{Free, enough, blocks_asked}
 use Rattle.strm_types.specs.Pair.{PairState, call_refused, queue_refused, AddsEntry}

@@ -8,7 +8,7 @@ use Rattle.strm_types.specs.declared.refusals.Refusal.{Refusal}
 use Rattle.strm_types.specs.declared.refusals.Refusal.TheVariants.{Einval, Eagain, Enxio, JournalFull}
 use Rattle.strm_types.specs.State.{State}
 use Rattle.strm_types.specs.declared.events.Event.TheVariants as calls
-use Rattle.strm_types.specs.Calls.{Request, Reply}
+use Rattle.strm_types.specs.Calls.{Request}
 use Rattle.strm_types.specs.Refused.{or_else, unless, refused_at_once, refused_by_state}
 use Rattle.strm_run.specs.Script.{Command, Open, Call, Turn as TurnOf, Run}
 use Rattle.strm_run.specs.ScriptReading.{Reading, Silent, Malformed, Spoken, reading}

@@ -1,5 +1,5 @@
 -- What a script writes: its answers, in the order of its lines.
-use Rattle.std.specs.Prelude.{ℕ, zero, suc, ◌+◌, nat_le, ◌&&◌, ◌||◌, ◌==◌, Bool, true, false, if◌then◌else◌, List, [], ◌∷◌, ◌++◌, length, Option, None, Some, Result, Ok, Err, unwrap_or, slice_get}
+use Rattle.std.specs.Prelude.{ℕ, zero, suc, nat_le, ◌&&◌, ◌||◌, ◌==◌, Bool, true, false, if◌then◌else◌, List, [], ◌∷◌, ◌++◌, Option, None, Some, Result, Ok, Err, unwrap_or, slice_get}
 use Rattle.strm_types.specs.declared.limits.Config.{Config}
 use Rattle.strm_types.specs.declared.answers.Turn.{Turn}
 use Rattle.strm_types.specs.declared.events.Caller.{Caller}

@@ -23,5 +23,5 @@ use std::process::ExitCode;
 /// Runs the script on standard input, and ends with its status. Arguments are ignored.
 fn main(rt: HostRuntime) -> ExitCode {
     let end = run_script(rt.alloc(), &mut rt.reader(), &mut io::writer(&rt));
-    ExitCode::from(end.status)
+    ExitCode::from(end.status.number())
 }
