@@ -1,8 +1,8 @@
 -- What the engine's parts do, joined.
 use Rattle.std.proofs.Common.{◌≡◌, ℕ, suc, ◌≤◌, List, [], ◌∷◌, ◌++◌, length, None, Some, Result, Ok, Err, sym, ap, ◌∙◌, append_assoc, append-nil, inl, inr, OnOk}
-use Rattle.strm_types.specs.Script.{Command}
-use Rattle.strm_types.specs.ScriptReading.{reading, Malformed as MalformedLine, Spoken}
-use Rattle.strm_types.specs.ScriptAnswers.{printed_line, Wrong}
+use Rattle.strm_run.specs.Script.{Command}
+use Rattle.strm_run.specs.ScriptReading.{reading, Malformed as MalformedLine, Spoken}
+use Rattle.strm_run.specs.ScriptAnswers.{printed_line, Wrong}
 use Rattle.strm_run.specs.Lines.{line_of}
 use Rattle.strm_run.specs.Steps.{pair_of, point_of, Refused, Obeyed, Took, Fails, Steps, AnswersLine, Finishes, EndsInput}
 use Rattle.strm_run.specs.declared.engine.Engine.{Engine}

@@ -16,13 +16,13 @@ use Rattle.strm_types.specs.Turns.{TurnOutcome, turned, turned_at, whole_turn}
 use Rattle.strm_types.specs.Names.{without}
 use Rattle.strm_types.specs.declared.answers.Answer.TheVariants as answers
 use Rattle.strm_types.specs.Calls.{Request, Reply, map_answer}
-use Rattle.strm_types.specs.Journal.{PlainEntry, reply_in, answer_len}
+use Rattle.strm_types.specs.Journal.{reply_in, answer_len}
 use Rattle.std.proofs.Math.Seq.{take-length}
 use Rattle.strm_types.specs.Refused.{Free, enough, blocks_asked}
 use Rattle.strm_types.specs.Pair.{PairState, call_refused, queue_refused, AddsEntry}
-use Rattle.strm_types.specs.ScriptAnswers.{Ran, reply_line, turn_line}
-use Rattle.strm_types.specs.ScriptRun as script
-use Rattle.strm_types.specs.ScriptRun.{Supply, Enough, TooFew, is_enough, PlainPair, Happened, call_refusal, turn_refusal, call_happens, turn_happens, call_of, turn_of, is_short, is_enosr, Turns, no_turns, counted, turns_of, by_call, by_turn, by_run, by_open, unanswered, new_plain, next_of, rest_of}
+use Rattle.strm_run.specs.ScriptAnswers.{Ran, reply_line, turn_line}
+use Rattle.strm_run.specs.ScriptRun as script
+use Rattle.strm_run.specs.ScriptRun.{Supply, Enough, TooFew, is_enough, PlainPair, Happened, call_refusal, turn_refusal, call_happens, turn_happens, call_of, turn_of, is_short, is_enosr, Turns, no_turns, counted, turns_of, by_call, by_turn, by_run, by_open, unanswered, new_plain, next_of, rest_of}
 use Rattle.std.proofs.lemmas.Bool.{le-leb, lt-leb}
 use Rattle.std.proofs.lemmas.Bool.Decides.{nat_tests}
 use Rattle.strm_types.specs.declared.events.Event.TheVariants as calls

@@ -2,9 +2,9 @@
 use Rattle.std.proofs.Common.{◌≡◌, ℕ, ◌+◌, ◌*◌, ◌≤◌, false, eqb, leb, ltb, List, [], ◌∷◌, ◌++◌, length, Option, None, Some, option_map, refl, arith, sym, ap, ◌∙◌, inl, inr, append_assoc, codes, subst, ◌&&◌}
 use Rattle.std.proofs.lemmas.Bool.{cond-true, cond-false, eq-eqb, ne_eqb, leb-true, le-leb, lt-ltb, ltb-true, cases_Bool, and_parts}
 use Rattle.std.proofs.lemmas.Bool.Decides.{eqb_tells, leb_tells}
-use Rattle.strm_types.specs.Script.{digit_of, hex_of, escaped, HasValue, IsNumber, IsPiece, Itself, Named, Coded, IsText}
-use Rattle.strm_types.specs.ScriptReading as readings
-use Rattle.strm_types.specs.ScriptReading.{and_then, after, at_end, whole, Front, before, number_from, number_in, Mode, moved_by, with_front, text_from, text_in}
+use Rattle.strm_run.specs.Script.{digit_of, hex_of, escaped, HasValue, IsNumber, IsPiece, Itself, Named, Coded, IsText}
+use Rattle.strm_run.specs.ScriptReading as readings
+use Rattle.strm_run.specs.ScriptReading.{and_then, after, at_end, whole, Front, before, number_from, number_in, Mode, moved_by, with_front, text_from, text_in}
 use Rattle.strm_run.proofs.Readings.{number_none, number_over, number_more, text_breaks, text_goes, text_gives}
 
 -- what the second step found, behind the first

@@ -1,9 +1,9 @@
 -- Known bytes of readers and writers, one call after another.
-use Rattle.std.proofs.Common.{◌≡◌, ℕ, List, [], ◌++◌, Option, None, Some, refl, sym, ap, ◌∙◌, append_assoc, append-nil, take, drop, Bool, true, false, ◌+◌, ◌-◌, ◌≤◌, length, arith, length-drop, subst}
-use Rattle.std.proofs.lemmas.Bool.{false≢true}
-use Rattle.std.proofs.lemmas.List.{take-append-drop, take_rest}
+use Rattle.std.proofs.Common.{◌≡◌, ℕ, List, [], ◌++◌, Option, None, Some, refl, sym, ap, ◌∙◌, append_assoc, append-nil, take, drop, Bool, true, false, ◌+◌, ◌-◌, ◌<◌, ◌≤◌, length, arith, length-drop, subst, inl, inr}
+use Rattle.std.proofs.lemmas.Bool.{cases_Bool}
+use Rattle.std.proofs.lemmas.List.{take-append-drop, take_rest, nil_from_length}
 use Rattle.std.proofs.Math.Seq.{take-add}
-use Rattle.strm_run.specs.Output.{Writes}
+use Rattle.strm_run.specs.Output.{WritesOut}
 use Rattle.std.specs.Io.KnownBytes.{Appends, Keeps, Consumes}
 
 pub Appends-none : (a : Option (List ℕ)) → Appends a a []
@@ -38,16 +38,6 @@ Consumes-kept (Some xs) None c x f g = absurd f
 Consumes-kept (Some xs) (Some ys) None x f g = absurd g
 Consumes-kept (Some xs) (Some ys) (Some zs) x f g = f ∙ ap (λ k. x ++ k) (sym g)
 
--- the front of some bytes is written
-pub Writes-front : (w0 w1 : Option (List ℕ)) (bytes : List ℕ) (n : ℕ) → Appends w0 w1 (take n bytes) → Writes w0 w1 bytes false
-Writes-front w0 w1 bytes n x = record {
-  front = take n bytes;
-  rest = drop n bytes;
-  appends = x;
-  bytes_are = sym (take-append-drop n bytes);
-  all = λ e. absurd (false≢true e);
-}
-
 pub Appends-at : (w0 w1 : Option (List ℕ)) (x y : List ℕ) → x ≡ y → Appends w0 w1 x → Appends w0 w1 y
 Appends-at w0 w1 x y e h = subst (λ k. Appends w0 w1 k) e h
 
@@ -56,17 +46,21 @@ pub Appends-more : (w0 w1 w2 : Option (List ℕ)) (bytes : List ℕ) (n k : ℕ)
 Appends-more w0 w1 w2 bytes n k x y =
     Appends-at w0 w2 _ _ (sym (take-add n k bytes)) (Appends-join w0 w1 w2 (take n bytes) (take k (drop n bytes)) x y)
 
--- all is written
-pub Writes-all : (w0 w1 : Option (List ℕ)) (bytes : List ℕ) (well : Bool) → Appends w0 w1 bytes → Writes w0 w1 bytes well
-Writes-all w0 w1 bytes well x = record { front = bytes; rest = []; appends = x; bytes_are = sym (append-nil bytes); all = λ e. refl }
-
-pub Writes-kept : (w0 w1 w2 : Option (List ℕ)) (bytes : List ℕ) (well last : Bool) → Writes w0 w1 bytes well → Keeps w1 w2 → (last ≡ true → well ≡ true) → Writes w0 w2 bytes last
-Writes-kept w0 w1 w2 bytes well last x k e = record {
-  front = x.front;
-  rest = x.rest;
-  appends = Appends-kept w0 w1 w2 x.front x.appends k;
-  bytes_are = x.bytes_are;
-  all = λ h. x.all (e h);
+-- so many of some bytes are written, and it went well where these are all
+pub WritesOut-at : (w0 w1 : Option (List ℕ)) (bytes : List ℕ) (n : ℕ) (well : Bool) → Appends w0 w1 (take n bytes)
+    → (well ≡ true → length bytes ≤ n) → (well ≡ false → n < length bytes) → WritesOut w0 w1 bytes well
+WritesOut-at w0 w1 bytes n well x all left = record {
+  writes = record {
+    front = take n bytes;
+    rest = drop n bytes;
+    appends = x;
+    bytes_are = sym (take-append-drop n bytes);
+    all = λ e. nil_from_length (drop n bytes) (omega (arith, all e, length-drop n bytes));
+  };
+  left = λ none. elim (cases_Bool well) [
+    | inl e ↦ e
+    | inr e ↦ absurd (omega (arith, left e, ap length none, length-drop n bytes))
+  ];
 }
 
 -- the bytes behind a place, as a slice has them

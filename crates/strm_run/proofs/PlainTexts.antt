@@ -6,16 +6,16 @@ use Rattle.strm_types.specs.declared.events.Caller.{Caller}
 use Rattle.strm_types.specs.declared.names.QueueName.{QueueName}
 use Rattle.strm_types.specs.declared.refusals.Refusal.{Refusal}
 use Rattle.strm_types.specs.declared.refusals.Refusal.TheVariants.{Einval, Enosr}
-use Rattle.strm_types.specs.declared.names.Side.TheVariants.{Master, Slave}
+use Rattle.strm_types.specs.declared.names.Side.TheVariants.{Master}
 use Rattle.strm_types.specs.Names.{is_enabled}
 use Rattle.strm_types.specs.declared.events.Event.TheVariants as calls
 use Rattle.strm_types.specs.Calls.{Request, Reply}
 use Rattle.strm_types.specs.Refused.{or_else, unless, refused, refused_at_once, refused_by_state, blocks_asked}
-use Rattle.strm_types.specs.Script.{Command, Open, Unlock, OpenSlave, Write, Read, Turn as TurnOf, Run}
-use Rattle.strm_types.specs.ScriptReading.{Reading, Silent, Malformed, Spoken, reading}
-use Rattle.strm_types.specs.ScriptAnswers.{printed_line, reply_line, turn_line, Ran, Wrong}
-use Rattle.strm_types.specs.ScriptRun as script
-use Rattle.strm_types.specs.ScriptRun.{Supply, Enough, TooFew, next_of, rest_of, PlainPair, Happened, call_refusal, turn_refusal, call_happens, turn_happens, call_of, turn_of, is_short, is_enosr, turns_of, by_call, by_turn, by_run, by_open, answered, told_from, told_after, first_of, line_if, Told, new_plain}
+use Rattle.strm_run.specs.Script.{Command, Open, Call, Turn as TurnOf, Run}
+use Rattle.strm_run.specs.ScriptReading.{Reading, Silent, Malformed, Spoken, reading}
+use Rattle.strm_run.specs.ScriptAnswers.{printed_line, reply_line, turn_line, Ran, Wrong}
+use Rattle.strm_run.specs.ScriptRun as script
+use Rattle.strm_run.specs.ScriptRun.{Supply, Enough, TooFew, next_of, rest_of, PlainPair, Happened, call_refusal, turn_refusal, call_happens, turn_happens, call_of, turn_of, is_short, is_enosr, turns_of, by_call, by_turn, by_run, by_open, answered, told_from, told_after, first_of, line_if, Told, new_plain}
 use Rattle.strm_run.proofs.Supplies.{is_want, call_happens-short, turn_happens-short, answered-enough}
 use Rattle.strm_run.proofs.Events.{turns_none, turns_err, turns_ok, turns_zero}
 
@@ -113,14 +113,8 @@ answered-same : (command : Command) (account : List Supply) (pair : Option Plain
 unfolding answered by_call by_turn by_run
 answered-same (Open blocks) account None h = open-same (unwrap_or blocks 256) account h
 answered-same (Open blocks) account (Some p) h = record { line = refl; pair = refl }
-answered-same Unlock account None h = record { line = refl; pair = refl }
-answered-same Unlock account (Some p) h = call_answer Enough p (record { side = Master }) calls.Unlock account h
-answered-same OpenSlave account None h = record { line = refl; pair = refl }
-answered-same OpenSlave account (Some p) h = call_answer Enough p (record { side = Slave }) calls.OpenSlave account h
-answered-same (Write side bytes) account None h = record { line = refl; pair = refl }
-answered-same (Write side bytes) account (Some p) h = call_answer Enough p (record { side = side }) (calls.Write bytes) account h
-answered-same (Read side n) account None h = record { line = refl; pair = refl }
-answered-same (Read side n) account (Some p) h = call_answer Enough p (record { side = side }) (calls.Read n) account h
+answered-same (Call side asked) account None h = record { line = refl; pair = refl }
+answered-same (Call side asked) account (Some p) h = call_answer Enough p (record { side = side }) asked account h
 answered-same (TurnOf name) account None h = record { line = refl; pair = refl }
 answered-same (TurnOf name) account (Some p) h =
     let same = turn-same (next_of account) p name h in

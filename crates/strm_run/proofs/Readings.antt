@@ -3,8 +3,8 @@ use Rattle.std.proofs.Common.{◌≡◌, ℕ, ◌+◌, ◌*◌, ◌<◌, ◌≤�
 use Rattle.std.proofs.lemmas.List.{at_drop_more, at_drop_all}
 use Rattle.std.proofs.lemmas.Bool.Decides.{nat_tests, eqb_tells}
 use Rattle.std.proofs.lemmas.Bool.{cond-true, cond-false, eq-eqb}
-use Rattle.strm_types.specs.Script.{digit_of}
-use Rattle.strm_types.specs.ScriptReading.{after, number_from, Mode, Inside, Breaks, Goes, Gives, moved_by, text_from, with_front, is_closed}
+use Rattle.strm_run.specs.Script.{digit_of}
+use Rattle.strm_run.specs.ScriptReading.{after, number_from, Mode, Inside, Breaks, Goes, Gives, moved_by, text_from, with_front, is_closed}
 
 -- a word that stands at the front, and one that doesn't
 pub after_front : (word line : List ℕ) → take (length word) line ≡ word → after word line ≡ Some (drop (length word) line)

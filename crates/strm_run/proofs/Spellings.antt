@@ -8,8 +8,9 @@ use Rattle.strm_types.specs.declared.names.Place.TheVariants.{Head, Ldterm, Driv
 use Rattle.strm_types.specs.declared.names.Way.{Way}
 use Rattle.strm_types.specs.declared.names.Way.TheVariants.{Up, Down}
 use Rattle.strm_types.specs.declared.names.QueueName.{QueueName}
-use Rattle.strm_types.specs.Script.{Command, Open, Unlock, OpenSlave, Write, Read, Turn, Run, side_name, place_name, way_name, queue_name, is_silent, IsSpelled}
-use Rattle.strm_types.specs.ScriptReading.{Silent, Malformed, Spoken, spoken, reading, either_of, and_then, after, at_end, whole, Front, before, number_in, text_in, side_in, place_in, way_in, queue_in, placed_in, sided_in, behind_side, open_in, unlock_in, slave_in, write_in, read_in, turn_in, run_in, command_in}
+use Rattle.strm_types.specs.declared.events.Event.TheVariants.{OpenMaster, Unlock, OpenSlave, Write, Read}
+use Rattle.strm_run.specs.Script.{Command, Open, Call, Turn, Run, side_name, place_name, way_name, queue_name, is_silent, IsSpelled}
+use Rattle.strm_run.specs.ScriptReading.{Silent, Malformed, Spoken, spoken, reading, either_of, and_then, after, at_end, whole, Front, before, number_in, text_in, side_in, place_in, way_in, queue_in, placed_in, sided_in, behind_side, open_in, named_in, write_in, read_in, turn_in, run_in, command_in}
 use Rattle.strm_run.proofs.Grammar.{and_then-found, option_map-found, after-found, number-found, number-only, text-found, text-only}
 
 -- the one or the other found it
@@ -131,20 +132,19 @@ open-found line command h = elim (either-found _ _ command h) [
       (digits.value, number-found digits.value n.value n.first, after-found (codes "open ") line digits.value digits.first)
 ]
 
-unlock-found : (line : List ℕ) (command : Command) → unlock_in line ≡ Some command → IsSpelled command line
-unfolding unlock_in
-unlock-found line command h = let w = whole-found (codes "unlock") Unlock command line h in subst (λ c. IsSpelled c line) w.0 w.1
-
-slave-found : (line : List ℕ) (command : Command) → slave_in line ≡ Some command → IsSpelled command line
-unfolding slave_in
-slave-found line command h = let w = whole-found (codes "slave") OpenSlave command line h in subst (λ c. IsSpelled c line) w.0 w.1
+named-found : (line : List ℕ) (command : Command) → named_in line ≡ Some command → IsSpelled command line
+unfolding named_in
+named-found line command h = elim (either-found _ _ command h) [
+  | inl a ↦ let w = whole-found (codes "unlock") (Call Master Unlock) command line a in subst (λ c. IsSpelled c line) w.0 (refl, w.1)
+  | inr b ↦ let w = whole-found (codes "slave") (Call Slave OpenSlave) command line b in subst (λ c. IsSpelled c line) w.0 (refl, w.1)
+]
 
 write-found : (line : List ℕ) (command : Command) → write_in line ≡ Some command → IsSpelled command line
 unfolding write_in
 write-found line command h =
-    let rest = and_then-found (behind_side (λ side rest. option_map (λ text. Write side text) (text_in rest))) (after (codes "write ") line) command h in
-    let side = behind-found (λ side rest. option_map (λ text. Write side text) (text_in rest)) rest.value command rest.second in
-    let text = option_map-found (λ text. Write side.0 text) (text_in side.1) command side.3 in
+    let rest = and_then-found (behind_side (λ side rest. option_map (λ text. Call side (Write text)) (text_in rest))) (after (codes "write ") line) command h in
+    let side = behind-found (λ side rest. option_map (λ text. Call side (Write text)) (text_in rest)) rest.value command rest.second in
+    let text = option_map-found (λ text. Call side.0 (Write text)) (text_in side.1) command side.3 in
     let spelled = text-found side.1 text.value text.first in
     subst (λ c. IsSpelled c line) text.second (
       spelled.0,
@@ -157,9 +157,9 @@ write-found line command h =
 read-found : (line : List ℕ) (command : Command) → read_in line ≡ Some command → IsSpelled command line
 unfolding read_in
 read-found line command h =
-    let rest = and_then-found (behind_side (λ side rest. option_map (λ n. Read side n) (number_in rest))) (after (codes "read ") line) command h in
-    let side = behind-found (λ side rest. option_map (λ n. Read side n) (number_in rest)) rest.value command rest.second in
-    let n = option_map-found (λ n. Read side.0 n) (number_in side.1) command side.3 in
+    let rest = and_then-found (behind_side (λ side rest. option_map (λ n. Call side (Read n)) (number_in rest))) (after (codes "read ") line) command h in
+    let side = behind-found (λ side rest. option_map (λ n. Call side (Read n)) (number_in rest)) rest.value command rest.second in
+    let n = option_map-found (λ n. Call side.0 (Read n)) (number_in side.1) command side.3 in
     subst (λ c. IsSpelled c line) n.second (
       side.1,
       number-found side.1 n.value n.first,
@@ -188,53 +188,41 @@ unfolding command_in
 command-found line command h = elim (either-found _ _ command h) [
   | inl a ↦ open-found line command a
   | inr b ↦ elim (either-found _ _ command b) [
-    | inl a ↦ unlock-found line command a
+    | inl a ↦ named-found line command a
     | inr b ↦ elim (either-found _ _ command b) [
-      | inl a ↦ slave-found line command a
+      | inl a ↦ write-found line command a
       | inr b ↦ elim (either-found _ _ command b) [
-        | inl a ↦ write-found line command a
+        | inl a ↦ read-found line command a
         | inr b ↦ elim (either-found _ _ command b) [
-          | inl a ↦ read-found line command a
-          | inr b ↦ elim (either-found _ _ command b) [
-            | inl a ↦ turn-found line command a
-            | inr b ↦ run-found line command b
-          ]
+          | inl a ↦ turn-found line command a
+          | inr b ↦ run-found line command b
         ]
       ]
     ]
   ]
 ]
 
--- each command is read where it is spelled
-command-only : (command : Command) (line : List ℕ) → IsSpelled command line → command_in line ≡ Some command
-unfolding command_in open_in unlock_in slave_in write_in read_in turn_in run_in side_in
-command-only (Open None) line h = rw (h) refl
-command-only (Open (Some n)) line (digits, number, e) = rw (e, number-only digits n number) refl
-command-only Unlock line h = rw (h) refl
-command-only OpenSlave line h = rw (h) refl
-command-only (Write Master text) line (spelled, spells, e) = rw (e, text-only spelled text spells) refl
-command-only (Write Slave text) line (spelled, spells, e) = rw (e, text-only spelled text spells) refl
-command-only (Read Master n) line (digits, number, e) = rw (e, number-only digits n number) refl
-command-only (Read Slave n) line (digits, number, e) = rw (e, number-only digits n number) refl
-command-only (Turn name) line h = rw (h, queue-only name) refl
-command-only (Run n) line (digits, number, e) = rw (e, number-only digits n number) refl
-
--- a line with a command isn't silent
-spelled-said : (command : Command) (line : List ℕ) → IsSpelled command line → is_silent line ≡ false
-spelled-said (Open None) line h = rw (h) refl
-spelled-said (Open (Some n)) line (digits, number, e) = rw (e) refl
-spelled-said Unlock line h = rw (h) refl
-spelled-said OpenSlave line h = rw (h) refl
-spelled-said (Write side text) line (spelled, spells, e) = rw (e) refl
-spelled-said (Read side n) line (digits, number, e) = rw (e) refl
-spelled-said (Turn name) line h = rw (h) refl
-spelled-said (Run n) line (digits, number, e) = rw (e) refl
+-- each command is read where it is spelled, and its line isn't silent
+command-only : (command : Command) (line : List ℕ) → IsSpelled command line → (command_in line ≡ Some command) × (is_silent line ≡ false)
+unfolding command_in open_in named_in write_in read_in turn_in run_in side_in
+command-only (Open None) line h = rw (h) (refl, refl)
+command-only (Open (Some n)) line (digits, number, e) = rw (e, number-only digits n number) (refl, refl)
+command-only (Call side OpenMaster) line h = absurd h
+command-only (Call side Unlock) line h = rw (h.0, h.1) (refl, refl)
+command-only (Call side OpenSlave) line h = rw (h.0, h.1) (refl, refl)
+command-only (Call Master (Write text)) line (spelled, spells, e) = rw (e, text-only spelled text spells) (refl, refl)
+command-only (Call Slave (Write text)) line (spelled, spells, e) = rw (e, text-only spelled text spells) (refl, refl)
+command-only (Call Master (Read n)) line (digits, number, e) = rw (e, number-only digits n number) (refl, refl)
+command-only (Call Slave (Read n)) line (digits, number, e) = rw (e, number-only digits n number) (refl, refl)
+command-only (Turn name) line h = rw (h, queue-only name) (refl, refl)
+command-only (Run n) line (digits, number, e) = rw (e, number-only digits n number) (refl, refl)
 
 -- the whole line
 pub reading-only : (command : Command) (line : List ℕ) → IsSpelled command line → length line ≤ 4096 → reading line ≡ Spoken command
 unfolding reading
 reading-only command line h short =
-    rw (le-ltb 4096 (length line) short, spelled-said command line h, command-only command line h) refl
+    let read = command-only command line h in
+    rw (le-ltb 4096 (length line) short, read.1, read.0) refl
 
 spoken-found : (o : Option Command) (command : Command) → spoken o ≡ Spoken command → o ≡ Some command
 spoken-found None command h = absurd cc

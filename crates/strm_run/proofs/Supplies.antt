@@ -8,12 +8,12 @@ use Rattle.strm_types.specs.declared.refusals.Refusal.{Refusal}
 use Rattle.strm_types.specs.declared.refusals.Refusal.TheVariants.{Einval, Eagain, Enxio, JournalFull}
 use Rattle.strm_types.specs.State.{State}
 use Rattle.strm_types.specs.declared.events.Event.TheVariants as calls
-use Rattle.strm_types.specs.Calls.{Request, Reply}
+use Rattle.strm_types.specs.Calls.{Request}
 use Rattle.strm_types.specs.Refused.{or_else, unless, refused_at_once, refused_by_state}
-use Rattle.strm_types.specs.Script.{Command, Open, Unlock, OpenSlave, Write, Read, Turn as TurnOf, Run}
-use Rattle.strm_types.specs.ScriptReading.{Reading, Silent, Malformed, Spoken, reading}
-use Rattle.strm_types.specs.ScriptRun as script
-use Rattle.strm_types.specs.ScriptRun.{Supply, Enough, TooFew, PlainPair, Happened, call_refusal, turn_refusal, call_happens, turn_happens, call_of, turn_of, is_short, is_enosr, turns_of, no_turns, counted, by_call, by_turn, by_run, by_open, answered, told_from, new_plain}
+use Rattle.strm_run.specs.Script.{Command, Open, Call, Turn as TurnOf, Run}
+use Rattle.strm_run.specs.ScriptReading.{Reading, Silent, Malformed, Spoken, reading}
+use Rattle.strm_run.specs.ScriptRun as script
+use Rattle.strm_run.specs.ScriptRun.{Supply, Enough, TooFew, PlainPair, Happened, call_refusal, turn_refusal, call_happens, turn_happens, call_of, turn_of, is_short, is_enosr, turns_of, no_turns, counted, by_call, by_turn, by_run, by_open, answered, told_from, new_plain}
 use Rattle.strm_run.proofs.Events.{turns_none, turns_err, turns_ok, turns_zero}
 
 -- a refusal is for want of blocks
@@ -122,14 +122,8 @@ pub answered-enough : (command : Command) (pair : Option PlainPair) → AllEnoug
 unfolding answered by_call by_turn by_run by_open
 answered-enough (Open blocks) None = open-enough (unwrap_or blocks 256)
 answered-enough (Open blocks) (Some p) = record { not_short = refl; none_left = refl }
-answered-enough Unlock None = record { not_short = refl; none_left = refl }
-answered-enough Unlock (Some p) = record { not_short = call-enough p _ calls.Unlock; none_left = refl }
-answered-enough OpenSlave None = record { not_short = refl; none_left = refl }
-answered-enough OpenSlave (Some p) = record { not_short = call-enough p _ calls.OpenSlave; none_left = refl }
-answered-enough (Write side bytes) None = record { not_short = refl; none_left = refl }
-answered-enough (Write side bytes) (Some p) = record { not_short = call-enough p _ (calls.Write bytes); none_left = refl }
-answered-enough (Read side n) None = record { not_short = refl; none_left = refl }
-answered-enough (Read side n) (Some p) = record { not_short = call-enough p _ (calls.Read n); none_left = refl }
+answered-enough (Call side asked) None = record { not_short = refl; none_left = refl }
+answered-enough (Call side asked) (Some p) = record { not_short = call-enough p _ asked; none_left = refl }
 answered-enough (TurnOf name) None = record { not_short = refl; none_left = refl }
 answered-enough (TurnOf name) (Some p) = record { not_short = turn-enough p name; none_left = refl }
 answered-enough (Run n) None = record { not_short = refl; none_left = refl }

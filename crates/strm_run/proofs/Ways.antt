@@ -2,11 +2,11 @@
 use Rattle.std.proofs.Common.{◌≡◌, ℕ, suc, ◌<◌, ◌≤◌, List, [], ◌∷◌, ◌++◌, length, Option, None, Some, refl, arith, sym, ap, ◌∙◌, append_assoc, append-nil, length-append, inl, inr}
 use Rattle.std.proofs.lemmas.Bool.{ne_eqb, lt-ltb}
 use Rattle.std.proofs.lemmas.Bool.Decides.{eqb_tells}
-use Rattle.strm_types.specs.Script.{Command}
-use Rattle.strm_types.specs.ScriptReading.{Silent, Malformed, Spoken, reading}
-use Rattle.strm_types.specs.ScriptAnswers.{printed_line, Wrong}
-use Rattle.strm_types.specs.ScriptRun as script
-use Rattle.strm_types.specs.ScriptRun.{Supply, PlainPair, Told, told_after, told_from, first_of, line_if, answered}
+use Rattle.strm_run.specs.Script.{Command}
+use Rattle.strm_run.specs.ScriptReading.{Silent, Malformed, Spoken, reading}
+use Rattle.strm_run.specs.ScriptAnswers.{printed_line, Wrong}
+use Rattle.strm_run.specs.ScriptRun as script
+use Rattle.strm_run.specs.ScriptRun.{Supply, PlainPair, Told, told_after, told_from, first_of, line_if, answered}
 use Rattle.strm_run.specs.Lines.{line_of}
 use Rattle.strm_run.specs.Outcomes.{LeadsTo, answered_as}
 use Rattle.strm_run.specs.declared.session.Answered.{Answered}

@@ -1,11 +1,11 @@
 -- A run of a script, from its points to its whole text.
-use Rattle.std.proofs.Common.{◌≡◌, ℕ, suc, Bool, true, List, [], ◌∷◌, ◌++◌, Option, None, Some, Ok, Err, refl, sym, ap, ◌∙◌, append_assoc, append-nil, arith, inl, inr, subst, take}
+use Rattle.std.proofs.Common.{◌≡◌, ℕ, suc, Bool, true, List, [], ◌∷◌, ◌++◌, Option, None, Some, Ok, Err, refl, sym, ap, ◌∙◌, append_assoc, append-nil, inl, inr, subst, take}
 use Rattle.std.proofs.lemmas.Bool.Decides.{eqb_tells}
 use Rattle.std.specs.Io.KnownBytes.{Appends, Keeps, Consumes, IsAtEnd}
-use Rattle.strm_types.specs.Script.{lines_of, begun_with}
-use Rattle.strm_types.specs.ScriptReading.{Reading, Silent, Malformed as MalformedLine, Spoken, reading}
-use Rattle.strm_types.specs.ScriptAnswers.{printed_line, Wrong}
-use Rattle.strm_types.specs.ScriptRun.{Supply, PlainPair, Told, told_from, told, answered}
+use Rattle.strm_run.specs.Script.{lines_of, begun_with}
+use Rattle.strm_run.specs.ScriptReading.{Reading, Silent, Malformed as MalformedLine, Spoken, reading}
+use Rattle.strm_run.specs.ScriptAnswers.{printed_line, Wrong}
+use Rattle.strm_run.specs.ScriptRun.{Supply, PlainPair, Told, told_from, told, answered}
 use Rattle.strm_run.specs.Points.{Point, beginning, last_line, lines_behind, told_at, Shows, Says}
 use Rattle.strm_run.specs.Steps.{point_of, Ready, Took, Steps, Finishes, EndsInput}
 use Rattle.strm_run.specs.Output.{Writes}
@@ -15,6 +15,8 @@ use Rattle.strm_run.proofs.PlainTexts.{told-same, told-front}
 use Rattle.strm_run.specs.declared.engine.Engine.{Engine}
 use Rattle.strm_run.specs.declared.engine.Stop.{Stop}
 use Rattle.strm_run.specs.declared.engine.Stop.TheVariants.{Malformed, NoMemory}
+use Rattle.strm_run.specs.declared.script.ScriptStatus.{ScriptStatus}
+use Rattle.strm_run.specs.declared.script.ScriptStatus.TheVariants as ends
 use Rattle.strm_run.proofs.Ways.{Goes-none, Goes-join, Ends-join, Breaks-join, Says-behind, Says-ended, Shows-broken, Shows-going, Shows-behind, Shows-less}
 use Rattle.strm_run.proofs.Known.{Appends-none, Appends-join, Consumes-none, Consumes-join, Consumes-kept}
 
@@ -86,55 +88,46 @@ agrees account None bytes h = ap (λ (t : Told). t.text) (told-same 1 (lines_of 
 agrees account (Some n) bytes h = let x = told-front n 1 (lines_of bytes) account None h in (x.rest, x.text_is)
 
 -- the three ways in which a script ends
-script_cut : (bytes written : List ℕ) (short : Option ℕ) → Shows beginning bytes written short → IsScript 2 short bytes written
+script_cut : (bytes written : List ℕ) (short : Option ℕ) → Shows beginning bytes written short → IsScript ends.Broken short bytes written
 script_cut bytes written short x = record {
   account = x.events;
-  known = omega arith;
-  whole = λ e. absurd (omega (arith, e));
-  faulty = λ e. absurd (omega (arith, e));
-  cut = λ e. record { rest = x.unsaid; text = ap (λ (t : Told). t.text) (sym (told_begins x.events bytes)) ∙ x.text_is };
+  wrote = record { rest = x.unsaid; text = ap (λ (t : Told). t.text) (sym (told_begins x.events bytes)) ∙ x.text_is };
   first_short = sym x.short_is ∙ ap (λ (t : Told). t.short) (told_begins x.events bytes);
   plain = agrees x.events short bytes (ap (λ (t : Told). t.short) (sym (told_begins x.events bytes)) ∙ x.short_is);
 }
 
-script_whole : (bytes written : List ℕ) (short : Option ℕ) → Says beginning bytes written short None → IsScript 0 short bytes written
+script_whole : (bytes written : List ℕ) (short : Option ℕ) → Says beginning bytes written short None → IsScript ends.Whole short bytes written
 script_whole bytes written short x =
     let all = sym (told_begins x.events bytes) ∙ x.told_is in
     record {
       account = x.events;
-      known = omega arith;
-      whole = λ e. record { text = ap (λ (t : Told). t.text) (sym all); no_fault = ap (λ (t : Told). t.fault) all };
-      faulty = λ e. absurd (omega (arith, e));
-      cut = λ e. absurd (omega (arith, e));
+      wrote = record { text = ap (λ (t : Told). t.text) (sym all); no_fault = ap (λ (t : Told). t.fault) all };
       first_short = ap (λ (t : Told). t.short) (sym all);
       plain = agrees x.events short bytes (ap (λ (t : Told). t.short) all);
     }
 
-script_faulty : (bytes written : List ℕ) (short : Option ℕ) (n : ℕ) → Says beginning bytes written short (Some n) → IsScript 1 short bytes written
+script_faulty : (bytes written : List ℕ) (short : Option ℕ) (n : ℕ) → Says beginning bytes written short (Some n) → IsScript ends.Malformed short bytes written
 script_faulty bytes written short n x =
     let all = sym (told_begins x.events bytes) ∙ x.told_is in
     let last = fault-last 1 n x.events None (lines_of bytes) (ap (λ (t : Told). t.fault) all) in
     record {
       account = x.events;
-      known = omega arith;
-      whole = λ e. absurd (omega (arith, e));
-      faulty = λ e. record {
+      wrote = record {
         line = n;
         front = last.front;
         text = ap (λ (t : Told). t.text) (sym all);
         fault = ap (λ (t : Told). t.fault) all;
         last = ap (λ (t : Told). t.text) (sym all) ∙ last.text_is;
       };
-      cut = λ e. absurd (omega (arith, e));
       first_short = ap (λ (t : Told). t.short) (sym all);
       plain = agrees x.events short bytes (ap (λ (t : Told). t.short) all);
     }
 
 -- a run on a reader that tells its bytes, by what it has left
-abbrev Outcome : Option (List ℕ) → Option (List ℕ) → ℕ → Option ℕ → List ℕ → Type 0
+abbrev Outcome : Option (List ℕ) → Option (List ℕ) → ScriptStatus → Option ℕ → List ℕ → Type 0
 Outcome w0 w1 status short bytes = (written : List ℕ) × Appends w0 w1 written × IsScript status short bytes written
 
-run_by : (r0 r1 w0 w1 : Option (List ℕ)) (status : ℕ) (short : Option ℕ) (input : List ℕ) → Consumes r0 r1 input
+run_by : (r0 r1 w0 w1 : Option (List ℕ)) (status : ScriptStatus) (short : Option ℕ) (input : List ℕ) → Consumes r0 r1 input
     → ((rest : List ℕ) → r1 ≡ Some rest → Outcome w0 w1 status short (input ++ rest)) → IsRun r0 w0 w1 status short
 run_by None r1 w0 w1 status short input h f = tt
 run_by (Some bytes) None w0 w1 status short input h f = absurd h
@@ -166,9 +159,9 @@ serves_sent r0 r1 w0 w1 w2 e sent x y point none = record {
 
 -- they aren't, or not all of them
 pub serves_cut : (r0 r1 w0 w1 w2 : Option (List ℕ)) (e : Engine) (well : Bool) (short : Option ℕ) → Serves r0 r1 w0 w1 e
-    → Writes w1 w2 e.answers.items well → short ≡ e.short → IsRun r0 w0 w2 2 short
+    → Writes w1 w2 e.answers.items well → short ≡ e.short → IsRun r0 w0 w2 ends.Broken short
 serves_cut r0 r1 w0 w1 w2 e well short x y same =
-    run_by r0 r1 w0 w2 2 short x.input x.reads (λ rest left.
+    run_by r0 r1 w0 w2 ends.Broken short x.input x.reads (λ rest left.
     let text : x.written ++ e.answers.items ≡ (x.written ++ y.front) ++ y.rest =
     ap (λ k. x.written ++ k) y.bytes_are ∙ sym (append_assoc x.written y.front y.rest) in (
       x.written ++ y.front,
@@ -178,9 +171,9 @@ serves_cut r0 r1 w0 w1 w2 e well short x y same =
     ))
 
 -- the reader failed
-pub serves_failed : (r0 r1 r2 w0 w1 : Option (List ℕ)) (e : Engine) → Serves r0 r1 w0 w1 e → Keeps r1 r2 → IsRun r0 w0 w1 2 e.short
+pub serves_failed : (r0 r1 r2 w0 w1 : Option (List ℕ)) (e : Engine) → Serves r0 r1 w0 w1 e → Keeps r1 r2 → IsRun r0 w0 w1 ends.Broken e.short
 serves_failed r0 r1 r2 w0 w1 e x k =
-    run_by r0 r1 w0 w1 2 e.short x.input x.reads (λ rest left. (
+    run_by r0 r1 w0 w1 ends.Broken e.short x.input x.reads (λ rest left. (
       x.written,
       x.writes,
       script_cut (x.input ++ rest) x.written e.short
@@ -222,7 +215,7 @@ Shows-said a bytes s t short fault x = record {
 -- what is written of a script that comes to its end, by what the writer takes of the last answers
 outcome_cut : (w0 w1 w2 : Option (List ℕ)) (short : Option ℕ) (bytes written answers front rest : List ℕ)
     → Shows beginning bytes (written ++ answers) short → Appends w0 w1 written → Appends w1 w2 front → answers ≡ front ++ rest
-    → Outcome w0 w2 2 short bytes
+    → Outcome w0 w2 ends.Broken short bytes
 outcome_cut w0 w1 w2 short bytes written answers front rest x before now e =
     let text : written ++ answers ≡ (written ++ front) ++ rest = ap (λ k. written ++ k) e ∙ sym (append_assoc written front rest) in (
       written ++ front,
@@ -234,15 +227,15 @@ whole_text : (written answers front rest : List ℕ) → answers ≡ front ++ re
 whole_text written answers front rest e none = ap (λ k. written ++ k) (e ∙ ap (λ k. front ++ k) none ∙ append-nil front)
 
 outcome_whole : (w0 w1 w2 : Option (List ℕ)) (short : Option ℕ) (bytes written answers : List ℕ)
-    → Says beginning bytes (written ++ answers) short None → Appends w0 w1 written → Writes w1 w2 answers true → Outcome w0 w2 0 short bytes
+    → Says beginning bytes (written ++ answers) short None → Appends w0 w1 written → Writes w1 w2 answers true → Outcome w0 w2 ends.Whole short bytes
 outcome_whole w0 w1 w2 short bytes written answers x before y = (
   written ++ y.front,
   Appends-join w0 w1 w2 written y.front before y.appends,
   script_whole bytes (written ++ y.front) short (rw (sym (whole_text written answers y.front y.rest y.bytes_are (y.all refl))) x),
 )
 
-outcome_faulty : (w0 w1 w2 : Option (List ℕ)) (status : ℕ) (short : Option ℕ) (n : ℕ) (bytes written answers : List ℕ)
-    → Says beginning bytes (written ++ answers) short (Some n) → Appends w0 w1 written → Ended w1 w2 answers status 1 → Outcome w0 w2 status short bytes
+outcome_faulty : (w0 w1 w2 : Option (List ℕ)) (status : ScriptStatus) (short : Option ℕ) (n : ℕ) (bytes written answers : List ℕ)
+    → Says beginning bytes (written ++ answers) short (Some n) → Appends w0 w1 written → Ended w1 w2 answers status ends.Malformed → Outcome w0 w2 status short bytes
 outcome_faulty w0 w1 w2 status short n bytes written answers x before y = elim y.status_is [
   | inl e ↦ rw (e) (outcome_cut w0 w1 w2 short bytes written answers y.front y.rest
       (Shows-said beginning bytes (written ++ answers) [] short (Some n) (rw (append-nil (written ++ answers)) x)) before y.appends y.answers_are)
@@ -253,8 +246,8 @@ outcome_faulty w0 w1 w2 status short n bytes written answers x before y = elim y
   )
 ]
 
-outcome_broken : (w0 w1 w2 : Option (List ℕ)) (status : ℕ) (short : Option ℕ) (bytes written answers : List ℕ)
-    → Shows beginning bytes (written ++ answers) short → Appends w0 w1 written → Ended w1 w2 answers status 2 → Outcome w0 w2 status short bytes
+outcome_broken : (w0 w1 w2 : Option (List ℕ)) (status : ScriptStatus) (short : Option ℕ) (bytes written answers : List ℕ)
+    → Shows beginning bytes (written ++ answers) short → Appends w0 w1 written → Ended w1 w2 answers status ends.Broken → Outcome w0 w2 status short bytes
 outcome_broken w0 w1 w2 status short bytes written answers x before y = elim y.status_is [
   | inl e ↦ rw (e) (outcome_cut w0 w1 w2 short bytes written answers y.front y.rest x before y.appends y.answers_are)
   | inr e ↦ rw (e.0) (outcome_cut w0 w1 w2 short bytes written answers y.front y.rest x before y.appends y.answers_are)
@@ -265,7 +258,7 @@ said_text : (written old new text : List ℕ) → new ≡ old ++ text → (writt
 said_text written old new text e = append_assoc written old text ∙ ap (λ k. written ++ k) (sym e)
 
 -- a script that stops among bytes
-pub serves_stopped : (r0 r1 r2 w0 w1 w2 : Option (List ℕ)) (e done : Engine) (bytes : List ℕ) (stop : Stop) (status : ℕ) (short : Option ℕ)
+pub serves_stopped : (r0 r1 r2 w0 w1 w2 : Option (List ℕ)) (e done : Engine) (bytes : List ℕ) (stop : Stop) (status : ScriptStatus) (short : Option ℕ)
     → Serves r0 r1 w0 w1 e → Consumes r1 r2 bytes → Steps e done bytes (Err stop) → Ended w1 w2 done.answers.items status (status_of stop)
     → short ≡ done.short → IsRun r0 w0 w2 status short
 serves_stopped r0 r1 r2 w0 w1 w2 e done bytes Malformed status short x read y end same =
@@ -294,23 +287,23 @@ finish_says r0 r1 w0 w1 e done fault x y =
 
 -- a script whose input has ended, and whose last answers are sent or not
 pub serves_finished : (r0 r1 w0 w1 w2 : Option (List ℕ)) (e done : Engine) (short : Option ℕ) → Serves r0 r1 w0 w1 e → IsAtEnd r1
-    → EndsInput e done (Ok tt) → Writes w1 w2 done.answers.items true → short ≡ done.short → IsRun r0 w0 w2 0 short
+    → EndsInput e done (Ok tt) → Writes w1 w2 done.answers.items true → short ≡ done.short → IsRun r0 w0 w2 ends.Whole short
 serves_finished r0 r1 w0 w1 w2 e done short x none y sent same =
-    run_by r0 r1 w0 w2 0 short x.input x.reads (λ rest left.
+    run_by r0 r1 w0 w2 ends.Whole short x.input x.reads (λ rest left.
     rw (same, at_end r1 rest left none)
     (outcome_whole w0 w1 w2 done.short (x.input ++ []) x.written done.answers.items (finish_says r0 r1 w0 w1 e done None x y) x.writes sent))
 
 pub serves_unsent : (r0 r1 w0 w1 w2 : Option (List ℕ)) (e done : Engine) (well : Bool) (short : Option ℕ) → Serves r0 r1 w0 w1 e → IsAtEnd r1
-    → EndsInput e done (Ok tt) → Writes w1 w2 done.answers.items well → short ≡ done.short → IsRun r0 w0 w2 2 short
+    → EndsInput e done (Ok tt) → Writes w1 w2 done.answers.items well → short ≡ done.short → IsRun r0 w0 w2 ends.Broken short
 serves_unsent r0 r1 w0 w1 w2 e done well short x none y sent same =
-    run_by r0 r1 w0 w2 2 short x.input x.reads (λ rest left.
+    run_by r0 r1 w0 w2 ends.Broken short x.input x.reads (λ rest left.
     rw (same, at_end r1 rest left none)
     (outcome_cut w0 w1 w2 done.short (x.input ++ []) x.written done.answers.items sent.front sent.rest
     (Shows-said beginning (x.input ++ []) (x.written ++ done.answers.items) [] done.short None
     (rw (append-nil (x.written ++ done.answers.items)) (finish_says r0 r1 w0 w1 e done None x y)))
     x.writes sent.appends sent.bytes_are))
 
-pub serves_ended : (r0 r1 w0 w1 w2 : Option (List ℕ)) (e done : Engine) (stop : Stop) (status : ℕ) (short : Option ℕ) → Serves r0 r1 w0 w1 e → IsAtEnd r1
+pub serves_ended : (r0 r1 w0 w1 w2 : Option (List ℕ)) (e done : Engine) (stop : Stop) (status : ScriptStatus) (short : Option ℕ) → Serves r0 r1 w0 w1 e → IsAtEnd r1
     → EndsInput e done (Err stop) → Ended w1 w2 done.answers.items status (status_of stop) → short ≡ done.short → IsRun r0 w0 w2 status short
 serves_ended r0 r1 w0 w1 w2 e done Malformed status short x none y end same =
     run_by r0 r1 w0 w2 status short x.input x.reads (λ rest left.

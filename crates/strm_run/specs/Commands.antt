@@ -1,18 +1,16 @@
 -- The commands and readings of the code, as the definitions of script text have them.
 use Rattle.std.specs.Prelude.{Option, option_map}
-use Rattle.strm_types.specs.Script as script
-use Rattle.strm_types.specs.ScriptReading as readings
+use Rattle.strm_types.specs.Calls.{map_event}
+use Rattle.strm_run.specs.Script as script
+use Rattle.strm_run.specs.ScriptReading as readings
 use Rattle.strm_run.specs.declared.commands.Command.{Command}
-use Rattle.strm_run.specs.declared.commands.Command.TheVariants.{Open, Unlock, OpenSlave, Write, Read, Turn, Run}
+use Rattle.strm_run.specs.declared.commands.Command.TheVariants.{Open, Call, Turn, Run}
 use Rattle.strm_run.specs.declared.commands.Reading.{Reading}
 use Rattle.strm_run.specs.declared.commands.Reading.TheVariants.{Silent, Malformed, Spoken}
 
 abbrev pub command_of : Command → script.Command
 command_of (Open blocks) = script.Open blocks
-command_of Unlock = script.Unlock
-command_of OpenSlave = script.OpenSlave
-command_of (Write side bytes) = script.Write side bytes.items
-command_of (Read side n) = script.Read side n
+command_of (Call side event) = script.Call side (map_event (λ bytes. bytes.items) event)
 command_of (Turn name) = script.Turn name
 command_of (Run turns) = script.Run turns
 

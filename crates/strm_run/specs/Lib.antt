@@ -1,3 +1,7 @@
+pub mod Script
+pub mod ScriptReading
+pub mod ScriptAnswers
+pub mod ScriptRun
 pub mod Views
 pub mod Commands
 pub mod Modes

@@ -1,7 +1,7 @@
 -- The answer lines of the code, as the definitions of script text have them.
 use Rattle.std.specs.Prelude.{ℕ, List, Ok}
 use Rattle.strm_types.specs.Calls.{map_answer}
-use Rattle.strm_types.specs.ScriptAnswers as script
+use Rattle.strm_run.specs.ScriptAnswers as script
 use Rattle.strm_run.specs.declared.answers.Line.{Line}
 use Rattle.strm_run.specs.declared.answers.Line.TheVariants.{Done, Turned, Ran, Refused, Wrong}
 

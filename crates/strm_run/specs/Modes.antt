@@ -1,6 +1,6 @@
 -- The reader of a text, as the definitions of script text have it.
 use Rattle.std.specs.Prelude.{◌≤◌, ⊤}
-use Rattle.strm_types.specs.ScriptReading as readings
+use Rattle.strm_run.specs.ScriptReading as readings
 use Rattle.strm_run.specs.declared.texts.Mode.{Mode}
 use Rattle.strm_run.specs.declared.texts.Mode.TheVariants.{Inside, Escaped, Coded, HalfCoded, Closed}
 use Rattle.strm_run.specs.declared.texts.Move.{Move}

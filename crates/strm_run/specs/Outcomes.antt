@@ -1,7 +1,7 @@
 -- What a command of the code leads to.
 use Rattle.std.specs.Prelude.{◌≡◌, ℕ, List, ◌++◌, Option}
-use Rattle.strm_types.specs.ScriptRun as script
-use Rattle.strm_types.specs.ScriptRun.{Supply, PlainPair}
+use Rattle.strm_run.specs.ScriptRun as script
+use Rattle.strm_run.specs.ScriptRun.{Supply, PlainPair}
 use Rattle.strm_run.specs.Lines.{line_of}
 use Rattle.strm_run.specs.declared.session.Answered.{Answered}
 

@@ -9,3 +9,8 @@ pub record Writes (old new : Option (List ℕ)) (bytes : List ℕ) (well : Bool)
   pub appends : Appends old new front
   pub bytes_are : bytes ≡ front ++ rest
   pub all : well ≡ true → rest ≡ []
+
+-- and all of them only where it went well
+pub record WritesOut (old new : Option (List ℕ)) (bytes : List ℕ) (well : Bool) : Type 0 where
+  pub writes : Writes old new bytes well
+  pub left : writes.rest ≡ [] → well ≡ true

@@ -1,6 +1,6 @@
 -- The pair of the code as scripts see it.
 use Rattle.strm_types.specs.Pair.{PairState}
-use Rattle.strm_types.specs.ScriptRun.{PlainPair}
+use Rattle.strm_run.specs.ScriptRun.{PlainPair}
 
 -- a pair whose blocks nobody counts
 abbrev pub plain : PairState → PlainPair

@@ -1,6 +1,6 @@
 -- A script on its way, and what a run of it comes to.
 use Rattle.std.specs.Prelude.{◌≡◌, ℕ, suc, ◌==◌, if◌then◌else◌, List, [], ◌∷◌, ◌++◌, Option, None, Some}
-use Rattle.strm_types.specs.ScriptRun.{Supply, PlainPair, Told, told_after, told_from}
+use Rattle.strm_run.specs.ScriptRun.{Supply, PlainPair, Told, told_after, told_from}
 
 -- A script on its way: the pair, how many lines have ended, the bytes so far of the next, and the first line in which an
 -- event got ENOSR.

@@ -1,9 +1,17 @@
 -- A whole run of a script: what was written for the bytes that were read, and how the run ended.
-use Rattle.std.specs.Prelude.{◌≡◌, ℕ, ◌≤◌, List, ◌++◌, Option, None, Some, IfSome, ◌-◌, take}
+use Rattle.std.specs.Prelude.{◌≡◌, ℕ, List, ◌++◌, Option, None, Some, IfSome, ◌-◌, take}
 use Rattle.std.specs.Io.KnownBytes.{Appends}
-use Rattle.strm_types.specs.Script.{lines_of}
-use Rattle.strm_types.specs.ScriptAnswers.{printed_line, Wrong}
-use Rattle.strm_types.specs.ScriptRun.{Supply, told, script_lines, plain_lines, plain_text}
+use Rattle.strm_run.specs.Script.{lines_of}
+use Rattle.strm_run.specs.ScriptAnswers.{printed_line, Wrong}
+use Rattle.strm_run.specs.ScriptRun.{Supply, told, script_lines, plain_lines, plain_text}
+use Rattle.strm_run.specs.declared.script.ScriptStatus.{ScriptStatus}
+use Rattle.strm_run.specs.declared.script.ScriptStatus.TheVariants.{Whole, Malformed, Broken}
+
+-- the number by which the program tells how a run ended
+abbrev pub exit_number : ScriptStatus → ℕ
+exit_number Whole = 0
+exit_number Malformed = 1
+exit_number Broken = 2
 
 -- a run that wrote the whole text, to the end of the input
 pub record IsWhole (account : List Supply) (bytes written : List ℕ) : Type 0 where
@@ -23,24 +31,27 @@ pub record IsCut (account : List Supply) (bytes written : List ℕ) : Type 0 whe
   pub rest : List ℕ
   pub text : script_lines account bytes ≡ written ++ rest
 
+-- what a run wrote, by how it ended
+abbrev pub Wrote : ScriptStatus → List Supply → List ℕ → List ℕ → Type 0
+Wrote Whole account bytes written = IsWhole account bytes written
+Wrote Malformed account bytes written = IsFaulty account bytes written
+Wrote Broken account bytes written = IsCut account bytes written
+
 -- The text of a script agrees with its plain text: all of it where no line is short, else before the first short line.
 abbrev pub Agrees : List Supply → Option ℕ → List ℕ → Type 0
 Agrees account None bytes = script_lines account bytes ≡ plain_text bytes
 Agrees account (Some n) bytes =
     (rest : List ℕ) × (script_lines account bytes ≡ plain_lines (take (n - 1) (lines_of bytes)) ++ rest)
 
--- What a run wrote, by the status with which it ended, for an account of which events the pool had enough blocks for.
--- The first short line is the first in which an event got ENOSR.
-pub record IsScript (status : ℕ) (short : Option ℕ) (bytes written : List ℕ) : Type 0 where
+-- What a run wrote, by how it ended, for an account of which events the pool had enough blocks for. The first short line
+-- is the first in which an event got ENOSR.
+pub record IsScript (status : ScriptStatus) (short : Option ℕ) (bytes written : List ℕ) : Type 0 where
   pub account : List Supply
-  pub known : status ≤ 2
-  pub whole : status ≡ 0 → IsWhole account bytes written
-  pub faulty : status ≡ 1 → IsFaulty account bytes written
-  pub cut : status ≡ 2 → IsCut account bytes written
+  pub wrote : Wrote status account bytes written
   pub first_short : short ≡ (told account bytes).short
   pub plain : Agrees account short bytes
 
 -- a run on a reader and a writer that tell their bytes
-abbrev pub IsRun : Option (List ℕ) → Option (List ℕ) → Option (List ℕ) → ℕ → Option ℕ → Type 0
+abbrev pub IsRun : Option (List ℕ) → Option (List ℕ) → Option (List ℕ) → ScriptStatus → Option ℕ → Type 0
 IsRun read_from old new status short =
     IfSome read_from (λ bytes. (written : List ℕ) × Appends old new written × IsScript status short bytes written)

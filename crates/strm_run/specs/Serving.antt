@@ -5,7 +5,9 @@ use Rattle.strm_run.specs.Points.{beginning, Goes}
 use Rattle.strm_run.specs.Steps.{point_of}
 use Rattle.strm_run.specs.declared.engine.Engine.{Engine}
 use Rattle.strm_run.specs.declared.engine.Stop.{Stop}
-use Rattle.strm_run.specs.declared.engine.Stop.TheVariants.{Malformed, NoMemory}
+use Rattle.strm_run.specs.declared.engine.Stop.TheVariants as stops
+use Rattle.strm_run.specs.declared.script.ScriptStatus.{ScriptStatus}
+use Rattle.strm_run.specs.declared.script.ScriptStatus.TheVariants.{Malformed, Broken}
 
 -- what was read led to the engine's point, and what was written is the front of what its lines say
 pub record Serves (r0 r1 w0 w1 : Option (List ℕ)) (e : Engine) : Type 0 where
@@ -16,14 +18,14 @@ pub record Serves (r0 r1 w0 w1 : Option (List ℕ)) (e : Engine) : Type 0 where
   pub goes : Goes beginning input (written ++ e.answers.items) (point_of e)
 
 -- how a script that stopped has ended, by what the writer took of its answers
-pub record Ended (w0 w1 : Option (List ℕ)) (answers : List ℕ) (status good : ℕ) : Type 0 where
+pub record Ended (w0 w1 : Option (List ℕ)) (answers : List ℕ) (status good : ScriptStatus) : Type 0 where
   pub front : List ℕ
   pub rest : List ℕ
   pub appends : Appends w0 w1 front
   pub answers_are : answers ≡ front ++ rest
-  pub status_is : (status ≡ 2) ⊎ ((status ≡ good) × (rest ≡ []))
+  pub status_is : (status ≡ Broken) ⊎ ((status ≡ good) × (rest ≡ []))
 
 -- the status of a script that stopped, if all its answers are written
-abbrev pub status_of : Stop → ℕ
-status_of Malformed = 1
-status_of NoMemory = 2
+abbrev pub status_of : Stop → ScriptStatus
+status_of stops.Malformed = Malformed
+status_of stops.NoMemory = Broken

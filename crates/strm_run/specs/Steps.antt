@@ -1,8 +1,8 @@
 -- What the engine of a script does with bytes.
 use Rattle.std.specs.Prelude.{◌≡◌, ℕ, suc, List, [], ◌∷◌, ◌++◌, Option, None, Some, Result, Ok, Err, option_map, ◌⊎◌}
-use Rattle.strm_types.specs.Script.{Command}
-use Rattle.strm_types.specs.ScriptAnswers.{printed_line, Wrong}
-use Rattle.strm_types.specs.ScriptRun.{answered, first_of, line_if, PlainPair}
+use Rattle.strm_run.specs.Script.{Command}
+use Rattle.strm_run.specs.ScriptAnswers.{printed_line, Wrong}
+use Rattle.strm_run.specs.ScriptRun.{answered, first_of, line_if, PlainPair}
 use Rattle.strm_run.specs.Plain.{plain}
 use Rattle.strm_run.specs.Lines.{line_of}
 use Rattle.strm_run.specs.Outcomes.{LeadsTo}

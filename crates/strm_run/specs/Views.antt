@@ -1,7 +1,7 @@
 -- What the crate's values stand for.
 use Rattle.std.specs.Prelude.{ℕ, List}
 use Rattle.std.specs.Borrow.{Bor}
-use Rattle.strm_types.specs.ScriptReading.{Front}
+use Rattle.strm_run.specs.ScriptReading.{Front}
 
 -- a value and the text behind it
 abbrev pub front_of : {A : Type 0} → A × Bor (List ℕ) → Front A

@@ -1,7 +1,7 @@
 //! The answer lines of a script, as they are printed.
 
 ghost use Rattle.std.specs.Prelude.{◌≡◌, ◌<◌, Some};
-ghost use Rattle.strm_types.specs.ScriptAnswers.{hex_digit, printed, quoted, line_text, refusal_name};
+ghost use Rattle.strm_run.specs.ScriptAnswers.{hex_digit, printed, quoted, line_text, refusal_name};
 ghost use Rattle.strm_run.specs.Lines.{line_of};
 
 use std::fmt;
@@ -105,7 +105,7 @@ fn name(refusal: Refusal) -> &'static str
 impl fmt::Display for Shown<'_> {
     ghost output = { λ shown. Some (line_text (line_of shown.bytes.now shown.line.now)) };
 
-    #[tactic(auto, unfolding(strm_types::specs::ScriptAnswers::line_text))]
+    #[tactic(auto, unfolding(crate::specs::ScriptAnswers::line_text))]
     fn fmt<W: fmt::Write>(&self, f: &mut fmt::Formatter<W>) -> fmt::Result {
         match self.line {
             Line::Done(Answer::Done) => write!(f, "ok"),

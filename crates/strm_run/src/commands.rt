@@ -1,24 +1,36 @@
 //! The commands of a script.
 
-use strm_types::{QueueName, Side};
+ghost use Rattle.std.specs.Prelude.{◌≡◌};
+ghost use Rattle.strm_types.specs.Calls.{request, map_event};
+
+use strm_types::{Event, QueueName, Side};
 
 /// A command, as a line of a script gives it.
 #[derive(Debug, Drop)]
 pub enum Command {
     /// Makes the pair and opens its master, with so many blocks of each kind.
     Open { blocks: Option<u32> },
-    /// Lets the slave be opened.
-    Unlock,
-    /// Opens the slave.
-    OpenSlave,
-    /// Sends bytes down a side's stream.
-    Write { side: Side, bytes: Vec<u8> },
-    /// Takes at most `n` bytes from a side's stream head.
-    Read { side: Side, n: u32 },
+    /// Makes a call on a side's stream.
+    Call { side: Side, event: Event<Vec<u8>> },
     /// Gives a queue its turn.
     Turn { name: QueueName },
     /// Gives the first enabled queue its turn, at most so many times.
     Run { turns: u32 },
+}
+
+/// A call over its bytes where they stand.
+pub fn lent(event: &Event<Vec<u8>>) -> Event<&[u8]>
+    ensures { request result ≡ map_event (λ bytes. bytes.items) event.now }
+{
+    match event {
+        Event::OpenMaster => Event::OpenMaster,
+        Event::Unlock => Event::Unlock,
+        Event::OpenSlave => Event::OpenSlave,
+        Event::Write { bytes } => Event::Write {
+            bytes: bytes.as_slice(),
+        },
+        Event::Read { n } => Event::Read { n: *n },
+    }
 }
 
 /// What a line of a script says.

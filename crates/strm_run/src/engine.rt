@@ -1,8 +1,8 @@
 //! A script on its way, byte by byte.
 
 ghost use Rattle.std.specs.Prelude.{◌≡◌, ◌+◌, ◌<◌, ◌≤◌, ◌^◌, length, [], ◌∷◌, ◌++◌, None, OnOk, OnErr};
-ghost use Rattle.strm_types.specs.ScriptAnswers.{printed_line};
-ghost use Rattle.strm_types.specs.ScriptRun.{first_of, line_if};
+ghost use Rattle.strm_run.specs.ScriptAnswers.{printed_line};
+ghost use Rattle.strm_run.specs.ScriptRun.{first_of, line_if};
 ghost use Rattle.strm_run.specs.Commands.{command_of};
 ghost use Rattle.strm_run.specs.Lines.{line_of};
 

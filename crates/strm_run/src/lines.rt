@@ -1,9 +1,9 @@
 //! What a line of a script says. Each command has a reader of its own.
 
 ghost use Rattle.std.specs.Prelude.{◌≡◌, ◌≤◌, IfOk, length};
-ghost use Rattle.strm_types.specs.Script as script;
-ghost use Rattle.strm_types.specs.Script.{IsSpelled};
-ghost use Rattle.strm_types.specs.ScriptReading.{open_in, unlock_in, slave_in, write_in, read_in, turn_in, run_in, command_in, reading, Spoken};
+ghost use Rattle.strm_run.specs.Script as script;
+ghost use Rattle.strm_run.specs.Script.{IsSpelled};
+ghost use Rattle.strm_run.specs.ScriptReading.{open_in, named_in, write_in, read_in, turn_in, run_in, command_in, reading, Spoken};
 ghost use Rattle.strm_run.specs.Commands.{commands_of, reading_of};
 
 use crate::commands::{Command, Reading};
@@ -11,12 +11,13 @@ use crate::numbers::number;
 use crate::texts::text;
 use crate::words::{after, queue, side};
 use std::alloc::{AllocError, Global};
+use strm_types::{Event, Side};
 
 /// The most bytes of a line, without its LF.
 pub const LINE_MAX: usize = 4096;
 
 /// `open`, or `open N`.
-#[tactic(auto, unfolding(strm_types::specs::ScriptReading::open_in))]
+#[tactic(auto, unfolding(crate::specs::ScriptReading::open_in))]
 fn open(line: &[u8]) -> Option<Command>
     ensures { commands_of result ≡ open_in line.now }
 {
@@ -31,30 +32,21 @@ fn open(line: &[u8]) -> Option<Command>
     }
 }
 
-/// `unlock`.
-#[tactic(auto, unfolding(strm_types::specs::ScriptReading::unlock_in))]
-fn unlock(line: &[u8]) -> Option<Command>
-    ensures { commands_of result ≡ unlock_in line.now }
+/// A call that is spelled by its name alone: `unlock`, `slave`.
+#[tactic(auto, unfolding(crate::specs::ScriptReading::named_in))]
+fn named(line: &[u8]) -> Option<Command>
+    ensures { commands_of result ≡ named_in line.now }
 {
-    match line {
-        b"unlock" => Some(Command::Unlock),
-        _ => None,
-    }
-}
-
-/// `slave`.
-#[tactic(auto, unfolding(strm_types::specs::ScriptReading::slave_in))]
-fn slave(line: &[u8]) -> Option<Command>
-    ensures { commands_of result ≡ slave_in line.now }
-{
-    match line {
-        b"slave" => Some(Command::OpenSlave),
-        _ => None,
-    }
+    let (side, event) = match line {
+        b"unlock" => (Side::Master, Event::Unlock),
+        b"slave" => (Side::Slave, Event::OpenSlave),
+        _ => return None,
+    };
+    Some(Command::Call { side, event })
 }
 
 /// `write X TEXT`.
-#[tactic(auto, unfolding(strm_types::specs::ScriptReading::write_in))]
+#[tactic(auto, unfolding(crate::specs::ScriptReading::write_in))]
 fn write(alloc: Global, line: &[u8]) -> Result<Option<Command>, AllocError>
     ensures { IfOk result (λ found. commands_of found ≡ write_in line.now) }
 {
@@ -68,23 +60,27 @@ fn write(alloc: Global, line: &[u8]) -> Result<Option<Command>, AllocError>
         return Ok(None);
     };
     match text(alloc, rest)? {
-        Some(bytes) => Ok(Some(Command::Write { side, bytes })),
+        Some(bytes) => {
+            let event = Event::Write { bytes };
+            Ok(Some(Command::Call { side, event }))
+        }
         None => Ok(None),
     }
 }
 
 /// `read X N`.
-#[tactic(auto, unfolding(strm_types::specs::ScriptReading::read_in))]
+#[tactic(auto, unfolding(crate::specs::ScriptReading::read_in))]
 fn read(line: &[u8]) -> Option<Command>
     ensures { commands_of result ≡ read_in line.now }
 {
     let (side, rest) = side(after(line, b"read ")?)?;
     let n = number(after(rest, b" ")?)?;
-    Some(Command::Read { side, n })
+    let event = Event::Read { n };
+    Some(Command::Call { side, event })
 }
 
 /// `turn QUEUE`.
-#[tactic(auto, unfolding(strm_types::specs::ScriptReading::turn_in))]
+#[tactic(auto, unfolding(crate::specs::ScriptReading::turn_in))]
 fn turn(line: &[u8]) -> Option<Command>
     ensures { commands_of result ≡ turn_in line.now }
 {
@@ -93,7 +89,7 @@ fn turn(line: &[u8]) -> Option<Command>
 }
 
 /// `run N`.
-#[tactic(auto, unfolding(strm_types::specs::ScriptReading::run_in))]
+#[tactic(auto, unfolding(crate::specs::ScriptReading::run_in))]
 fn run(line: &[u8]) -> Option<Command>
     ensures { commands_of result ≡ run_in line.now }
 {
@@ -102,17 +98,14 @@ fn run(line: &[u8]) -> Option<Command>
 }
 
 /// The command that a line spells.
-#[tactic(auto, unfolding(strm_types::specs::ScriptReading::command_in))]
+#[tactic(auto, unfolding(crate::specs::ScriptReading::command_in))]
 fn command(alloc: Global, line: &[u8]) -> Result<Option<Command>, AllocError>
     ensures { IfOk result (λ found. commands_of found ≡ command_in line.now) }
 {
     if let Some(command) = open(line) {
         return Ok(Some(command));
     }
-    if let Some(command) = unlock(line) {
-        return Ok(Some(command));
-    }
-    if let Some(command) = slave(line) {
+    if let Some(command) = named(line) {
         return Ok(Some(command));
     }
     if let Some(command) = write(alloc, line)? {
@@ -128,7 +121,7 @@ fn command(alloc: Global, line: &[u8]) -> Result<Option<Command>, AllocError>
 }
 
 /// What a line says, by its length, its first byte and its command.
-#[tactic(auto, unfolding(strm_types::specs::ScriptReading::reading))]
+#[tactic(auto, unfolding(crate::specs::ScriptReading::reading))]
 fn said(alloc: Global, line: &[u8]) -> Result<Reading, AllocError>
     ensures { IfOk result (λ found. reading_of found ≡ reading line.now) }
 {

@@ -1,6 +1,6 @@
 //! Scripts of calls on a pair: reads commands from standard input, one a line, and writes an answer line for each to
 //! standard output. `run_script` does the work; its contract says what is written, by the definitions of script text
-//! in `strm_types/specs`.
+//! in `specs`.
 #![tactic(auto)]
 
 mod answers;
@@ -23,5 +23,5 @@ use std::process::ExitCode;
 /// Runs the script on standard input, and ends with its status. Arguments are ignored.
 fn main(rt: HostRuntime) -> ExitCode {
     let end = run_script(rt.alloc(), &mut rt.reader(), &mut io::writer(&rt));
-    ExitCode::from(end.status)
+    ExitCode::from(end.status.number())
 }

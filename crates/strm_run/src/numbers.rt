@@ -1,11 +1,11 @@
 //! Numbers of a line.
 
 ghost use Rattle.std.specs.Prelude.{◌≡◌, ◌≤◌, IfSome};
-ghost use Rattle.strm_types.specs.Script.{digit_of};
-ghost use Rattle.strm_types.specs.ScriptReading.{number_from, number_in};
+ghost use Rattle.strm_run.specs.Script.{digit_of};
+ghost use Rattle.strm_run.specs.ScriptReading.{number_from, number_in};
 
 /// The value of a decimal digit.
-#[tactic(auto, unfolding(strm_types::specs::Script::digit_of))]
+#[tactic(auto, unfolding(crate::specs::Script::digit_of))]
 fn digit(byte: u8) -> Option<u64>
     ensures same { result ≡ digit_of byte }
     ensures small { IfSome result (λ d. d ≤ 9) }
@@ -35,7 +35,7 @@ fn value(digits: &[u8]) -> Option<u32>
 }
 
 /// The number that 1 to 10 decimal digits spell, if it is at most 4294967295.
-#[tactic(auto, unfolding(strm_types::specs::ScriptReading::number_in))]
+#[tactic(auto, unfolding(crate::specs::ScriptReading::number_in))]
 pub fn number(digits: &[u8]) -> Option<u32>
     ensures { result ≡ number_in digits.now }
 {

@@ -2,13 +2,13 @@
 
 ghost use Rattle.std.specs.Prelude.{◌≡◌, ◌++◌, [], List, ℕ, IsTrue};
 ghost use Rattle.std.specs.Io.KnownBytes.{Appends};
-ghost use Rattle.strm_run.specs.Output.{Writes};
+ghost use Rattle.strm_run.specs.Output.{Writes, WritesOut};
 
 use std::io::{ErrorKind, Write};
 
 /// Writes bytes, as far as the writer takes them; whether it took all. A write that was interrupted is tried again.
 fn write_out<W: Write>(writer: &mut W, bytes: &[u8]) -> bool
-    ensures { Writes (W.contents writer.old) (W.contents writer.new) bytes.now result }
+    ensures { WritesOut (W.contents writer.old) (W.contents writer.new) bytes.now result }
 {
     let mut done = 0usize;
     for _ in 0..u64::MAX {
@@ -25,7 +25,7 @@ fn write_out<W: Write>(writer: &mut W, bytes: &[u8]) -> bool
             }
         }
     }
-    false
+    done >= bytes.len()
 }
 
 /// Writes bytes and flushes the writer; whether both went well.

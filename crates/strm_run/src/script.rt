@@ -1,7 +1,7 @@
 //! A script from its first byte to its last answer.
 
 ghost use Rattle.std.specs.Prelude.{◌≡◌, ◌+◌, ◌<◌, ◌≤◌, ◌^◌, []};
-ghost use Rattle.strm_run.specs.Runs.{IsRun};
+ghost use Rattle.strm_run.specs.Runs.{IsRun, exit_number};
 ghost use Rattle.strm_run.specs.Output.{Writes};
 ghost use Rattle.strm_run.specs.Serving.{Serves, Ended, status_of};
 ghost use Rattle.strm_run.specs.Steps.{Ready, point_of};
@@ -11,12 +11,34 @@ use crate::output::send;
 use std::alloc::Global;
 use std::io::{ErrorKind, Read, Write};
 
-/// How a script ended.
+/// How a run of a script ended.
+#[derive(Clone, Copy, Debug, PartialEq, Eq)]
+pub enum ScriptStatus {
+    /// The input ended, and all was written.
+    Whole,
+    /// A line was malformed, and the text says so.
+    Malformed,
+    /// The reader or the writer failed, memory was refused, or 2^32 - 1 reads were made.
+    Broken,
+}
+
+impl ScriptStatus {
+    /// The number by which the program tells it.
+    pub fn number(self) -> u8
+        ensures { result ≡ exit_number self }
+    {
+        match self {
+            ScriptStatus::Whole => 0,
+            ScriptStatus::Malformed => 1,
+            ScriptStatus::Broken => 2,
+        }
+    }
+}
+
+/// What a run of a script came to.
 #[derive(Clone, Copy, Debug, PartialEq, Eq)]
 pub struct ScriptEnd {
-    /// 0 where the input ended and all was written; 1 where a line was malformed, and the text says so; 2 where the
-    /// reader or the writer failed, memory was refused, or 2^32 - 1 reads were made.
-    pub status: u8,
+    pub status: ScriptStatus,
     /// The first line in which a call or a turn got ENOSR.
     pub short: Option<u64>,
 }
@@ -36,14 +58,14 @@ fn send_answers<W: Write>(engine: &mut Engine, writer: &mut W) -> bool
 }
 
 /// The status of a script that stopped, once its answers are written.
-fn stopped<W: Write>(stop: Stop, engine: &mut Engine, writer: &mut W) -> u8
+fn stopped<W: Write>(stop: Stop, engine: &mut Engine, writer: &mut W) -> ScriptStatus
     ensures ended { Ended (W.contents writer.old) (W.contents writer.new) engine.old.answers.items result (status_of stop) }
     ensures short { engine.new.short ≡ engine.old.short }
 {
     let well = send_answers(engine, writer);
     match stop {
-        Stop::Malformed if well => 1,
-        _ => 2,
+        Stop::Malformed if well => ScriptStatus::Malformed,
+        _ => ScriptStatus::Broken,
     }
 }
 
@@ -53,18 +75,24 @@ fn serve<R: Read, W: Write>(
     engine: &mut Engine,
     reader: &mut R,
     writer: &mut W,
-) -> u8
+) -> ScriptStatus
     requires { Ready engine.old }
     ensures { IsRun (R.remaining reader.old) (W.contents writer.old) (W.contents writer.new) result engine.new.short }
 {
     let mut chunk = [0u8; CHUNK];
     for turn in 0..u32::MAX {
         if !send_answers(engine, writer) {
-            return 2;
+            return ScriptStatus::Broken;
         }
         match reader.read(&mut chunk) {
             Ok(0) => match engine.finish(alloc) {
-                Ok(()) => return if send_answers(engine, writer) { 0 } else { 2 },
+                Ok(()) => {
+                    return if send_answers(engine, writer) {
+                        ScriptStatus::Whole
+                    } else {
+                        ScriptStatus::Broken
+                    };
+                }
                 Err(stop) => return stopped(stop, engine, writer),
             },
             Ok(n) => {
@@ -74,12 +102,12 @@ fn serve<R: Read, W: Write>(
             }
             Err(error) => {
                 if error.kind() != ErrorKind::Interrupted {
-                    return 2;
+                    return ScriptStatus::Broken;
                 }
             }
         }
     }
-    2
+    ScriptStatus::Broken
 }
 
 /// Runs a script: reads commands, one a line, and writes an answer line for each. What it writes, up to a fault, is the

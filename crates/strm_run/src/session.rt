@@ -2,14 +2,14 @@
 
 ghost use Rattle.std.specs.Prelude.{◌≡◌, ℕ, List, false, Some, None, IfOk, OnErr, option_map};
 ghost use Rattle.strm_types.specs.Calls.{request};
-ghost use Rattle.strm_types.specs.ScriptAnswers as script;
-ghost use Rattle.strm_types.specs.ScriptRun.{by_call, by_turn, by_run, by_open, answered, unanswered, script_limits, is_enosr};
+ghost use Rattle.strm_run.specs.ScriptAnswers as script;
+ghost use Rattle.strm_run.specs.ScriptRun.{by_call, by_turn, by_run, by_open, answered, unanswered, script_limits, is_enosr};
 ghost use Rattle.strm_run.specs.Commands.{command_of};
 ghost use Rattle.strm_run.specs.Plain.{plain};
 ghost use Rattle.strm_run.specs.Outcomes.{LeadsTo};
 
 use crate::answers::Line;
-use crate::commands::Command;
+use crate::commands::{Command, lent};
 use std::alloc::{AllocError, Global};
 use strm_blocks::TableStore;
 use strm_pair::Pair;
@@ -125,13 +125,7 @@ fn on_pair(pair: &mut Pair<TableStore>, command: &Command, out: &mut ReadBytes) 
 {
     match command {
         Command::Open { blocks: _ } => refused(Refusal::Einval),
-        Command::Unlock => call(pair, Side::Master, &Event::Unlock, out),
-        Command::OpenSlave => call(pair, Side::Slave, &Event::OpenSlave, out),
-        Command::Write { side, bytes } => {
-            let bytes = bytes.as_slice();
-            call(pair, *side, &Event::Write { bytes }, out)
-        }
-        Command::Read { side, n } => call(pair, *side, &Event::Read { n: *n }, out),
+        Command::Call { side, event } => call(pair, *side, &lent(event), out),
         Command::Turn { name } => turn(pair, *name),
         Command::Run { turns } => run(pair, *turns),
     }

@@ -3,7 +3,7 @@
 
 mod scripts;
 
-use crate::script::{ScriptEnd, run_script};
+use crate::script::{ScriptEnd, ScriptStatus, run_script};
 use crate::tests::scripts::Scene;
 use std::alloc::{AllocError, Global};
 use std::io::{self, Error, ErrorKind, Read, Write};
@@ -11,17 +11,17 @@ use std::process::Abort;
 use std::test::Fail;
 
 const WELL: ScriptEnd = ScriptEnd {
-    status: 0,
+    status: ScriptStatus::Whole,
     short: None,
 };
 
 const MALFORMED: ScriptEnd = ScriptEnd {
-    status: 1,
+    status: ScriptStatus::Malformed,
     short: None,
 };
 
 const BROKEN: ScriptEnd = ScriptEnd {
-    status: 2,
+    status: ScriptStatus::Broken,
     short: None,
 };
 
@@ -126,15 +126,20 @@ fn a_line_has_4096_bytes_at_most(rt: HostRuntime) -> Result<(), Fail> {
     )
 }
 
-// A reader that gives a script's bytes one a call, up to the call that fails.
+// A reader that is interrupted first, so many times, and then gives a script's bytes one a call, up to the call that fails.
 #[derive(Drop)]
-struct FailingReader<'a> {
+struct SlowReader<'a> {
     bytes: &'a [u8],
+    interruptions: usize,
     calls_left: usize,
 }
 
-impl Read for FailingReader<'_> {
+impl Read for SlowReader<'_> {
     fn read(&mut self, buf: &mut [u8]) -> io::Result<usize> {
+        if self.interruptions > 0 {
+            self.interruptions -= 1;
+            return Err(Error::from(ErrorKind::Interrupted));
+        }
         if self.calls_left == 0 {
             return Err(Error::from(ErrorKind::Other));
         }
@@ -151,54 +156,22 @@ impl Read for FailingReader<'_> {
     }
 }
 
-// How many lines end in a text.
-fn count_lines(text: &[u8]) -> usize {
-    let mut count = 0usize;
-    for byte in text {
-        if *byte == b'\n' {
-            count = count.saturating_add(1);
-        }
-    }
-    count
-}
-
-#[test]
-fn a_reader_that_fails_leaves_the_answers_of_whole_lines(rt: HostRuntime) -> Result<(), Fail> {
-    for calls in 0..=FIRST_RUN.len() {
-        let mut reader = FailingReader {
-            bytes: FIRST_RUN,
-            calls_left: calls,
-        };
-        let mut written = Vec::new(rt.alloc());
-        let ended = run_script(rt.alloc(), &mut reader, &mut written);
-        assert_eq!(rt; ended, BROKEN, "at call {calls}");
-        assert!(rt;
-            FIRST_ANSWERS.starts_with(written.as_slice()),
-            "at call {calls}"
-        );
-        let lines = count_lines(written.as_slice());
-        assert_eq!(rt; lines, count_lines(&FIRST_RUN[..calls]), "at call {calls}");
-    }
-    let mut reader = FailingReader {
-        bytes: FIRST_RUN,
-        calls_left: usize::MAX,
-    };
-    let mut written = Vec::new(rt.alloc());
-    assert_eq!(rt; run_script(rt.alloc(), &mut reader, &mut written), WELL);
-    assert_eq!(rt; written.as_slice(), FIRST_ANSWERS);
-    Ok(())
-}
-
-// A writer that takes one byte a call, up to the call that fails, and whose flushes go well or not.
+// A writer that is interrupted first, so many times, and then takes one byte a call, up to the call that fails; its
+// flushes go well or not.
 #[derive(Drop)]
-struct FailingWriter {
+struct SlowWriter {
     written: Vec<u8>,
+    interruptions: usize,
     calls_left: usize,
     flushes: bool,
 }
 
-impl Write for FailingWriter {
+impl Write for SlowWriter {
     fn write(&mut self, buf: &[u8]) -> io::Result<usize> {
+        if self.interruptions > 0 {
+            self.interruptions -= 1;
+            return Err(Error::from(ErrorKind::Interrupted));
+        }
         if self.calls_left == 0 {
             return Err(Error::from(ErrorKind::Other));
         }
@@ -219,12 +192,80 @@ impl Write for FailingWriter {
     }
 }
 
+// Runs a script byte by byte, with so many interruptions of its reader and of its writer first, to its end, and compares
+// what it writes.
+fn plays_slowly(
+    rt: &impl Abort,
+    alloc: Global,
+    script: &[u8],
+    answers: &[u8],
+    interruptions: usize,
+) {
+    let mut reader = SlowReader {
+        bytes: script,
+        interruptions,
+        calls_left: usize::MAX,
+    };
+    let mut writer = SlowWriter {
+        written: Vec::new(alloc),
+        interruptions,
+        calls_left: usize::MAX,
+        flushes: true,
+    };
+    let ended = run_script(alloc, &mut reader, &mut writer);
+    assert_eq!(rt; ended, WELL, "after {interruptions} interruptions");
+    assert!(rt;
+        writer.written.as_slice() == answers,
+        "after {interruptions} interruptions"
+    );
+}
+
+#[test]
+fn a_script_may_be_interrupted(rt: HostRuntime) {
+    for interruptions in [0, 1, 3] {
+        plays_slowly(&rt, rt.alloc(), FIRST_RUN, FIRST_ANSWERS, interruptions);
+    }
+}
+
+// How many lines end in a text.
+fn count_lines(text: &[u8]) -> usize {
+    let mut count = 0usize;
+    for byte in text {
+        if *byte == b'\n' {
+            count = count.saturating_add(1);
+        }
+    }
+    count
+}
+
+#[test]
+fn a_reader_that_fails_leaves_the_answers_of_whole_lines(rt: HostRuntime) -> Result<(), Fail> {
+    for calls in 0..=FIRST_RUN.len() {
+        let mut reader = SlowReader {
+            bytes: FIRST_RUN,
+            interruptions: 0,
+            calls_left: calls,
+        };
+        let mut written = Vec::new(rt.alloc());
+        let ended = run_script(rt.alloc(), &mut reader, &mut written);
+        assert_eq!(rt; ended, BROKEN, "at call {calls}");
+        assert!(rt;
+            FIRST_ANSWERS.starts_with(written.as_slice()),
+            "at call {calls}"
+        );
+        let lines = count_lines(written.as_slice());
+        assert_eq!(rt; lines, count_lines(&FIRST_RUN[..calls]), "at call {calls}");
+    }
+    Ok(())
+}
+
 #[test]
 fn a_writer_that_fails_has_the_front_of_the_answers(rt: HostRuntime) -> Result<(), Fail> {
     for calls in 0..=FIRST_ANSWERS.len() {
         let mut reader = FIRST_RUN;
-        let mut writer = FailingWriter {
+        let mut writer = SlowWriter {
             written: Vec::new(rt.alloc()),
+            interruptions: 0,
             calls_left: calls,
             flushes: true,
         };
@@ -244,8 +285,9 @@ fn a_writer_that_fails_has_the_front_of_the_answers(rt: HostRuntime) -> Result<(
 #[test]
 fn a_flush_that_fails_is_a_write_fault(rt: HostRuntime) {
     let mut reader = FIRST_RUN;
-    let mut writer = FailingWriter {
+    let mut writer = SlowWriter {
         written: Vec::new(rt.alloc()),
+        interruptions: 0,
         calls_left: usize::MAX,
         flushes: false,
     };
@@ -263,5 +305,6 @@ fn a_large_script_runs_on_one_pair(rt: HostRuntime) -> Result<(), Fail> {
         script.extend_from_slice(b"write m \"ab\"\nrun 9\nread s 9\n")?;
         answers.extend_from_slice(b"ok 2\nran 1\ndata 2 \"ab\"\n")?;
     }
+    plays_slowly(&rt, rt.alloc(), script.as_slice(), answers.as_slice(), 1);
     plays(&rt, rt.alloc(), script.as_slice(), answers.as_slice(), WELL)
 }

@@ -2,9 +2,9 @@
 
 ghost use Rattle.std.specs.Prelude.{◌≡◌, ◌≤◌, IfOk, IfSome};
 ghost use Rattle.std.specs.Option.{option_map};
-ghost use Rattle.strm_types.specs.Script.{hex_of, escaped};
-ghost use Rattle.strm_types.specs.ScriptReading.{moved_by, text_in, text_from, is_closed};
-ghost use Rattle.strm_types.specs.ScriptReading as readings;
+ghost use Rattle.strm_run.specs.Script.{hex_of, escaped};
+ghost use Rattle.strm_run.specs.ScriptReading.{moved_by, text_in, text_from, is_closed};
+ghost use Rattle.strm_run.specs.ScriptReading as readings;
 ghost use Rattle.strm_run.specs.Modes.{mode_of, move_of, IsMode, IsMove};
 
 use crate::words::after;
@@ -36,7 +36,7 @@ enum Move {
 }
 
 /// The value of a hexadecimal digit, in either case.
-#[tactic(auto, unfolding(strm_types::specs::Script::hex_of))]
+#[tactic(auto, unfolding(crate::specs::Script::hex_of))]
 fn hex(byte: u8) -> Option<u8>
     ensures same { result ≡ hex_of byte }
     ensures small { IfSome result (λ d. d ≤ 15) }
@@ -50,7 +50,7 @@ fn hex(byte: u8) -> Option<u8>
 }
 
 /// The byte that an escape of one letter stands for.
-#[tactic(auto, unfolding(strm_types::specs::Script::escaped))]
+#[tactic(auto, unfolding(crate::specs::Script::escaped))]
 fn escape(byte: u8) -> Option<u8>
     ensures { result ≡ escaped byte }
 {
@@ -140,7 +140,7 @@ fn spelled(alloc: Global, bytes: &[u8]) -> Result<Option<Vec<u8>>, AllocError>
 }
 
 /// The text in quotes that is spelled, where no more than it stands there.
-#[tactic(auto, unfolding(strm_types::specs::ScriptReading::text_in))]
+#[tactic(auto, unfolding(crate::specs::ScriptReading::text_in))]
 pub fn text(alloc: Global, bytes: &[u8]) -> Result<Option<Vec<u8>>, AllocError>
     ensures { IfOk result (λ found. option_map (λ text. text.items) found ≡ text_in bytes.now) }
 {

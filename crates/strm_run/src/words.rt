@@ -2,7 +2,7 @@
 
 ghost use Rattle.std.specs.Prelude.{◌≡◌, option_map};
 ghost use Rattle.std.specs.Option.{option_copied};
-ghost use Rattle.strm_types.specs.ScriptReading.{after, side_in, place_in, way_in, queue_in};
+ghost use Rattle.strm_run.specs.ScriptReading.{after, side_in, place_in, way_in, queue_in};
 ghost use Rattle.strm_run.specs.Views.{front_of};
 
 use strm_types::{Place, QueueName, Side, Way};
@@ -15,7 +15,7 @@ pub fn after<'a>(text: &'a [u8], word: &[u8]) -> Option<&'a [u8]>
 }
 
 /// A side at the front, `m` or `s`, and what follows it.
-#[tactic(auto, unfolding(strm_types::specs::ScriptReading::side_in))]
+#[tactic(auto, unfolding(crate::specs::ScriptReading::side_in))]
 pub fn side(text: &[u8]) -> Option<(Side, &[u8])>
     ensures { option_map front_of result ≡ side_in text.now }
 {
@@ -29,7 +29,7 @@ pub fn side(text: &[u8]) -> Option<(Side, &[u8])>
 }
 
 /// A place at the front, `head`, `ldterm` or `drv`, and what follows it.
-#[tactic(auto, unfolding(strm_types::specs::ScriptReading::place_in))]
+#[tactic(auto, unfolding(crate::specs::ScriptReading::place_in))]
 fn place(text: &[u8]) -> Option<(Place, &[u8])>
     ensures { option_map front_of result ≡ place_in text.now }
 {
@@ -46,7 +46,7 @@ fn place(text: &[u8]) -> Option<(Place, &[u8])>
 }
 
 /// A way, `r` or `w`, where the text is no more.
-#[tactic(auto, unfolding(strm_types::specs::ScriptReading::way_in))]
+#[tactic(auto, unfolding(crate::specs::ScriptReading::way_in))]
 fn way(text: &[u8]) -> Option<Way>
     ensures { result ≡ way_in text.now }
 {
@@ -58,7 +58,7 @@ fn way(text: &[u8]) -> Option<Way>
 }
 
 /// The name of a queue, as `m.drv.w`, where the text is no more.
-#[tactic(auto, unfolding(strm_types::specs::ScriptReading::queue_in))]
+#[tactic(auto, unfolding(crate::specs::ScriptReading::queue_in))]
 pub fn queue(text: &[u8]) -> Option<QueueName>
     ensures { result ≡ queue_in text.now }
 {

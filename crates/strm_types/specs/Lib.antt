@@ -15,8 +15,4 @@ pub mod Journal
 pub mod Step
 pub mod Kept
 pub mod Pair
-pub mod Script
-pub mod ScriptReading
-pub mod ScriptAnswers
-pub mod ScriptRun
 pub mod Numbers

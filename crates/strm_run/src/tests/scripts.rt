@@ -2,14 +2,14 @@
 //! commands stand at the margin, and the answer to each stands under it, indented by two spaces.
 
 use super::{MALFORMED, WELL};
-use crate::script::ScriptEnd;
+use crate::script::{ScriptEnd, ScriptStatus};
 
 /// A scene: its title, how its script ends, and its text.
 pub type Scene = (&'static str, ScriptEnd, &'static str);
 
 // A script in whose line 4 a call got ENOSR.
 const SHORT_AT_4: ScriptEnd = ScriptEnd {
-    status: 0,
+    status: ScriptStatus::Whole,
     short: Some(4),
 };
 

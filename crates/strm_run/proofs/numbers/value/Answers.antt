@@ -1,6 +1,6 @@
 use Rattle.std.proofs.Common.{arith, sym, ◌∙◌}
 use Rattle.std.proofs.lemmas.List.{at_drop_more}
-use Rattle.strm_types.specs.ScriptReading.{number_from}
+use Rattle.strm_run.specs.ScriptReading.{number_from}
 use Rattle.strm_run.proofs.Readings.{number_none, number_over, number_more, number_end}
 use Rattle.strm_run.proofs.numbers.value.Goals as goal
 

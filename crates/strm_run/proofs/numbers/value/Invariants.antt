@@ -1,5 +1,5 @@
 use Rattle.std.proofs.Common.{◌≡◌, ◌≤◌, drop}
-use Rattle.strm_types.specs.ScriptReading.{number_from}
+use Rattle.strm_run.specs.ScriptReading.{number_from}
 use Rattle.strm_run.proofs.numbers.value.Given as goal
 
 abbrev pub invariant-loop-byte : goal.invariant-loop-byte

@@ -1,21 +1,23 @@
-use Rattle.std.proofs.Common.{◌+◌, true, arith}
-use Rattle.std.proofs.lemmas.List.{take_all}
-use Rattle.strm_run.proofs.Known.{Appends-kept, Appends-slice, Appends-at, slices, Writes-front, Writes-all}
+use Rattle.std.proofs.Common.{◌+◌, arith, sym}
+use Rattle.std.proofs.lemmas.Bool.{false≢true, leb-true, leb-false}
+use Rattle.strm_run.proofs.Known.{Appends-kept, Appends-slice, slices, WritesOut-at}
 use Rattle.strm_run.proofs.output.write_out.Goals as goal
 use Rattle.strm_run.proofs.output.write_out.Goals.{in-Ok, in-Err+else-ne}
 
 pub returns-then-done-bytes : goal.returns-then-done-bytes
 returns-then-done-bytes g c =
-    Writes-all _ _ c.args.bytes.now true (Appends-at _ _ _ _ (take_all c.loop.done c.args.bytes.now (omega arith)) c.loop.invariant.1)
+    WritesOut-at _ _ c.args.bytes.now c.loop.done _ c.loop.invariant.1 (λ e. omega arith) (λ e. absurd (false≢true (sym e)))
 
 pub returns-in-Ok-eq0 : goal.returns-in-Ok-eq0
 returns-in-Ok-eq0 g c =
-    Writes-front _ _ c.args.bytes.now (c.loop.done + c.in-Ok-eq0.field-0)
+    WritesOut-at _ _ c.args.bytes.now (c.loop.done + c.in-Ok-eq0.field-0) _
     (Appends-slice _ _ _ c.args.bytes.now c.loop.done c.in-Ok-eq0.field-0 c.loop.invariant.0 c.loop.invariant.1 c.in-Ok-eq0.ensures.bytes)
+    (λ e. absurd (false≢true e)) (λ e. omega arith)
 
 pub returns-then-ne : goal.returns-then-ne
 returns-then-ne g c =
-    Writes-front _ _ c.args.bytes.now c.loop.done (Appends-kept _ _ _ _ c.loop.invariant.1 c.in-Err.ensures.bytes)
+    WritesOut-at _ _ c.args.bytes.now c.loop.done _ (Appends-kept _ _ _ _ c.loop.invariant.1 c.in-Err.ensures.bytes)
+    (λ e. absurd (false≢true e)) (λ e. omega arith)
 
 pub loop-preserved : goal.loop-preserved
 loop-preserved g c = elim c.match-write.branch [
@@ -28,4 +30,4 @@ loop-preserved g c = elim c.match-write.branch [
 ]
 
 pub returns : goal.returns
-returns g c = Writes-front _ _ c.args.bytes.now c.loop.done c.loop.invariant.1
+returns g c = WritesOut-at _ _ c.args.bytes.now c.loop.done _ c.loop.invariant.1 (λ e. leb-true _ _ e) (λ e. leb-false _ _ e)

@@ -1,6 +1,6 @@
 use Rattle.std.proofs.Common.{◌≡◌, ℕ, List, Option, None, ap, sym, refl, ◌∙◌, unwrap_or, option_map}
 use Rattle.std.proofs.lemmas.Result.{IfOk-weaker}
-use Rattle.strm_types.specs.ScriptRun.{Supply, PlainPair, answered, unanswered, by_open}
+use Rattle.strm_run.specs.ScriptRun.{Supply, PlainPair, answered, unanswered, by_open}
 use Rattle.strm_types.specs.declared.refusals.Refusal.TheVariants.{Enxio}
 use Rattle.strm_run.specs.Commands.{command_of}
 use Rattle.strm_types.specs.Pair.{PairState}
@@ -8,7 +8,7 @@ use Rattle.strm_run.specs.Plain.{plain}
 use Rattle.strm_run.specs.Outcomes.{LeadsTo}
 use Rattle.strm_run.specs.declared.session.Answered.{Answered}
 use Rattle.strm_run.specs.declared.commands.Command.{Command}
-use Rattle.strm_run.specs.declared.commands.Command.TheVariants.{Open, Unlock, OpenSlave, Write, Read, Turn, Run}
+use Rattle.strm_run.specs.declared.commands.Command.TheVariants.{Open, Call, Turn, Run}
 use Rattle.strm_run.proofs.Events.{leads_unanswered, leads_same}
 use Rattle.strm_run.proofs.session.answer.Goals as goal
 
@@ -17,10 +17,7 @@ closed : (command : Command) → ((blocks : Option ℕ) → command ≡ Open blo
     → answered (command_of command) account None ≡ unanswered Enxio None account
 unfolding answered
 closed (Open blocks) h account = absurd (h blocks refl)
-closed Unlock h account = refl
-closed OpenSlave h account = refl
-closed (Write side bytes) h account = refl
-closed (Read side n) h account = refl
+closed (Call side event) h account = refl
 closed (Turn name) h account = refl
 closed (Run turns) h account = refl
 

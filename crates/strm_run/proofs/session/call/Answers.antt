@@ -1,6 +1,6 @@
 use Rattle.std.proofs.Common.{ap, sym, ◌∙◌}
-use Rattle.strm_types.specs.ScriptAnswers.{reply_line}
-use Rattle.strm_types.specs.ScriptRun.{is_short}
+use Rattle.strm_run.specs.ScriptAnswers.{reply_line}
+use Rattle.strm_run.specs.ScriptRun.{is_short}
 use Rattle.strm_run.proofs.Events.{CallHappens-from, answers_call, replied}
 use Rattle.strm_run.proofs.session.call.Goals as goal
 

@@ -1,5 +1,8 @@
-use Rattle.std.proofs.Common.{◌≡◌, ℕ, List, Option, ap, sym, refl}
-use Rattle.strm_types.specs.ScriptRun.{PlainPair, answered}
+use Rattle.std.proofs.Common.{◌≡◌, ℕ, List, Option, Some, ap, sym, refl}
+use Rattle.strm_types.specs.declared.names.Side.{Side}
+use Rattle.strm_types.specs.Calls.{Request}
+use Rattle.strm_run.specs.Script.{Call}
+use Rattle.strm_run.specs.ScriptRun.{PlainPair, answered, by_call}
 use Rattle.strm_types.specs.declared.refusals.Refusal.TheVariants.{Einval}
 use Rattle.strm_run.specs.Commands.{command_of}
 use Rattle.strm_run.specs.Outcomes.{LeadsTo}
@@ -20,21 +23,18 @@ pub returns-in-Open : goal.returns-in-Open
 unfolding answered
 returns-in-Open c = known _ _ _ _ _ _ c.in-Open.is (leads_unanswered _ _ Einval _ _ c.refused.ensures (λ account. refl))
 
-pub returns-in-Unlock : goal.returns-in-Unlock
+-- a call
+makes : (bytes : List ℕ) (side : Side) (event asked : Request) (found : Answered) (old : PlainPair) (new : Option PlainPair) → asked ≡ event
+    → LeadsTo (λ account. by_call (record { side = side }) asked account old) found bytes new
+    → LeadsTo (λ account. answered (Call side event) account (Some old)) found bytes new
 unfolding answered
-returns-in-Unlock c = known _ _ _ _ _ _ c.in-Unlock.is c.call.ensures
+makes bytes side event asked found old new e h =
+    leads_same bytes (λ account. answered (Call side event) account (Some old)) (λ account. by_call (record { side = side }) asked account old) new found
+    (λ account. ap (λ x. by_call (record { side = side }) x account old) (sym e)) h
 
-pub returns-in-OpenSlave : goal.returns-in-OpenSlave
+pub returns-in-Call : goal.returns-in-Call
 unfolding answered
-returns-in-OpenSlave c = known _ _ _ _ _ _ c.in-OpenSlave.is c.call-in-OpenSlave.ensures
-
-pub returns-in-Write : goal.returns-in-Write
-unfolding answered
-returns-in-Write c = known _ _ _ _ _ _ c.in-Write.is (rw (sym c.as_slice-bytes.ensures.value) c.call-in-Write.ensures)
-
-pub returns-in-Read : goal.returns-in-Read
-unfolding answered
-returns-in-Read c = known _ _ _ _ _ _ c.in-Read.is c.call-in-Read.ensures
+returns-in-Call c = known _ _ _ _ _ _ c.in-Call.is (makes _ _ _ _ _ _ _ c.lent.ensures c.call.ensures)
 
 pub returns-in-Turn : goal.returns-in-Turn
 unfolding answered

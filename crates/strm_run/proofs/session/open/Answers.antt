@@ -1,5 +1,5 @@
 use Rattle.std.proofs.Common.{◌<◌, ◌≤◌, None, inl, inr, arith, ap, sym, ◌∙◌}
-use Rattle.strm_types.specs.ScriptRun.{by_open, by_call}
+use Rattle.strm_run.specs.ScriptRun.{by_open, by_call}
 use Rattle.strm_types.specs.declared.events.Event.TheVariants.{OpenMaster}
 use Rattle.strm_types.specs.Pair.{new_pair}
 use Rattle.strm_types.specs.declared.names.Side.TheVariants.{Master}

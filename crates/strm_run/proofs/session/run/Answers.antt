@@ -1,5 +1,5 @@
 use Rattle.std.proofs.Common.{◌≡◌, refl, ap, sym, ◌∙◌, arith, ◌≤◌}
-use Rattle.strm_types.specs.ScriptAnswers.{Ran}
+use Rattle.strm_run.specs.ScriptAnswers.{Ran}
 use Rattle.strm_run.specs.Plain.{plain}
 use Rattle.strm_run.proofs.Events.{RunsTo-start, RunsTo-more, run_none, run_refused, run_all, TurnHappens-from}
 use Rattle.strm_run.proofs.session.run.Goals as goal

@@ -1,6 +1,6 @@
 use Rattle.std.proofs.Common.{ap, sym, ◌∙◌}
-use Rattle.strm_types.specs.ScriptAnswers.{turn_line}
-use Rattle.strm_types.specs.ScriptRun.{is_short}
+use Rattle.strm_run.specs.ScriptAnswers.{turn_line}
+use Rattle.strm_run.specs.ScriptRun.{is_short}
 use Rattle.strm_run.proofs.Events.{TurnHappens-from, answers_turn}
 use Rattle.strm_run.proofs.session.turn.Goals as goal
 

@@ -2,7 +2,7 @@ use Rattle.std.proofs.Common.{◌≡◌, ◌+◌, true, false, List, ℕ, Option
 use Rattle.std.specs.Option.{option_copied}
 use Rattle.std.proofs.lemmas.Bool.{both_ways}
 use lib.Pointwise.{bytes_decides, pointwise}
-use Rattle.strm_types.specs.ScriptReading.{after}
+use Rattle.strm_run.specs.ScriptReading.{after}
 use Rattle.strm_run.proofs.Readings.{after_front, after_none}
 use Rattle.strm_run.proofs.words.after.Goals as goal
 

@@ -1,7 +1,7 @@
 use Rattle.std.proofs.Common.{◌∷◌, take}
 use Rattle.std.specs.List.{flat_map}
 use Rattle.std.specs.Fmt.{HasWritten, IsPlainFormatter}
-use Rattle.strm_types.specs.ScriptAnswers.{printed}
+use Rattle.strm_run.specs.ScriptAnswers.{printed}
 use Rattle.strm_run.proofs.answers.QuotedDisplay.fmt.Given as goal
 
 abbrev pub invariant-loop-byte : goal.invariant-loop-byte

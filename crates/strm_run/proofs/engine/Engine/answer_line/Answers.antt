@@ -1,5 +1,5 @@
 use Rattle.std.proofs.Common.{refl, sym, ap, ◌∙◌, append-nil, []}
-use Rattle.strm_types.specs.ScriptReading.{reading}
+use Rattle.strm_run.specs.ScriptReading.{reading}
 use Rattle.strm_run.specs.Commands.{reading_of}
 use Rattle.strm_run.specs.Steps.{point_of}
 use Rattle.strm_run.proofs.Ways.{goes_silent}

@@ -3,7 +3,7 @@ use Rattle.std.specs.Prelude.{ℕ, zero, suc, nat_le, ◌&&◌, ◌||◌, ◌==�
 use Rattle.strm_types.specs.declared.limits.Config.{Config}
 use Rattle.strm_types.specs.declared.answers.Turn.{Turn}
 use Rattle.strm_types.specs.declared.events.Caller.{Caller}
-use Rattle.strm_types.specs.declared.names.Side.TheVariants.{Master, Slave}
+use Rattle.strm_types.specs.declared.names.Side.TheVariants.{Master}
 use Rattle.strm_types.specs.declared.names.QueueName.{QueueName}
 use Rattle.strm_types.specs.declared.refusals.Refusal.{Refusal}
 use Rattle.strm_types.specs.declared.refusals.Refusal.TheVariants.{Einval, Enxio, Enosr}
@@ -15,9 +15,9 @@ use Rattle.strm_types.specs.Turns.{turned, whole_turn}
 use Rattle.strm_types.specs.Calls.{Request, Reply, called}
 use Rattle.strm_types.specs.Journal.{PlainEntry}
 use Rattle.strm_types.specs.Refused.{refused, turn_refused, blocks_asked}
-use Rattle.strm_types.specs.Script.{Command, Open, Unlock, OpenSlave, Write, Read, Turn as TurnOf, Run, lines_of}
-use Rattle.strm_types.specs.ScriptReading.{Silent, Malformed, Spoken, reading}
-use Rattle.strm_types.specs.ScriptAnswers.{Line, Refused, Wrong, Ran, printed_line, reply_line, turn_line}
+use Rattle.strm_run.specs.Script.{Command, Open, Call, Turn as TurnOf, Run, lines_of}
+use Rattle.strm_run.specs.ScriptReading.{Silent, Malformed, Spoken, reading}
+use Rattle.strm_run.specs.ScriptAnswers.{Line, Refused, Wrong, Ran, printed_line, reply_line, turn_line}
 
 -- What the pool of blocks had for an event. An account says it of each call and each turn of a script, in their order;
 -- behind its end the pool has enough.
@@ -185,10 +185,7 @@ with_pair answer account (Some p) = answer account p
 unfoldable pub answered : Command → List Supply → Option PlainPair → Answered
 answered (Open blocks) account None = by_open (unwrap_or blocks usual_blocks) account
 answered (Open blocks) account (Some p) = unanswered Einval (Some p) account
-answered Unlock account pair = with_pair (by_call (record { side = Master }) calls.Unlock) account pair
-answered OpenSlave account pair = with_pair (by_call (record { side = Slave }) calls.OpenSlave) account pair
-answered (Write side bytes) account pair = with_pair (by_call (record { side = side }) (calls.Write bytes)) account pair
-answered (Read side n) account pair = with_pair (by_call (record { side = side }) (calls.Read n)) account pair
+answered (Call side asked) account pair = with_pair (by_call (record { side = side }) asked) account pair
 answered (TurnOf name) account pair = with_pair (by_turn name) account pair
 answered (Run n) account pair = with_pair (by_run n) account pair
 

@@ -7,14 +7,13 @@ use Rattle.strm_types.specs.declared.names.Way.TheVariants.{Up, Down}
 use Rattle.strm_types.specs.declared.names.Place.{Place}
 use Rattle.strm_types.specs.declared.names.Place.TheVariants.{Head, Ldterm, Driver}
 use Rattle.strm_types.specs.declared.names.QueueName.{QueueName}
+use Rattle.strm_types.specs.declared.events.Event.TheVariants.{OpenMaster, Unlock, OpenSlave, Write, Read}
+use Rattle.strm_types.specs.Calls.{Request}
 
 -- a command
 pub data Command : Type 0 where
   Open : Option ℕ → Command  -- with so many blocks of each kind, or as many as is usual
-  Unlock : Command
-  OpenSlave : Command
-  Write : Side → List ℕ → Command
-  Read : Side → ℕ → Command
+  Call : Side → Request → Command  -- on a side's stream
   Turn : QueueName → Command
   Run : ℕ → Command  -- so many turns at most
 
@@ -95,14 +94,19 @@ IsWithNumber word n line = (digits : List ℕ) × IsNumber digits n × (line ≡
 abbrev pub IsWithText : List ℕ → List ℕ → List ℕ → Type 0
 IsWithText word text line = (spelled : List ℕ) × IsText spelled text × (line ≡ word ++ (codes "\"" ++ (spelled ++ codes "\"")))
 
+-- how a call on a side's stream is spelled; what opens the master is `open`, which also makes the pair
+abbrev pub IsCall : Side → Request → List ℕ → Type 0
+IsCall side OpenMaster line = ⊥
+IsCall side Unlock line = (side ≡ Master) × (line ≡ codes "unlock")
+IsCall side OpenSlave line = (side ≡ Slave) × (line ≡ codes "slave")
+IsCall side (Write text) line = IsWithText (codes "write " ++ (side_name side ++ codes " ")) text line
+IsCall side (Read n) line = IsWithNumber (codes "read " ++ (side_name side ++ codes " ")) n line
+
 -- how a command is spelled
 abbrev pub IsSpelled : Command → List ℕ → Type 0
 IsSpelled (Open None) line = line ≡ codes "open"
 IsSpelled (Open (Some n)) line = IsWithNumber (codes "open ") n line
-IsSpelled Unlock line = line ≡ codes "unlock"
-IsSpelled OpenSlave line = line ≡ codes "slave"
-IsSpelled (Write side text) line = IsWithText (codes "write " ++ (side_name side ++ codes " ")) text line
-IsSpelled (Read side n) line = IsWithNumber (codes "read " ++ (side_name side ++ codes " ")) n line
+IsSpelled (Call side asked) line = IsCall side asked line
 IsSpelled (Turn name) line = line ≡ codes "turn " ++ queue_name name
 IsSpelled (Run n) line = IsWithNumber (codes "run ") n line
 

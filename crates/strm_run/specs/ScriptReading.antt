@@ -8,7 +8,8 @@ use Rattle.strm_types.specs.declared.names.Way.TheVariants.{Up, Down}
 use Rattle.strm_types.specs.declared.names.Place.{Place}
 use Rattle.strm_types.specs.declared.names.Place.TheVariants.{Head, Ldterm, Driver}
 use Rattle.strm_types.specs.declared.names.QueueName.{QueueName}
-use Rattle.strm_types.specs.Script.{Command, Open, Unlock, OpenSlave, Write, Read, Turn, Run, line_max, number_max, digit_of, hex_of, escaped, is_silent}
+use Rattle.strm_types.specs.declared.events.Event.TheVariants.{Unlock, OpenSlave, Write, Read}
+use Rattle.strm_run.specs.Script.{Command, Open, Call, Turn, Run, line_max, number_max, digit_of, hex_of, escaped, is_silent}
 
 -- what a line says
 pub data Reading : Type 0 where
@@ -137,11 +138,11 @@ open_in line =
     either_of (whole (codes "open") (Open None) line)
     (and_then (λ digits. option_map (λ n. Open (Some n)) (number_in digits)) (after (codes "open ") line))
 
-unfoldable pub unlock_in : List ℕ → Option Command
-unlock_in line = whole (codes "unlock") Unlock line
-
-unfoldable pub slave_in : List ℕ → Option Command
-slave_in line = whole (codes "slave") OpenSlave line
+-- a call that is spelled by its name alone
+unfoldable pub named_in : List ℕ → Option Command
+named_in line =
+    either_of (whole (codes "unlock") (Call Master Unlock) line)
+    (whole (codes "slave") (Call Slave OpenSlave) line)
 
 -- what stands behind a side and a space
 abbrev pub behind_side : (Side → List ℕ → Option Command) → List ℕ → Option Command
@@ -149,11 +150,11 @@ behind_side inside line = and_then (λ side. and_then (inside side.value) (after
 
 unfoldable pub write_in : List ℕ → Option Command
 write_in line =
-    and_then (behind_side (λ side rest. option_map (λ text. Write side text) (text_in rest))) (after (codes "write ") line)
+    and_then (behind_side (λ side rest. option_map (λ text. Call side (Write text)) (text_in rest))) (after (codes "write ") line)
 
 unfoldable pub read_in : List ℕ → Option Command
 read_in line =
-    and_then (behind_side (λ side rest. option_map (λ n. Read side n) (number_in rest))) (after (codes "read ") line)
+    and_then (behind_side (λ side rest. option_map (λ n. Call side (Read n)) (number_in rest))) (after (codes "read ") line)
 
 unfoldable pub turn_in : List ℕ → Option Command
 turn_in line = and_then (λ rest. option_map (λ name. Turn name) (queue_in rest)) (after (codes "turn ") line)
@@ -165,12 +166,11 @@ run_in line = and_then (λ rest. option_map (λ n. Run n) (number_in rest)) (aft
 unfoldable pub command_in : List ℕ → Option Command
 command_in line =
     either_of (open_in line)
-    (either_of (unlock_in line)
-    (either_of (slave_in line)
+    (either_of (named_in line)
     (either_of (write_in line)
     (either_of (read_in line)
     (either_of (turn_in line)
-    (run_in line))))))
+    (run_in line)))))
 
 -- the command, if the line is well formed
 abbrev pub spoken : Option Command → Reading
