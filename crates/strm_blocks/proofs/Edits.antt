@@ -1,7 +1,8 @@
 -- A block of a message in hand that is put in place of another one.
-use Rattle.std.proofs.Common.{ℕ, ◌≡◌, ◌≤◌, ◌<◌, ◌+◌, ◌-◌, cond, eqb, List, [], ◌∷◌, length, get_or, refl, sym, ap, ◌∙◌, arith}
+use Rattle.std.proofs.Common.{ℕ, ◌≡◌, ◌<◌, ◌+◌, ◌-◌, cond, eqb, List, [], ◌∷◌, length, get_or, take, drop, min, refl, sym, ap, ◌∙◌, arith}
 use Rattle.std.proofs.Math.ListN.{set, length-set}
-use Rattle.std.proofs.lemmas.List.{map-set}
+use Rattle.std.specs.Prelude.{slice_range}
+use Rattle.std.proofs.lemmas.List.{map-set, drop_min}
 use Rattle.std.proofs.lemmas.List.Sums.{sum_by-set}
 use Rattle.strm_blocks.specs.Blocks.{Block, Held, StoreValue, IsInHand, in_hand, block_at, changed, with_block, trimmed_head, trimmed_tail, banded}
 use Rattle.strm_blocks.specs.Message.{message_at, row_at, no_row, with_blocks, place_in, naming}
@@ -64,21 +65,28 @@ module _ (t : Inside) {s : StoreValue} (is : value_of t ≡ s) (holds : IsTableS
       ap (λ (b : Block). length b.bytes) row-is ∙ length-range (get_or t.data.bytes row.number []) row.start row.end (omega arith) (omega arith)
 
   -- the read place moved on
-  pub head-is : ((d : ℕ) → d < length t.data.references → length (get_or t.data.bytes d []) ≡ 256) → (k : ℕ) → k ≤ length (block_at n (in_hand s i)).bytes → shown t.data.bytes (record row { start = row.start + k }) ≡ trimmed_head k (block_at n (in_hand s i))
-  head-is sized k few =
+  pub head-is : ((d : ℕ) → d < length t.data.references → length (get_or t.data.bytes d []) ≡ 256) → (k m : ℕ) → m ≡ min k (row.end - row.start) → shown t.data.bytes (record row { start = row.start + m }) ≡ trimmed_head k (block_at n (in_hand s i))
+  head-is sized k m few =
       let l = bytes-len sized in
-      let bytes = shown-head (get_or t.data.bytes row.number []) row.start row.end k (omega arith) in
-      ap (λ (bytes : List ℕ). record (shown t.data.bytes row) { bytes = bytes }) bytes ∙ ap (λ (b : Block). trimmed_head k b) (sym row-is)
+      let bytes = shown-head (get_or t.data.bytes row.number []) row.start row.end m (omega arith) in
+      let xs = slice_range (get_or t.data.bytes row.number []) row.start row.end in
+      let long : length xs ≡ row.end - row.start = ap (λ (b : Block). length b.bytes) (sym row-is) ∙ l in
+      let most : m ≡ min k (length xs) = omega arith in
+      let all = bytes ∙ ap (λ (j : ℕ). drop j xs) most ∙ drop_min k xs in
+      ap (λ (bytes : List ℕ). record (shown t.data.bytes row) { bytes = bytes }) all ∙ ap (λ (b : Block). trimmed_head k b) (sym row-is)
 
   -- the write place moved back
-  pub tail-is : ((d : ℕ) → d < length t.data.references → length (get_or t.data.bytes d []) ≡ 256) → (k : ℕ) → k ≤ length (block_at n (in_hand s i)).bytes → shown t.data.bytes (record row { end = row.end - k }) ≡ trimmed_tail k (block_at n (in_hand s i))
-  tail-is sized k few =
+  pub tail-is : ((d : ℕ) → d < length t.data.references → length (get_or t.data.bytes d []) ≡ 256) → (k m : ℕ) → m ≡ min k (row.end - row.start) → shown t.data.bytes (record row { end = row.end - m }) ≡ trimmed_tail k (block_at n (in_hand s i))
+  tail-is sized k m few =
       let l = bytes-len sized in
       let o = in-order in
       let z = sized row.number there in
-      let bytes = shown-tail (get_or t.data.bytes row.number []) row.start row.end k (omega arith) (omega arith) (omega arith) in
-      let room : 256 - (row.end - k) ≡ 256 - row.end + k = omega arith in
-      ap (λ (bytes : List ℕ). record (shown t.data.bytes row) { bytes = bytes; room = 256 - (row.end - k) }) bytes ∙ ap (λ (room : ℕ). record (trimmed_tail k (shown t.data.bytes row)) { room = room }) room ∙ ap (λ (b : Block). trimmed_tail k b) (sym row-is)
+      let xs = slice_range (get_or t.data.bytes row.number []) row.start row.end in
+      let long : length xs ≡ row.end - row.start = ap (λ (b : Block). length b.bytes) (sym row-is) ∙ l in
+      let left : length xs - m ≡ length xs - k = omega arith in
+      let bytes = shown-tail (get_or t.data.bytes row.number []) row.start row.end m (omega arith) (omega arith) (omega arith) ∙ ap (λ (j : ℕ). take j xs) left in
+      let room : 256 - (row.end - m) ≡ 256 - row.end + min k (length xs) = omega arith in
+      ap (λ (bytes : List ℕ). record (shown t.data.bytes row) { bytes = bytes; room = 256 - (row.end - m) }) bytes ∙ ap (λ (room : ℕ). record (trimmed_tail k (shown t.data.bytes row)) { room = room }) room ∙ ap (λ (b : Block). trimmed_tail k b) (sym row-is)
 
 -- another band
 pub banded-is : (band : ℕ) (chain : List Block) → with_block 0 (record (block_at 0 chain) { band = band }) chain ≡ banded band chain

@@ -8,6 +8,7 @@ use Rattle.strm_blocks.specs.Table.{IsTable}
 use Rattle.strm_blocks.specs.declared.message.Message.{Message}
 use Rattle.strm_blocks.specs.declared.message.MessageBlock.{MessageBlock}
 use Rattle.strm_blocks.proofs.FreeList.{get_or-zeros}
+use Rattle.strm_blocks.proofs.Orders.{AreOrdered-empty}
 
 -- one more message, of the next name
 pub names-next : (idle : List Message) (m : Message) (k : ℕ) → m.name ≡ k → ((i : ℕ) → sum_by (named i) idle ≡ cond (ltb i k) 1 0) → (i : ℕ) → sum_by (named i) (idle ++ m ∷ []) ≡ cond (ltb i (k + 1)) 1 0
@@ -27,4 +28,5 @@ IsTable-new mblks dblks idle spare counts few messages blocks names none = recor
   apart = λ i. (let a = names i in grind (arith, nat_tests));
   referenced = λ d. ap (λ (counts : List ℕ). get_or counts d 0) none ∙ get_or-zeros dblks d;
   straight = refl;
+  ordered = AreOrdered-empty 8;
 }

@@ -3,6 +3,7 @@ pub mod Shown
 pub mod ListParts
 pub mod Nodes
 pub mod Values
+pub mod Orders
 pub mod Stores
 pub mod Moves
 pub mod Frame

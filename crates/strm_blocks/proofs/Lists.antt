@@ -5,14 +5,16 @@ use Rattle.std.specs.Prelude.{sum_by, nat_le, nat_lt}
 use Rattle.std.specs.List.{prefix_len}
 use Rattle.std.proofs.lemmas.List.{map-set, get_or-map, get_or_default}
 use Rattle.std.proofs.lemmas.List.Sums.{sum_by-cons, get_or-le-sum_by}
+use Rattle.strm_types.specs.Ranked as ranked
 use Rattle.strm_blocks.specs.Blocks.{Block, Held, StoreValue, in_hand, list_at, held, dropped, placed, put, put_back, times_in}
 use Rattle.strm_blocks.specs.Outcomes.{Popped, flushes, flushed}
-use Rattle.strm_blocks.specs.Message.{message_at, without_at, place_in, rank_in, weigh, named, flushes_message}
+use Rattle.strm_blocks.specs.Message.{message_at, without_at, place_in, rank_in, weigh, named, listed_rank, AreOrdered, flushes_message}
 use Rattle.strm_blocks.specs.Table.{shown, chain_of, lists_of, value_of, IsTable, IsTableStore}
 use Rattle.strm_blocks.specs.declared.table.TableStore.TheInside.{Inside}
 use Rattle.strm_blocks.specs.declared.message.Message.{Message}
 use Rattle.strm_blocks.proofs.Nodes.{ones, sum-without, sum-put, weigh-list}
-use Rattle.strm_blocks.proofs.Values.{without-value, put-value, put_back-value, times-value}
+use Rattle.strm_blocks.proofs.Values.{without-value, times-value}
+use Rattle.strm_blocks.proofs.Orders.{put-value, put_back-value, Ordered-rest, Ordered-behind, Ordered-before, Ordered-filter, AreOrdered-set}
 use Rattle.strm_blocks.proofs.Stores.{value, value-same}
 use Rattle.strm_blocks.proofs.ListParts.{sum-filter}
 use Rattle.std.proofs.lemmas.Bool.Decides.{nat_tests}
@@ -114,7 +116,8 @@ module _ (t : Inside) {s : StoreValue} (is : value_of t ≡ s) (holds : IsTableS
 
   pub IsTable-popped : (q' hand' : List Message) → 0 < length list → q' ≡ without_at 0 list → hand' ≡ message_at 0 list ∷ t.hand → IsTable t.mblks (set t.lists k q') hand' t.idle t.spare t.data.references
   IsTable-popped q' hand' some eq eh =
-      IsTable-moved holds (set t.lists k q') hand' (length-set t.lists k q' ∙ holds.eight) (λ g. ap (λ (hand : List Message). weigh g (set t.lists k q') hand) eh ∙ popped-weigh g t.lists t.hand k q' list-within some eq)
+      let o = AreOrdered-set t.lists k q' list-within holds.ordered (rw eq (Ordered-rest list (holds.ordered k))) in
+      IsTable-moved holds (set t.lists k q') hand' (length-set t.lists k q' ∙ holds.eight) o (λ g. ap (λ (hand : List Message). weigh g (set t.lists k q') hand) eh ∙ popped-weigh g t.lists t.hand k q' list-within some eq)
 
   -- what a flush leaves of a list
   pub flushed-value : (what : FlushWhat) (bytes' : List (List ℕ)) (q' : List Message) (n : ℕ) → bytes' ≡ t.data.bytes → n ≡ length t.data.references → q' ≡ filter (λ m. not (flushes_message what m)) list → value bytes' (set t.lists k q') t.hand t.mblks n ≡ placed s k (flushed what (list_at s k))
@@ -160,6 +163,15 @@ module _ (t : Inside) {s : StoreValue} (is : value_of t ≡ s) (holds : IsTableS
       placed-value i q' hand' _ eh new
 
   -- what holds of the fields still holds
-  pub IsTable-inserted : (i p : ℕ) (q' hand' : List Message) → place_in i t.hand < length t.hand → hand' ≡ without_at (place_in i t.hand) t.hand → q' ≡ take p list ++ ((message_at (place_in i t.hand) t.hand ∷ []) ++ drop p list) → IsTable t.mblks (set t.lists k q') hand' t.idle t.spare t.data.references
-  IsTable-inserted i p q' hand' there eh eq =
-      IsTable-moved holds (set t.lists k q') hand' (length-set t.lists k q' ∙ holds.eight) (λ g. ap (λ (hand : List Message). weigh g (set t.lists k q') hand) eh ∙ inserted-weigh g t.lists t.hand k (place_in i t.hand) p q' list-within there eq)
+  IsTable-inserted : (i p : ℕ) (q' hand' : List Message) → place_in i t.hand < length t.hand → ranked.IsOrdered listed_rank q' → hand' ≡ without_at (place_in i t.hand) t.hand → q' ≡ take p list ++ ((message_at (place_in i t.hand) t.hand ∷ []) ++ drop p list) → IsTable t.mblks (set t.lists k q') hand' t.idle t.spare t.data.references
+  IsTable-inserted i p q' hand' there o eh eq =
+      IsTable-moved holds (set t.lists k q') hand' (length-set t.lists k q' ∙ holds.eight) (AreOrdered-set t.lists k q' list-within holds.ordered o) (λ g. ap (λ (hand : List Message). weigh g (set t.lists k q') hand) eh ∙ inserted-weigh g t.lists t.hand k (place_in i t.hand) p q' list-within there eq)
+
+  pub IsTable-put : (i p : ℕ) (q' hand' : List Message) → place_in i t.hand < length t.hand → hand' ≡ without_at (place_in i t.hand) t.hand → p ≡ prefix_len (λ x. nat_le (rank_in (message_at (place_in i t.hand) t.hand).blocks) (rank_in x.blocks)) list → q' ≡ take p list ++ ((message_at (place_in i t.hand) t.hand ∷ []) ++ drop p list) → IsTable t.mblks (set t.lists k q') hand' t.idle t.spare t.data.references
+  IsTable-put i p q' hand' there eh ep eq = IsTable-inserted i p q' hand' there (Ordered-behind (message_at (place_in i t.hand) t.hand) list q' p (holds.ordered k) ep eq) eh eq
+
+  pub IsTable-put_back : (i p : ℕ) (q' hand' : List Message) → place_in i t.hand < length t.hand → hand' ≡ without_at (place_in i t.hand) t.hand → p ≡ prefix_len (λ x. nat_lt (rank_in (message_at (place_in i t.hand) t.hand).blocks) (rank_in x.blocks)) list → q' ≡ take p list ++ ((message_at (place_in i t.hand) t.hand ∷ []) ++ drop p list) → IsTable t.mblks (set t.lists k q') hand' t.idle t.spare t.data.references
+  IsTable-put_back i p q' hand' there eh ep eq = IsTable-inserted i p q' hand' there (Ordered-before (message_at (place_in i t.hand) t.hand) list q' p (holds.ordered k) ep eq) eh eq
+
+  pub flushed-ordered : (what : FlushWhat) (q' : List Message) → q' ≡ filter (λ m. not (flushes_message what m)) list → AreOrdered (set t.lists k q')
+  flushed-ordered what q' eq = AreOrdered-set t.lists k q' list-within holds.ordered (rw eq (Ordered-filter listed_rank (λ m. not (flushes_message what m)) list (holds.ordered k)))

@@ -6,7 +6,7 @@ use Rattle.strm_blocks.proofs.ListParts.{sums-empty}
 use Rattle.std.proofs.lemmas.Bool.Decides.{nat_tests}
 use Rattle.std.proofs.lemmas.List.{length-drop, length-append}
 use Rattle.std.proofs.lemmas.List.Sums.{sum_by-cons, sum_by-append}
-use Rattle.strm_blocks.specs.Message.{message_at, without_at, with_blocks, weigh, named, naming, lacking, block_count, askew}
+use Rattle.strm_blocks.specs.Message.{message_at, without_at, with_blocks, weigh, named, naming, lacking, block_count, askew, AreOrdered}
 use Rattle.strm_blocks.specs.Table.{IsTable}
 use Rattle.strm_blocks.specs.declared.message.Message.{Message}
 use Rattle.strm_blocks.specs.declared.message.MessageBlock.{MessageBlock}
@@ -39,8 +39,8 @@ module _ {mblks : ℕ} {lists : List (List Message)} {hand idle : List Message} 
       omega arith
 
   -- messages that move between the lists and the hand
-  pub IsTable-moved : (lists' : List (List Message)) (hand' : List Message) → length lists' ≡ 8 → ((g : Message → ℕ) → weigh g lists' hand' ≡ weigh g lists hand) → IsTable mblks lists' hand' idle spare counts
-  IsTable-moved lists' hand' eight same = record {
+  pub IsTable-moved : (lists' : List (List Message)) (hand' : List Message) → length lists' ≡ 8 → AreOrdered lists' → ((g : Message → ℕ) → weigh g lists' hand' ≡ weigh g lists hand) → IsTable mblks lists' hand' idle spare counts
+  IsTable-moved lists' hand' eight ordered' same = record {
     eight = eight;
     few = is.few;
     blocks = let s = same block_count in let b = is.blocks in omega arith;
@@ -49,6 +49,7 @@ module _ {mblks : ℕ} {lists : List (List Message)} {hand idle : List Message} 
     apart = λ i. (let s = same (named i) in let b = is.apart i in omega arith);
     referenced = λ d. is.referenced d ∙ sym (same (naming d));
     straight = same askew ∙ is.straight;
+    ordered = ordered';
   }
 
   -- a message in hand with other blocks, as many of each data block
@@ -64,6 +65,7 @@ module _ {mblks : ℕ} {lists : List (List Message)} {hand idle : List Message} 
         apart = λ i. (let s = sum-set (named i) hand p m' within in let b = is.apart i in omega arith);
         referenced = λ d. (let s = sum-set (naming d) hand p m' within in let b = is.referenced d in let n = names d in omega arith);
         straight = let s = sum-set askew hand p m' within in let b = is.straight in omega arith;
+        ordered = is.ordered;
       }
 
   -- an idle message with one spare block is in hand
@@ -82,11 +84,12 @@ module _ {mblks : ℕ} {lists : List (List Message)} {hand idle : List Message} 
         apart = λ i. (let s = sum_by-cons (named i) m' hand in let f = sum-first (named i) idle idle_some in let b = is.apart i in omega arith);
         referenced = λ d. (let s = sum_by-cons (naming d) m' hand in let n = sum_by-cons (λ (b : MessageBlock). cond (eqb b.number d) 1 0) row [] in let b = is.referenced d in let m = more d in omega arith);
         straight = let s = sum_by-cons askew m' hand in let n = sum_by-cons askew_row row [] in let b = is.straight in omega arith;
+        ordered = is.ordered;
       }
 
   -- messages that are taken out and give back their blocks
-  pub IsTable-freed : (lists' : List (List Message)) (hand' taken idle' : List Message) (spare' : List MessageBlock) (counts' : List ℕ) → length lists' ≡ 8 → ((g : Message → ℕ) → weigh g lists' hand' + sum_by g taken ≡ weigh g lists hand) → length spare' ≡ length spare + sum_by block_count taken → length idle' ≡ length idle + length taken → ((i : ℕ) → sum_by (named i) idle' ≡ sum_by (named i) idle + sum_by (named i) taken) → ((d : ℕ) → get_or counts' d 0 + sum_by (naming d) taken ≡ get_or counts d 0) → IsTable mblks lists' hand' idle' spare' counts'
-  IsTable-freed lists' hand' taken idle' spare' counts' eight same rows nodes names fewer = record {
+  pub IsTable-freed : (lists' : List (List Message)) (hand' taken idle' : List Message) (spare' : List MessageBlock) (counts' : List ℕ) → length lists' ≡ 8 → AreOrdered lists' → ((g : Message → ℕ) → weigh g lists' hand' + sum_by g taken ≡ weigh g lists hand) → length spare' ≡ length spare + sum_by block_count taken → length idle' ≡ length idle + length taken → ((i : ℕ) → sum_by (named i) idle' ≡ sum_by (named i) idle + sum_by (named i) taken) → ((d : ℕ) → get_or counts' d 0 + sum_by (naming d) taken ≡ get_or counts d 0) → IsTable mblks lists' hand' idle' spare' counts'
+  IsTable-freed lists' hand' taken idle' spare' counts' eight ordered' same rows nodes names fewer = record {
     eight = eight;
     few = is.few;
     blocks = let s = same block_count in let b = is.blocks in omega arith;
@@ -95,6 +98,7 @@ module _ {mblks : ℕ} {lists : List (List Message)} {hand idle : List Message} 
     apart = λ i. (let s = same (named i) in let b = is.apart i in let n = names i in omega arith);
     referenced = λ d. (let s = same (naming d) in let b = is.referenced d in let f = fewer d in omega arith);
     straight = let s = same askew in let b = is.straight in omega arith;
+    ordered = ordered';
   }
 
   -- what is taken out has no more blocks than there are references to give up, and there is room for all of it
@@ -142,6 +146,7 @@ module _ {mblks : ℕ} {lists : List (List Message)} {hand idle : List Message} 
         apart = λ i. (let w = sum-without (named i) hand p within in let s = sum-set (named i) left r m' there in let e = sum_by-cons (named i) empty idle in let b = is.apart i in omega arith);
         referenced = λ d. (let w = sum-without (naming d) hand p within in let s = sum-set (naming d) left r m' there in let l = sum_by-append (λ (b : MessageBlock). cond (eqb b.number d) 1 0) first.blocks second.blocks in let b = is.referenced d in omega arith);
         straight = let w = sum-without askew hand p within in let s = sum-set askew left r m' there in let l = sum_by-append askew_row first.blocks second.blocks in let b = is.straight in omega arith;
+        ordered = is.ordered;
       }
 
   -- a message in hand that is parted: there is an idle message for the rest
@@ -173,4 +178,5 @@ module _ {mblks : ℕ} {lists : List (List Message)} {hand idle : List Message} 
         apart = λ i. (let s = sum-set (named i) hand p m' within in let h = sum_by-cons (named i) node left in let f = sum-first (named i) idle idle_some in let b = is.apart i in omega arith);
         referenced = λ d. (let s = sum-set (naming d) hand p m' within in let h = sum_by-cons (naming d) node left in let n = ap (λ (xs : List MessageBlock). count_by (λ b. eqb b.number d) xs) parts in let l = sum_by-append (λ (b : MessageBlock). cond (eqb b.number d) 1 0) front rest in let b = is.referenced d in omega arith);
         straight = let s = sum-set askew hand p m' within in let h = sum_by-cons askew node left in let n = ap (λ (xs : List MessageBlock). sum_by askew_row xs) parts in let l = sum_by-append askew_row front rest in let b = is.straight in omega arith;
+        ordered = is.ordered;
       }

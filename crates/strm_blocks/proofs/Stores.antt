@@ -9,6 +9,7 @@ use Rattle.strm_blocks.specs.Table.{shown, chain_of, lists_of, hand_of, IsTable}
 use Rattle.strm_blocks.specs.declared.message.Message.{Message}
 use Rattle.strm_blocks.specs.declared.message.MessageBlock.{MessageBlock}
 use Rattle.strm_blocks.proofs.Nodes.{weigh-le}
+use Rattle.strm_blocks.proofs.Orders.{ordered-value}
 use Rattle.strm_blocks.proofs.Values.{sum_by-map, sum_by-ext, total-value, times-value}
 
 -- sums of numbers that are the same for each message
@@ -106,4 +107,5 @@ module _ (bytes : List (List ℕ)) (lists : List (List Message)) (hand : List Me
           filled = missing-value ∙ is.filled;
           apart = λ i. (let t = times-value bytes i hand in let a = is.apart i in omega arith);
           small = let e = extent-value in let s = is.straight in omega arith;
+          ordered = λ k. ordered-value bytes lists is.ordered k;
         }

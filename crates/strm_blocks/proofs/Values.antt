@@ -1,10 +1,9 @@
 -- How the value of a store changes with its fields.
-use Rattle.std.proofs.Common.{ℕ, suc, ◌≡◌, ◌+◌, true, false, not, cond, List, [], ◌∷◌, ◌++◌, take, drop, map, refl, sym, ap, ◌∙◌, arith}
+use Rattle.std.proofs.Common.{ℕ, suc, ◌≡◌, ◌+◌, true, false, not, cond, List, [], ◌∷◌, map, refl, sym, ap, ◌∙◌, arith}
 use Rattle.std.proofs.Math.ListN.{set}
-use Rattle.std.specs.Prelude.{sum_by, ◌==◌, nat_le, nat_lt}
-use Rattle.std.specs.List.{prefix_len}
+use Rattle.std.specs.Prelude.{sum_by, ◌==◌}
 use Rattle.std.proofs.lemmas.List.Sums.{sum_by-cons}
-use Rattle.strm_blocks.specs.Blocks.{Block, total, chain_in, times_in, without, with_chain, rank_of, put, put_back}
+use Rattle.strm_blocks.specs.Blocks.{Block, total, chain_in, times_in, without, with_chain, rank_of}
 use Rattle.strm_blocks.specs.Message.{message_at, without_at, with_blocks, place_in, rank_in, weigh, named}
 use Rattle.strm_blocks.specs.Table.{shown, chain_of, held_of, lists_of, hand_of}
 use Rattle.strm_blocks.specs.declared.message.Message.{Message}
@@ -59,25 +58,6 @@ module _ (bytes : List (List ℕ)) where
   -- the rank of a message
   pub rank-value : (m : Message) → rank_of (chain_of bytes m) ≡ rank_in m.blocks
   rank-value m = elim m.blocks as (λ blocks. rank_of (map (shown bytes) blocks) ≡ rank_in blocks) [ [] ↦ refl | b ∷ blocks ↦ refl ]
-
-  -- putq and putbq on a list
-  pub put-value : (m : Message) (q : List Message) → (p : ℕ) → p ≡ prefix_len (λ x. nat_le (rank_in m.blocks) (rank_in x.blocks)) q → map (chain_of bytes) (take p q ++ ((m ∷ []) ++ drop p q)) ≡ put (chain_of bytes m) (map (chain_of bytes) q)
-  put-value m [] p e = rw e refl
-  put-value m (x ∷ q) p e =
-      let rank = prefix_len (λ x. nat_le (rank_in m.blocks) (rank_in x.blocks)) q in
-      rw (e, rank-value m, rank-value x) (elim (nat_le (rank_in m.blocks) (rank_in x.blocks)) as (λ b. map (chain_of bytes) (take (cond b (1 + rank) 0) (x ∷ q) ++ ((m ∷ []) ++ drop (cond b (1 + rank) 0) (x ∷ q))) ≡ cond b (chain_of bytes x ∷ put (chain_of bytes m) (map (chain_of bytes) q)) (chain_of bytes m ∷ chain_of bytes x ∷ map (chain_of bytes) q)) [
-        | true ↦ (let one : 1 + rank ≡ suc rank = omega arith in ap (λ k. map (chain_of bytes) (take k (x ∷ q) ++ ((m ∷ []) ++ drop k (x ∷ q)))) one ∙ ap (λ rest. chain_of bytes x ∷ rest) (put-value m q rank refl))
-        | false ↦ refl
-      ])
-
-  pub put_back-value : (m : Message) (q : List Message) → (p : ℕ) → p ≡ prefix_len (λ x. nat_lt (rank_in m.blocks) (rank_in x.blocks)) q → map (chain_of bytes) (take p q ++ ((m ∷ []) ++ drop p q)) ≡ put_back (chain_of bytes m) (map (chain_of bytes) q)
-  put_back-value m [] p e = rw e refl
-  put_back-value m (x ∷ q) p e =
-      let rank = prefix_len (λ x. nat_lt (rank_in m.blocks) (rank_in x.blocks)) q in
-      rw (e, rank-value m, rank-value x) (elim (nat_lt (rank_in m.blocks) (rank_in x.blocks)) as (λ b. map (chain_of bytes) (take (cond b (1 + rank) 0) (x ∷ q) ++ ((m ∷ []) ++ drop (cond b (1 + rank) 0) (x ∷ q))) ≡ cond b (chain_of bytes x ∷ put_back (chain_of bytes m) (map (chain_of bytes) q)) (chain_of bytes m ∷ chain_of bytes x ∷ map (chain_of bytes) q)) [
-        | true ↦ (let one : 1 + rank ≡ suc rank = omega arith in ap (λ k. map (chain_of bytes) (take k (x ∷ q) ++ ((m ∷ []) ++ drop k (x ∷ q)))) one ∙ ap (λ rest. chain_of bytes x ∷ rest) (put_back-value m q rank refl))
-        | false ↦ refl
-      ])
 
   -- sums over all messages of the value
   sums-value : (f : List Block → ℕ) (lists : List (List Message)) → sum_by (λ q. sum_by f q) (lists_of bytes lists) ≡ sum_by (λ q. sum_by (λ m. f (chain_of bytes m)) q) lists

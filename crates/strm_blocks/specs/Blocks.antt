@@ -119,9 +119,15 @@ missing chain = 1 - length chain
 abbrev pub extent : List Block → ℕ
 extent chain = sum_by (λ b. length b.bytes + b.room) chain
 
+-- the rank of a message: 256 for high priority, else its band; both are those of its first block
+abbrev pub rank_of : List Block → ℕ
+rank_of [] = 0
+rank_of (b ∷ chain) = if is_high_priority b.kind then 256 else b.band
+
 -- What holds of every store: it has eight lists and at most 65536 blocks of each kind; no more message blocks are in
 -- use than it has; no data block that it doesn't have is named, and none by more than 255 message blocks; each message
--- has a block; each name is that of one message in hand at most; and all bytes and all room fit the blocks in use.
+-- has a block; each name is that of one message in hand at most; all bytes and all room fit the blocks in use; and each
+-- list is in order of rank.
 pub record IsStore (s : StoreValue) : Type 0 where
   pub eight : length s.lists ≡ 8
   pub few_mblks : s.mblks ≤ 65536
@@ -132,6 +138,7 @@ pub record IsStore (s : StoreValue) : Type 0 where
   pub filled : total missing s ≡ 0
   pub apart : (i : ℕ) → times_in i s.hand ≤ 1
   pub small : total extent s ≤ 256 * used s
+  pub ordered : (k : ℕ) → ranked.IsOrdered rank_of (list_at s k)
 
 -- a block that stands for none
 abbrev pub no_block : Block
@@ -140,11 +147,6 @@ no_block = record { kind = kinds.Data; band = 0; number = 0; bytes = []; room = 
 -- a block of a chain, counted from 0
 abbrev pub block_at : ℕ → List Block → Block
 block_at n chain = slice_index_or chain n no_block
-
--- the rank of a message: 256 for high priority, else its band; both are those of its first block
-abbrev pub rank_of : List Block → ℕ
-rank_of [] = 0
-rank_of (b ∷ chain) = if is_high_priority b.kind then 256 else b.band
 
 -- putq(9F) and putbq(9F) on a list of messages
 abbrev pub put : List Block → List (List Block) → List (List Block)
@@ -165,12 +167,12 @@ copy_of number b = record b { number = number; room = 256 - length b.bytes }
 abbrev pub written : List ℕ → Block → Block
 written bytes b = record b { bytes = b.bytes ++ bytes; room = b.room - length bytes }
 
--- the read place moved on, and the write place moved back
+-- the read place moved on, and the write place moved back, by so many bytes, or by all that are shown where those are fewer
 abbrev pub trimmed_head : ℕ → Block → Block
 trimmed_head n b = record b { bytes = drop n b.bytes }
 
 abbrev pub trimmed_tail : ℕ → Block → Block
-trimmed_tail n b = record b { bytes = take (length b.bytes - n) b.bytes; room = b.room + n }
+trimmed_tail n b = record b { bytes = take (length b.bytes - n) b.bytes; room = b.room + min n (length b.bytes) }
 
 -- a chain with another block in a place
 abbrev pub with_block : ℕ → Block → List Block → List Block
@@ -187,6 +189,10 @@ taken_by s chain n = if nat_lt 1 (references s (last_of chain).number) then 0 el
 -- a chain with bytes written into its last block
 abbrev pub extended : List ℕ → List Block → List Block
 extended bytes chain = with_block (length chain - 1) (written bytes (last_of chain)) chain
+
+-- a block of another kind
+abbrev pub of_kind : MsgKind → Block → Block
+of_kind kind b = record b { kind = kind }
 
 -- a chain whose first block has another band
 abbrev pub banded : ℕ → List Block → List Block

@@ -1,6 +1,7 @@
 -- Lists of messages as the store's fields have them.
 use Rattle.std.specs.Prelude.{ℕ, suc, Bool, option_map, ◌+◌, ◌-◌, ◌==◌, if◌then◌else◌, List, [], ◌∷◌, ◌++◌, length, take, drop, count_by, sum_by, slice_index_or}
 use Rattle.std.specs.List.{position_or_len}
+use Rattle.strm_types.specs.Ranked as ranked
 use Rattle.strm_types.specs.Message.{is_high_priority}
 use Rattle.strm_types.specs.Flush.{is_flushed}
 use Rattle.strm_types.specs.declared.kinds.MsgKind.TheVariants as kinds
@@ -39,6 +40,13 @@ place_in i q = position_or_len (λ m. m.name == i) q
 abbrev pub rank_in : List MessageBlock → ℕ
 rank_in [] = 0
 rank_in (b ∷ blocks) = if is_high_priority b.kind then 256 else b.band
+
+abbrev pub listed_rank : Message → ℕ
+listed_rank m = rank_in m.blocks
+
+-- each list is in order of rank
+abbrev pub AreOrdered : List (List Message) → Type 0
+AreOrdered lists = (k : ℕ) → ranked.IsOrdered listed_rank (slice_index_or lists k [])
 
 -- how many blocks of a message name a data block
 abbrev pub naming : ℕ → Message → ℕ

@@ -1,7 +1,7 @@
 -- What the fields of a table store stand for, and what holds of them.
 use Rattle.std.specs.Prelude.{ℕ, ◌≡◌, ◌≤◌, ◌+◌, ◌-◌, List, [], length, map, sum_by, slice_index_or, slice_range}
 use Rattle.strm_blocks.specs.Blocks.{Block, Held, StoreValue}
-use Rattle.strm_blocks.specs.Message.{weigh, block_count, lacking, named, naming, askew}
+use Rattle.strm_blocks.specs.Message.{weigh, block_count, lacking, named, naming, askew, AreOrdered}
 use Rattle.strm_blocks.specs.declared.message.Message.{Message}
 use Rattle.strm_blocks.specs.declared.message.MessageBlock.{MessageBlock}
 use Rattle.strm_blocks.specs.declared.table.TableStore.TheInside.{Inside}
@@ -38,7 +38,7 @@ value_of t = record {
 
 -- There are eight lists. Each message block is spare or a message's, and each message is idle, on a list or in hand.
 -- Those that aren't idle have a block. No name is that of two messages. The references of a data block are the blocks
--- that name it. Each block's places are in order, within its data block.
+-- that name it. Each block's places are in order, within its data block. Each list is in order of rank.
 pub record IsTable (mblks : ℕ) (lists : List (List Message)) (hand idle : List Message) (spare : List MessageBlock) (references : List ℕ) : Type 0 where
   pub eight : length lists ≡ 8
   pub few : mblks ≤ 65536
@@ -48,6 +48,7 @@ pub record IsTable (mblks : ℕ) (lists : List (List Message)) (hand idle : List
   pub apart : (i : ℕ) → sum_by (named i) idle + weigh (named i) lists hand ≤ 1
   pub referenced : (d : ℕ) → slice_index_or references d 0 ≡ weigh (naming d) lists hand
   pub straight : weigh askew lists hand ≡ 0
+  pub ordered : AreOrdered lists
 
 abbrev pub IsTableStore : Inside → Type 0
 IsTableStore t = IsTable t.mblks t.lists t.hand t.idle t.spare t.data.references

@@ -1,6 +1,6 @@
 //! The calls of a store of message blocks and data blocks.
-ghost use Rattle.std.specs.Prelude.{◌≡◌, ◌≢◌, ℕ, ◌<◌, ◌≤◌, [], ◌++◌, length, take, MatchResult, MatchOption};
-ghost use Rattle.strm_blocks.specs.Blocks.{StoreValue, IsStore, IsInHand, in_hand, list_at, held, dropped, changed, placed, empty_store, block_at, with_block, put, put_back, trimmed_head, trimmed_tail, taken_by, extended, banded, free_m, free_d};
+ghost use Rattle.std.specs.Prelude.{◌≡◌, ◌≢◌, ◌==◌, ℕ, ◌<◌, ◌≤◌, [], ◌++◌, length, take, MatchResult, MatchOption};
+ghost use Rattle.strm_blocks.specs.Blocks.{StoreValue, IsStore, IsInHand, in_hand, list_at, held, dropped, changed, placed, empty_store, block_at, with_block, put, put_back, trimmed_head, trimmed_tail, taken_by, extended, of_kind, banded, free_m, free_d};
 ghost use Rattle.strm_blocks.specs.Outcomes.{Allocated, Duplicated, Copied, NoneFree, NoneShared, Unlinked, UnlinkedLast, Popped, Unpopped, PeekedFirst, flushed};
 
 use crate::asked::{FlushWhat, NoBlocks, Peek};
@@ -93,20 +93,20 @@ pub trait Blocks {
         ensures bytes { result.now ≡ (block_at at (in_hand (value self.now) (name message.now))).bytes }
         ensures few { length result.now ≤ 256 };
 
-    /// Moves the read place of block `at` of a message on by `n` bytes: `adjmsg(9F)` within one block.
+    /// Moves the read place of block `at` of a message on by `n` bytes, or by all that it shows where those are fewer:
+    /// `adjmsg(9F)` within one block.
     fn trim_head(&mut self, message: &Self::Mp, at: usize, n: usize)
         requires in_hand { IsInHand (value self.old) (name message.now) }
         requires within { at < length (in_hand (value self.old) (name message.now)) }
-        requires enough { n ≤ length (block_at at (in_hand (value self.old) (name message.now))).bytes }
         ensures { let chain = in_hand (value self.old) (name message.now) in
             value self.new ≡ changed (value self.old) (name message.now)
             (with_block at (trimmed_head n (block_at at chain)) chain) };
 
-    /// Moves the write place of block `at` of a message back by `n` bytes: `adjmsg(9F)` within one block.
+    /// Moves the write place of block `at` of a message back by `n` bytes, or by all that it shows where those are fewer:
+    /// `adjmsg(9F)` within one block.
     fn trim_tail(&mut self, message: &Self::Mp, at: usize, n: usize)
         requires in_hand { IsInHand (value self.old) (name message.now) }
         requires within { at < length (in_hand (value self.old) (name message.now)) }
-        requires enough { n ≤ length (block_at at (in_hand (value self.old) (name message.now))).bytes }
         ensures { let chain = in_hand (value self.old) (name message.now) in
             value self.new ≡ changed (value self.old) (name message.now)
             (with_block at (trimmed_tail n (block_at at chain)) chain) };
@@ -130,6 +130,14 @@ pub trait Blocks {
         requires within { at < length (in_hand (value self.now) (name message.now)) }
         ensures { result ≡ (block_at at (in_hand (value self.now) (name message.now))).kind };
 
+    /// Gives block `at` of a message another kind. Its band and its bytes stay.
+    fn set_kind(&mut self, message: &Self::Mp, at: usize, kind: MsgKind)
+        requires in_hand { IsInHand (value self.old) (name message.now) }
+        requires within { at < length (in_hand (value self.old) (name message.now)) }
+        ensures { let chain = in_hand (value self.old) (name message.now) in
+            value self.new ≡ changed (value self.old) (name message.now)
+            (with_block at (of_kind kind (block_at at chain)) chain) };
+
     /// The band of a message, which is that of its first block.
     fn band(&self, message: &Self::Mp) -> Band
         requires { IsInHand (value self.now) (name message.now) }
@@ -141,7 +149,13 @@ pub trait Blocks {
         ensures { let s = value self.old in
             value self.new ≡ changed s (name message.now) (banded band.0 (in_hand s (name message.now))) };
 
-    /// Puts a message on a list, behind all of at least its rank: `putq(9F)`.
+    /// Whether no message stands on a list.
+    fn is_empty(&self, list: usize) -> bool
+        requires { list < 8 }
+        ensures { result ≡ (length (list_at (value self.now) list) == 0) };
+
+    /// Puts a message on a list, behind all of at least its rank: `putq(9F)`. It takes one step where the last message of
+    /// the list has at least the new one's rank, and else a step for each message that is passed.
     fn insert_back(&mut self, list: usize, message: Self::Mp)
         requires list { list < 8 }
         requires in_hand { IsInHand (value self.old) (name message) }

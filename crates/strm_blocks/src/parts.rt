@@ -1,7 +1,8 @@
 //! How long the parts of a message are, and where a message belongs on a list.
-ghost use Rattle.std.specs.Prelude.{◌≡◌, ◌<◌, ◌≤◌, ◌^◌, ◌-◌, nat_le, nat_lt, sum_by, None};
+ghost use Rattle.std.specs.Prelude.{◌≡◌, ◌<◌, ◌≤◌, ◌^◌, ◌-◌, nat_le, nat_lt, length, sum_by, IsTrue, None};
 ghost use Rattle.std.specs.List.{prefix_len};
-ghost use Rattle.strm_blocks.specs.Message.{rank_in};
+ghost use Rattle.strm_types.specs.Ranked.{IsOrdered};
+ghost use Rattle.strm_blocks.specs.Message.{rank_in, listed_rank};
 ghost use Rattle.strm_blocks.specs.Parts.{control_run, body_run};
 
 use crate::message::{Message, MessageBlock};
@@ -19,10 +20,26 @@ pub(crate) fn rank_of(blocks: &LinkedList<MessageBlock>) -> usize
     }
 }
 
-/// The place behind all messages of at least a rank: `putq(9F)`.
+/// Whether the last message of a list has at least a rank. Of an empty list it hasn't.
+fn ends_in_rank(list: &LinkedList<Message>, rank: usize) -> bool
+    requires { IsOrdered listed_rank list.now }
+    ensures { IsTrue result → length list.now ≡ prefix_len (λ m. nat_le rank (rank_in m.blocks)) list.now }
+{
+    match list.back() {
+        None => false,
+        Some(last) => rank <= rank_of(&last.blocks),
+    }
+}
+
+/// The place behind all messages of at least a rank: `putq(9F)`. One step where the last message has at least that rank,
+/// else one for each message of at least that rank.
 pub(crate) fn place_behind(list: &LinkedList<Message>, rank: usize) -> usize
+    requires { IsOrdered listed_rank list.now }
     ensures { result ≡ prefix_len (λ m. nat_le rank (rank_in m.blocks)) list.now }
 {
+    if ends_in_rank(list, rank) {
+        return list.len();
+    }
     let mut rest = list.iter();
     let mut place = 0;
     while let Some(message) = rest.next() {

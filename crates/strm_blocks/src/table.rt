@@ -215,7 +215,7 @@ impl Blocks for TableStore {
     fn trim_head(&mut self, message: &InHand, at: usize, n: usize) {
         let mut block = block_at(blocks_of(&self.hand, message.name), at);
         self.data.audit();
-        block.start += n;
+        block.start += n.min(block.end.saturating_sub(block.start));
         let none = LinkedList::new(self.alloc);
         replace_block(&mut self.hand, message.name, at, block, none);
     }
@@ -223,7 +223,7 @@ impl Blocks for TableStore {
     fn trim_tail(&mut self, message: &InHand, at: usize, n: usize) {
         let mut block = block_at(blocks_of(&self.hand, message.name), at);
         self.data.audit();
-        block.end -= n;
+        block.end -= n.min(block.end.saturating_sub(block.start));
         let none = LinkedList::new(self.alloc);
         replace_block(&mut self.hand, message.name, at, block, none);
     }
@@ -241,6 +241,13 @@ impl Blocks for TableStore {
         block_at(blocks_of(&self.hand, message.name), at).kind
     }
 
+    fn set_kind(&mut self, message: &InHand, at: usize, kind: MsgKind) {
+        let mut block = block_at(blocks_of(&self.hand, message.name), at);
+        block.kind = kind;
+        let none = LinkedList::new(self.alloc);
+        replace_block(&mut self.hand, message.name, at, block, none);
+    }
+
     fn band(&self, message: &InHand) -> Band {
         Band(first_block(blocks_of(&self.hand, message.name)).band)
     }
@@ -250,6 +257,10 @@ impl Blocks for TableStore {
         block.band = band.0;
         let none = LinkedList::new(self.alloc);
         replace_block(&mut self.hand, message.name, 0, block, none);
+    }
+
+    fn is_empty(&self, list: usize) -> bool {
+        self.lists[list].is_empty()
     }
 
     fn insert_back(&mut self, list: usize, message: InHand) {

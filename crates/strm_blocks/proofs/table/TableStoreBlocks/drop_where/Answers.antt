@@ -2,7 +2,7 @@ use Rattle.std.proofs.Common.{arith, ◌∙◌, List, filter, not, ap}
 use Rattle.std.proofs.Math.ListN.{set, length-set}
 use Rattle.strm_blocks.specs.Message.{flushes_message}
 use Rattle.strm_blocks.specs.declared.message.Message.{Message}
-use Rattle.strm_blocks.proofs.Lists.{list-read, flushed-value, flushed-weigh}
+use Rattle.strm_blocks.proofs.Lists.{list-read, flushed-value, flushed-weigh, flushed-ordered}
 use Rattle.strm_blocks.proofs.Moves as moves
 use Rattle.strm_blocks.proofs.table.TableStoreBlocks.drop_where.Goals as goal
 
@@ -47,7 +47,7 @@ invariant_of-self c =
     let kept = c.sift-taken.ensures.kept ∙ ap (λ (q : List Message). filter (λ m. not (flushes_message what m)) q) read in
     let taken = c.sift-taken.ensures.taken ∙ ap (λ (q : List Message). filter (λ m. flushes_message what m) q) read in
     let after = c.give_back.ensures in
-    moves.IsTable-freed c.self.invariant (set t.lists k c.sift-taken.new.list) t.hand c.sift-taken.result c.give_back.new.idle c.give_back.new.spare c.give_back.new.pool.references (length-set t.lists k _ ∙ c.self.invariant.eight) (flushed-weigh t c.self.view_is c.self.invariant k c.requires what c.sift-taken.new.list c.sift-taken.result kept taken) after.blocks after.messages after.names after.released
+    moves.IsTable-freed c.self.invariant (set t.lists k c.sift-taken.new.list) t.hand c.sift-taken.result c.give_back.new.idle c.give_back.new.spare c.give_back.new.pool.references (length-set t.lists k _ ∙ c.self.invariant.eight) (flushed-ordered t c.self.view_is c.self.invariant k c.requires what c.sift-taken.new.list kept) (flushed-weigh t c.self.view_is c.self.invariant k c.requires what c.sift-taken.new.list c.sift-taken.result kept taken) after.blocks after.messages after.names after.released
 
 pub returns : goal.returns
 returns c =

@@ -44,7 +44,7 @@ invariant_of-self c =
     let node = c.take_node-taken.ensures.node ∙ ap (λ p. message_at p t.hand ∷ []) c.place_of-place.ensures in
     let hand = c.take_node-taken.ensures.rest ∙ ap (λ p. without_at p t.hand) c.place_of-place.ensures in
     let after = c.give_back.ensures in
-    moves.IsTable-freed c.self.invariant t.lists c.take_node-taken.new.list c.take_node-taken.result c.give_back.new.idle c.give_back.new.spare c.give_back.new.pool.references c.self.invariant.eight (moves.freed-one c.self.invariant _ c.take_node-taken.new.list c.take_node-taken.result there hand node) after.blocks after.messages after.names after.released
+    moves.IsTable-freed c.self.invariant t.lists c.take_node-taken.new.list c.take_node-taken.result c.give_back.new.idle c.give_back.new.spare c.give_back.new.pool.references c.self.invariant.eight c.self.invariant.ordered (moves.freed-one c.self.invariant _ c.take_node-taken.new.list c.take_node-taken.result there hand node) after.blocks after.messages after.names after.released
 
 pub returns : goal.returns
 returns c =

@@ -5,7 +5,7 @@ use Rattle.std.proofs.lemmas.List.Sums.{prefix_len-le-length}
 use Rattle.strm_blocks.specs.Message.{rank_in, without_at, message_at}
 use Rattle.strm_blocks.specs.declared.message.Message.{Message}
 use Rattle.strm_blocks.proofs.Found as found
-use Rattle.strm_blocks.proofs.Lists.{list, list-read, list-few, put_back-at, IsTable-inserted}
+use Rattle.strm_blocks.proofs.Lists.{list, list-read, list-few, put_back-at, IsTable-put_back}
 use Rattle.strm_blocks.proofs.table.TableStoreBlocks.insert_front.Goals as goal
 
 pub blocks_of-requires : goal.blocks_of-requires
@@ -41,8 +41,11 @@ invariant_of-self c =
     let read = list-read t c.self.view_is c.self.invariant k c.requires.list c.index-self-list-2.result in
     let node = c.take_node-node.ensures.node ∙ ap (λ p. message_at p t.hand ∷ []) c.place_of-place.ensures in
     let hand = c.take_node-node.ensures.rest ∙ ap (λ p. without_at p t.hand) c.place_of-place.ensures in
+    let q = list t c.self.view_is c.self.invariant k c.requires.list in
+    let rank = c.rank_of-rank.ensures ∙ ap (λ blocks. rank_in blocks) c.blocks_of.ensures in
+    let place = c.place_before-place.ensures ∙ ap (λ (q : List Message). prefix_len (λ m. nat_lt c.rank_of-rank.result (rank_in m.blocks)) q) (list-read t c.self.view_is c.self.invariant k c.requires.list c.index-self-list.result) ∙ ap (λ (r : ℕ). prefix_len (λ (m : Message). nat_lt r (rank_in m.blocks)) q) rank in
     let new = c.put_node.ensures ∙ ap (λ (q : List Message). take c.place_before-place.result q ++ (c.take_node-node.result ++ drop c.place_before-place.result q)) read ∙ ap (λ node. take c.place_before-place.result (list t c.self.view_is c.self.invariant k c.requires.list) ++ (node ++ drop c.place_before-place.result (list t c.self.view_is c.self.invariant k c.requires.list))) node in
-    IsTable-inserted t c.self.view_is c.self.invariant k c.requires.list name c.place_before-place.result c.put_node.new.list c.take_node-node.new.list there hand new
+    IsTable-put_back t c.self.view_is c.self.invariant k c.requires.list name c.place_before-place.result c.put_node.new.list c.take_node-node.new.list there hand place new
 
 pub returns : goal.returns
 returns c =

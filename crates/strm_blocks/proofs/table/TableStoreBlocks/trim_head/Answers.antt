@@ -28,7 +28,7 @@ overflow_add-block c =
     let same = c.block_at-block.ensures ∙ ap (λ blocks. row_at c.args.at blocks) c.blocks_of.ensures in
     let len = bytes-len t c.self.view_is c.self.invariant name c.args.at c.requires.in_hand c.requires.within row same c.audit.ensures.sized in
     let order = in-order t c.self.view_is c.self.invariant name c.args.at c.requires.in_hand c.requires.within row same in
-    omega (arith, c.requires.enough)
+    omega arith
 
 pub invariant_of-self : goal.invariant_of-self
 invariant_of-self c =
@@ -41,7 +41,7 @@ invariant_of-self c =
     let len = bytes-len t c.self.view_is c.self.invariant name c.args.at c.requires.in_hand c.requires.within row same c.audit.ensures.sized in
     let order = in-order t c.self.view_is c.self.invariant name c.args.at c.requires.in_hand c.requires.within row same in
     let number = number-is t c.self.view_is c.self.invariant name c.args.at c.requires.in_hand c.requires.within row same in
-    rw c.replace_block.ensures (IsTable-replaced c.self.invariant _ c.args.at (record row { start = row.start + c.args.n }) there within number (omega (arith, c.requires.enough)))
+    rw c.replace_block.ensures (IsTable-replaced c.self.invariant _ c.args.at (record row { start = row.start + c.min.result }) there within number (omega arith))
 
 pub returns : goal.returns
 returns c =
@@ -49,4 +49,4 @@ returns c =
     let name = c.args.message.now.name in
     let row = c.block_at-block.result in
     let same = c.block_at-block.ensures ∙ ap (λ blocks. row_at c.args.at blocks) c.blocks_of.ensures in
-    replaced-value t c.self.view_is name c.args.at (record row { start = row.start + c.args.n }) c.replace_block.new.list c.replace_block.ensures ∙ ap (λ (b : Block). changed c.args.self.now name (with_block c.args.at b (in_hand c.args.self.now name))) (head-is t c.self.view_is c.self.invariant name c.args.at c.requires.in_hand c.requires.within row same c.audit.ensures.sized c.args.n c.requires.enough)
+    replaced-value t c.self.view_is name c.args.at (record row { start = row.start + c.min.result }) c.replace_block.new.list c.replace_block.ensures ∙ ap (λ (b : Block). changed c.args.self.now name (with_block c.args.at b (in_hand c.args.self.now name))) (head-is t c.self.view_is c.self.invariant name c.args.at c.requires.in_hand c.requires.within row same c.audit.ensures.sized c.args.n c.min.result (omega arith))
