@@ -8,3 +8,6 @@ pub mod Whole
 pub mod PlainTexts
 pub mod Grammar
 pub mod Spellings
+mod ScriptRows
+mod RunRows
+mod SpellingRows

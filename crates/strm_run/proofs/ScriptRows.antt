@@ -10,9 +10,10 @@ use Rattle.strm_types.specs.declared.names.Way.TheVariants.{Up, Down}
 use Rattle.strm_types.specs.declared.names.Place.{Place}
 use Rattle.strm_types.specs.declared.names.Place.TheVariants.{Head, Ldterm, Driver}
 use Rattle.strm_types.specs.declared.refusals.Refusal.TheVariants.{Einval, Eagain, Enxio, Ebadmsg, Enosr, Erange, JournalFull, NoMinor, NoMemory, StillShared}
-use Rattle.strm_types.specs.Script.{Open, Unlock, OpenSlave, Write, Read, Turn, Run, queue_name, digit_of, hex_of, escaped, lines_of}
-use Rattle.strm_types.specs.ScriptReading.{Reading, Silent, Malformed, Spoken, number_from, number_in, text_from, text_in, side_in, place_in, way_in, queue_in, open_in, unlock_in, slave_in, write_in, read_in, turn_in, run_in, command_in, reading}
-use Rattle.strm_types.specs.ScriptAnswers.{Plain, Number, Text, Held, Empty, Ran, Refused, Wrong, printed, printed_line, line_text, reply_line, turn_line}
+use Rattle.strm_types.specs.declared.events.Event.TheVariants.{Unlock, OpenSlave, Write, Read}
+use Rattle.strm_run.specs.Script.{Open, Call, Turn, Run, queue_name, digit_of, hex_of, escaped, lines_of}
+use Rattle.strm_run.specs.ScriptReading.{Reading, Silent, Malformed, Spoken, number_from, number_in, text_from, text_in, side_in, place_in, way_in, queue_in, open_in, unlock_in, slave_in, write_in, read_in, turn_in, run_in, command_in, reading}
+use Rattle.strm_run.specs.ScriptAnswers.{Plain, Number, Text, Held, Empty, Ran, Refused, Wrong, printed, printed_line, line_text, reply_line, turn_line}
 
 -- the lines of a script: LF ends each, and the last may lack it
 
@@ -22,7 +23,7 @@ lines-end-with-lf = refl
 
 -- what lines say
 
-pub commands-are-spelled : map reading (codes "open" ∷ codes "open 16" ∷ codes "unlock" ∷ codes "slave" ∷ codes "write m \"ab\"" ∷ codes "write s \"\"" ∷ codes "read s 10" ∷ codes "read m 0" ∷ codes "run 5" ∷ []) ≡ Spoken (Open None) ∷ Spoken (Open (Some 16)) ∷ Spoken Unlock ∷ Spoken OpenSlave ∷ Spoken (Write Master (97 ∷ 98 ∷ [])) ∷ Spoken (Write Slave []) ∷ Spoken (Read Slave 10) ∷ Spoken (Read Master 0) ∷ Spoken (Run 5) ∷ []
+pub commands-are-spelled : map reading (codes "open" ∷ codes "open 16" ∷ codes "unlock" ∷ codes "slave" ∷ codes "write m \"ab\"" ∷ codes "write s \"\"" ∷ codes "read s 10" ∷ codes "read m 0" ∷ codes "run 5" ∷ []) ≡ Spoken (Open None) ∷ Spoken (Open (Some 16)) ∷ Spoken (Call Master Unlock) ∷ Spoken (Call Slave OpenSlave) ∷ Spoken (Call Master (Write (97 ∷ 98 ∷ []))) ∷ Spoken (Call Slave (Write [])) ∷ Spoken (Call Slave (Read 10)) ∷ Spoken (Call Master (Read 0)) ∷ Spoken (Run 5) ∷ []
 unfolding reading command_in open_in unlock_in slave_in write_in read_in turn_in run_in number_in number_from digit_of text_in text_from side_in
 commands-are-spelled = refl
 

@@ -4,10 +4,10 @@ use Rattle.std.specs.Prelude.{codes, Option, None, Some}
 use Rattle.std.specs.Fmt.{decimal}
 use Rattle.strm_types.specs.Message.{data_message, is_held, rank_of, band_of, size_of, cells_of, is_high_priority}
 use Rattle.strm_types.specs.Write.{chunk_count}
-use Rattle.strm_types.specs.Script.{Open, digit_of}
-use Rattle.strm_types.specs.ScriptReading.{number_from, number_in, text_from, text_in, side_in, place_in, way_in, queue_in, open_in, unlock_in, slave_in, write_in, read_in, turn_in, run_in, command_in, reading}
-use Rattle.strm_types.specs.ScriptAnswers.{line_text}
-use Rattle.strm_types.specs.ScriptRun.{Enough, TooFew, Told, script_limits, call_of, turn_of, by_call, by_turn, turns_of, by_run, by_open, answered, told_from}
+use Rattle.strm_run.specs.Script.{Open, digit_of}
+use Rattle.strm_run.specs.ScriptReading.{number_from, number_in, text_from, text_in, side_in, place_in, way_in, queue_in, open_in, unlock_in, slave_in, write_in, read_in, turn_in, run_in, command_in, reading}
+use Rattle.strm_run.specs.ScriptAnswers.{line_text}
+use Rattle.strm_run.specs.ScriptRun.{Enough, TooFew, Told, script_limits, call_of, turn_of, by_call, by_turn, turns_of, by_run, by_open, answered, told_from}
 
 -- lines of text, each with LF behind it, and what comes behind them
 abbrev text : List (List ℕ) → List ℕ → List ℕ

@@ -4,7 +4,8 @@ use Rattle.std.specs.Prelude.{codes, None, Some}
 use Rattle.strm_types.specs.declared.names.Side.TheVariants.{Master, Slave}
 use Rattle.strm_types.specs.declared.names.Way.TheVariants.{Up}
 use Rattle.strm_types.specs.declared.names.Place.TheVariants.{Ldterm}
-use Rattle.strm_types.specs.Script.{Open, Unlock, OpenSlave, Write, Read, Turn, Run, IsNumber, Itself, Named, Coded, IsSpelled, digit_of, hex_of, escaped}
+use Rattle.strm_types.specs.declared.events.Event.TheVariants.{Unlock, OpenSlave, Write, Read}
+use Rattle.strm_run.specs.Script.{Open, Call, Turn, Run, IsNumber, Itself, Named, Coded, IsSpelled, digit_of, hex_of, escaped}
 
 twelve : IsNumber (codes "12") 12
 unfolding digit_of
@@ -16,13 +17,13 @@ open-is-spelled = refl
 pub open-with-a-number-is-spelled : IsSpelled (Open (Some 12)) (codes "open 12")
 open-with-a-number-is-spelled = (codes "12", twelve, refl)
 
-pub unlock-is-spelled : IsSpelled Unlock (codes "unlock")
+pub unlock-is-spelled : IsSpelled (Call Master Unlock) (codes "unlock")
 unlock-is-spelled = refl
 
-pub slave-is-spelled : IsSpelled OpenSlave (codes "slave")
+pub slave-is-spelled : IsSpelled (Call Slave OpenSlave) (codes "slave")
 slave-is-spelled = refl
 
-pub read-is-spelled : IsSpelled (Read Slave 12) (codes "read s 12")
+pub read-is-spelled : IsSpelled (Call Slave (Read 12)) (codes "read s 12")
 read-is-spelled = (codes "12", twelve, refl)
 
 pub run-is-spelled : IsSpelled (Run 12) (codes "run 12")
@@ -32,7 +33,7 @@ pub turn-is-spelled : IsSpelled (Turn (record { side = Slave; place = Ldterm; wa
 turn-is-spelled = refl
 
 -- a byte as it is, one by its name, one by its number
-pub write-is-spelled : IsSpelled (Write Master (97 ∷ 10 ∷ 255 ∷ [])) (codes "write m \"a\\n\\xfF\"")
+pub write-is-spelled : IsSpelled (Call Master (Write (97 ∷ 10 ∷ 255 ∷ []))) (codes "write m \"a\\n\\xfF\"")
 unfolding hex_of escaped
 write-is-spelled = (
   codes "a\\n\\xfF",
