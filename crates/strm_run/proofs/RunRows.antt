@@ -5,7 +5,7 @@ use Rattle.std.specs.Fmt.{decimal}
 use Rattle.strm_types.specs.Message.{data_message, is_held, rank_of, band_of, size_of, cells_of, is_high_priority}
 use Rattle.strm_types.specs.Write.{chunk_count}
 use Rattle.strm_run.specs.Script.{Open, digit_of}
-use Rattle.strm_run.specs.ScriptReading.{number_from, number_in, text_from, text_in, side_in, place_in, way_in, queue_in, open_in, unlock_in, slave_in, write_in, read_in, turn_in, run_in, command_in, reading}
+use Rattle.strm_run.specs.ScriptReading.{number_from, number_in, text_from, text_in, side_in, place_in, way_in, queue_in, open_in, named_in, write_in, read_in, turn_in, run_in, command_in, reading}
 use Rattle.strm_run.specs.ScriptAnswers.{line_text}
 use Rattle.strm_run.specs.ScriptRun.{Enough, TooFew, Told, script_limits, call_of, turn_of, by_call, by_turn, turns_of, by_run, by_open, answered, told_from}
 
@@ -32,40 +32,40 @@ usual-pair = refl
 
 -- lines count from 1, silent ones too, and nothing is said behind a malformed one
 pub malformed-line-ends-a-script : told_from 1 [] None (codes "# a" ∷ [] ∷ codes "unlock" ∷ codes "bad" ∷ codes "open" ∷ []) ≡ ended (codes "err ENXIO" ∷ []) 4
-unfolding told_from reading command_in open_in unlock_in slave_in write_in read_in turn_in run_in answered line_text
+unfolding told_from reading command_in open_in named_in write_in read_in turn_in run_in answered line_text
 malformed-line-ends-a-script = refl
 
 pub first-line-is-line-one : told_from 1 [] None (codes "bad" ∷ []) ≡ ended [] 1
-unfolding told_from reading command_in open_in unlock_in slave_in write_in read_in turn_in run_in line_text
+unfolding told_from reading command_in open_in named_in write_in read_in turn_in run_in line_text
 first-line-is-line-one = refl
 
 -- commands before a pair is there, pairs with no blocks and with too many, and a second pair
 pub pair-is-made-once : told_from 1 [] None (codes "slave" ∷ codes "write m \"\"" ∷ codes "read s 1" ∷ codes "turn m.drv.w" ∷ codes "run 1" ∷ codes "open 0" ∷ codes "open 4097" ∷ codes "open 4096" ∷ codes "open" ∷ []) ≡ wrote (codes "err ENXIO" ∷ codes "err ENXIO" ∷ codes "err ENXIO" ∷ codes "err ENXIO" ∷ codes "err ENXIO" ∷ codes "err EINVAL" ∷ codes "err EINVAL" ∷ codes "ok" ∷ codes "err EINVAL" ∷ []) None
-unfolding told_from reading command_in open_in unlock_in slave_in write_in read_in turn_in run_in number_in number_from digit_of text_in text_from side_in place_in way_in queue_in answered by_open by_call call_of line_text
+unfolding told_from reading command_in open_in named_in write_in read_in turn_in run_in number_in number_from digit_of text_in text_from side_in place_in way_in queue_in answered by_open by_call call_of line_text
 pair-is-made-once = refl
 
 -- a whole script: what the master writes, the slave reads; turns end where none is enabled
 pub bytes-go-through : told_from 1 [] None (codes "open" ∷ codes "unlock" ∷ codes "slave" ∷ codes "turn m.drv.w" ∷ codes "write m \"a\"" ∷ codes "write m \"b\"" ∷ codes "run 0" ∷ codes "run 1" ∷ codes "run 9" ∷ codes "read s 9" ∷ codes "read s 9" ∷ []) ≡ wrote (codes "ok" ∷ codes "ok" ∷ codes "ok" ∷ codes "err EINVAL" ∷ (codes "ok " ++ decimal 1) ∷ (codes "ok " ++ decimal 1) ∷ (codes "ran " ++ decimal 0) ∷ (codes "ran " ++ decimal 1) ∷ (codes "ran " ++ decimal 1) ∷ (codes "data " ++ decimal 2 ++ codes " " ++ codes "\"ab\"") ∷ codes "err EAGAIN" ∷ []) None
-unfolding told_from reading command_in open_in unlock_in slave_in write_in read_in turn_in run_in number_in number_from digit_of text_in text_from side_in place_in way_in queue_in answered by_open by_call call_of by_run turns_of by_turn turn_of line_text chunk_count data_message rank_of band_of size_of cells_of is_high_priority is_held
+unfolding told_from reading command_in open_in named_in write_in read_in turn_in run_in number_in number_from digit_of text_in text_from side_in place_in way_in queue_in answered by_open by_call call_of by_run turns_of by_turn turn_of line_text chunk_count data_message rank_of band_of size_of cells_of is_high_priority is_held
 bytes-go-through = refl
 
 -- the other way, by turns: towards a slave that isn't open a turn is blocked, and its opening enables the queue again
 pub turns-are-told : told_from 1 [] None (codes "open" ∷ codes "write m \"a\"" ∷ codes "turn m.drv.w" ∷ codes "turn m.drv.w" ∷ codes "unlock" ∷ codes "slave" ∷ codes "turn m.drv.w" ∷ codes "write s \"b\"" ∷ codes "turn s.drv.w" ∷ codes "read m 9" ∷ []) ≡ wrote (codes "ok" ∷ (codes "ok " ++ decimal 1) ∷ codes "blocked" ∷ codes "err EINVAL" ∷ codes "ok" ∷ codes "ok" ∷ (codes "ok " ++ decimal 1) ∷ (codes "ok " ++ decimal 1) ∷ (codes "ok " ++ decimal 1) ∷ (codes "data " ++ decimal 1 ++ codes " " ++ codes "\"b\"") ∷ []) None
-unfolding told_from reading command_in open_in unlock_in slave_in write_in read_in turn_in run_in number_in number_from digit_of text_in text_from side_in place_in way_in queue_in answered by_open by_call call_of by_turn turn_of line_text chunk_count data_message rank_of band_of size_of cells_of is_high_priority is_held
+unfolding told_from reading command_in open_in named_in write_in read_in turn_in run_in number_in number_from digit_of text_in text_from side_in place_in way_in queue_in answered by_open by_call call_of by_turn turn_of line_text chunk_count data_message rank_of band_of size_of cells_of is_high_priority is_held
 turns-are-told = refl
 
 -- An account: what asks for no blocks has enough of them. A write and turns that get too few are refused by ENOSR and
 -- count nothing, and the first such line is the short one.
 pub account-of-blocks : told_from 1 (TooFew ∷ TooFew ∷ TooFew ∷ TooFew ∷ Enough ∷ TooFew ∷ Enough ∷ TooFew ∷ []) None (codes "open" ∷ codes "unlock" ∷ codes "slave" ∷ codes "write m \"a\"" ∷ codes "write m \"a\"" ∷ codes "run 9" ∷ codes "run 9" ∷ codes "read s 1" ∷ codes "write s \"b\"" ∷ []) ≡ wrote (codes "ok" ∷ codes "ok" ∷ codes "ok" ∷ codes "err ENOSR" ∷ (codes "ok " ++ decimal 1) ∷ (codes "ran " ++ decimal 0) ∷ (codes "ran " ++ decimal 1) ∷ (codes "data " ++ decimal 1 ++ codes " " ++ codes "\"a\"") ∷ (codes "ok " ++ decimal 1) ∷ []) (Some 4)
-unfolding told_from reading command_in open_in unlock_in slave_in write_in read_in turn_in run_in number_in number_from digit_of text_in text_from side_in place_in way_in queue_in answered by_open by_call call_of by_run turns_of by_turn turn_of line_text chunk_count data_message rank_of band_of size_of cells_of is_high_priority is_held
+unfolding told_from reading command_in open_in named_in write_in read_in turn_in run_in number_in number_from digit_of text_in text_from side_in place_in way_in queue_in answered by_open by_call call_of by_run turns_of by_turn turn_of line_text chunk_count data_message rank_of band_of size_of cells_of is_high_priority is_held
 account-of-blocks = refl
 
 -- turns that get too few make their line the short one, and a turn too; turns before them count
 pub short-lines-of-turns : map (λ account. (told_from 1 account None (codes "open" ∷ codes "unlock" ∷ codes "slave" ∷ codes "write m \"a\"" ∷ codes "write s \"b\"" ∷ codes "run 9" ∷ codes "turn s.drv.w" ∷ [])).short) ((Enough ∷ Enough ∷ Enough ∷ Enough ∷ Enough ∷ TooFew ∷ Enough ∷ []) ∷ (Enough ∷ Enough ∷ Enough ∷ Enough ∷ Enough ∷ Enough ∷ TooFew ∷ []) ∷ []) ≡ Some 6 ∷ Some 6 ∷ []
-unfolding told_from reading command_in open_in unlock_in slave_in write_in read_in turn_in run_in number_in number_from digit_of text_in text_from side_in place_in way_in queue_in answered by_open by_call call_of by_run turns_of by_turn turn_of line_text chunk_count data_message rank_of band_of size_of cells_of is_high_priority is_held
+unfolding told_from reading command_in open_in named_in write_in read_in turn_in run_in number_in number_from digit_of text_in text_from side_in place_in way_in queue_in answered by_open by_call call_of by_run turns_of by_turn turn_of line_text chunk_count data_message rank_of band_of size_of cells_of is_high_priority is_held
 short-lines-of-turns = refl
 
 -- the second of two turns gets too few: one is counted, and the queue stays enabled for a turn
 pub turns-before-a-short-one-count : told_from 1 (Enough ∷ Enough ∷ Enough ∷ Enough ∷ Enough ∷ Enough ∷ TooFew ∷ TooFew ∷ []) None (codes "open" ∷ codes "unlock" ∷ codes "slave" ∷ codes "write m \"a\"" ∷ codes "write s \"b\"" ∷ codes "run 9" ∷ codes "turn s.drv.w" ∷ codes "turn s.drv.w" ∷ codes "read m 1" ∷ []) ≡ wrote (codes "ok" ∷ codes "ok" ∷ codes "ok" ∷ (codes "ok " ++ decimal 1) ∷ (codes "ok " ++ decimal 1) ∷ (codes "ran " ++ decimal 1) ∷ codes "err ENOSR" ∷ (codes "ok " ++ decimal 1) ∷ (codes "data " ++ decimal 1 ++ codes " " ++ codes "\"b\"") ∷ []) (Some 6)
-unfolding told_from reading command_in open_in unlock_in slave_in write_in read_in turn_in run_in number_in number_from digit_of text_in text_from side_in place_in way_in queue_in answered by_open by_call call_of by_run turns_of by_turn turn_of line_text chunk_count data_message rank_of band_of size_of cells_of is_high_priority is_held
+unfolding told_from reading command_in open_in named_in write_in read_in turn_in run_in number_in number_from digit_of text_in text_from side_in place_in way_in queue_in answered by_open by_call call_of by_run turns_of by_turn turn_of line_text chunk_count data_message rank_of band_of size_of cells_of is_high_priority is_held
 turns-before-a-short-one-count = refl

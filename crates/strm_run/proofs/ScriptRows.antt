@@ -12,7 +12,7 @@ use Rattle.strm_types.specs.declared.names.Place.TheVariants.{Head, Ldterm, Driv
 use Rattle.strm_types.specs.declared.refusals.Refusal.TheVariants.{Einval, Eagain, Enxio, Ebadmsg, Enosr, Erange, JournalFull, NoMinor, NoMemory, StillShared}
 use Rattle.strm_types.specs.declared.events.Event.TheVariants.{Unlock, OpenSlave, Write, Read}
 use Rattle.strm_run.specs.Script.{Open, Call, Turn, Run, queue_name, digit_of, hex_of, escaped, lines_of}
-use Rattle.strm_run.specs.ScriptReading.{Reading, Silent, Malformed, Spoken, number_from, number_in, text_from, text_in, side_in, place_in, way_in, queue_in, open_in, unlock_in, slave_in, write_in, read_in, turn_in, run_in, command_in, reading}
+use Rattle.strm_run.specs.ScriptReading.{Reading, Silent, Malformed, Spoken, number_from, number_in, text_from, text_in, side_in, place_in, way_in, queue_in, open_in, named_in, write_in, read_in, turn_in, run_in, command_in, reading}
 use Rattle.strm_run.specs.ScriptAnswers.{Plain, Number, Text, Held, Empty, Ran, Refused, Wrong, printed, printed_line, line_text, reply_line, turn_line}
 
 -- the lines of a script: LF ends each, and the last may lack it
@@ -24,21 +24,21 @@ lines-end-with-lf = refl
 -- what lines say
 
 pub commands-are-spelled : map reading (codes "open" ∷ codes "open 16" ∷ codes "unlock" ∷ codes "slave" ∷ codes "write m \"ab\"" ∷ codes "write s \"\"" ∷ codes "read s 10" ∷ codes "read m 0" ∷ codes "run 5" ∷ []) ≡ Spoken (Open None) ∷ Spoken (Open (Some 16)) ∷ Spoken (Call Master Unlock) ∷ Spoken (Call Slave OpenSlave) ∷ Spoken (Call Master (Write (97 ∷ 98 ∷ []))) ∷ Spoken (Call Slave (Write [])) ∷ Spoken (Call Slave (Read 10)) ∷ Spoken (Call Master (Read 0)) ∷ Spoken (Run 5) ∷ []
-unfolding reading command_in open_in unlock_in slave_in write_in read_in turn_in run_in number_in number_from digit_of text_in text_from side_in
+unfolding reading command_in open_in named_in write_in read_in turn_in run_in number_in number_from digit_of text_in text_from side_in
 commands-are-spelled = refl
 
 abbrev turn_of : Place → Way → Reading
 turn_of place way = Spoken (Turn (record { side = Master; place = place; way = way }))
 
 pub queues-are-spelled : map reading (codes "turn m.head.r" ∷ codes "turn m.head.w" ∷ codes "turn m.ldterm.r" ∷ codes "turn m.ldterm.w" ∷ codes "turn m.drv.r" ∷ codes "turn m.drv.w" ∷ codes "turn s.drv.w" ∷ []) ≡ turn_of Head Up ∷ turn_of Head Down ∷ turn_of Ldterm Up ∷ turn_of Ldterm Down ∷ turn_of Driver Up ∷ turn_of Driver Down ∷ Spoken (Turn (record { side = Slave; place = Driver; way = Down })) ∷ []
-unfolding reading command_in open_in unlock_in slave_in write_in read_in turn_in run_in side_in place_in way_in queue_in
+unfolding reading command_in open_in named_in write_in read_in turn_in run_in side_in place_in way_in queue_in
 queues-are-spelled = refl
 
 pub names-of-queues : map queue_name (record { side = Master; place = Driver; way = Down } ∷ record { side = Slave; place = Head; way = Up } ∷ record { side = Slave; place = Ldterm; way = Up } ∷ []) ≡ codes "m.drv.w" ∷ codes "s.head.r" ∷ codes "s.ldterm.r" ∷ []
 names-of-queues = refl
 
 pub malformed-lines : map reading (codes "open " ∷ codes "open 1 " ∷ codes " open" ∷ codes "opens" ∷ codes "unlock " ∷ codes "slaves" ∷ codes "write m ab" ∷ codes "write m \"ab" ∷ codes "write m \"ab\" " ∷ codes "write x \"\"" ∷ codes "read m" ∷ codes "read m 1x" ∷ codes "turn m.drv" ∷ codes "turn m.drv.x" ∷ codes "run" ∷ codes "run -1" ∷ []) ≡ replicate 16 Malformed
-unfolding reading command_in open_in unlock_in slave_in write_in read_in turn_in run_in number_in number_from digit_of text_in text_from side_in place_in way_in queue_in escaped hex_of
+unfolding reading command_in open_in named_in write_in read_in turn_in run_in number_in number_from digit_of text_in text_from side_in place_in way_in queue_in escaped hex_of
 malformed-lines = refl
 
 -- an empty line and a comment ask for nothing; a line of 4096 bytes may, a longer one is malformed

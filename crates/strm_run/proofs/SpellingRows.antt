@@ -18,10 +18,10 @@ pub open-with-a-number-is-spelled : IsSpelled (Open (Some 12)) (codes "open 12")
 open-with-a-number-is-spelled = (codes "12", twelve, refl)
 
 pub unlock-is-spelled : IsSpelled (Call Master Unlock) (codes "unlock")
-unlock-is-spelled = refl
+unlock-is-spelled = (refl, refl)
 
 pub slave-is-spelled : IsSpelled (Call Slave OpenSlave) (codes "slave")
-slave-is-spelled = refl
+slave-is-spelled = (refl, refl)
 
 pub read-is-spelled : IsSpelled (Call Slave (Read 12)) (codes "read s 12")
 read-is-spelled = (codes "12", twelve, refl)
