@@ -1,4 +1,4 @@
-use Rattle.std.proofs.Common.{◌<◌, ◌≤◌, None, inl, inr, arith, ap, sym, ◌∙◌}
+use Rattle.std.proofs.Common.{rules, ◌<◌, ◌≤◌, None, inl, inr, arith, ap, sym, ◌∙◌}
 use Rattle.strm_run.specs.ScriptRun.{by_open, by_call}
 use Rattle.strm_types.specs.declared.events.Event.TheVariants.{OpenMaster}
 use Rattle.strm_types.specs.Pair.{new_pair}
@@ -23,4 +23,4 @@ returns-clause-ok c =
     leads_same _ (λ account. by_open blocks account) _ _ _
     (λ account. open_made blocks account some most
     ∙ ap (λ p. by_call (record { side = Master }) OpenMaster account (plain p)) (sym made))
-    c.call-answered.ensures
+    (search rules steps 100000)
