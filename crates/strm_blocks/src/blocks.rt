@@ -1,9 +1,10 @@
 //! The calls of a store of message blocks and data blocks.
-ghost use Rattle.std.specs.Prelude.{◌≡◌, ◌≢◌, ◌==◌, ℕ, ◌<◌, ◌≤◌, [], ◌++◌, length, take, MatchResult, MatchOption};
+ghost use Rattle.std.specs.Prelude.{◌≡◌, ◌≢◌, ◌==◌, ℕ, ◌<◌, ◌≤◌, [], ◌++◌, length, take, map, MatchResult, MatchOption};
 ghost use Rattle.strm_blocks.specs.Blocks.{StoreValue, IsStore, IsInHand, in_hand, list_at, held, dropped, changed, placed, empty_store, block_at, with_block, put, put_back, trimmed_head, trimmed_tail, taken_by, extended, of_kind, banded, free_m, free_d};
-ghost use Rattle.strm_blocks.specs.Outcomes.{Allocated, Duplicated, Copied, NoneFree, NoneShared, Unlinked, UnlinkedLast, Popped, Unpopped, PeekedFirst, flushed};
+ghost use Rattle.strm_blocks.specs.Outcomes.{Allocated, Duplicated, Copied, NoneFree, NoneShared, Unlinked, UnlinkedLast, Popped, Unpopped, PeekedFirst, peek_of, told, flushed};
 
 use crate::asked::{FlushWhat, NoBlocks, Peek};
+use crate::visitor::Visitor;
 use strm_types::{Band, MsgKind};
 
 /// A store of message blocks and data blocks, as one pair of streams has it (STREAMS Programming Guide, "Message
@@ -184,6 +185,12 @@ pub trait Blocks {
         ensures { MatchOption result
             (list_at (value self.now) list ≡ [])
             (λ peek. PeekedFirst (value self.now) list peek) };
+
+    /// Tells a visitor of the messages of a list in their order, until it wants no more. It takes a step for each block of
+    /// the messages of which the visitor is told.
+    fn visit<V: Visitor>(&self, list: usize, visitor: &mut V)
+        requires { list < 8 }
+        ensures { visitor.new ≡ told V.after V.goes_on visitor.old (map peek_of (list_at (value self.now) list)) };
 
     /// Frees the messages of a list that a flush takes: `flushq(9F)`, `flushband(9F)`.
     fn drop_where(&mut self, list: usize, what: FlushWhat)

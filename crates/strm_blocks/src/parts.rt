@@ -1,13 +1,17 @@
 //! How long the parts of a message are, and where a message belongs on a list.
-ghost use Rattle.std.specs.Prelude.{◌≡◌, ◌<◌, ◌≤◌, ◌^◌, ◌-◌, nat_le, nat_lt, length, sum_by, IsTrue, None};
+ghost use Rattle.std.specs.Prelude.{◌≡◌, ◌<◌, ◌≤◌, ◌^◌, ◌-◌, nat_le, nat_lt, length, map, sum_by, IsTrue, None};
 ghost use Rattle.std.specs.List.{prefix_len};
 ghost use Rattle.strm_types.specs.Ranked.{IsOrdered};
 ghost use Rattle.strm_blocks.specs.Message.{rank_in, listed_rank};
-ghost use Rattle.strm_blocks.specs.Parts.{control_run, body_run};
+ghost use Rattle.strm_blocks.specs.Outcomes.{told};
+ghost use Rattle.strm_blocks.specs.Parts.{control_run, body_run, lens_in, peek_in};
 
+use crate::asked::Peek;
 use crate::kinds::{is_body_kind, is_control_kind, is_high_priority};
-use crate::message::{Message, MessageBlock};
+use crate::message::{Message, MessageBlock, first_block};
+use crate::visitor::Visitor;
 use std::collections::LinkedList;
+use strm_types::Band;
 
 /// The rank of a message: 256 for high priority, else its band.
 pub(crate) fn rank_of(blocks: &LinkedList<MessageBlock>) -> usize
@@ -97,4 +101,31 @@ pub(crate) fn body_len(blocks: &LinkedList<MessageBlock>) -> Option<usize>
         }
     }
     found
+}
+
+/// What can be seen of a message.
+pub(crate) fn peek_at(message: &Message) -> Peek
+    requires { lens_in message.now < 2 ^ 63 }
+    ensures { result ≡ peek_in message.now }
+{
+    let block = first_block(&message.blocks);
+    Peek {
+        kind: block.kind,
+        band: Band(block.band),
+        control: control_len(&message.blocks),
+        body: body_len(&message.blocks),
+    }
+}
+
+/// Tells a visitor of the messages of a list in their order, until it wants no more.
+pub(crate) fn tell<V: Visitor>(list: &LinkedList<Message>, visitor: &mut V)
+    requires { sum_by lens_in list.now < 2 ^ 63 }
+    ensures { visitor.new ≡ told V.after V.goes_on visitor.old (map peek_in list.now) }
+{
+    let mut rest = list.iter();
+    while let Some(message) = rest.next() {
+        if !visitor.see(peek_at(message)) {
+            return;
+        }
+    }
 }

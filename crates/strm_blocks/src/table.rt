@@ -9,8 +9,9 @@ use crate::message::{
     Message, MessageBlock, block_at, blocks_of, chain_with, first_block, gather, hold, join_blocks,
     name_of, part_blocks, place_of, put_node, replace_block, swap_blocks, take_node,
 };
-use crate::parts::{body_len, control_len, place_before, place_behind, rank_of};
+use crate::parts::{peek_at, place_before, place_behind, rank_of, tell};
 use crate::release::{give_back, sift};
+use crate::visitor::Visitor;
 use std::alloc::{AllocError, Global};
 use std::collections::LinkedList;
 use std::marker::Model;
@@ -292,13 +293,12 @@ impl Blocks for TableStore {
     fn peek(&self, list: usize) -> Option<Peek> {
         let message = self.lists[list].front()?;
         self.data.audit();
-        let block = first_block(&message.blocks);
-        Some(Peek {
-            kind: block.kind,
-            band: Band(block.band),
-            control: control_len(&message.blocks),
-            body: body_len(&message.blocks),
-        })
+        Some(peek_at(message))
+    }
+
+    fn visit<V: Visitor>(&self, list: usize, visitor: &mut V) {
+        self.data.audit();
+        tell(&self.lists[list], visitor);
     }
 
     fn drop_where(&mut self, list: usize, what: FlushWhat) {
