@@ -3,17 +3,20 @@ use Rattle.std.proofs.Common.{ℕ, zero, suc, ◌≡◌, ◌≤◌, ◌<◌, ◌
 use Rattle.std.specs.Prelude.{sum_by, take_while}
 use Rattle.std.specs.List.{AllByRecursion}
 use Rattle.std.proofs.lemmas.List.Sums.{sum_by-cons, get_or-le-sum_by, take_while-cons}
-use Rattle.strm_blocks.specs.Blocks.{Block, StoreValue, block_at, list_at}
-use Rattle.strm_blocks.specs.Outcomes.{PeekedFirst, peek_of, part_len, control_len, body_len, is_control_kind, is_body_kind}
-use Rattle.strm_blocks.specs.Parts.{with_len, control_run, body_run, lens_in, peek_in}
-use Rattle.strm_blocks.specs.Message.{message_at, no_message, row_at, no_row, without_at, weigh, naming, block_count, askew}
+use Rattle.strm_blocks.specs.Blocks.{Block, StoreValue, IsInHand, in_hand, block_at, list_at}
+use Rattle.strm_blocks.specs.Outcomes.{PeekedFirst, peek_of, summary_of, part_len, control_len, body_len, is_control_kind, is_body_kind}
+use Rattle.strm_blocks.specs.Parts.{with_len, control_run, body_run, lens, lens_in, peek_in, summary_in}
+use Rattle.strm_blocks.specs.Message.{message_at, no_message, row_at, no_row, without_at, place_in, weigh, naming, block_count, askew}
 use Rattle.strm_blocks.specs.Table.{shown, chain_of, value_of, IsTableStore}
 use Rattle.strm_blocks.specs.declared.asked.Peek.{Peek}
+use Rattle.strm_blocks.specs.declared.asked.Summary.{Summary}
 use Rattle.strm_blocks.specs.declared.table.TableStore.TheInside.{Inside}
 use Rattle.strm_blocks.specs.declared.message.Message.{Message}
 use Rattle.strm_blocks.specs.declared.message.MessageBlock.{MessageBlock}
 use Rattle.strm_blocks.proofs.Lists.{list, list-within, list-is, joined-value}
-use Rattle.strm_blocks.proofs.Nodes.{sum-le}
+use Rattle.strm_blocks.proofs.Nodes.{sum-le, weigh-in_hand}
+use Rattle.strm_blocks.proofs.Found.{found, chain-is, row-straight, row-there}
+use Rattle.strm_blocks.proofs.Found.{within as found-within}
 use Rattle.strm_blocks.proofs.Stores.{scaled}
 use Rattle.strm_types.specs.declared.kinds.MsgKind.{MsgKind}
 use Rattle.strm_types.specs.declared.kinds.Band.{Band}
@@ -25,10 +28,6 @@ use Rattle.std.proofs.lemmas.Bool.Decides.{nat_tests}
 -- a block shows as many bytes as lie between its places
 abbrev pub IsLong : List (List ℕ) → MessageBlock → Type 0
 IsLong bytes b = length (shown bytes b).bytes ≡ b.end - b.start
-
--- the sum of lengths of blocks
-abbrev pub lens : List MessageBlock → ℕ
-lens blocks = sum_by (λ b. b.end - b.start) blocks
 
 abbrev shown_lens : List Block → ℕ
 shown_lens chain = sum_by (λ x. length x.bytes) chain
@@ -83,6 +82,14 @@ body-value bytes (b ∷ blocks) all =
       | false ↦ body-value bytes blocks all.1
     ]
 
+-- all bytes of a message
+lens-value : (bytes : List (List ℕ)) (blocks : List MessageBlock) → AllByRecursion (IsLong bytes) blocks → lens blocks ≡ shown_lens (map (shown bytes) blocks)
+lens-value bytes [] all = refl
+lens-value bytes (b ∷ blocks) all =
+    let ih = lens-value bytes blocks all.1 in
+    let l = all.0 in
+    omega (arith, sum_by-cons (λ (x : MessageBlock). x.end - x.start) b blocks, sum_by-cons (λ (x : Block). length x.bytes) (shown bytes b) (map (shown bytes) blocks))
+
 -- what holds at each place of a list
 by-place : {A : Type 0} (d : A) (P : A → Type 0) (xs : List A) → ((n : ℕ) → n < length xs → P (get_or xs n d)) → AllByRecursion P xs
 by-place d P [] all = tt
@@ -111,6 +118,13 @@ made kind band control body = record { kind = kind; band = band; control = contr
 peek-same : {k k' : MsgKind} {b b' : Band} {c c' d d' : Option ℕ} → k ≡ k' → b ≡ b' → c ≡ c' → d ≡ d' → made k b c d ≡ made k' b' c' d'
 peek-same {k} {k'} {b} {b'} {c} {c'} {d} {d'} ek eb ec ed =
     ap (λ (x : MsgKind). made x b c d) ek ∙ ap (λ (x : Band). made k' x c d) eb ∙ ap (λ (x : Option ℕ). made k' b' x d) ec ∙ ap (λ (x : Option ℕ). made k' b' c' x) ed
+
+-- what a message is counted by
+abbrev counted : MsgKind → Band → ℕ → Summary
+counted kind band bytes = record { kind = kind; band = band; bytes = bytes }
+
+counted-same : {k k' : MsgKind} {b b' : Band} {n n' : ℕ} → k ≡ k' → b ≡ b' → n ≡ n' → counted k b n ≡ counted k' b' n'
+counted-same {k} {k'} {b} {b'} {n} {n'} ek eb en = ap (λ (x : MsgKind). counted x b n) ek ∙ ap (λ (x : Band). counted k' x n) eb ∙ ap (λ (x : ℕ). counted k' b' x) en
 
 -- the same of a message, of its rows and of its chain
 peek-value : (bytes : List (List ℕ)) (m : Message) → AllByRecursion (IsLong bytes) m.blocks → peek_in m ≡ peek_of (chain_of bytes m)
@@ -145,20 +159,20 @@ module _ (t : Inside) {s : StoreValue} (is : value_of t ≡ s) (holds : IsTableS
       let q = list t is holds k eight in
       let blocks = (message_at p q).blocks in
       by-place no_row (IsLong t.data.bytes) blocks (λ n inside. (
-        let b = row_at n blocks in
-        let d = b.number in
-        let w = list-weigh (naming d) in
-        let wp = get_or-le-sum_by (naming d) q p no_message within in
-        let r = holds.referenced d in
-        let one : cond {A = ℕ} (eqb d d) 1 0 ≡ 1 = grind (arith, nat_tests) in
-        let le = get_or-le-sum_by (λ (x : MessageBlock). cond (eqb x.number d) 1 0) blocks n no_row inside in
-        let there = named-within t.data.references d (omega arith) in
-        let z = sized d there in
-        let a = list-weigh askew in
-        let ap = get_or-le-sum_by askew q p no_message within in
-        let st = holds.straight in
-        let o = get_or-le-sum_by askew_row blocks n no_row inside in
-        length-range (get_or t.data.bytes d []) b.start b.end (omega arith) (omega arith)))
+      let b = row_at n blocks in
+      let d = b.number in
+      let w = list-weigh (naming d) in
+      let wp = get_or-le-sum_by (naming d) q p no_message within in
+      let r = holds.referenced d in
+      let one : cond {A = ℕ} (eqb d d) 1 0 ≡ 1 = grind (arith, nat_tests) in
+      let le = get_or-le-sum_by (λ (x : MessageBlock). cond (eqb x.number d) 1 0) blocks n no_row inside in
+      let there = named-within t.data.references d (omega arith) in
+      let z = sized d there in
+      let a = list-weigh askew in
+      let ap = get_or-le-sum_by askew q p no_message within in
+      let st = holds.straight in
+      let o = get_or-le-sum_by askew_row blocks n no_row inside in
+      length-range (get_or t.data.bytes d []) b.start b.end (omega arith) (omega arith)))
 
   -- a visitor is told of what stands on the list
   pub told-peeks : ((d : ℕ) → d < length t.data.references → length (get_or t.data.bytes d []) ≡ 256) → map peek_in (list t is holds k eight) ≡ map peek_of (list_at s k)
@@ -188,3 +202,32 @@ module _ (t : Inside) {s : StoreValue} (is : value_of t ≡ s) (holds : IsTableS
             body = ap (λ (p : Peek). p.body) e;
           };
         }
+
+-- what a message in hand is counted by
+module _ (t : Inside) {s : StoreValue} (is : value_of t ≡ s) (holds : IsTableStore t) (i : ℕ) (here : IsInHand s i) where
+  pub held-few : lens (found t is i).blocks < 2 ^ 63
+  held-few =
+      let there = found-within t is i here in
+      let a = weigh-in_hand askew t.lists t.hand (place_in i t.hand) there in
+      let b = weigh-in_hand block_count t.lists t.hand (place_in i t.hand) there in
+      let l = lens-few (found t is i).blocks in
+      let m = holds.blocks in
+      let f = holds.few in
+      let z = holds.straight in
+      omega arith
+
+  held-long : ((d : ℕ) → d < length t.data.references → length (get_or t.data.bytes d []) ≡ 256) → AllByRecursion (IsLong t.data.bytes) (found t is i).blocks
+  held-long sized =
+      let blocks = (found t is i).blocks in
+      let there = found-within t is i here in
+      by-place no_row (IsLong t.data.bytes) blocks (λ n inside. (
+      let b = row_at n blocks in
+      let o = row-straight holds (place_in i t.hand) there n inside in
+      let z = sized b.number (row-there holds (place_in i t.hand) there n inside) in
+      length-range (get_or t.data.bytes b.number []) b.start b.end (omega arith) (omega arith)))
+
+  pub summed-value : ((d : ℕ) → d < length t.data.references → length (get_or t.data.bytes d []) ≡ 256) → summary_in (found t is i).blocks ≡ summary_of (in_hand s i)
+  summed-value sized =
+      let bytes = t.data.bytes in
+      let blocks = (found t is i).blocks in
+      counted-same (sym (kind-first bytes blocks)) (ap (λ (n : ℕ). record { 0 = n }) (sym (band-first bytes blocks))) (lens-value bytes blocks (held-long sized)) ∙ ap (λ (chain : List Block). summary_of chain) (sym (chain-is t is i))

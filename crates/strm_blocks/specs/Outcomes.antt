@@ -4,6 +4,7 @@ use Rattle.strm_types.specs.Flush.{is_flushed}
 use Rattle.strm_types.specs.declared.kinds.MsgKind.{MsgKind}
 use Rattle.strm_types.specs.declared.kinds.MsgKind.TheVariants as kinds
 use Rattle.strm_blocks.specs.declared.asked.Peek.{Peek}
+use Rattle.strm_blocks.specs.declared.asked.Summary.{Summary}
 use Rattle.strm_blocks.specs.declared.asked.FlushWhat.{FlushWhat}
 use Rattle.strm_blocks.specs.Blocks.{Block, StoreValue, in_hand, held, changed, placed, list_at, references, free_m, free_d, IsFreshName, new_block, copy_of, block_at}
 
@@ -109,6 +110,14 @@ peek_of message = record {
   band = record { 0 = (block_at 0 message).band };
   control = control_len message;
   body = body_len message;
+}
+
+-- what a message is counted by: its kind and band are those of its first block, its bytes those of all blocks
+abbrev pub summary_of : List Block → Summary
+summary_of message = record {
+  kind = (block_at 0 message).kind;
+  band = record { 0 = (block_at 0 message).band };
+  bytes = sum_by (λ b. length b.bytes) message;
 }
 
 -- a visitor that is told of messages in order, until it wants no more

@@ -3,6 +3,7 @@ use Rattle.std.specs.Prelude.{ℕ, ◌+◌, ◌-◌, if◌then◌else◌, List, 
 use Rattle.strm_blocks.specs.Outcomes.{is_control_kind, is_body_kind}
 use Rattle.strm_blocks.specs.Message.{row_at}
 use Rattle.strm_blocks.specs.declared.asked.Peek.{Peek}
+use Rattle.strm_blocks.specs.declared.asked.Summary.{Summary}
 use Rattle.strm_blocks.specs.declared.message.Message.{Message}
 use Rattle.strm_blocks.specs.declared.message.MessageBlock.{MessageBlock}
 
@@ -20,9 +21,16 @@ abbrev pub body_run : Option ℕ → List MessageBlock → Option ℕ
 body_run found [] = found
 body_run found (b ∷ blocks) = body_run (if is_body_kind b.kind then with_len found b else found) blocks
 
--- how many bytes lie between the places of a message's blocks
+-- how many bytes lie between the places of blocks, and of a message's blocks
+abbrev pub lens : List MessageBlock → ℕ
+lens blocks = sum_by (λ b. b.end - b.start) blocks
+
 abbrev pub lens_in : Message → ℕ
-lens_in m = sum_by (λ b. b.end - b.start) m.blocks
+lens_in m = lens m.blocks
+
+-- what a message of these blocks is counted by
+abbrev pub summary_in : List MessageBlock → Summary
+summary_in blocks = record { kind = (row_at 0 blocks).kind; band = record { 0 = (row_at 0 blocks).band }; bytes = lens blocks }
 
 -- what can be seen of a message
 abbrev pub peek_in : Message → Peek

@@ -13,7 +13,7 @@ mod table;
 mod tests;
 mod visitor;
 
-pub use asked::{FlushWhat, NoBlocks, Peek};
+pub use asked::{FlushWhat, NoBlocks, Peek, Summary};
 pub use blocks::Blocks;
 pub use table::{InHand, TableStore};
 pub use visitor::Visitor;

@@ -4,9 +4,9 @@ ghost use Rattle.std.specs.List.{prefix_len};
 ghost use Rattle.strm_types.specs.Ranked.{IsOrdered};
 ghost use Rattle.strm_blocks.specs.Message.{rank_in, listed_rank};
 ghost use Rattle.strm_blocks.specs.Outcomes.{told};
-ghost use Rattle.strm_blocks.specs.Parts.{control_run, body_run, lens_in, peek_in};
+ghost use Rattle.strm_blocks.specs.Parts.{control_run, body_run, lens, lens_in, peek_in, summary_in};
 
-use crate::asked::Peek;
+use crate::asked::{Peek, Summary};
 use crate::kinds::{is_body_kind, is_control_kind, is_high_priority};
 use crate::message::{Message, MessageBlock, first_block};
 use crate::visitor::Visitor;
@@ -101,6 +101,32 @@ pub(crate) fn body_len(blocks: &LinkedList<MessageBlock>) -> Option<usize>
         }
     }
     found
+}
+
+/// How many bytes lie between the places of blocks.
+fn total_len(blocks: &LinkedList<MessageBlock>) -> usize
+    requires { lens blocks.now < 2 ^ 63 }
+    ensures { result ≡ lens blocks.now }
+{
+    let mut rest = blocks.iter();
+    let mut total = 0;
+    while let Some(block) = rest.next() {
+        total += block.end.saturating_sub(block.start);
+    }
+    total
+}
+
+/// What a message of these blocks is counted by.
+pub(crate) fn summary_at(blocks: &LinkedList<MessageBlock>) -> Summary
+    requires { lens blocks.now < 2 ^ 63 }
+    ensures { result ≡ summary_in blocks.now }
+{
+    let block = first_block(blocks);
+    Summary {
+        kind: block.kind,
+        band: Band(block.band),
+        bytes: total_len(blocks),
+    }
 }
 
 /// What can be seen of a message.

@@ -76,19 +76,6 @@ pub(crate) fn is_data_kind(kind: MsgKind) -> bool
     }
 }
 
-// How many bytes a message has. It takes a step for each of its blocks.
-fn bytes_in<B: Blocks>(store: &B, message: &B::Mp) -> usize
-    requires { IsInHand (B.value store.now) (B.name message.now) }
-    ensures { result ≡ bytes_of (in_hand (B.value store.now) (B.name message.now)) }
-{
-    store.audit();
-    let mut bytes = 0;
-    for at in 0..store.blocks(message) {
-        bytes += store.block_len(message, at);
-    }
-    bytes
-}
-
 /// What a message in hand adds to the counts of a queue.
 pub(crate) fn share_of<B: Blocks>(store: &B, message: &B::Mp) -> Share
     requires { IsInHand (B.value store.now) (B.name message.now) }
@@ -97,16 +84,16 @@ pub(crate) fn share_of<B: Blocks>(store: &B, message: &B::Mp) -> Share
     ensures kind { result.is_data ≡ is_data (in_hand (B.value store.now) (B.name message.now)) }
     ensures high { result.is_high ≡ is_high_priority (block_at 0 (in_hand (B.value store.now) (B.name message.now))).kind }
 {
-    let _some = store.blocks(message);
-    let kind = store.kind(message, 0);
+    let summary = store.summary(message);
+    let is_high = is_high_priority(summary.kind);
     Share {
-        band: if is_high_priority(kind) {
+        band: if is_high {
             0
         } else {
-            usize::from(store.band(message).0)
+            usize::from(summary.band.0)
         },
-        bytes: bytes_in(store, message),
-        is_data: is_data_kind(kind),
-        is_high: is_high_priority(kind),
+        bytes: summary.bytes,
+        is_data: is_data_kind(summary.kind),
+        is_high,
     }
 }

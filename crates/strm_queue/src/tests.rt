@@ -126,9 +126,7 @@ fn goes<B: Blocks>(queue: &mut Queue, store: &mut B, step: Step<'_>) -> Result<b
         Step::PutBack(bytes) => puts_back(queue, store, bytes),
         Step::Take(bytes) => Ok(next_shows(queue, store, bytes)),
         Step::TakeNone => Ok(has_none(queue, store)),
-        Step::Counts(band, bytes) => {
-            Ok(is_band(Band(band)) && queue.count(Band(band)) == bytes)
-        }
+        Step::Counts(band, bytes) => { Ok(is_band(Band(band)) && queue.count(Band(band)) == bytes) }
         Step::Marks(band, high, low, full) => Ok(is_full_at(queue, band, high, low) == full),
         Step::Flush => {
             queue.flushq(store, false);
