@@ -1,10 +1,10 @@
 -- The outcomes of the calls that take blocks, from what is done to a store's fields.
-use Rattle.std.proofs.Common.{ℕ, ◌≡◌, ◌<◌, ◌-◌, eqb, List, [], ◌∷◌, length, get_or, refl, sym, ◌∙◌, arith, inl, inr, subst}
+use Rattle.std.proofs.Common.{ℕ, ◌≡◌, ◌<◌, eqb, List, [], ◌∷◌, length, get_or, refl, sym, ◌∙◌, arith, inl, inr, subst}
 use Rattle.std.proofs.Math.ListN.{set}
 use Rattle.std.specs.Prelude.{count_by, slice_range}
 use Rattle.std.proofs.lemmas.List.{get_or-set_same}
 use Rattle.strm_types.specs.declared.kinds.MsgKind.{MsgKind}
-use Rattle.strm_blocks.specs.Blocks.{StoreValue, free_m, free_d}
+use Rattle.strm_blocks.specs.Blocks.{Block, StoreValue, free_m, free_d}
 use Rattle.strm_blocks.specs.Outcomes.{Allocated, Duplicated, Copied, NoneFree, NoneShared}
 use Rattle.strm_blocks.specs.Message.{message_at, with_blocks}
 use Rattle.strm_blocks.specs.Table.{shown, IsTable}
@@ -65,9 +65,9 @@ module _ {mblks : ℕ} {lists : List (List Message)} {hand idle : List Message} 
     after = refl;
   }
 
-  -- a copy: its data block, which no block names, has the bytes at its front
-  pub Copied-value : (row : MessageBlock) (number : ℕ) (content : List ℕ) → 0 < length spare → 0 < count_by (λ r. eqb r 0) counts → number < length counts → number < length bytes → get_or counts number 0 ≡ 0 → length (shown bytes row).bytes ≡ row.end - row.start → slice_range content 0 (row.end - row.start) ≡ (shown bytes row).bytes → Copied old (with_idle (set bytes number content) (record row { number = number; start = 0; end = row.end - row.start })) (message_at 0 idle).name (shown bytes row)
-  Copied-value row number content some free within there none len front =
+  -- a copy of a block: its data block, which no block names, has the bytes at its front
+  pub Copied-value : (b : Block) (number : ℕ) (content : List ℕ) (n : ℕ) → 0 < length spare → 0 < count_by (λ r. eqb r 0) counts → number < length counts → number < length bytes → get_or counts number 0 ≡ 0 → length b.bytes ≡ n → slice_range content 0 n ≡ b.bytes → Copied old (with_idle (set bytes number content) (record { kind = b.kind; band = b.band; number = number; start = 0; end = n })) (message_at 0 idle).name b
+  Copied-value b number content n some free within there none len front =
       let weight = sym (is.referenced number) ∙ none in
       record {
         number = number;

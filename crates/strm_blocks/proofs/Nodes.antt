@@ -48,7 +48,7 @@ ones [] = refl
 ones (m ∷ q) = let ih = ones q in omega (arith, sum_by-cons (λ (m : Message). 1) m q)
 
 -- a bound on each message bounds the sums
-sum-le : (f g h : Message → ℕ) → ((m : Message) → f m ≤ g m + h m) → (q : List Message) → sum_by f q ≤ sum_by g q + sum_by h q
+pub sum-le : (f g h : Message → ℕ) → ((m : Message) → f m ≤ g m + h m) → (q : List Message) → sum_by f q ≤ sum_by g q + sum_by h q
 sum-le f g h each [] = omega arith
 sum-le f g h each (m ∷ q) = let ih = sum-le f g h each q in let e = each m in omega (arith, sum_by-cons f m q, sum_by-cons g m q, sum_by-cons h m q)
 

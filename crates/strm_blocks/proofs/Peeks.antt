@@ -3,17 +3,24 @@ use Rattle.std.proofs.Common.{ℕ, zero, suc, ◌≡◌, ◌≤◌, ◌<◌, ◌
 use Rattle.std.specs.Prelude.{sum_by, take_while}
 use Rattle.std.specs.List.{AllByRecursion}
 use Rattle.std.proofs.lemmas.List.Sums.{sum_by-cons, get_or-le-sum_by, take_while-cons}
-use Rattle.strm_blocks.specs.Blocks.{Block, StoreValue, block_at}
+use Rattle.strm_blocks.specs.Blocks.{Block, StoreValue, IsInHand, in_hand, block_at, list_at}
 use Rattle.strm_types.specs.Kinds.{is_control_kind, is_body_kind}
-use Rattle.strm_blocks.specs.Outcomes.{PeekedFirst, part_len, control_len, body_len}
-use Rattle.strm_blocks.specs.Parts.{with_len, control_run, body_run}
-use Rattle.strm_blocks.specs.Message.{message_at, no_message, row_at, no_row, without_at, weigh, naming, block_count, askew}
+use Rattle.strm_blocks.specs.Outcomes.{PeekedFirst, peek_of, summary_of, part_len, control_len, body_len}
+use Rattle.strm_blocks.specs.Parts.{with_len, control_run, body_run, lens, lens_in, peek_in, summary_in}
+use Rattle.strm_blocks.specs.Message.{message_at, no_message, row_at, no_row, without_at, place_in, weigh, naming, block_count, askew}
 use Rattle.strm_blocks.specs.Table.{shown, chain_of, value_of, IsTableStore}
 use Rattle.strm_blocks.specs.declared.asked.Peek.{Peek}
+use Rattle.strm_blocks.specs.declared.asked.Summary.{Summary}
 use Rattle.strm_blocks.specs.declared.table.TableStore.TheInside.{Inside}
 use Rattle.strm_blocks.specs.declared.message.Message.{Message}
 use Rattle.strm_blocks.specs.declared.message.MessageBlock.{MessageBlock}
-use Rattle.strm_blocks.proofs.Lists.{list, list-within, joined-value}
+use Rattle.strm_blocks.proofs.Lists.{list, list-within, list-is, joined-value}
+use Rattle.strm_blocks.proofs.Nodes.{sum-le, weigh-in_hand}
+use Rattle.strm_blocks.proofs.Found.{found, chain-is, row-straight, row-there}
+use Rattle.strm_blocks.proofs.Found.{within as found-within}
+use Rattle.strm_blocks.proofs.Stores.{scaled}
+use Rattle.strm_types.specs.declared.kinds.MsgKind.{MsgKind}
+use Rattle.strm_types.specs.declared.kinds.Band.{Band}
 use Rattle.strm_blocks.proofs.Moves.{askew_row}
 use Rattle.strm_blocks.proofs.Shown.{length-range}
 use Rattle.strm_blocks.proofs.FreeList.{named-within}
@@ -22,22 +29,6 @@ use Rattle.std.proofs.lemmas.Bool.Decides.{nat_tests}
 -- a block shows as many bytes as lie between its places
 abbrev pub IsLong : List (List ℕ) → MessageBlock → Type 0
 IsLong bytes b = length (shown bytes b).bytes ≡ b.end - b.start
-
--- the sum of lengths of blocks
-abbrev pub lens : List MessageBlock → ℕ
-lens blocks = sum_by (λ b. b.end - b.start) blocks
-
-abbrev pub lens_of : Message → ℕ
-lens_of m = lens m.blocks
-
-abbrev pub control_of : Message → Option ℕ
-control_of m = control_run None m.blocks
-
-abbrev pub body_of : Message → Option ℕ
-body_of m = body_run None m.blocks
-
-abbrev pub first_row : Message → MessageBlock
-first_row m = row_at 0 m.blocks
 
 abbrev shown_lens : List Block → ℕ
 shown_lens chain = sum_by (λ x. length x.bytes) chain
@@ -92,10 +83,18 @@ body-value bytes (b ∷ blocks) all =
       | false ↦ body-value bytes blocks all.1
     ]
 
--- what holds at each place of a chain
-by-place : (P : MessageBlock → Type 0) (blocks : List MessageBlock) → ((n : ℕ) → n < length blocks → P (row_at n blocks)) → AllByRecursion P blocks
-by-place P [] all = tt
-by-place P (b ∷ blocks) all = (all zero (omega arith), by-place P blocks (λ n within. all (suc n) (omega arith)))
+-- all bytes of a message
+lens-value : (bytes : List (List ℕ)) (blocks : List MessageBlock) → AllByRecursion (IsLong bytes) blocks → lens blocks ≡ shown_lens (map (shown bytes) blocks)
+lens-value bytes [] all = refl
+lens-value bytes (b ∷ blocks) all =
+    let ih = lens-value bytes blocks all.1 in
+    let l = all.0 in
+    omega (arith, sum_by-cons (λ (x : MessageBlock). x.end - x.start) b blocks, sum_by-cons (λ (x : Block). length x.bytes) (shown bytes b) (map (shown bytes) blocks))
+
+-- what holds at each place of a list
+by-place : {A : Type 0} (d : A) (P : A → Type 0) (xs : List A) → ((n : ℕ) → n < length xs → P (get_or xs n d)) → AllByRecursion P xs
+by-place d P [] all = tt
+by-place d P (x ∷ xs) all = (all zero (omega arith), by-place d P xs (λ n within. all (suc n) (omega arith)))
 
 -- the lengths of blocks in order are bounded
 pub lens-few : (blocks : List MessageBlock) → lens blocks ≤ 256 * length blocks + sum_by askew_row blocks
@@ -113,55 +112,123 @@ band-first : (bytes : List (List ℕ)) (blocks : List MessageBlock) → (block_a
 band-first bytes [] = refl
 band-first bytes (b ∷ blocks) = refl
 
-module _ (t : Inside) {s : StoreValue} (is : value_of t ≡ s) (holds : IsTableStore t) (k : ℕ) (eight : k < 8) (some : 0 < length (list t is holds k eight)) where
-  abbrev pub first : Message
-  first = message_at 0 (list t is holds k eight)
+-- what is seen is made of its parts
+abbrev made : MsgKind → Band → Option ℕ → Option ℕ → Peek
+made kind band control body = record { kind = kind; band = band; control = control; body = body }
 
-  -- a message on a list weighs no more than all
-  listed-weigh : (g : Message → ℕ) → g first ≤ weigh g t.lists t.hand
-  listed-weigh g =
+peek-same : {k k' : MsgKind} {b b' : Band} {c c' d d' : Option ℕ} → k ≡ k' → b ≡ b' → c ≡ c' → d ≡ d' → made k b c d ≡ made k' b' c' d'
+peek-same {k} {k'} {b} {b'} {c} {c'} {d} {d'} ek eb ec ed =
+    ap (λ (x : MsgKind). made x b c d) ek ∙ ap (λ (x : Band). made k' x c d) eb ∙ ap (λ (x : Option ℕ). made k' b' x d) ec ∙ ap (λ (x : Option ℕ). made k' b' c' x) ed
+
+-- what a message is counted by
+abbrev counted : MsgKind → Band → ℕ → Summary
+counted kind band bytes = record { kind = kind; band = band; bytes = bytes }
+
+counted-same : {k k' : MsgKind} {b b' : Band} {n n' : ℕ} → k ≡ k' → b ≡ b' → n ≡ n' → counted k b n ≡ counted k' b' n'
+counted-same {k} {k'} {b} {b'} {n} {n'} ek eb en = ap (λ (x : MsgKind). counted x b n) ek ∙ ap (λ (x : Band). counted k' x n) eb ∙ ap (λ (x : ℕ). counted k' b' x) en
+
+-- the same of a message, of its rows and of its chain
+peek-value : (bytes : List (List ℕ)) (m : Message) → AllByRecursion (IsLong bytes) m.blocks → peek_in m ≡ peek_of (chain_of bytes m)
+peek-value bytes m long = peek-same (sym (kind-first bytes m.blocks)) (ap (λ (n : ℕ). record { 0 = n }) (sym (band-first bytes m.blocks))) (control-value bytes m.blocks long) (body-value bytes m.blocks long)
+
+peeks-value : (bytes : List (List ℕ)) (q : List Message) → AllByRecursion (λ m. AllByRecursion (IsLong bytes) m.blocks) q → map peek_in q ≡ map peek_of (map (chain_of bytes) q)
+peeks-value bytes [] long = refl
+peeks-value bytes (m ∷ q) long = ap (λ (p : Peek). p ∷ map peek_in q) (peek-value bytes m long.0) ∙ ap (λ (ps : List Peek). peek_of (chain_of bytes m) ∷ ps) (peeks-value bytes q long.1)
+
+module _ (t : Inside) {s : StoreValue} (is : value_of t ≡ s) (holds : IsTableStore t) (k : ℕ) (eight : k < 8) where
+  -- the messages of a list weigh no more than all
+  list-weigh : (g : Message → ℕ) → sum_by g (list t is holds k eight) ≤ weigh g t.lists t.hand
+  list-weigh g =
       let q = get_or-le-sum_by (λ (q : List Message). sum_by g q) t.lists k [] (list-within t is holds k eight) in
-      let m = get_or-le-sum_by g (list t is holds k eight) 0 no_message some in
       omega arith
 
-  pub first-few : lens first.blocks < 2 ^ 63
-  first-few =
-      let a = listed-weigh askew in
-      let b = listed-weigh block_count in
-      let l = lens-few first.blocks in
+  pub list-lens : sum_by lens_in (list t is holds k eight) < 2 ^ 63
+  list-lens =
+      let q = list t is holds k eight in
+      let a = list-weigh askew in
+      let b = list-weigh block_count in
+      let l = sum-le lens_in (λ m. 256 * block_count m) askew (λ m. lens-few m.blocks) q in
+      let e = scaled (λ m. 256 * block_count m) block_count (λ m. refl) q in
       let m = holds.blocks in
       let f = holds.few in
       let z = holds.straight in
       omega arith
 
-  -- each of its blocks shows as many bytes as lie between its places
-  pub first-long : ((d : ℕ) → d < length t.data.references → length (get_or t.data.bytes d []) ≡ 256) → AllByRecursion (IsLong t.data.bytes) first.blocks
-  first-long sized = by-place (IsLong t.data.bytes) first.blocks (λ n within. (
-      let b = row_at n first.blocks in
+  -- each block of a message shows as many bytes as lie between its places
+  message-long : ((d : ℕ) → d < length t.data.references → length (get_or t.data.bytes d []) ≡ 256) → (p : ℕ) → p < length (list t is holds k eight) → AllByRecursion (IsLong t.data.bytes) (message_at p (list t is holds k eight)).blocks
+  message-long sized p within =
+      let q = list t is holds k eight in
+      let blocks = (message_at p q).blocks in
+      by-place no_row (IsLong t.data.bytes) blocks (λ n inside. (
+      let b = row_at n blocks in
       let d = b.number in
-      let w = listed-weigh (naming d) in
+      let w = list-weigh (naming d) in
+      let wp = get_or-le-sum_by (naming d) q p no_message within in
       let r = holds.referenced d in
       let one : cond {A = ℕ} (eqb d d) 1 0 ≡ 1 = grind (arith, nat_tests) in
-      let le = get_or-le-sum_by (λ (x : MessageBlock). cond (eqb x.number d) 1 0) first.blocks n no_row within in
+      let le = get_or-le-sum_by (λ (x : MessageBlock). cond (eqb x.number d) 1 0) blocks n no_row inside in
       let there = named-within t.data.references d (omega arith) in
       let z = sized d there in
-      let a = listed-weigh askew in
+      let a = list-weigh askew in
+      let ap = get_or-le-sum_by askew q p no_message within in
       let st = holds.straight in
-      let o = get_or-le-sum_by askew_row first.blocks n no_row within in
+      let o = get_or-le-sum_by askew_row blocks n no_row inside in
       length-range (get_or t.data.bytes d []) b.start b.end (omega arith) (omega arith)))
 
-  -- the first message is seen
-  pub peeked-value : (peek : Peek) → peek.kind ≡ (row_at 0 first.blocks).kind → peek.band.0 ≡ (row_at 0 first.blocks).band → peek.control ≡ control_run None first.blocks → peek.body ≡ body_run None first.blocks → ((d : ℕ) → d < length t.data.references → length (get_or t.data.bytes d []) ≡ 256) → PeekedFirst s k peek
-  peeked-value peek ek eb ec ed sized =
-      let long = first-long sized in
-      record {
-        message = chain_of t.data.bytes first;
-        rest = map (chain_of t.data.bytes) (without_at 0 (list t is holds k eight));
-        joined = joined-value t is holds k eight some;
-        seen = record {
-          kind = ek ∙ sym (kind-first t.data.bytes first.blocks);
-          band = eb ∙ sym (band-first t.data.bytes first.blocks);
-          control = ec ∙ control-value t.data.bytes first.blocks long;
-          body = ed ∙ body-value t.data.bytes first.blocks long;
-        };
-      }
+  -- a visitor is told of what stands on the list
+  pub told-peeks : ((d : ℕ) → d < length t.data.references → length (get_or t.data.bytes d []) ≡ 256) → map peek_in (list t is holds k eight) ≡ map peek_of (list_at s k)
+  told-peeks sized =
+      let q = list t is holds k eight in
+      peeks-value t.data.bytes q (by-place no_message (λ m. AllByRecursion (IsLong t.data.bytes) m.blocks) q (message-long sized)) ∙ ap (λ (ms : List (List Block)). map peek_of ms) (sym (list-is t is holds k eight))
+
+  module _ (some : 0 < length (list t is holds k eight)) where
+    abbrev pub first : Message
+    first = message_at 0 (list t is holds k eight)
+
+    pub first-few : lens_in first < 2 ^ 63
+    first-few = let l = list-lens in let m = get_or-le-sum_by lens_in (list t is holds k eight) 0 no_message some in omega arith
+
+    -- the first message is seen
+    pub peeked-value : (peek : Peek) → peek ≡ peek_in first → ((d : ℕ) → d < length t.data.references → length (get_or t.data.bytes d []) ≡ 256) → PeekedFirst s k peek
+    peeked-value peek is_first sized =
+        let e = is_first ∙ peek-value t.data.bytes first (message-long sized 0 some) in
+        record {
+          message = chain_of t.data.bytes first;
+          rest = map (chain_of t.data.bytes) (without_at 0 (list t is holds k eight));
+          joined = joined-value t is holds k eight some;
+          seen = record {
+            kind = ap (λ (p : Peek). p.kind) e;
+            band = ap (λ (p : Peek). p.band.0) e;
+            control = ap (λ (p : Peek). p.control) e;
+            body = ap (λ (p : Peek). p.body) e;
+          };
+        }
+
+-- what a message in hand is counted by
+module _ (t : Inside) {s : StoreValue} (is : value_of t ≡ s) (holds : IsTableStore t) (i : ℕ) (here : IsInHand s i) where
+  pub held-few : lens (found t is i).blocks < 2 ^ 63
+  held-few =
+      let there = found-within t is i here in
+      let a = weigh-in_hand askew t.lists t.hand (place_in i t.hand) there in
+      let b = weigh-in_hand block_count t.lists t.hand (place_in i t.hand) there in
+      let l = lens-few (found t is i).blocks in
+      let m = holds.blocks in
+      let f = holds.few in
+      let z = holds.straight in
+      omega arith
+
+  held-long : ((d : ℕ) → d < length t.data.references → length (get_or t.data.bytes d []) ≡ 256) → AllByRecursion (IsLong t.data.bytes) (found t is i).blocks
+  held-long sized =
+      let blocks = (found t is i).blocks in
+      let there = found-within t is i here in
+      by-place no_row (IsLong t.data.bytes) blocks (λ n inside. (
+      let b = row_at n blocks in
+      let o = row-straight holds (place_in i t.hand) there n inside in
+      let z = sized b.number (row-there holds (place_in i t.hand) there n inside) in
+      length-range (get_or t.data.bytes b.number []) b.start b.end (omega arith) (omega arith)))
+
+  pub summed-value : ((d : ℕ) → d < length t.data.references → length (get_or t.data.bytes d []) ≡ 256) → summary_in (found t is i).blocks ≡ summary_of (in_hand s i)
+  summed-value sized =
+      let bytes = t.data.bytes in
+      let blocks = (found t is i).blocks in
+      counted-same (sym (kind-first bytes blocks)) (ap (λ (n : ℕ). record { 0 = n }) (sym (band-first bytes blocks))) (lens-value bytes blocks (held-long sized)) ∙ ap (λ (chain : List Block). summary_of chain) (sym (chain-is t is i))

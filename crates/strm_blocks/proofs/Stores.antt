@@ -17,7 +17,7 @@ pub weigh-ext : (f g : Message → ℕ) → ((m : Message) → f m ≡ g m) → 
 weigh-ext f g same lists hand = let a = sum_by-ext (λ q. sum_by f q) (λ q. sum_by g q) (λ q. sum_by-ext f g same q) lists in let b = sum_by-ext f g same hand in omega arith
 
 -- 256 times a sum
-scaled : {A : Type 0} (f g : A → ℕ) → ((x : A) → f x ≡ 256 * g x) → (xs : List A) → sum_by f xs ≡ 256 * sum_by g xs
+pub scaled : {A : Type 0} (f g : A → ℕ) → ((x : A) → f x ≡ 256 * g x) → (xs : List A) → sum_by f xs ≡ 256 * sum_by g xs
 scaled f g same [] = refl
 scaled f g same (x ∷ xs) = let s = same x in let ih = scaled f g same xs in omega (arith, sum_by-cons f x xs, sum_by-cons g x xs)
 

@@ -1,9 +1,11 @@
 -- What the calls of a store lead to, where they have a result (STREAMS Programming Guide, "Message Structure").
-use Rattle.std.specs.Prelude.{ℕ, Bool, true, false, not, ◌≡◌, ◌<◌, ◌⊎◌, List, [], ◌∷◌, length, filter, sum_by, take_while, Option, None, Some, option_map}
+use Rattle.std.specs.Prelude.{ℕ, Bool, true, false, not, ◌≡◌, ◌<◌, ◌⊎◌, List, [], ◌∷◌, length, filter, sum_by, take_while, if◌then◌else◌, Option, None, Some, option_map}
 use Rattle.strm_types.specs.Kinds.{is_control_kind, is_body_kind}
 use Rattle.strm_types.specs.Flush.{is_flushed}
 use Rattle.strm_types.specs.declared.kinds.MsgKind.{MsgKind}
+use Rattle.strm_types.specs.declared.kinds.MsgKind.TheVariants as kinds
 use Rattle.strm_blocks.specs.declared.asked.Peek.{Peek}
+use Rattle.strm_blocks.specs.declared.asked.Summary.{Summary}
 use Rattle.strm_blocks.specs.declared.asked.FlushWhat.{FlushWhat}
 use Rattle.strm_blocks.specs.Blocks.{Block, StoreValue, in_hand, held, changed, placed, list_at, references, free_m, free_d, IsFreshName, new_block, copy_of, block_at}
 
@@ -91,6 +93,27 @@ pub record Peeked (peek : Peek) (message : List Block) : Type 0 where
   pub band : peek.band.0 ≡ (block_at 0 message).band
   pub control : peek.control ≡ control_len message
   pub body : peek.body ≡ body_len message
+
+abbrev pub peek_of : List Block → Peek
+peek_of message = record {
+  kind = (block_at 0 message).kind;
+  band = record { 0 = (block_at 0 message).band };
+  control = control_len message;
+  body = body_len message;
+}
+
+-- what a message is counted by: its kind and band are those of its first block, its bytes those of all blocks
+abbrev pub summary_of : List Block → Summary
+summary_of message = record {
+  kind = (block_at 0 message).kind;
+  band = record { 0 = (block_at 0 message).band };
+  bytes = sum_by (λ b. length b.bytes) message;
+}
+
+-- a visitor that is told of messages in order, until it wants no more
+abbrev pub told : {V : Type 0} → (V → Peek → V) → (V → Bool) → V → List Peek → V
+told after goes_on v [] = v
+told after goes_on v (p ∷ ps) = if goes_on (after v p) then told after goes_on (after v p) ps else after v p
 
 -- the first message of a list can be seen
 pub record PeekedFirst (s : StoreValue) (list : ℕ) (peek : Peek) : Type 0 where

@@ -1,9 +1,10 @@
 //! The calls of a store of message blocks and data blocks.
-ghost use Rattle.std.specs.Prelude.{◌≡◌, ◌≢◌, ◌==◌, ℕ, ◌<◌, ◌≤◌, [], ◌++◌, length, take, MatchResult, MatchOption};
-ghost use Rattle.strm_blocks.specs.Blocks.{StoreValue, IsStore, IsInHand, in_hand, list_at, held, dropped, changed, placed, empty_store, block_at, with_block, put, put_back, trimmed_head, trimmed_tail, taken_by, extended, of_kind, banded, free_m, free_d};
-ghost use Rattle.strm_blocks.specs.Outcomes.{Allocated, Duplicated, Copied, NoneFree, NoneShared, Unlinked, UnlinkedLast, Popped, Unpopped, PeekedFirst, flushed};
+ghost use Rattle.std.specs.Prelude.{◌≡◌, ◌≢◌, ◌==◌, ℕ, ◌<◌, ◌≤◌, [], ◌++◌, length, take, map, MatchResult, MatchOption};
+ghost use Rattle.strm_blocks.specs.Blocks.{StoreValue, IsStore, IsInHand, in_hand, list_at, held, dropped, changed, placed, empty_store, block_at, filled_block, with_block, put, put_back, trimmed_head, trimmed_tail, taken_by, extended, of_kind, banded, free_m, free_d};
+ghost use Rattle.strm_blocks.specs.Outcomes.{Allocated, Duplicated, Copied, NoneFree, NoneShared, Unlinked, UnlinkedLast, Popped, Unpopped, PeekedFirst, peek_of, summary_of, told, flushed};
 
-use crate::asked::{FlushWhat, NoBlocks, Peek};
+use crate::asked::{FlushWhat, NoBlocks, Peek, Summary};
+use crate::visitor::Visitor;
 use strm_types::{Band, MsgKind};
 
 /// A store of message blocks and data blocks, as one pair of streams has it (STREAMS Programming Guide, "Message
@@ -31,6 +32,14 @@ pub trait Blocks {
     fn alloc(&mut self, kind: MsgKind) -> Result<Self::Mp, NoBlocks>
         ensures { MatchResult result
             (λ m. Allocated (value self.old) (value self.new) (name m) kind)
+            (λ _. NoneFree (value self.old) (value self.new)) };
+
+    /// Takes a message block and a data block with these bytes written, as a message of that kind and band: `allocb(9F)`
+    /// and a copy. `NoBlocks` where none of either kind is free.
+    fn alloc_with(&mut self, kind: MsgKind, band: Band, bytes: &[u8]) -> Result<Self::Mp, NoBlocks>
+        requires { length bytes.now ≤ 256 }
+        ensures { MatchResult result
+            (λ m. Copied (value self.old) (value self.new) (name m) (filled_block kind band.0 bytes.now))
             (λ _. NoneFree (value self.old) (value self.new)) };
 
     /// Takes a message block that names the same bytes of the same data block as block `at` of the message does:
@@ -143,6 +152,11 @@ pub trait Blocks {
         requires { IsInHand (value self.now) (name message.now) }
         ensures { result.0 ≡ (block_at 0 (in_hand (value self.now) (name message.now))).band };
 
+    /// The kind and the band of a message, and how many bytes it has, at once.
+    fn summary(&self, message: &Self::Mp) -> Summary
+        requires { IsInHand (value self.now) (name message.now) }
+        ensures { result ≡ summary_of (in_hand (value self.now) (name message.now)) };
+
     /// Gives a message another band.
     fn set_band(&mut self, message: &Self::Mp, band: Band)
         requires { IsInHand (value self.old) (name message.now) }
@@ -184,6 +198,12 @@ pub trait Blocks {
         ensures { MatchOption result
             (list_at (value self.now) list ≡ [])
             (λ peek. PeekedFirst (value self.now) list peek) };
+
+    /// Tells a visitor of the messages of a list in their order, until it wants no more. It takes a step for each block of
+    /// the messages of which the visitor is told.
+    fn visit<V: Visitor>(&self, list: usize, visitor: &mut V)
+        requires { list < 8 }
+        ensures { visitor.new ≡ told V.after V.goes_on visitor.old (map peek_of (list_at (value self.now) list)) };
 
     /// Frees the messages of a list that a flush takes: `flushq(9F)`, `flushband(9F)`.
     fn drop_where(&mut self, list: usize, what: FlushWhat)

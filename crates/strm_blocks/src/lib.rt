@@ -11,7 +11,9 @@ mod release;
 mod table;
 #[cfg(test)]
 mod tests;
+mod visitor;
 
-pub use asked::{FlushWhat, NoBlocks, Peek};
+pub use asked::{FlushWhat, NoBlocks, Peek, Summary};
 pub use blocks::Blocks;
 pub use table::{InHand, TableStore};
+pub use visitor::Visitor;

@@ -1,13 +1,16 @@
 //! How long the parts of a message are, and where a message belongs on a list.
-ghost use Rattle.std.specs.Prelude.{◌≡◌, ◌<◌, ◌≤◌, ◌^◌, ◌-◌, nat_le, nat_lt, length, sum_by, IsTrue, None};
+ghost use Rattle.std.specs.Prelude.{◌≡◌, ◌<◌, ◌≤◌, ◌^◌, ◌-◌, nat_le, nat_lt, length, map, sum_by, IsTrue, None};
 ghost use Rattle.std.specs.List.{prefix_len};
 ghost use Rattle.strm_types.specs.Ranked.{IsOrdered};
 ghost use Rattle.strm_blocks.specs.Message.{rank_in, listed_rank};
-ghost use Rattle.strm_blocks.specs.Parts.{control_run, body_run};
+ghost use Rattle.strm_blocks.specs.Outcomes.{told};
+ghost use Rattle.strm_blocks.specs.Parts.{control_run, body_run, lens, lens_in, peek_in, summary_in};
 
-use crate::message::{Message, MessageBlock};
+use crate::asked::{Peek, Summary};
+use crate::message::{Message, MessageBlock, first_block};
+use crate::visitor::Visitor;
 use std::collections::LinkedList;
-use strm_types::HIGH_PRIORITY_RANK;
+use strm_types::{Band, HIGH_PRIORITY_RANK};
 
 /// The rank of a message: 256 for high priority, else its band.
 pub(crate) fn rank_of(blocks: &LinkedList<MessageBlock>) -> usize
@@ -97,4 +100,57 @@ pub(crate) fn body_len(blocks: &LinkedList<MessageBlock>) -> Option<usize>
         }
     }
     found
+}
+
+/// How many bytes lie between the places of blocks.
+fn total_len(blocks: &LinkedList<MessageBlock>) -> usize
+    requires { lens blocks.now < 2 ^ 63 }
+    ensures { result ≡ lens blocks.now }
+{
+    let mut rest = blocks.iter();
+    let mut total = 0;
+    while let Some(block) = rest.next() {
+        total += block.end.saturating_sub(block.start);
+    }
+    total
+}
+
+/// What a message of these blocks is counted by.
+pub(crate) fn summary_at(blocks: &LinkedList<MessageBlock>) -> Summary
+    requires { lens blocks.now < 2 ^ 63 }
+    ensures { result ≡ summary_in blocks.now }
+{
+    let block = first_block(blocks);
+    Summary {
+        kind: block.kind,
+        band: Band(block.band),
+        bytes: total_len(blocks),
+    }
+}
+
+/// What can be seen of a message.
+pub(crate) fn peek_at(message: &Message) -> Peek
+    requires { lens_in message.now < 2 ^ 63 }
+    ensures { result ≡ peek_in message.now }
+{
+    let block = first_block(&message.blocks);
+    Peek {
+        kind: block.kind,
+        band: Band(block.band),
+        control: control_len(&message.blocks),
+        body: body_len(&message.blocks),
+    }
+}
+
+/// Tells a visitor of the messages of a list in their order, until it wants no more.
+pub(crate) fn tell<V: Visitor>(list: &LinkedList<Message>, visitor: &mut V)
+    requires { sum_by lens_in list.now < 2 ^ 63 }
+    ensures { visitor.new ≡ told V.after V.goes_on visitor.old (map peek_in list.now) }
+{
+    let mut rest = list.iter();
+    while let Some(message) = rest.next() {
+        if !visitor.see(peek_at(message)) {
+            return;
+        }
+    }
 }

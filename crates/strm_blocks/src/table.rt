@@ -2,15 +2,16 @@
 ghost use Rattle.std.specs.Prelude.{◌≡◌, ◌<◌, ◌≤◌, IfOk};
 ghost use Rattle.strm_blocks.specs.Blocks.{empty_store};
 
-use crate::asked::{FlushWhat, NoBlocks, Peek};
+use crate::asked::{FlushWhat, NoBlocks, Peek, Summary};
 use crate::blocks::Blocks;
 use crate::data::{BLOCK_SIZE, DataBlocks};
 use crate::message::{
     Message, MessageBlock, block_at, blocks_of, chain_with, first_block, gather, hold, join_blocks,
     name_of, part_blocks, place_of, put_node, replace_block, swap_blocks, take_node,
 };
-use crate::parts::{body_len, control_len, place_before, place_behind, rank_of};
+use crate::parts::{peek_at, place_before, place_behind, rank_of, summary_at, tell};
 use crate::release::{give_back, sift};
+use crate::visitor::Visitor;
 use std::alloc::{AllocError, Global};
 use std::collections::LinkedList;
 use std::marker::Model;
@@ -118,6 +119,28 @@ impl Blocks for TableStore {
             number,
             start: 0,
             end: 0,
+        };
+        let chain = chain_with(&mut self.spare, block);
+        Ok(InHand {
+            name: hold(&mut self.hand, &mut self.idle, chain),
+        })
+    }
+
+    fn alloc_with(&mut self, kind: MsgKind, band: Band, bytes: &[u8]) -> Result<InHand, NoBlocks> {
+        if self.spare.is_empty() {
+            return Err(NoBlocks);
+        }
+        let Some(number) = self.data.take() else {
+            return Err(NoBlocks);
+        };
+        self.data.audit();
+        self.data.write(number, 0, bytes);
+        let block = MessageBlock {
+            kind,
+            band: band.0,
+            number,
+            start: 0,
+            end: bytes.len(),
         };
         let chain = chain_with(&mut self.spare, block);
         Ok(InHand {
@@ -252,6 +275,11 @@ impl Blocks for TableStore {
         Band(first_block(blocks_of(&self.hand, message.name)).band)
     }
 
+    fn summary(&self, message: &InHand) -> Summary {
+        self.data.audit();
+        summary_at(blocks_of(&self.hand, message.name))
+    }
+
     fn set_band(&mut self, message: &InHand, band: Band) {
         let mut block = block_at(blocks_of(&self.hand, message.name), 0);
         block.band = band.0;
@@ -292,13 +320,12 @@ impl Blocks for TableStore {
     fn peek(&self, list: usize) -> Option<Peek> {
         let message = self.lists[list].front()?;
         self.data.audit();
-        let block = first_block(&message.blocks);
-        Some(Peek {
-            kind: block.kind,
-            band: Band(block.band),
-            control: control_len(&message.blocks),
-            body: body_len(&message.blocks),
-        })
+        Some(peek_at(message))
+    }
+
+    fn visit<V: Visitor>(&self, list: usize, visitor: &mut V) {
+        self.data.audit();
+        tell(&self.lists[list], visitor);
     }
 
     fn drop_where(&mut self, list: usize, what: FlushWhat) {

@@ -1,10 +1,11 @@
 //! Each call of a store once, through the bound, and how many references a data block can have.
-ghost use Rattle.std.specs.Prelude.{ℕ, ◌≡◌, ◌≢◌, ◌<◌, length, IfOk, IfSome};
+ghost use Rattle.std.specs.Prelude.{ℕ, ◌≡◌, ◌≢◌, ◌<◌, ◌≤◌, ◌+◌, ◌-◌, ◌^◌, min, not, is_some, length, IfOk, IfSome};
 ghost use Rattle.strm_blocks.specs.Blocks.{IsInHand, in_hand};
 
-use crate::asked::{FlushWhat, NoBlocks, Peek};
+use crate::asked::{FlushWhat, NoBlocks, Peek, Summary};
 use crate::blocks::Blocks;
 use crate::table::TableStore;
+use crate::visitor::Visitor;
 use std::test::Fail;
 use strm_types::{Band, MsgKind};
 
@@ -42,26 +43,22 @@ fn of_two_parts<B: Blocks>(store: &mut B, control: &[u8], body: &[u8]) -> Result
     Ok(store.link(first, second))
 }
 
-// The last block of a message loses its first byte, if it has one.
-fn trim_first_byte<B: Blocks>(store: &mut B, message: &B::Mp)
+// The last block of a message loses so many bytes at its head, or all that it has.
+fn trim_first<B: Blocks>(store: &mut B, message: &B::Mp, n: usize)
     requires { IsInHand (B.value store.old) (B.name message.now) }
     ensures { IsInHand (B.value store.new) (B.name message.now) }
 {
     let last = store.blocks(message) - 1;
-    if store.block_len(message, last) > 0 {
-        store.trim_head(message, last, 1);
-    }
+    store.trim_head(message, last, n);
 }
 
-// The last block of a message loses its last byte, if it has one.
-fn trim_last_byte<B: Blocks>(store: &mut B, message: &B::Mp)
+// The last block of a message loses so many bytes at its tail, or all that it has.
+fn trim_last<B: Blocks>(store: &mut B, message: &B::Mp, n: usize)
     requires { IsInHand (B.value store.old) (B.name message.now) }
     ensures { IsInHand (B.value store.new) (B.name message.now) }
 {
     let last = store.blocks(message) - 1;
-    if store.block_len(message, last) > 0 {
-        store.trim_tail(message, last, 1);
-    }
+    store.trim_tail(message, last, n);
 }
 
 // How many bytes a copy of a message's last block shows, which is freed again.
@@ -151,8 +148,8 @@ fn part<B: Blocks>(store: &mut B, message: B::Mp)
 // Whether a message of two parts is seen as it is made, after each call on it. Its parts are then on list 7 and in hand.
 fn is_seen<B: Blocks>(store: &mut B) -> Result<bool, NoBlocks> {
     let message = of_two_parts(store, b"ab", b"cdef")?;
-    trim_first_byte(store, &message);
-    trim_last_byte(store, &message);
+    trim_first(store, &message, 1);
+    trim_last(store, &message, 1);
     let lens = (len_of_copy(store, &message)?, len_of_dup(store, &message)?);
     let Some((peek, message)) = through_a_list(store, message) else {
         return Ok(false);
@@ -166,6 +163,76 @@ fn is_seen<B: Blocks>(store: &mut B) -> Result<bool, NoBlocks> {
     let shown = ends_in(store, &message, b"de");
     part(store, message);
     Ok(lens == (2, 2) && peek == wanted && shown)
+}
+
+// A message of one block with these bytes, made at once.
+fn filled<B: Blocks>(store: &mut B, kind: MsgKind, bytes: &[u8]) -> Result<B::Mp, NoBlocks>
+    requires { length bytes.now ≤ 256 }
+    ensures { IfOk result (λ m. IsInHand (B.value store.new) (B.name m)) }
+{
+    store.alloc_with(kind, Band(2), bytes)
+}
+
+// The first block of a message gets another kind.
+fn turn_first<B: Blocks>(store: &mut B, message: &B::Mp, kind: MsgKind)
+    requires { IsInHand (B.value store.old) (B.name message.now) }
+    ensures { IsInHand (B.value store.new) (B.name message.now) }
+{
+    let _some = store.blocks(message);
+    store.set_kind(message, 0, kind);
+}
+
+// What a message of three bytes is counted by after it became one of M_PROTO, and after all of its bytes were trimmed.
+fn summed<B: Blocks>(store: &mut B) -> Result<[Summary; 2], NoBlocks> {
+    let message = filled(store, MsgKind::Data, b"abc")?;
+    turn_first(store, &message, MsgKind::Proto);
+    let turned = store.summary(&message);
+    trim_first(store, &message, 300);
+    let trimmed = store.summary(&message);
+    store.free(message);
+    Ok([turned, trimmed])
+}
+
+// Looks for the first message that has a data part: of how many messages it was told, and how long that part is.
+#[derive(Drop)]
+struct FirstData {
+    told: usize,
+    body: Option<usize>,
+}
+
+impl Visitor for FirstData {
+    ghost after = { λ v p. record { told = min (v.told + 1) (2 ^ 64 - 1); body = p.body } };
+
+    ghost goes_on = { λ v. not (is_some v.body) };
+
+    fn see(&mut self, message: Peek) -> bool {
+        self.told = self.told.saturating_add(1);
+        self.body = message.body;
+        self.body.is_none()
+    }
+}
+
+// Puts a message with these bytes on list 5.
+fn put_filled<B: Blocks>(store: &mut B, kind: MsgKind, bytes: &[u8]) -> Result<(), NoBlocks>
+    requires { length bytes.now ≤ 256 }
+{
+    let message = filled(store, kind, bytes)?;
+    store.insert_back(5, message);
+    Ok(())
+}
+
+// Whether a visitor of list 5 passes over the messages without a data part, and is told of none behind the first one.
+fn finds_data<B: Blocks>(store: &mut B) -> Result<bool, NoBlocks> {
+    let empty = store.is_empty(5);
+    put_filled(store, MsgKind::Proto, b"ab")?;
+    put_filled(store, MsgKind::Data, b"cdef")?;
+    put_filled(store, MsgKind::Data, b"gh")?;
+    let mut first = FirstData {
+        told: 0,
+        body: None,
+    };
+    store.visit(5, &mut first);
+    Ok(empty && !store.is_empty(5) && first.told == 2 && first.body == Some(4))
 }
 
 #[test]
@@ -190,6 +257,32 @@ fn each_call_does_its_work(rt: HostRuntime) -> Result<(), Fail> {
     );
     assert_eq!(rt; store.free_blocks(), (7, 7));
     store.reset();
+    assert_eq!(rt; store.free_blocks(), (8, 8));
+    Ok(())
+}
+
+#[test]
+fn a_visitor_is_told_until_it_wants_no_more(rt: HostRuntime) -> Result<(), Fail> {
+    let mut store = TableStore::new(rt.alloc(), 8, 8)?;
+    assert!(rt; finds_data(&mut store)?);
+    assert_eq!(rt; store.free_blocks(), (5, 5));
+    Ok(())
+}
+
+#[test]
+fn a_message_is_counted_at_once(rt: HostRuntime) -> Result<(), Fail> {
+    let mut store = TableStore::new(rt.alloc(), 8, 8)?;
+    let turned = Summary {
+        kind: MsgKind::Proto,
+        band: Band(2),
+        bytes: 3,
+    };
+    let trimmed = Summary {
+        kind: MsgKind::Proto,
+        band: Band(2),
+        bytes: 0,
+    };
+    assert_eq!(rt; summed(&mut store)?, [turned, trimmed]);
     assert_eq!(rt; store.free_blocks(), (8, 8));
     Ok(())
 }

@@ -1,19 +1,16 @@
 -- Bytes in pieces of at most 256.
-use Rattle.std.proofs.Common.{ℕ, zero, suc, ◌≡◌, ◌≤◌, ◌<◌, ◌+◌, ◌-◌, ◌*◌, min, cond, List, [], ◌∷◌, ◌++◌, length, take, drop, map, subst, refl, sym, ap, ◌∙◌, arith, inl, inr, add-one}
-use Rattle.std.specs.Prelude.{nat_lt}
+use Rattle.std.proofs.Common.{ℕ, zero, suc, ◌≡◌, ◌≤◌, ◌<◌, ◌+◌, ◌-◌, ◌*◌, min, List, [], ◌∷◌, ◌++◌, length, take, drop, map, subst, refl, sym, ap, ◌∙◌, arith, inl, inr, add-one}
 use Rattle.std.proofs.lemmas.Bool.{cases_lt}
-use Rattle.std.proofs.lemmas.Bool.Decides.{nat_tests}
 use Rattle.std.proofs.Math.Seq.{take-add}
 use Rattle.std.proofs.lemmas.List.{length-map, length-drop, drop-drop, map-append, take_all}
 use Rattle.strm_types.specs.declared.kinds.MsgKind.{MsgKind}
 use Rattle.strm_types.specs.Write.{chunk_count, chunks_of}
-use Rattle.strm_blocks.specs.Blocks.{Block, StoreValue, in_hand, held, changed, dropped, references, new_block, copy_of, banded, extended, taken_by}
-use Rattle.strm_blocks.specs.Outcomes.{Allocated, Copied, NoneFree}
+use Rattle.strm_blocks.specs.Blocks.{Block, StoreValue, in_hand, changed, dropped}
+use Rattle.strm_blocks.specs.Outcomes.{Copied, NoneFree}
 use Rattle.strm_msg.specs.Bytes.{bytes_of}
 use Rattle.strm_msg.specs.Made.{Made, MadeOf, TooFew, copies_of, piece, pieces}
-use Rattle.strm_msg.proofs.Counts.{references-held}
-use Rattle.strm_msg.proofs.Hands.{held-chain, held-changed}
-use Rattle.strm_msg.proofs.Making.{names-one, Made-one, Made-more, Made-fails}
+use Rattle.strm_msg.proofs.Hands.{held-chain}
+use Rattle.strm_msg.proofs.Making.{Made-one, Made-more, Made-fails}
 
 -- how many pieces there are, and which bytes the next one has
 pub length-chunks : (n : ℕ) (cells : List ℕ) → length (chunks_of n cells) ≡ n
@@ -43,30 +40,6 @@ module _ (kind : MsgKind) (band : ℕ) (bytes : List ℕ) where
 
   pub length-pieces : (n : ℕ) → length (first_pieces n) ≡ n
   length-pieces n = length-map (chunks_of n bytes) (piece kind band) ∙ length-chunks n bytes
-
--- A block that was taken, given a band, and then bytes, is one that shows those bytes.
-pub block-filled : {old one two new : StoreValue} {i count : ℕ} (kind : MsgKind) (band : ℕ) (bytes : List ℕ) → length bytes ≤ 256 → Allocated old one i kind → two ≡ changed one i (banded band (in_hand one i)) → count ≡ taken_by two (in_hand two i) (length bytes) → new ≡ changed two i (extended (take count bytes) (in_hand two i)) → Copied old new i (piece kind band bytes)
-block-filled {old} {one} {two} {new} {i} {count} kind band bytes few a set_band count_is written =
-    let empty = new_block kind a.number in
-    let b = record empty { band = band } in
-    let one_is : one ≡ held old i (empty ∷ []) = a.after in
-    let two_is : two ≡ held old i (b ∷ []) =
-    set_band ∙ ap (λ s. changed s i (banded band (in_hand s i))) one_is ∙ ap (λ xs. changed (held old i (empty ∷ [])) i (banded band xs)) (held-chain old i (empty ∷ [])) ∙ held-changed old i (empty ∷ []) (b ∷ []) in
-    let chain : in_hand two i ≡ b ∷ [] = ap (λ s. in_hand s i) two_is ∙ held-chain old i (b ∷ []) in
-    let refs : references two a.number ≡ 1 = (let r = ap (λ s. references s a.number) two_is in let h = references-held old i (b ∷ []) a.number in let n = names-one a.number b in let f = a.fresh_number in grind (arith, nat_tests)) in
-    let all : count ≡ length bytes = count_is ∙ ap (λ xs. taken_by two xs (length bytes)) chain ∙ ap (λ r. cond (nat_lt 1 r) 0 (min (length bytes) 256)) refs ∙ omega arith in
-    let shown : take count bytes ≡ bytes = take_all count bytes (omega arith) in
-    let new_is : new ≡ held old i (copy_of a.number (piece kind band bytes) ∷ []) =
-    written ∙ ap (λ xs. changed two i (extended (take count bytes) xs)) chain ∙ ap (λ s. changed s i (extended (take count bytes) (b ∷ []))) two_is ∙ held-changed old i (b ∷ []) (extended (take count bytes) (b ∷ [])) ∙ ap (λ xs. held old i (extended xs (b ∷ []))) shown in
-    record {
-      number = a.number;
-      room_m = a.room_m;
-      room_d = a.room_d;
-      fresh_name = a.fresh_name;
-      exists = a.exists;
-      fresh_number = a.fresh_number;
-      after = new_is;
-    }
 
 -- the next piece, which is hung behind the others
 pub piece-next : {old mid hung new : StoreValue} {i j r : ℕ} (kind : MsgKind) (band : ℕ) (bytes shown : List ℕ) (at : ℕ) → Made old mid i (first_pieces kind band bytes at) → shown ≡ take 256 (drop (at * 256) bytes) → Copied mid hung j (piece kind band shown) → r ≡ i → new ≡ changed (dropped hung j) i (in_hand hung i ++ in_hand hung j) → Made old new r (first_pieces kind band bytes (at + 1))

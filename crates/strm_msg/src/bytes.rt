@@ -29,10 +29,7 @@ pub(crate) fn block_of<B: Blocks>(
     requires { length bytes.now ≤ 256 }
     ensures { MatchResult result (λ m. Copied (B.value store.old) (B.value store.new) (B.name m) (piece kind band.0 bytes.now)) (λ _. NoneFree (B.value store.old) (B.value store.new)) }
 {
-    let block = store.alloc(kind)?;
-    store.set_band(&block, band);
-    store.append(&block, bytes);
-    Ok(block)
+    store.alloc_with(kind, band, bytes)
 }
 
 /// Makes a message of a kind and a band that shows these bytes, as `allocb(9F)`, a copy and `linkb(9F)` for each 256 of

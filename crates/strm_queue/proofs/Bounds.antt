@@ -1,8 +1,8 @@
 -- The bytes of a store's messages are few enough to add.
-use Rattle.std.proofs.Common.{ℕ, zero, suc, ◌≡◌, ◌≤◌, ◌<◌, ◌+◌, Bool, true, false, List, [], ◌∷◌, length, take, refl, arith}
+use Rattle.std.proofs.Common.{ℕ, zero, suc, ◌≡◌, ◌≤◌, ◌+◌, Bool, true, false, List, [], ◌∷◌, length, refl, arith}
 use Rattle.std.specs.Prelude.{sum_by, slice_index_or, if◌then◌else◌, ◌==◌}
-use Rattle.std.proofs.lemmas.List.Sums.{sum_by-cons, sum_by_more, sum_by-take-le}
-use Rattle.strm_blocks.specs.Blocks.{Block, Held, StoreValue, IsStore, extent, chain_in, in_hand, list_at, block_at, no_block}
+use Rattle.std.proofs.lemmas.List.Sums.{sum_by-cons}
+use Rattle.strm_blocks.specs.Blocks.{Block, Held, StoreValue, IsStore, extent, chain_in, in_hand, list_at}
 use Rattle.strm_queue.specs.Kept.{bytes_of}
 
 -- a sum of smaller numbers is smaller
@@ -35,8 +35,3 @@ few-bytes s is k i =
     let a : sum_by bytes_of (list_at s k) ≤ sum_by extent (list_at s k) = sum-le bytes_of extent bytes-extent (list_at s k) in
     let b : bytes_of (in_hand s i) ≤ extent (in_hand s i) = bytes-extent (in_hand s i) in
     omega (arith, a, b, list-le extent s.lists k, hand-le extent refl i s.hand, is.small, is.enough, is.few_mblks)
-
--- so are those of a message's first blocks and the next one
-pub next-bytes : (s : StoreValue) → IsStore s → (i at : ℕ) → at < length (in_hand s i) → bytes_of (take at (in_hand s i)) + length (block_at at (in_hand s i)).bytes ≤ 16777216
-next-bytes s is i at lt =
-    omega (arith, few-bytes s is 0 i, sum_by_more (λ b. length b.bytes) (in_hand s i) at no_block lt, sum_by-take-le (λ b. length b.bytes) (in_hand s i) (at + 1))

@@ -27,19 +27,6 @@ impl Share {
     }
 }
 
-// How many bytes a message has. It takes a step for each of its blocks.
-fn bytes_in<B: Blocks>(store: &B, message: &B::Mp) -> usize
-    requires { IsInHand (B.value store.now) (B.name message.now) }
-    ensures { result ≡ bytes_of (in_hand (B.value store.now) (B.name message.now)) }
-{
-    store.audit();
-    let mut bytes = 0;
-    for at in 0..store.blocks(message) {
-        bytes += store.block_len(message, at);
-    }
-    bytes
-}
-
 /// What a message in hand adds to the counts of a queue.
 pub(crate) fn share_of<B: Blocks>(store: &B, message: &B::Mp) -> Share
     requires { IsInHand (B.value store.now) (B.name message.now) }
@@ -48,16 +35,16 @@ pub(crate) fn share_of<B: Blocks>(store: &B, message: &B::Mp) -> Share
     ensures kind { result.is_data ≡ is_data (in_hand (B.value store.now) (B.name message.now)) }
     ensures high { result.is_high ≡ is_high_priority (block_at 0 (in_hand (B.value store.now) (B.name message.now))).kind }
 {
-    let _some = store.blocks(message);
-    let kind = store.kind(message, 0);
+    let summary = store.summary(message);
+    let is_high = summary.kind.is_high_priority();
     Share {
-        band: if kind.is_high_priority() {
+        band: if is_high {
             0
         } else {
-            usize::from(store.band(message).0)
+            usize::from(summary.band.0)
         },
-        bytes: bytes_in(store, message),
-        is_data: kind.is_data_kind(),
-        is_high: kind.is_high_priority(),
+        bytes: summary.bytes,
+        is_data: summary.kind.is_data_kind(),
+        is_high,
     }
 }

@@ -4,6 +4,7 @@ use Rattle.std.specs.Prelude.{slice_range}
 use Rattle.std.proofs.lemmas.Bool.Decides.{nat_tests}
 use Rattle.strm_blocks.specs.Message.{row_at, with_blocks, message_at}
 use Rattle.strm_blocks.specs.Outcomes.{Copied}
+use Rattle.strm_blocks.specs.Table.{shown}
 use Rattle.strm_blocks.specs.Pool.{Pool}
 use Rattle.strm_blocks.proofs.Calls.{carried, NoneFree-messages, NoneFree-data, Copied-value}
 use Rattle.strm_blocks.proofs.Edits.{in-order, there, row-is}
@@ -116,4 +117,4 @@ returns c =
     let bytes_after = ap (λ (p : Pool). p.bytes) c.copy.ensures.after ∙ ap (λ (bytes : List (List ℕ)). set bytes number content) bytes in
     let count_after = ap (λ (p : Pool). length p.references) c.copy.ensures.after ∙ count in
     let new = value-same (set t.data.bytes number content) t.lists _ t.mblks _ bytes_after refl (c.hold.ensures.hand ∙ ap (λ blocks. with_blocks blocks (message_at 0 t.idle) ∷ t.hand) c.chain_with-chain.ensures.chain) count_after in
-    carried (λ old new name b. Copied old new name b) c.self.view_is new c.hold.ensures.name block (Copied-value t.data.bytes c.self.invariant row number content some taken.some taken.within there taken.was_free len front)
+    carried (λ old new name b. Copied old new name b) c.self.view_is new c.hold.ensures.name block (Copied-value t.data.bytes c.self.invariant (shown t.data.bytes row) number content (row.end - row.start) some taken.some taken.within there taken.was_free len front)
