@@ -5,6 +5,7 @@ pub mod AdjustingBytes
 pub mod AdjustingRuns
 pub mod AdjustingStore
 pub mod Bounds
+pub mod Chains
 pub mod Counts
 pub mod Dropping
 pub mod Gathering
@@ -12,6 +13,7 @@ pub mod Hands
 pub mod InHand
 pub mod Joining
 pub mod KindNumbers
+pub mod MadeData
 pub mod Making
 pub mod Parts
 pub mod Pieces

@@ -16,7 +16,7 @@ pub use bytes::from_bytes;
 pub use copies::{copymsg, dupmsg};
 pub use data::take_data;
 pub use pulls::{NotPulled, pullup};
-pub use sizes::{control_len, data_len, msgdsize};
+pub use sizes::{control_len, data_len, message_size, msgdsize};
 
 #[cfg(test)]
 mod tests;

@@ -1,9 +1,25 @@
 //! How many bytes the parts of a message have.
 ghost use Rattle.std.specs.Prelude.{◌≡◌, length};
 ghost use Rattle.strm_blocks.specs.Blocks.{IsInHand, in_hand};
-ghost use Rattle.strm_msg.specs.Bytes.{control_blocks, data_blocks, data_bytes, length_of_part};
+ghost use Rattle.strm_types.specs.Message.{size_of};
+ghost use Rattle.strm_msg.specs.Bytes.{bytes_of, control_blocks, data_blocks, data_bytes, length_of_part};
+ghost use Rattle.strm_msg.specs.Messages.{message_of, IsChain};
 
 use strm_blocks::Blocks;
+
+/// How many bytes a message has, in all of its blocks.
+pub fn message_size<B: Blocks>(store: &B, message: &B::Mp) -> usize
+    requires { IsInHand (B.value store.now) (B.name message.now) }
+    ensures bytes { result ≡ length (bytes_of (in_hand (B.value store.now) (B.name message.now))) }
+    ensures message { IsChain (in_hand (B.value store.now) (B.name message.now)) → result ≡ size_of (message_of (in_hand (B.value store.now) (B.name message.now))) }
+{
+    store.audit();
+    let mut bytes = 0;
+    for at in 0..store.blocks(message) {
+        bytes += store.block_len(message, at);
+    }
+    bytes
+}
 
 /// How many bytes the M_DATA blocks of a message have, whatever stands between them: `msgdsize(9F)`.
 pub fn msgdsize<B: Blocks>(store: &B, message: &B::Mp) -> usize

@@ -2,10 +2,11 @@
 
 mod rows;
 
+use crate::{from_bytes, message_size};
 use rows::{Call, Row, first_wrong, first_wrong_of_copy};
 use std::test::Fail;
 use strm_blocks::{Blocks, TableStore};
-use strm_types::{MsgKind, Refusal};
+use strm_types::{Band, MsgKind, Refusal};
 
 #[test]
 fn bytes_go_in_and_come_out(rt: HostRuntime) -> Result<(), Fail> {
@@ -24,6 +25,14 @@ fn bytes_go_in_and_come_out(rt: HostRuntime) -> Result<(), Fail> {
         None
     );
     assert_eq!(rt; store.free_blocks(), (10, 10));
+    Ok(())
+}
+
+#[test]
+fn a_message_has_the_bytes_of_all_its_blocks(rt: HostRuntime) -> Result<(), Fail> {
+    let mut store = TableStore::new(rt.alloc(), 4, 4)?;
+    let message = from_bytes(&mut store, MsgKind::Sig, Band(0), &[b'x'; 300])?;
+    assert_eq!(rt; message_size(&store, &message), 300);
     Ok(())
 }
 
