@@ -13,7 +13,7 @@ use Rattle.strm_types.specs.Head.{rest_of}
 use Rattle.strm_types.proofs.Ranked.{put-map, put_back-map}
 use Rattle.strm_blocks.specs.Blocks as blocks
 use Rattle.strm_blocks.specs.Blocks.{Block, block_at, trimmed_head}
-use Rattle.strm_blocks.specs.Outcomes.{is_control_kind, is_body_kind}
+use Rattle.strm_types.specs.Kinds.{is_control_kind, is_body_kind}
 use Rattle.strm_msg.specs.Bytes.{bytes_of, control_blocks, data_blocks, data_bytes}
 use Rattle.strm_msg.specs.Messages.{message_of, part_of, AreData, IsParted, IsChain}
 use Rattle.strm_msg.specs.Taken.{without_data}

@@ -7,7 +7,7 @@ use Rattle.strm_types.specs.Ranked as ranked
 use Rattle.strm_types.specs.Message.{Message, is_high_priority}
 use Rattle.strm_types.specs.Flush.{is_data_kind}
 use Rattle.strm_blocks.specs.Blocks.{Block, block_at, rank_of}
-use Rattle.strm_blocks.specs.Outcomes.{is_control_kind}
+use Rattle.strm_types.specs.Kinds.{is_control_kind}
 use Rattle.strm_msg.specs.Bytes.{bytes_of, control_blocks, data_blocks}
 
 -- a part of a message: the bytes of its blocks, absent where it has no block
