@@ -40,7 +40,8 @@ def lines_of(crate):
 
 
 def edits_of(crate):
-    return sorted(os.path.basename(path)[: -len(".edit")] for path in glob.glob(f"crates/{crate}/must-fail/*.edit"))
+    names = sorted(os.path.basename(path) for path in glob.glob(f"crates/{crate}/must-fail/*.edit"))
+    return [name[: -len(".edit")] for name in names]
 
 
 class Process:
