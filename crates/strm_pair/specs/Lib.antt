@@ -5,3 +5,4 @@ pub mod Journals
 pub mod Pairs
 pub mod PairViews
 pub mod PlainCalls
+pub mod Pool
