@@ -1,15 +1,14 @@
--- What a write sends and a read gathers, on queues of ordinary messages of data.
-use Rattle.std.proofs.Common.{ℕ, suc, ◌≡◌, ◌≤◌, ◌<◌, ◌+◌, ◌-◌, Bool, true, false, ltb, eqb, List, [], ◌∷◌, ◌++◌, length, map, take, drop, get_or, refl, sym, ap, ◌∙◌, arith, min, append-nil, append_assoc}
+-- What a write sends and a read gathers.
+use Rattle.std.proofs.Common.{ℕ, suc, ◌≡◌, ◌≤◌, ◌<◌, ◌+◌, ◌-◌, Bool, true, false, ltb, eqb, List, [], ◌∷◌, ◌++◌, length, take, drop, get_or, refl, sym, ap, ◌∙◌, arith, min, append-nil, append_assoc}
 use Rattle.std.specs.Prelude.{◌||◌}
 use Rattle.std.proofs.lemmas.Bool.Decides.{nat_tests}
-use Rattle.strm_types.specs.Message.{Message, data_message, size_of}
+use Rattle.strm_types.specs.Message.{Message, data_message, size_of, cells_of}
 use Rattle.strm_types.specs.Queue.{Queue, put_back, put_on, put_enables, is_full}
 use Rattle.strm_types.specs.Head.{Taken, gathered, head_read, rest_of}
 use Rattle.strm_types.specs.Write.{Sent, sent, chunks_of}
 use Rattle.std.proofs.lemmas.List.{take_all}
 use Rattle.std.proofs.Math.ListN.{drop_of_length-le}
 use Rattle.std.proofs.Math.Decide.{dec_le}
-use Rattle.strm_types.proofs.Data.{data-size, data-cells, data-rest, data-put_back}
 
 or-true : (b : Bool) → (b || true) ≡ true
 or-true true = refl
@@ -21,38 +20,36 @@ gathered-none [] = refl
 gathered-none (m ∷ q) = refl
 
 -- a zero-length message ends a read
-pub gathered-empty : (n : ℕ) (xs : List ℕ) (rows : List (List ℕ)) → length xs ≡ 0 → gathered n (map data_message (xs ∷ rows)) ≡ record { given = []; left = map data_message (xs ∷ rows) }
-gathered-empty n xs rows none =
-    let stop : (eqb n 0 || eqb (size_of (data_message xs)) 0) ≡ true = rw (data-size xs, none) (or-true (eqb n 0)) in
+pub gathered-empty : (n : ℕ) (m : Message ℕ) (q : List (Message ℕ)) → size_of m ≡ 0 → gathered n (m ∷ q) ≡ record { given = []; left = m ∷ q }
+gathered-empty n m q none =
+    let stop : (eqb n 0 || eqb (size_of m) 0) ≡ true = rw none (or-true (eqb n 0)) in
     rw stop refl
 
 -- a message that is longer gives its front
-pub gathered-part : (n : ℕ) (xs : List ℕ) (rows : List (List ℕ)) → 0 < n → n < length xs → gathered n (map data_message (xs ∷ rows)) ≡ record { given = take n xs; left = map data_message (drop n xs ∷ rows) }
-gathered-part n xs rows some less =
-    let on : (eqb n 0 || eqb (size_of (data_message xs)) 0) ≡ false = rw (data-size xs) (grind (arith, nat_tests)) in
-    let short : ltb n (size_of (data_message xs)) ≡ true = rw (data-size xs) (grind (arith, nat_tests)) in
-    let rest : put_back (rest_of n (data_message xs)) (map data_message rows) ≡ map data_message (drop n xs ∷ rows) =
-    ap (λ m. put_back m (map data_message rows)) (data-rest n xs) ∙ data-put_back (drop n xs) rows in
-    rw (on, short, rest, data-cells xs) refl
+pub gathered-part : (n : ℕ) (m : Message ℕ) (q : List (Message ℕ)) → 0 < n → n < size_of m → gathered n (m ∷ q) ≡ record { given = take n (cells_of m); left = put_back (rest_of n m) q }
+gathered-part n m q some less =
+    let on : (eqb n 0 || eqb (size_of m) 0) ≡ false = grind (arith, nat_tests) in
+    let short : ltb n (size_of m) ≡ true = grind (arith, nat_tests) in
+    rw (on, short) refl
 
 -- a message that isn't longer is given whole
-pub gathered-whole : (n : ℕ) (xs : List ℕ) (rows : List (List ℕ)) → 0 < length xs → length xs ≤ n → gathered n (map data_message (xs ∷ rows)) ≡ record { given = xs ++ (gathered (n - length xs) (map data_message rows)).given; left = (gathered (n - length xs) (map data_message rows)).left }
-gathered-whole n xs rows some less =
-    let on : (eqb n 0 || eqb (size_of (data_message xs)) 0) ≡ false = rw (data-size xs) (grind (arith, nat_tests)) in
-    let short : ltb n (size_of (data_message xs)) ≡ false = rw (data-size xs) (grind (arith, nat_tests)) in
-    rw (on, short, data-cells xs, data-size xs) refl
+pub gathered-whole : (n : ℕ) (m : Message ℕ) (q : List (Message ℕ)) → 0 < size_of m → size_of m ≤ n → gathered n (m ∷ q) ≡ record { given = cells_of m ++ (gathered (n - size_of m) q).given; left = (gathered (n - size_of m) q).left }
+gathered-whole n m q some less =
+    let on : (eqb n 0 || eqb (size_of m) 0) ≡ false = grind (arith, nat_tests) in
+    let short : ltb n (size_of m) ≡ false = grind (arith, nat_tests) in
+    rw (on, short) refl
 
 -- a read of some bytes where a zero-length message stands first, and where none does
-pub head_read-empty : (n : ℕ) (xs : List ℕ) (rows : List (List ℕ)) → 0 < n → length xs ≡ 0 → head_read n (map data_message (xs ∷ rows)) ≡ record { given = []; left = map data_message rows }
-head_read-empty n xs rows some none =
+pub head_read-empty : (n : ℕ) (m : Message ℕ) (q : List (Message ℕ)) → 0 < n → size_of m ≡ 0 → head_read n (m ∷ q) ≡ record { given = []; left = q }
+head_read-empty n m q some none =
     let on : eqb n 0 ≡ false = grind (arith, nat_tests) in
-    let stop : eqb (size_of (data_message xs)) 0 ≡ true = rw (data-size xs, none) refl in
+    let stop : eqb (size_of m) 0 ≡ true = rw none refl in
     rw (on, stop) refl
 
-pub head_read-some : (n : ℕ) (xs : List ℕ) (rows : List (List ℕ)) → 0 < n → 0 < length xs → head_read n (map data_message (xs ∷ rows)) ≡ gathered n (map data_message (xs ∷ rows))
-head_read-some n xs rows some filled =
+pub head_read-some : (n : ℕ) (m : Message ℕ) (q : List (Message ℕ)) → 0 < n → 0 < size_of m → head_read n (m ∷ q) ≡ gathered n (m ∷ q)
+head_read-some n m q some filled =
     let on : eqb n 0 ≡ false = grind (arith, nat_tests) in
-    let stop : eqb (size_of (data_message xs)) 0 ≡ false = rw (data-size xs) (grind (arith, nat_tests)) in
+    let stop : eqb (size_of m) 0 ≡ false = grind (arith, nat_tests) in
     rw (on, stop) refl
 
 -- what is sent where a chunk goes, and then the others

@@ -1,5 +1,5 @@
 -- The kept flow control of a queue says what the plain one says.
-use Rattle.std.proofs.Common.{ℕ, suc, ◌≡◌, ◌<◌, ◌+◌, Bool, true, false, cond, List, [], ◌∷◌, length, refl, sym, ap, ◌∙◌, arith}
+use Rattle.std.proofs.Common.{ℕ, zero, suc, ◌≡◌, ◌<◌, ◌+◌, Bool, true, false, cond, List, [], ◌∷◌, length, refl, sym, ap, ◌∙◌, arith}
 use Rattle.std.specs.Prelude.{◌&&◌, ◌||◌, nat_le, slice_index_or}
 use Rattle.std.specs.List.{list_any}
 use Rattle.std.proofs.Math.Bool.{beq}
@@ -19,20 +19,21 @@ use Rattle.strm_pair.proofs.Chains.{count-same}
 -- the kept count of a band
 pub counts : (s : StoreValue) (q : Queue) → IsReady s q → (band : ℕ) → band < 8 → count_in (flow_at band q.flows) ≡ plain.count_of band (messages_on s q.list)
 counts s q ready band lt =
-    count-kept band (flow_at band q.flows) (list_at s q.list) (ready.counted.each band lt) ∙ count-same s.dblks band (list_at s q.list) (ready.tidy.written q.list)
+    count-kept band (flow_at band q.flows) (list_at s q.list) (ready.counted.each band lt) ∙ count-same band (list_at s q.list) ready.messages.chains
 
 pub counts-from : (s : StoreValue) (q : Queue) → IsReady s q → (band : ℕ) → band < length q.flows → count_in (flow_at band q.flows) ≡ plain.count_of (0 + band) (messages_on s q.list)
 counts-from s q ready band lt = counts s q ready band (omega (arith, ready.counted.eight)) ∙ ap (λ k. plain.count_of k (messages_on s q.list)) (let e : band ≡ 0 + band = omega arith in e)
 
-high-of : (fs : List Flow) → 0 < length fs → (slice_index_or (plain_flows fs) 0 (record { high = 1; low = 0; want_write = false })).high ≡ (flow_at 0 fs).high
-high-of [] some = absurd (omega arith)
-high-of (f ∷ fs) some = refl
+high-of : (fs : List Flow) (band : ℕ) → band < length fs → (slice_index_or (plain_flows fs) band (record { high = 1; low = 0; want_write = false })).high ≡ (flow_at band fs).high
+high-of [] band some = absurd (omega arith)
+high-of (f ∷ fs) zero some = refl
+high-of (f ∷ fs) (suc band) some = high-of fs band (omega arith)
 
--- whether band 0 is full
-pub full-same : (s : StoreValue) (q : Queue) → IsReady s q → kept.is_full (flow_at 0 q.flows).high 0 (list_at s q.list) ≡ plain.is_full 0 (queue_in s q)
-full-same s q ready =
-    ap (λ n. nat_le (flow_at 0 q.flows).high n) (count-same s.dblks 0 (list_at s q.list) (ready.tidy.written q.list))
-    ∙ ap (λ h. nat_le h (plain.count_of 0 (messages_on s q.list))) (sym (high-of q.flows (omega (arith, ready.counted.eight))))
+-- whether a band is full
+pub full-same : (s : StoreValue) (q : Queue) (band : ℕ) → IsReady s q → band < 8 → kept.is_full (flow_at band q.flows).high band (list_at s q.list) ≡ plain.is_full band (queue_in s q)
+full-same s q band ready lt =
+    ap (λ n. nat_le (flow_at band q.flows).high n) (count-same band (list_at s q.list) ready.messages.chains)
+    ∙ ap (λ h. nat_le h (plain.count_of band (messages_on s q.list))) (sym (high-of q.flows band (omega (arith, ready.counted.eight))))
 
 -- one band whose writer is let go where its count allows
 let-go : Flow → Bool → plain.Flow

@@ -5,13 +5,15 @@ use Rattle.strm_queue.specs.declared.queue.Queue.{Queue}
 use Rattle.strm_pair.specs.Stored.{IsReady, Keeps, SameFlags}
 
 pub keeps-none : (s : StoreValue) (q : Queue) → IsReady s q → Keeps s s q q
-keeps-none s q ready = record { ready = ready; list = refl; others = λ k apart. refl; mblks = refl; dblks = refl }
+keeps-none s q ready = record { ready = ready; data_only = λ d. d; list = refl; others = λ k apart. refl; hand = refl; mblks = refl; dblks = refl }
 
 pub keeps-both : (s t u : StoreValue) (q p r : Queue) → Keeps s t q p → Keeps t u p r → Keeps s u q r
 keeps-both s t u q p r first second = record {
   ready = second.ready;
+  data_only = λ d. second.data_only (first.data_only d);
   list = second.list ∙ first.list;
   others = λ k apart. second.others k (λ e. apart (e ∙ first.list)) ∙ first.others k apart;
+  hand = second.hand ∙ first.hand;
   mblks = second.mblks ∙ first.mblks;
   dblks = second.dblks ∙ first.dblks;
 }

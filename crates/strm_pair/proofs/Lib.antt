@@ -5,6 +5,7 @@ pub mod OneMade
 pub mod Queued
 pub mod TakenFirst
 pub mod Gotten
+pub mod Holding
 pub mod Kept
 pub mod Peeked
 pub mod Passed
@@ -14,6 +15,7 @@ pub mod FreeBlocks
 pub mod Steps
 pub mod Shown
 pub mod DataLemmas
+pub mod DataRead
 pub mod StreamLemmas
 pub mod JournalLemmas
 mod PlainWrites

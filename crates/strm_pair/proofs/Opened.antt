@@ -18,7 +18,7 @@ use Rattle.strm_pair.specs.Stored.{messages_on, queue_in}
 use Rattle.strm_pair.specs.Streams.{stream_in}
 use Rattle.strm_pair.specs.Pairs.{state_in, AreHeld}
 use Rattle.strm_pair.proofs.Passed.{queue-same}
-use Rattle.strm_pair.proofs.Sides.{Cleared}
+use Rattle.strm_pair.proofs.Placed.{Landed}
 
 none-left : (q : List (List Block)) → is_none_left (map message_of q) ≡ is_none_left q
 none-left [] = refl
@@ -29,12 +29,12 @@ pub fresh-queue : (s : StoreValue) (q : Queue) (high low : ℕ) → list_at s q.
 fresh-queue s q high low empty flows want_read no_enable = rw (empty, flows, want_read, no_enable) refl
 
 -- what waits for the slave on the master's driver
-waiting : (s new : StoreValue) (p : Streams) → AreHeld s p → Cleared s new → is_none_left (list_at new p.master.driver.list) ≡ is_none_left (messages_on s p.master.driver.list)
+waiting : (s new : StoreValue) (p : Streams) → AreHeld s p → Landed s new 4 [] → is_none_left (list_at new p.master.driver.list) ≡ is_none_left (messages_on s p.master.driver.list)
 waiting s new p held cl =
     let apart : p.master.driver.list ≢ 4 = λ e. absurd (omega (arith, held.master.driver_list, e)) in
     ap is_none_left (cl.others p.master.driver.list apart) ∙ sym (none-left (list_at s p.master.driver.list))
 
-pub opened-state : (s new : StoreValue) (p : Streams) (q : Queue) (names : List QueueName) → AreHeld s p → Cleared s new → q.list ≡ 4 → plain_flows q.flows ≡ replicate 8 (record { high = 5120; low = 1024; want_write = false }) → q.want_read ≡ true → q.no_enable ≡ false
+pub opened-state : (s new : StoreValue) (p : Streams) (q : Queue) (names : List QueueName) → AreHeld s p → Landed s new 4 [] → q.list ≡ 4 → plain_flows q.flows ≡ replicate 8 (record { high = 5120; low = 1024; want_write = false }) → q.want_read ≡ true → q.no_enable ≡ false
     → names ≡ enable_if (not (is_none_left (list_at new p.master.driver.list))) (driver_of Master) p.enabled
     → (t : State ℕ) → record t { master = stream_in new p.master; slave = record { opened = Open; head = record { queue = queue_in new q }; driver = record { queue = queue_in new p.slave.driver } }; locked = p.locked; enabled = names } ≡ opened_slave (state_in s p t)
 opened-state s new p q names held cl list flows want_read no_enable names_are t =

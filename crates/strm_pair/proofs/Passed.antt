@@ -1,17 +1,18 @@
 -- A message that goes from one queue to another.
-use Rattle.std.proofs.Common.{ℕ, ◌≡◌, ◌≢◌, ◌∷◌, length, map, refl, sym, ap, subst, ◌∙◌, arith}
-use Rattle.strm_types.specs.Message.{data_message}
+use Rattle.std.proofs.Common.{ℕ, ◌≡◌, ◌≢◌, ◌<◌, ◌∷◌, length, map, refl, sym, ap, subst, ◌∙◌, arith, length-set}
+use Rattle.strm_types.specs.Message.{size_of}
 use Rattle.strm_types.specs.Queue as plain
 use Rattle.strm_blocks.specs.Blocks.{StoreValue, list_at, in_hand, dropped, placed, put}
 use Rattle.strm_blocks.specs.Outcomes.{Popped}
-use Rattle.strm_msg.specs.Messages.{message_of}
+use Rattle.strm_msg.specs.Messages.{message_of, IsChain, AreMessages}
 use Rattle.strm_queue.specs.declared.queue.Queue.{Queue}
 use Rattle.strm_queue.specs.Flows.{plain_flows}
 use Rattle.strm_queue.specs.Queues.{OnlyCounts}
+use Rattle.strm_queue.specs.Kept as kept
 use Rattle.strm_queue.specs.Kept.{AreCounted}
-use Rattle.strm_pair.specs.Stored.{queue_in, IsTidy, PassedOn}
-use Rattle.strm_pair.proofs.Chains.{text_of}
-use Rattle.strm_pair.proofs.Placed.{PutOn, put-on}
+use Rattle.strm_pair.specs.Stored.{queue_in, HoldsData, IsReady, PassedOn}
+use Rattle.strm_pair.proofs.Holding.{first-chain, rest-messages, first-data, rest-data, put-messages, put-data}
+use Rattle.strm_pair.proofs.Placed.{Landed, put-on}
 use Rattle.strm_pair.proofs.Queued.{put-queue}
 use Rattle.strm_pair.proofs.Gotten.{left, off, chain-is, before, behind}
 
@@ -20,33 +21,60 @@ pub queue-same : (s t : StoreValue) (q : Queue) → list_at t q.list ≡ list_at
 queue-same s t q same = ap (λ l. record { messages = map message_of l; flows = plain_flows q.flows; want_read = q.want_read; no_enable = q.no_enable }) same
 
 module _ (s got new : StoreValue) (from from' to to' : Queue) (i size : ℕ) where
-  pub passed : IsTidy s → from.list ≢ to.list → Popped s got from.list i → size ≡ length (text_of (in_hand got i)) → new ≡ placed (dropped got i) to.list (put (in_hand got i) (list_at got to.list))
+  pub passed : IsReady s from → IsReady s to → from.list < length s.lists → to.list < length s.lists → from.list ≢ to.list → Popped s got from.list i
+      → (IsChain (in_hand got i) → size ≡ size_of (message_of (in_hand got i))) → new ≡ placed (dropped got i) to.list (put (in_hand got i) (list_at got to.list))
       → from'.list ≡ from.list → AreCounted from'.flows (list_at got from'.list) → plain_flows from'.flows ≡ plain_flows from.flows → from'.no_enable ≡ from.no_enable
       → OnlyCounts to to' → AreCounted to'.flows (list_at new to'.list) → plain_flows to'.flows ≡ plain_flows to.flows
       → PassedOn s new from from' to to' size
-  passed tidy apart p sized is list counted flows no_enable others to_counted to_flows =
-      let t = left s got from.list i tidy from.on_list p in
-      let o = off s got from.list i tidy from.on_list p in
-      let b : PutOn t new to.list p.message (put p.message (list_at t to.list)) = put-on t to.list i p.message o.tidy to.on_list o.one (λ d. omega (arith, o.named d, tidy.unshared d)) new (is ∙ ap (λ v. placed (dropped v i) to.list (put (in_hand v i) (list_at v to.list))) p.after) in
+  passed from_ready to_ready within beyond apart p sized is list counted flows no_enable others to_counted to_flows =
+      let t = left s got from.list i within p in
+      let o = off s got from.list i within p in
+      let all = subst AreMessages p.joined from_ready.messages in
+      let one = first-chain p.message p.rest all in
+      let chain_is = chain-is s got from.list i within p in
+      let inside : to.list < length t.lists = omega (arith, length-set s.lists from.list p.rest) in
+      let b : Landed t new to.list (put p.message (list_at t to.list)) = put-on t to.list i p.message inside new (is ∙ ap (λ v. placed (dropped v i) to.list (put (in_hand v i) (list_at v to.list))) p.after) in
       let back : to.list ≢ from.list = λ e. apart (sym e) in
+      let waits : list_at t to.list ≡ list_at s to.list = o.others to.list back in
       let stays : list_at new from.list ≡ list_at t from.list = b.others from.list apart in
+      let rest_is : p.rest ≡ list_at new from'.list = sym (ap (list_at new) list ∙ stays ∙ o.here) in
+      let put_is : put p.message (list_at s to.list) ≡ list_at new to'.list = sym (ap (list_at new) others.list ∙ b.here ∙ ap (put p.message) waits) in
       record {
-        text = text_of p.message;
-        size = sized ∙ ap (λ chain. length (text_of chain)) (chain-is s got from.list i tidy from.on_list p);
-        first = before s got from.list i tidy from.on_list p ∙ ap (λ ms. data_message (text_of p.message) ∷ ms) (sym (ap (map message_of) stays ∙ behind s got from.list i tidy from.on_list p));
-        put = put-queue t new to to' p.message o.one b others to_flows ∙ ap (plain.put_on (data_message (text_of p.message))) (queue-same s t to (o.others to.list back));
-        tidy = b.tidy;
-        from_counted = subst (AreCounted from'.flows) (ap (λ k. list_at got k) list ∙ ap (λ v. list_at v from.list) p.after ∙ sym stays) counted;
-        to_counted = subst (λ k. AreCounted to'.flows (list_at new k)) others.list to_counted;
-        from_list = list;
-        to_list = others.list;
+        message = message_of p.message;
+        size = sized (subst IsChain (sym chain_is) one) ∙ ap (λ chain. size_of (message_of chain)) chain_is;
+        first = before s got from.list i within p ∙ ap (λ ms. message_of p.message ∷ ms) (sym (ap (map message_of) stays ∙ behind s got from.list i within p));
+        put = put-queue t new to to' p.message b others to_flows ∙ ap (plain.put_on (message_of p.message)) (queue-same s t to waits);
         flows = flows;
         no_enable = no_enable;
-        others = λ j from_else to_else. b.others j to_else ∙ o.others j from_else;
-        mblks = b.mblks;
-        dblks = b.dblks;
+        keeps = record {
+          from_ready = record {
+            messages = subst AreMessages rest_is (rest-messages p.message p.rest all);
+            counted = subst (AreCounted from'.flows) (ap (λ k. list_at got k) list ∙ ap (λ v. list_at v from.list) p.after ∙ sym stays ∙ sym (ap (list_at new) list)) counted;
+          };
+          to_ready = record { messages = subst AreMessages put_is (put-messages p.message (list_at s to.list) one to_ready.messages); counted = to_counted };
+          from_data = λ d. subst HoldsData rest_is (rest-data p.message p.rest (subst HoldsData p.joined d));
+          to_data = λ d e. subst HoldsData put_is (put-data p.message (list_at s to.list) (first-data p.message p.rest (subst HoldsData p.joined d)) e);
+          from_list = list;
+          to_list = others.list;
+          others = λ j from_else to_else. b.others j to_else ∙ o.others j from_else;
+          hand = b.hand ∙ o.hand;
+          mblks = b.mblks ∙ o.mblks;
+          dblks = b.dblks ∙ o.dblks;
+        };
       }
 
--- a writer waits for band 0 of a queue
-pub waits-queue : (s : StoreValue) (q q' : Queue) → plain_flows q'.flows ≡ plain.with_writer_at 0 (plain_flows q.flows) → OnlyCounts q q' → queue_in s q' ≡ record (queue_in s q) { flows = plain.with_writer_at 0 (plain_flows q.flows) }
-waits-queue s q q' flows others = rw (others.list, flows, others.want_read, others.no_enable) refl
+-- a writer waits for a band of a queue
+pub waits-queue : (s : StoreValue) (q q' : Queue) (band : ℕ) → plain_flows q'.flows ≡ plain.with_writer_at band (plain_flows q.flows) → OnlyCounts q q' → queue_in s q' ≡ record (queue_in s q) { flows = plain.with_writer_at band (plain_flows q.flows) }
+waits-queue s q q' band flows others = rw (others.list, flows, others.want_read, others.no_enable) refl
+
+-- the other queue's numbers are right still, once the message is in hand
+pub still-counted : (s got : StoreValue) (from to : Queue) (i : ℕ) → from.list < length s.lists → Popped s got from.list i → from.list ≢ to.list → IsReady s to → AreCounted to.flows (list_at got to.list)
+still-counted s got from to i within p apart ready =
+    let o = off s got from.list i within p in
+    subst (AreCounted to.flows) (sym (ap (λ v. list_at v to.list) p.after ∙ o.others to.list (λ e. apart (sym e)))) ready.counted
+
+-- and the message is of a band that a queue has
+pub low-first : (s got : StoreValue) (from : Queue) (i : ℕ) → from.list < length s.lists → Popped s got from.list i → IsReady s from → kept.band_of (in_hand got i) < 8
+low-first s got from i within p ready =
+    let bands = subst kept.AllBands p.joined ready.counted.bands in
+    subst (λ chain. kept.band_of chain < 8) (sym (chain-is s got from.list i within p)) bands.0

@@ -1,12 +1,12 @@
 -- Writes and reads over plain cells are those of plain bytes.
-use Rattle.std.proofs.Common.{ℕ, ◌≡◌, true, false, cond, List, refl, ap, length}
-use Rattle.std.specs.Prelude.{◌==◌, min}
+use Rattle.std.proofs.Common.{ℕ, ◌≡◌, List, refl}
+use Rattle.std.specs.Prelude.{min}
 use Rattle.strm_types.specs.declared.limits.TheConstants.{READ_MAX}
 use Rattle.strm_types.specs.declared.names.Side.{Side}
 use Rattle.strm_types.specs.declared.names.Side.TheVariants.{Master, Slave}
 use Rattle.strm_types.specs.Names.{direction_from}
 use Rattle.strm_types.specs.Cells.{plain}
-use Rattle.strm_types.specs.State.{State, stream, book}
+use Rattle.strm_types.specs.State.{State, book}
 use Rattle.strm_types.specs.Head.{head_read}
 use Rattle.strm_types.specs.Calls.{wrote, read_at}
 use Rattle.strm_types.proofs.PlainCells.{written-plain, bytes-plain}

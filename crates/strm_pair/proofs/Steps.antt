@@ -1,8 +1,8 @@
 -- A pair keeps what holds of it where it takes a step and its journal gains the entry.
-use Rattle.std.proofs.Common.{◌≡◌, ◌∙◌, ◌++◌, ◌∷◌, [], ap, sym, subst, ℕ}
+use Rattle.std.proofs.Common.{◌≡◌, ◌∙◌, ◌++◌, ◌∷◌, [], ap, sym, subst}
 use Rattle.strm_types.specs.declared.limits.Config.{Config}
 use Rattle.strm_types.specs.Cells.{plain}
-use Rattle.strm_types.specs.State.{State, opening}
+use Rattle.strm_types.specs.State.{opening}
 use Rattle.strm_types.specs.Journal.{PlainEntry}
 use Rattle.strm_types.specs.Step.{Step, after, replay, IsLegal}
 use Rattle.strm_types.proofs.Replay.{kept-legal, replay-append}

@@ -6,3 +6,4 @@ pub mod Pairs
 pub mod PairViews
 pub mod PlainCalls
 pub mod Shows
+pub mod Pool

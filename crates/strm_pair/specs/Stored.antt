@@ -1,12 +1,12 @@
--- What a store and the queues beside it stand for, and what holds of a pair's store whenever nobody is in a call.
-use Rattle.std.specs.Prelude.{ℕ, false, ◌≡◌, ◌≢◌, ◌≤◌, ◌<◌, List, [], ◌∷◌, length, map}
+-- What a store and the queues beside it stand for, and what holds of a queue and its list.
+use Rattle.std.specs.Prelude.{ℕ, false, ◌≡◌, ◌≢◌, List, ◌∷◌, map}
 use Rattle.std.specs.List.{AllByRecursion}
 use Rattle.strm_types.specs.declared.kinds.MsgKind.TheVariants as kinds
-use Rattle.strm_types.specs.Message.{Message, data_message}
+use Rattle.strm_types.specs.Message.{Message, size_of}
 use Rattle.strm_types.specs.Queue as plain
 use Rattle.strm_types.specs.Turns.{moved_on}
-use Rattle.strm_blocks.specs.Blocks.{Block, StoreValue, list_at, references}
-use Rattle.strm_msg.specs.Messages.{message_of}
+use Rattle.strm_blocks.specs.Blocks.{Block, StoreValue, block_at, list_at}
+use Rattle.strm_msg.specs.Messages.{message_of, AreMessages}
 use Rattle.strm_queue.specs.declared.queue.Queue.{Queue}
 use Rattle.strm_queue.specs.Flows.{plain_flows}
 use Rattle.strm_queue.specs.Kept.{AreCounted}
@@ -19,31 +19,29 @@ messages_on s k = map message_of (list_at s k)
 abbrev pub queue_in : StoreValue → Queue → plain.Queue ℕ
 queue_in s q = record { messages = messages_on s q.list; flows = plain_flows q.flows; want_read = q.want_read; no_enable = q.no_enable }
 
--- A message as a write makes it: one M_DATA block of band 0, whose data block is one of the store's.
-pub record IsOneBlock (dblks : ℕ) (chain : List Block) : Type 0 where
-  pub block : Block
-  pub single : chain ≡ block ∷ []
-  pub kind : block.kind ≡ kinds.Data
-  pub band : block.band ≡ 0
-  pub number : block.number < dblks
-
--- A store between calls: nothing is in hand, each message on a list is as a write makes it, and no data block is shared.
-pub record IsTidy (s : StoreValue) : Type 0 where
-  pub hand : s.hand ≡ []
-  pub eight : length s.lists ≡ 8
-  pub written : (k : ℕ) → AllByRecursion (IsOneBlock s.dblks) (list_at s k)
-  pub unshared : (d : ℕ) → references s d ≤ 1
-
--- a queue beside a store between calls: its kept numbers are those of the messages on its list
+-- A queue beside a store: the chains on its list are messages, in order, and its kept numbers are those of them. What is in
+-- hand and what other lists hold is left open.
 pub record IsReady (s : StoreValue) (q : Queue) : Type 0 where
-  pub tidy : IsTidy s
+  pub messages : AreMessages (list_at s q.list)
   pub counted : AreCounted q.flows (list_at s q.list)
 
--- One queue of a store may have changed, and no other one. The store is tidy again, and the queue's numbers are right.
+-- Each message is M_DATA, of any number of blocks and of any band: all that a byte-stream read has a rule for today.
+pub record HoldsData (q : List (List Block)) : Type 0 where
+  pub each : AllByRecursion (λ chain. (block_at 0 chain).kind ≡ kinds.Data) q
+
+-- a queue with M_DATA messages alone
+pub record IsDataQueue (s : StoreValue) (q : Queue) : Type 0 where
+  pub ready : IsReady s q
+  pub data_only : HoldsData (list_at s q.list)
+
+-- One queue of a store may have changed, and no other one, nor what is in hand. The queue is ready, and has M_DATA messages
+-- alone where it had them.
 pub record Keeps (old new : StoreValue) (q q' : Queue) : Type 0 where
   pub ready : IsReady new q'
+  pub data_only : HoldsData (list_at old q.list) → HoldsData (list_at new q'.list)
   pub list : q'.list ≡ q.list
   pub others : (k : ℕ) → k ≢ q.list → list_at new k ≡ list_at old k
+  pub hand : new.hand ≡ old.hand
   pub mblks : new.mblks ≡ old.mblks
   pub dblks : new.dblks ≡ old.dblks
 
@@ -53,35 +51,35 @@ pub record SameFlags (old new : Queue) : Type 0 where
   pub want_read : old.want_read ≡ false → new.want_read ≡ false
   pub no_enable : new.no_enable ≡ old.no_enable
 
--- The first message went from one queue to another. Both have their numbers right, and no other list changed.
-pub record PassedOn (old new : StoreValue) (from from' to to' : Queue) (count : ℕ) : Type 0 where
-  pub text : List ℕ
-  pub size : count ≡ length text
-  pub first : messages_on old from.list ≡ data_message text ∷ messages_on new from.list
-  pub put : queue_in new to' ≡ plain.put_on (data_message text) (queue_in old to)
-  pub tidy : IsTidy new
-  pub from_counted : AreCounted from'.flows (list_at new from.list)
-  pub to_counted : AreCounted to'.flows (list_at new to.list)
+-- Two queues of a store may have changed, and no other one, nor what is in hand. Both are ready, and have M_DATA messages
+-- alone where they had.
+pub record KeepsBoth (old new : StoreValue) (from from' to to' : Queue) : Type 0 where
+  pub from_ready : IsReady new from'
+  pub to_ready : IsReady new to'
+  pub from_data : HoldsData (list_at old from.list) → HoldsData (list_at new from'.list)
+  pub to_data : HoldsData (list_at old from.list) → HoldsData (list_at old to.list) → HoldsData (list_at new to'.list)
   pub from_list : from'.list ≡ from.list
   pub to_list : to'.list ≡ to.list
-  pub flows : plain_flows from'.flows ≡ plain_flows from.flows
-  pub no_enable : from'.no_enable ≡ from.no_enable
   pub others : (k : ℕ) → k ≢ from.list → k ≢ to.list → list_at new k ≡ list_at old k
+  pub hand : new.hand ≡ old.hand
   pub mblks : new.mblks ≡ old.mblks
   pub dblks : new.dblks ≡ old.dblks
 
+-- The first message went from one queue to another, and has so many bytes.
+pub record PassedOn (old new : StoreValue) (from from' to to' : Queue) (count : ℕ) : Type 0 where
+  pub message : Message ℕ
+  pub size : count ≡ size_of message
+  pub first : messages_on old from.list ≡ message ∷ messages_on new from.list
+  pub put : queue_in new to' ≡ plain.put_on message (queue_in old to)
+  pub flows : plain_flows from'.flows ≡ plain_flows from.flows
+  pub no_enable : from'.no_enable ≡ from.no_enable
+  pub keeps : KeepsBoth old new from from' to to'
+
 -- The same, and the first queue is as after a turn that took its message: its waiting writers are let go.
 pub record MovedOn (old new : StoreValue) (from from' to to' : Queue) (count : ℕ) : Type 0 where
-  pub text : List ℕ
-  pub size : count ≡ length text
-  pub first : messages_on old from.list ≡ data_message text ∷ messages_on new from.list
-  pub moved : queue_in new from' ≡ moved_on (length text) (messages_on new from.list) (queue_in old from)
-  pub put : queue_in new to' ≡ plain.put_on (data_message text) (queue_in old to)
-  pub tidy : IsTidy new
-  pub from_counted : AreCounted from'.flows (list_at new from.list)
-  pub to_counted : AreCounted to'.flows (list_at new to.list)
-  pub from_list : from'.list ≡ from.list
-  pub to_list : to'.list ≡ to.list
-  pub others : (k : ℕ) → k ≢ from.list → k ≢ to.list → list_at new k ≡ list_at old k
-  pub mblks : new.mblks ≡ old.mblks
-  pub dblks : new.dblks ≡ old.dblks
+  pub message : Message ℕ
+  pub size : count ≡ size_of message
+  pub first : messages_on old from.list ≡ message ∷ messages_on new from.list
+  pub put : queue_in new to' ≡ plain.put_on message (queue_in old to)
+  pub moved : queue_in new from' ≡ moved_on (size_of message) (messages_on new from.list) (queue_in old from)
+  pub keeps : KeepsBoth old new from from' to to'

@@ -1,6 +1,7 @@
 //! Flow control of a pair's queues: what is full, and who is let go (STREAMS Programming Guide, "Flow Control").
 
-ghost use Rattle.std.specs.Prelude.{◌≡◌, List};
+ghost use Rattle.std.specs.Prelude.{◌≡◌, ◌<◌, ◌&&◌, List};
+ghost use Rattle.strm_types.specs.Message.{is_held};
 ghost use Rattle.strm_types.specs.Queue.{is_full, relieved, relieves};
 ghost use Rattle.strm_blocks.specs.Blocks.{Block, StoreValue};
 ghost use Rattle.strm_queue.specs.Kept.{AreCounted};
@@ -9,15 +10,49 @@ ghost use Rattle.strm_pair.specs.Stored.{queue_in, IsReady};
 
 use strm_blocks::Blocks;
 use strm_queue::Queue;
-use strm_types::Band;
+use strm_types::{Band, MsgKind};
 
-/// Whether band 0 of a queue is full: its count is at or above its high-water mark.
-pub(crate) fn is_full<B: Blocks>(store: &B, queue: &Queue) -> bool
-    requires { IsReady (B.value store.now) queue.now }
-    ensures { result ≡ is_full 0 (queue_in (B.value store.now) queue.now) }
+// Whether flow control holds back a kind of message.
+#[tactic(auto, unfolding(strm_types::specs::Message::is_held))]
+fn is_held(kind: MsgKind) -> bool
+    ensures { result ≡ is_held kind }
+{
+    match kind {
+        MsgKind::Data | MsgKind::Proto => true,
+        MsgKind::Sig
+        | MsgKind::Ctl
+        | MsgKind::Ioctl
+        | MsgKind::Setopts
+        | MsgKind::Iocack
+        | MsgKind::Iocnak
+        | MsgKind::Pcproto
+        | MsgKind::Pcsig
+        | MsgKind::Read
+        | MsgKind::Flush
+        | MsgKind::Stop
+        | MsgKind::Start
+        | MsgKind::Hangup
+        | MsgKind::Error => false,
+    }
+}
+
+/// Whether a band of a queue is full: its count is at or above its high-water mark.
+pub(crate) fn is_full<B: Blocks>(store: &B, queue: &Queue, band: Band) -> bool
+    requires ready { IsReady (B.value store.now) queue.now }
+    requires band { band.0 < 8 }
+    ensures { result ≡ is_full band.0 (queue_in (B.value store.now) queue.now) }
 {
     store.audit();
-    queue.is_full(Band(0))
+    queue.is_full(band)
+}
+
+/// Whether flow control stops a message of this kind and band at a queue.
+pub(crate) fn is_stopped<B: Blocks>(store: &B, queue: &Queue, kind: MsgKind, band: Band) -> bool
+    requires ready { IsReady (B.value store.now) queue.now }
+    requires band { band.0 < 8 }
+    ensures { result ≡ (is_held kind && is_full band.0 (queue_in (B.value store.now) queue.now)) }
+{
+    is_held(kind) && is_full(store, queue, band)
 }
 
 /// Lets waiting writers go where the count has come down to the low-water mark, and says whether one was.

@@ -10,7 +10,7 @@ ghost use Rattle.strm_types.specs.Refused.{enough, has_room};
 ghost use Rattle.strm_types.specs.Step.{replay, IsLegal};
 ghost use Rattle.strm_types.specs.State.{AreOrdered, messages_in};
 ghost use Rattle.strm_pair.specs.Shows.{Shows};
-ghost use Rattle.strm_types.specs.Refused.{free_beside};
+ghost use Rattle.strm_pair.specs.Pool.{IsPoolOf};
 ghost use Rattle.strm_blocks.specs.Blocks.{empty_store};
 
 use crate::journal::Journal;
@@ -220,15 +220,16 @@ impl<B: Blocks + Drop> Pair<B> {
     }
 
     /// All that was carried out, in order. The message blocks stand for the state to which it leads from the state that
-    /// it began at, each entry is a legal step with the answer that it stores, each queue is in order of rank, and the
-    /// blocks that are free are those that the messages on the queues leave.
+    /// it began at, each entry is a legal step with the answer that it stores, each queue is in order of rank, each
+    /// message has a message block at least, and all blocks are free where there is no message.
     pub fn journal(&self) -> Recorded<'_>
         ensures entries { entries_in result.entries.now result.bytes.now ≡ self.now.journal }
         ensures replayed { self.now.state ≡ replay plain self.now.base self.now.journal }
         ensures legal { IsLegal plain self.now.base self.now.journal }
         ensures ordered { AreOrdered self.now.state }
-        ensures blocks { self.now.free ≡ free_beside (messages_in self.now.state) self.now.limits }
+        ensures blocks { IsPoolOf (messages_in self.now.state) self.now.limits self.now.free }
     {
+        self.store.audit();
         Recorded {
             entries: self.journal.entries.as_slice(),
             bytes: self.journal.bytes.as_slice(),

@@ -3,36 +3,37 @@
 ghost use Rattle.std.specs.Prelude.{◌≡◌, ◌≢◌, false};
 ghost use Rattle.strm_types.specs.Turns.{driver_serves, goes_on, is_none_left};
 ghost use Rattle.strm_blocks.specs.Blocks.{list_at};
-ghost use Rattle.strm_queue.specs.Kept.{AreCounted};
 ghost use Rattle.strm_pair.specs.Stored.{queue_in, IsReady, messages_on, PassedOn, MovedOn};
 ghost use Rattle.strm_pair.specs.Streams.{stream_in, CanPass, Passes};
 
 use crate::ends::End;
-use crate::flows::{is_full, relieve};
+use crate::flows::{is_stopped, relieve};
 use strm_blocks::Blocks;
+use strm_msg::message_size;
 use strm_queue::Queue;
-use strm_types::{Band, Turn};
+use strm_types::Turn;
 
 // Takes the first message of a queue to another one, and says how many bytes it has.
 fn pass_on<B: Blocks>(store: &mut B, from: &mut Queue, to: &mut Queue) -> usize
-    requires ready { IsReady (B.value store.old) from.old }
-    requires counted { AreCounted to.old.flows (list_at (B.value store.old) to.old.list) }
+    requires from { IsReady (B.value store.old) from.old }
+    requires to { IsReady (B.value store.old) to.old }
     requires apart { from.old.list ≢ to.old.list }
     requires some { is_none_left (list_at (B.value store.old) from.old.list) ≡ false }
     ensures { PassedOn (B.value store.old) (B.value store.new) from.old from.new to.old to.new result }
 {
+    store.audit();
     let Some(message) = from.getq(store) else {
         return 0;
     };
-    let size = store.block_len(&message, 0);
+    let size = message_size(store, &message);
     let _ = to.putq(store, message);
     size
 }
 
 // The first message goes to another queue, and waiting writers are let go where that makes room for them.
 fn advance<B: Blocks>(store: &mut B, from: &mut Queue, to: &mut Queue) -> usize
-    requires ready { IsReady (B.value store.old) from.old }
-    requires counted { AreCounted to.old.flows (list_at (B.value store.old) to.old.list) }
+    requires from { IsReady (B.value store.old) from.old }
+    requires to { IsReady (B.value store.old) to.old }
     requires apart { from.old.list ≢ to.old.list }
     requires some { is_none_left (list_at (B.value store.old) from.old.list) ≡ false }
     ensures { MovedOn (B.value store.old) (B.value store.new) from.old from.new to.old to.new result }
@@ -56,17 +57,17 @@ pub(crate) fn serve<B: Blocks>(store: &mut B, from: &mut End, to: &mut End) -> T
         stream_in (B.value store.new) to.new ≡ (driver_serves (messages_on s from.old.driver.list) (stream_in s from.old) (stream_in s to.old)).to }
     ensures passes { Passes (B.value store.old) (B.value store.new) from.old from.new to.old to.new }
 {
-    if from.driver.is_empty(store) {
+    let Some(first) = store.peek(from.driver.list) else {
         from.driver.want_read = true;
         return Turn::Idle;
-    }
+    };
     if !to.opened.is_open() {
         from.driver.want_read = false;
         return Turn::Blocked;
     }
-    if is_full(store, &to.head) {
+    if is_stopped(store, &to.head, first.kind, first.band) {
         from.driver.want_read = false;
-        to.head.let_wait(Band(0));
+        to.head.let_wait(first.band);
         return Turn::Blocked;
     }
     Turn::Moved(advance(store, &mut from.driver, &mut to.head))

@@ -12,7 +12,9 @@ use crate::ends::End;
 use crate::flows::is_full;
 use crate::streams::Streams;
 use strm_blocks::Blocks;
-use strm_types::{Caller, Event, Openness, READ_MAX, Refusal, Side, WRITE_BLOCKS, chunk_count};
+use strm_types::{
+    Band, Caller, Event, Openness, READ_MAX, Refusal, Side, WRITE_BLOCKS, chunk_count,
+};
 
 // A refusal unless a condition holds.
 fn unless(condition: bool, refusal: Refusal) -> Option<Refusal>
@@ -111,7 +113,7 @@ impl Streams {
             ),
             Event::Write { .. } => {
                 unless(
-                    !is_full(store, &self.end(caller.side).driver),
+                    !is_full(store, &self.end(caller.side).driver, Band(0)),
                     Refusal::Eagain,
                 )
             }

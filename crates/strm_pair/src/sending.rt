@@ -65,7 +65,7 @@ pub(crate) fn send<B: Blocks>(store: &mut B, queue: &mut Queue, bytes: &[u8], ch
     ensures fits { result.taken ≤ length bytes.now }
     ensures keeps { Keeps (B.value store.old) (B.value store.new) queue.old queue.new }
 {
-    if chunks == 0 || is_full(store, queue) {
+    if chunks == 0 || is_full(store, queue, Band(0)) {
         return Down {
             taken: 0,
             enables: false,

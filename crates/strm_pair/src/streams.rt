@@ -70,6 +70,7 @@ impl Streams {
         ensures held { AreHeld (B.value store.new) self.new }
         ensures pool { SamePool (B.value store.old) (B.value store.new) }
     {
+        store.audit();
         self.slave.opened = Openness::Open;
         self.slave.head.flushq(store, true);
         self.slave.head = Queue::new(self.slave.head.list, HEAD_HIGH, HEAD_LOW);

@@ -1,68 +1,86 @@
 -- The first message gives its bytes, and is freed or put back with what it has left.
-use Rattle.std.proofs.Common.{◌≡◌, ◌∙◌, ◌++◌, ◌≤◌, ◌<◌, ◌⊎◌, map, length, take, min, ap, refl, subst, arith}
+use Rattle.std.proofs.Common.{◌≡◌, ◌∙◌, ◌++◌, ◌≤◌, ◌<◌, ◌⊎◌, map, length, take, min, sym, ap, subst, arith}
 use Rattle.std.specs.Bool.{OnTrue, OnFalse}
-use Rattle.strm_blocks.specs.Blocks.{list_at, block_at, placed, dropped, put_back, in_hand}
+use Rattle.strm_types.specs.Message.{size_of}
+use Rattle.strm_blocks.specs.Blocks.{list_at, placed, dropped, put_back, in_hand}
+use Rattle.strm_msg.specs.Bytes.{data_bytes}
+use Rattle.strm_msg.specs.Messages.{message_of, AreMessages}
 use Rattle.strm_pair.specs.Stored.{messages_on}
-use Rattle.strm_pair.proofs.Chains.{text_of}
+use Rattle.strm_pair.proofs.DataRead.{cells-are, size-is, sized, stays-first}
 use Rattle.strm_pair.proofs.TakenFirst.{ends, goes-on}
-use Rattle.strm_pair.proofs.Gotten.{left, off, chain-is, before, behind, freed, trimmed, back, back-messages, freed-keeps, back-keeps}
+use Rattle.strm_pair.proofs.Gotten.{has-list, chain-is, before, behind, trimmed, freed-less, one, kind, back, back-messages, freed-keeps, back-keeps}
 use Rattle.strm_pair.proofs.reading.take_first.Goals as goal
 
 pub returns-then-ends_read-clause-took : goal.returns-then-ends_read-clause-took
 returns-then-ends_read-clause-took g c =
     let s = g.B.Blocks.value c.args.store.now in
     let got = g.B.Blocks.value c.getq.new.store in
+    let cut = g.B.Blocks.value c.take_into.new.store in
     let new = g.B.Blocks.value c.putbq.new.store in
     let i = g.B.Blocks.name c.in_ok-message.message in
     let q = c.args.queue.now in
-    let tidy = c.requires.ready.tidy in
+    let ready = c.requires.ready in
     let p = c.in_ok-message.ensures.taken in
     let part = c.min-part.result in
-    let text = text_of p.message in
-    let text_is = ap (λ chain. (block_at 0 chain).bytes) (chain-is s got q.list i tidy q.on_list p) in
-    let len_is : c.block_len-len.result ≡ length text = c.block_len-len.ensures.count ∙ ap length text_is in
-    let cut = trimmed s got q.list i tidy q.on_list p part (g.B.Blocks.value c.trim_head.new.self) c.trim_head.ensures in
-    let b = back s got q.list i tidy q.on_list p part (g.B.Blocks.value c.trim_head.new.self) new cut (c.putbq.ensures.placed ∙ ap (λ k. placed (dropped (g.B.Blocks.value c.trim_head.new.self) i) k (put_back (in_hand (g.B.Blocks.value c.trim_head.new.self) i) (list_at (g.B.Blocks.value c.trim_head.new.self) k))) c.getq.ensures.list) in
-    ends c.args.wanted part text (map text_of p.rest) (messages_on s q.list) (messages_on new q.list) c.args.out.now.items c.add.new.out.items c.requires.some
-    (before s got q.list i tidy q.on_list p) (back-messages s got q.list i tidy q.on_list p part new b)
+    let within = has-list s q c.audit.ensures in
+    let m = one s got q.list i within p ready.ready.messages ready.data_only in
+    let k = kind s got q.list i within p ready.ready.messages ready.data_only in
+    let len_is : c.msgdsize-len.result ≡ size_of (message_of p.message) = c.msgdsize-len.ensures ∙ ap (λ chain. length (data_bytes chain)) (chain-is s got q.list i within p) ∙ sym (size-is p.message m k) in
+    let b = back s got q.list i within p part cut new (trimmed s got q.list i within p part cut c.take_into.ensures.trimmed) (c.putbq.ensures.placed ∙ ap (λ l. placed (dropped cut i) l (put_back (in_hand cut i) (list_at cut l))) c.getq.ensures.list) in
+    ends c.args.wanted part (message_of p.message) (map message_of p.rest) (messages_on s q.list) (messages_on new q.list) c.args.out.now.items c.take_into.new.out.items c.requires.some
+    (before s got q.list i within p) (back-messages s got q.list i within p ready.ready.messages ready.data_only part new b) (sized p.message m k)
+    (λ none. stays-first p.message m k p.rest part (subst AreMessages p.joined ready.ready.messages) none)
     (c.min-part.ensures ∙ ap (λ n. min c.args.wanted n) len_is)
-    (subst (λ n. (n ≡ 0) ⊎ (c.args.wanted < n)) len_is (subst (λ b. OnTrue b ((c.block_len-len.result ≡ 0) ⊎ (c.args.wanted < c.block_len-len.result))) c.if-ends_read.true c.ends_read.ensures.ends))
-    (c.add.ensures ∙ ap (λ bytes. c.args.out.now.items ++ take part bytes) (c.bytes_at.ensures.bytes ∙ text_is))
+    (subst (λ n. (n ≡ 0) ⊎ (c.args.wanted < n)) len_is (subst (λ b. OnTrue b ((c.msgdsize-len.result ≡ 0) ⊎ (c.args.wanted < c.msgdsize-len.result))) c.if-ends_read.true c.ends_read.ensures.ends))
+    (c.take_into.ensures.given ∙ ap (λ bytes. c.args.out.now.items ++ take part bytes) (ap data_bytes (chain-is s got q.list i within p) ∙ sym (cells-are p.message m k)))
 
 pub returns-then-ends_read-clause-keeps : goal.returns-then-ends_read-clause-keeps
 returns-then-ends_read-clause-keeps g c =
     let s = g.B.Blocks.value c.args.store.now in
     let got = g.B.Blocks.value c.getq.new.store in
+    let cut = g.B.Blocks.value c.take_into.new.store in
     let new = g.B.Blocks.value c.putbq.new.store in
     let i = g.B.Blocks.name c.in_ok-message.message in
     let q = c.args.queue.now in
-    let tidy = c.requires.ready.tidy in
     let p = c.in_ok-message.ensures.taken in
     let part = c.min-part.result in
-    let cut = trimmed s got q.list i tidy q.on_list p part (g.B.Blocks.value c.trim_head.new.self) c.trim_head.ensures in
-    let b = back s got q.list i tidy q.on_list p part (g.B.Blocks.value c.trim_head.new.self) new cut (c.putbq.ensures.placed ∙ ap (λ k. placed (dropped (g.B.Blocks.value c.trim_head.new.self) i) k (put_back (in_hand (g.B.Blocks.value c.trim_head.new.self) i) (list_at (g.B.Blocks.value c.trim_head.new.self) k))) c.getq.ensures.list) in
-    back-keeps s (left s got q.list i tidy q.on_list p) new q c.putbq.new.self _ p.message p.rest _ (off s got q.list i tidy q.on_list p) refl refl b (c.putbq.ensures.others.list ∙ c.getq.ensures.list) c.putbq.ensures.counted
+    let within = has-list s q c.audit.ensures in
+    let b = back s got q.list i within p part cut new (trimmed s got q.list i within p part cut c.take_into.ensures.trimmed) (c.putbq.ensures.placed ∙ ap (λ l. placed (dropped cut i) l (put_back (in_hand cut i) (list_at cut l))) c.getq.ensures.list) in
+    back-keeps s got new q c.putbq.new.self i part within p c.requires.ready b (c.putbq.ensures.others.list ∙ c.getq.ensures.list) c.putbq.ensures.counted
 
 pub returns-clause-took : goal.returns-clause-took
 returns-clause-took g c =
     let s = g.B.Blocks.value c.args.store.now in
     let got = g.B.Blocks.value c.getq.new.store in
+    let cut = g.B.Blocks.value c.take_into.new.store in
     let new = g.B.Blocks.value c.free.new.self in
     let i = g.B.Blocks.name c.in_ok-message.message in
     let q = c.args.queue.now in
-    let tidy = c.requires.ready.tidy in
+    let ready = c.requires.ready in
     let p = c.in_ok-message.ensures.taken in
     let part = c.min-part.result in
-    let text = text_of p.message in
-    let text_is = ap (λ chain. (block_at 0 chain).bytes) (chain-is s got q.list i tidy q.on_list p) in
-    let len_is : c.block_len-len.result ≡ length text = c.block_len-len.ensures.count ∙ ap length text_is in
-    let sizes = subst (λ b. OnFalse b ((0 < c.block_len-len.result) × (c.block_len-len.result ≤ c.args.wanted))) c.if-ends_read.false c.ends_read.ensures.goes_on in
-    let fits : c.block_len-len.result ≤ c.args.wanted = sizes.1 in
-    goes-on c.args.wanted part text (map text_of p.rest) (messages_on s q.list) (messages_on new q.list) c.args.out.now.items c.add.new.out.items
-    (before s got q.list i tidy q.on_list p) (ap (λ v. messages_on v q.list) (freed s got q.list i tidy q.on_list p new c.free.ensures) ∙ behind s got q.list i tidy q.on_list p)
+    let within = has-list s q c.audit.ensures in
+    let m = one s got q.list i within p ready.ready.messages ready.data_only in
+    let k = kind s got q.list i within p ready.ready.messages ready.data_only in
+    let len_is : c.msgdsize-len.result ≡ size_of (message_of p.message) = c.msgdsize-len.ensures ∙ ap (λ chain. length (data_bytes chain)) (chain-is s got q.list i within p) ∙ sym (size-is p.message m k) in
+    let sizes = subst (λ b. OnFalse b ((0 < c.msgdsize-len.result) × (c.msgdsize-len.result ≤ c.args.wanted))) c.if-ends_read.false c.ends_read.ensures.goes_on in
+    let fits : c.msgdsize-len.result ≤ c.args.wanted = sizes.1 in
+    let is = freed-less s got q.list i within p part cut new (trimmed s got q.list i within p part cut c.take_into.ensures.trimmed) c.free.ensures in
+    goes-on c.args.wanted part (message_of p.message) (map message_of p.rest) (messages_on s q.list) (messages_on new q.list) c.args.out.now.items c.take_into.new.out.items
+    (before s got q.list i within p) (ap (λ v. messages_on v q.list) is ∙ behind s got q.list i within p) (sized p.message m k)
     (omega (arith, c.min-part.ensures, len_is, fits)) (omega (arith, len_is, sizes.0)) (omega (arith, len_is, fits))
-    (c.add.ensures ∙ ap (λ bytes. c.args.out.now.items ++ take part bytes) (c.bytes_at.ensures.bytes ∙ text_is))
+    (c.take_into.ensures.given ∙ ap (λ bytes. c.args.out.now.items ++ take part bytes) (ap data_bytes (chain-is s got q.list i within p) ∙ sym (cells-are p.message m k)))
 
 pub returns-clause-keeps : goal.returns-clause-keeps
 returns-clause-keeps g c =
-    freed-keeps (g.B.Blocks.value c.args.store.now) (g.B.Blocks.value c.getq.new.store) (g.B.Blocks.value c.free.new.self) c.args.queue.now c.getq.new.self (g.B.Blocks.name c.in_ok-message.message) c.requires.ready.tidy c.in_ok-message.ensures.taken c.free.ensures c.getq.ensures.list c.getq.ensures.counted
+    let s = g.B.Blocks.value c.args.store.now in
+    let got = g.B.Blocks.value c.getq.new.store in
+    let cut = g.B.Blocks.value c.take_into.new.store in
+    let new = g.B.Blocks.value c.free.new.self in
+    let i = g.B.Blocks.name c.in_ok-message.message in
+    let q = c.args.queue.now in
+    let p = c.in_ok-message.ensures.taken in
+    let part = c.min-part.result in
+    let within = has-list s q c.audit.ensures in
+    freed-keeps s got new q c.getq.new.self i within p c.requires.ready.ready
+    (freed-less s got q.list i within p part cut new (trimmed s got q.list i within p part cut c.take_into.ensures.trimmed) c.free.ensures) c.getq.ensures.list c.getq.ensures.counted

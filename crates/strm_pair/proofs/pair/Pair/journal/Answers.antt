@@ -1,7 +1,7 @@
 -- The plain journal is what the stored entries and bytes say, and the plain queues are what the blocks say.
-use Rattle.std.proofs.Common.{◌≡◌, ap, subst, ◌∙◌}
+use Rattle.std.proofs.Common.{ap, subst, ◌∙◌}
 use Rattle.strm_types.specs.State.{AreOrdered, messages_in}
-use Rattle.strm_types.specs.Refused.{free_beside}
+use Rattle.strm_pair.specs.Pool.{IsPoolOf}
 use Rattle.strm_types.specs.Journal.{entries_in}
 use Rattle.strm_types.specs.Pair.{PairState}
 use Rattle.strm_pair.specs.Pairs.{journal_of}
@@ -23,5 +23,5 @@ returns-clause-ordered g c =
 pub returns-clause-blocks : goal.returns-clause-blocks
 returns-clause-blocks g c =
     let p = c.self.inside in
-    subst (λ (v : PairState). v.free ≡ free_beside (messages_in v.state) v.limits) c.self.view_is
-    (free-shown (g.B.Blocks.value p.store) p.streams (led_to p.journal) p.limits c.self.invariant.held c.self.invariant.mblks c.self.invariant.dblks)
+    subst (λ (v : PairState). IsPoolOf (messages_in v.state) v.limits v.free) c.self.view_is
+    (free-shown (g.B.Blocks.value p.store) p.streams (led_to p.journal) p.limits c.audit.ensures c.self.invariant.held c.self.invariant.mblks c.self.invariant.dblks)

@@ -1,7 +1,7 @@
--- A store with nothing in it is tidy, and its lists are empty.
+-- The lists of a store with nothing in it are empty.
 use Rattle.std.proofs.Common.{refl}
 use Rattle.strm_blocks.specs.Blocks.{empty_store}
-use Rattle.strm_pair.proofs.Sides.{blank, empty-tidy}
+use Rattle.strm_pair.proofs.Sides.{blank}
 use Rattle.strm_pair.proofs.streams.Streams.new.Goals as goal
 
 pub returns-clause-state : goal.returns-clause-state
@@ -13,7 +13,7 @@ pub returns-clause-held : goal.returns-clause-held
 returns-clause-held c = λ mblks dblks.
     let s = empty_store mblks dblks in
     record {
-      tidy = empty-tidy mblks dblks;
+      hand = refl;
       master = c.new_end.ensures.side s (blank mblks dblks).0;
       slave = c.new_end-2.ensures.side s (blank mblks dblks).1;
     }

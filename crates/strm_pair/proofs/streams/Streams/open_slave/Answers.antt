@@ -1,5 +1,5 @@
 -- The slave's head is emptied and as new, and all else stays.
-use Rattle.std.proofs.Common.{◌∙◌, true, ap, refl}
+use Rattle.std.proofs.Common.{◌∙◌, ap, refl}
 use Rattle.std.specs.Prelude.{not}
 use Rattle.strm_types.specs.declared.names.Side.TheVariants.{Master}
 use Rattle.strm_types.specs.declared.names.Openness.TheVariants.{Open}
@@ -14,7 +14,7 @@ returns-then-not-is_empty-clause-state g c =
     let new = g.B.Blocks.value c.flushq.new.store in
     let p = c.args.self.now in
     let q = c.new-self in
-    let cl = cleared s new p.slave.head.list c.requires.tidy c.requires.slave.head_list c.flushq.ensures.flushed in
+    let cl = cleared s new p.slave.head.list c.audit.ensures c.requires.slave.head_list c.flushq.ensures.flushed in
     let list = q.ensures.list ∙ c.flushq.ensures.list ∙ c.requires.slave.head_list in
     opened-state s new p q.result c.enable.new.self c.requires cl list q.ensures.flows q.ensures.want_read q.ensures.no_enable
     (c.enable.ensures ∙ ap (λ n. enable n p.enabled) c.driver.ensures ∙ ap (λ b. enable_if (not b) (driver_of Master) p.enabled) c.if-not-is_empty.ensures)
@@ -24,7 +24,7 @@ returns-then-not-is_empty-clause-held g c =
     let s = g.B.Blocks.value c.args.store.now in
     let new = g.B.Blocks.value c.flushq.new.store in
     let p = c.args.self.now in
-    let cl = cleared s new p.slave.head.list c.requires.tidy c.requires.slave.head_list c.flushq.ensures.flushed in
+    let cl = cleared s new p.slave.head.list c.audit.ensures c.requires.slave.head_list c.flushq.ensures.flushed in
     opened-sides s new p (record { opened = Open; head = c.new-self.result; driver = p.slave.driver }) c.requires cl (c.new-self.ensures.list ∙ c.flushq.ensures.list ∙ c.requires.slave.head_list) c.new-self.ensures.counted refl
 
 pub returns-else-not-is_empty-clause-state : goal.returns-else-not-is_empty-clause-state
@@ -33,7 +33,7 @@ returns-else-not-is_empty-clause-state g c =
     let new = g.B.Blocks.value c.flushq.new.store in
     let p = c.args.self.now in
     let q = c.new-self in
-    let cl = cleared s new p.slave.head.list c.requires.tidy c.requires.slave.head_list c.flushq.ensures.flushed in
+    let cl = cleared s new p.slave.head.list c.audit.ensures c.requires.slave.head_list c.flushq.ensures.flushed in
     let list = q.ensures.list ∙ c.flushq.ensures.list ∙ c.requires.slave.head_list in
     opened-state s new p q.result p.enabled c.requires cl list q.ensures.flows q.ensures.want_read q.ensures.no_enable
     (ap (λ b. enable_if (not b) (driver_of Master) p.enabled) c.if-not-is_empty.ensures)
@@ -43,5 +43,5 @@ returns-else-not-is_empty-clause-held g c =
     let s = g.B.Blocks.value c.args.store.now in
     let new = g.B.Blocks.value c.flushq.new.store in
     let p = c.args.self.now in
-    let cl = cleared s new p.slave.head.list c.requires.tidy c.requires.slave.head_list c.flushq.ensures.flushed in
+    let cl = cleared s new p.slave.head.list c.audit.ensures c.requires.slave.head_list c.flushq.ensures.flushed in
     opened-sides s new p (record { opened = Open; head = c.new-self.result; driver = p.slave.driver }) c.requires cl (c.new-self.ensures.list ∙ c.flushq.ensures.list ∙ c.requires.slave.head_list) c.new-self.ensures.counted refl

@@ -4,8 +4,8 @@ use Rattle.strm_pair.specs.Stored.{IsReady}
 use Rattle.strm_pair.proofs.Sides.{driver-ready}
 use Rattle.strm_pair.proofs.streams.Streams.refused_by_state.Goals as goal
 
-pub is_full-requires : goal.is_full-requires
-is_full-requires g c =
+pub is_full-requires-clause-ready : goal.is_full-requires-clause-ready
+is_full-requires-clause-ready g c =
     let s = g.B.Blocks.value c.args.store.now in
     subst (λ (e : End). IsReady s e.driver) (sym c.end.ensures.end) (driver-ready s c.args.self.now c.requires c.args.caller.side)
 
