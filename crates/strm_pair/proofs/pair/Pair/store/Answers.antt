@@ -11,7 +11,7 @@ returns g c =
     let s = g.B.Blocks.value p.store in
     let kept = c.self.invariant.held in
     subst (λ (v : PairState). Shows s v.state) c.self.view_is (record {
-      hand = kept.tidy.hand;
+      hand = kept.hand;
       master_head = ap (messages_on s) (sym kept.master.head_list);
       master_driver = ap (messages_on s) (sym kept.master.driver_list);
       slave_head = ap (messages_on s) (sym kept.slave.head_list);
