@@ -16,3 +16,4 @@ pub mod Fresh
 pub mod Peeks
 pub mod Calls
 pub mod Laws
+pub mod Visits
