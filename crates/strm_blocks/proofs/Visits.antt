@@ -1,5 +1,5 @@
 -- What a visitor is told: the messages in front of a list, in order, and all of them where it never stops.
-use Rattle.std.proofs.Common.{ℕ, ◌≡◌, ◌⊎◌, Bool, true, false, cond, List, [], ◌∷◌, ◌++◌, refl, sym, ap, ◌∙◌, inl, inr}
+use Rattle.std.proofs.Common.{◌≡◌, ◌⊎◌, Bool, true, false, cond, List, [], ◌∷◌, ◌++◌, refl, ap, ◌∙◌, inl, inr}
 use Rattle.std.specs.Prelude.{fold}
 use Rattle.strm_blocks.specs.Outcomes.{told}
 use Rattle.strm_blocks.specs.declared.asked.Peek.{Peek}
