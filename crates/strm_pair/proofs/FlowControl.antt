@@ -2,7 +2,6 @@
 use Rattle.std.proofs.Common.{ℕ, zero, suc, ◌≡◌, ◌<◌, ◌+◌, Bool, true, false, cond, List, [], ◌∷◌, length, refl, sym, ap, ◌∙◌, arith}
 use Rattle.std.specs.Prelude.{◌&&◌, ◌||◌, nat_le, slice_index_or}
 use Rattle.std.specs.List.{list_any}
-use Rattle.std.proofs.Math.Bool.{beq}
 use Rattle.strm_types.specs.Message.{Message}
 use Rattle.strm_types.specs.Queue as plain
 use Rattle.strm_blocks.specs.Blocks.{StoreValue, list_at}
@@ -60,22 +59,12 @@ module _ (messages : List (Message ℕ)) where
       ∙ ap (λ xs. cond (f.want_write && nat_le (plain.count_of band messages) f.low) (record (plain_flow f) { want_write = false }) (plain_flow f) ∷ xs)
       (relieved-each fs gs (suc band) (omega arith) (λ i lt. each (suc i) (omega arith)) (λ i lt. count (suc i) (omega arith) ∙ ap (λ k. plain.count_of k messages) (let e : band + suc i ≡ suc band + i = omega arith in e)))
 
-  -- the test by which an answer is looked for
-  abbrev bool_is : Bool → Bool
-  bool_is b = beq b true
-
-  is-true : (b : Bool) → (bool_is b) ≡ b
-  is-true true = refl
-  is-true false = refl
-
-  pub relieves-each : (fs : List Flow) (goes : List Bool) (band : ℕ) → length goes ≡ length fs → ((i : ℕ) → i < length fs → slice_index_or goes i false ≡ flows.relieves (flow_at i fs))
-      → ((i : ℕ) → i < length fs → count_in (flow_at i fs) ≡ plain.count_of (band + i) messages) → list_any bool_is goes ≡ plain.relieves_from band messages (plain_flows fs)
-  relieves-each [] [] band long each count = refl
-  relieves-each [] (g ∷ gs) band long each count = absurd (omega arith)
-  relieves-each (f ∷ fs) [] band long each count = absurd (omega arith)
-  relieves-each (f ∷ fs) (g ∷ gs) band long each count =
-      let first : (bool_is g) ≡ (f.want_write && nat_le (plain.count_of band messages) f.low) =
-      is-true g ∙ each 0 (omega arith) ∙ goes-at f (plain.count_of band messages) (count 0 (omega arith) ∙ ap (λ k. plain.count_of k messages) (let e : band + 0 ≡ band = omega arith in e)) in
-      ap (λ x. x || list_any bool_is gs) first
+  pub relieves-each : (fs : List Flow) (band : ℕ) → ((i : ℕ) → i < length fs → count_in (flow_at i fs) ≡ plain.count_of (band + i) messages)
+      → list_any flows.relieves fs ≡ plain.relieves_from band messages (plain_flows fs)
+  relieves-each [] band count = refl
+  relieves-each (f ∷ fs) band count =
+      let first : flows.relieves f ≡ (f.want_write && nat_le (plain.count_of band messages) f.low) =
+      goes-at f (plain.count_of band messages) (count 0 (omega arith) ∙ ap (λ k. plain.count_of k messages) (let e : band + 0 ≡ band = omega arith in e)) in
+      ap (λ x. x || list_any flows.relieves fs) first
       ∙ ap (λ x. (f.want_write && nat_le (plain.count_of band messages) f.low) || x)
-      (relieves-each fs gs (suc band) (omega arith) (λ i lt. each (suc i) (omega arith)) (λ i lt. count (suc i) (omega arith) ∙ ap (λ k. plain.count_of k messages) (let e : band + suc i ≡ suc band + i = omega arith in e)))
+      (relieves-each fs (suc band) (λ i lt. count (suc i) (omega arith) ∙ ap (λ k. plain.count_of k messages) (let e : band + suc i ≡ suc band + i = omega arith in e)))

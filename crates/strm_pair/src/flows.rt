@@ -62,6 +62,5 @@ pub(crate) fn relieve(queue: &mut Queue) -> bool
     ensures counted { (q : List (List Block)) → AreCounted queue.old.flows q → AreCounted queue.new.flows q }
     ensures others { OnlyCounts queue.old queue.new }
 {
-    let goes = queue.back_enable();
-    goes.contains(&true)
+    queue.back_enable()
 }

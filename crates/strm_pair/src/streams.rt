@@ -19,7 +19,7 @@ use crate::passing::{goes_on, serve};
 use crate::reading::read;
 use crate::sending::send;
 use strm_blocks::Blocks;
-use strm_queue::{HEAD_HIGH, HEAD_LOW, OTHER_HIGH, OTHER_LOW, Queue};
+use strm_queue::{Flush, HEAD_HIGH, HEAD_LOW, OTHER_HIGH, OTHER_LOW, Queue};
 use strm_types::{
     Answer, Caller, Event, Openness, Place, QueueName, READ_MAX, ReadBytes, Side, Turn, chunk_count,
 };
@@ -72,7 +72,7 @@ impl Streams {
     {
         store.audit();
         self.slave.opened = Openness::Open;
-        self.slave.head.flushq(store, true);
+        self.slave.head.flushq(store, Flush::All);
         self.slave.head = Queue::new(self.slave.head.list, HEAD_HIGH, HEAD_LOW);
         if !self.master.driver.is_empty(store) {
             self.enabled.enable(Side::Master.driver());

@@ -1,4 +1,5 @@
 pub mod Flows
+pub mod Flushes
 pub mod Kept
 pub mod Queues
 pub mod Order

@@ -2,7 +2,9 @@
 
 ghost use Rattle.std.specs.Prelude.{◌≡◌, ◌+◌, ◌≤◌, ◌<◌, ◌^◌, nat_le, false, if◌then◌else◌};
 ghost use Rattle.strm_queue.specs.Flows.{count_in, added_to, removed_from, flushed_of, marked_with, relieved, relieves};
+ghost use Rattle.strm_queue.specs.Flushes.{takes_all};
 
+use crate::flush::Flush;
 use crate::share::Share;
 
 /// The flow control of one band: how many bytes stand there, in messages of data (M_DATA, M_PROTO, M_PCPROTO) and in
@@ -73,13 +75,13 @@ impl Flow {
     }
 
     /// After a flush of all messages, or of those of data.
-    pub(crate) fn flushed(self, all: bool) -> Flow
+    pub(crate) fn flushed(self, what: Flush) -> Flow
         requires { count_in self < 2 ^ 64 }
-        ensures { result ≡ flushed_of all self }
+        ensures { result ≡ flushed_of (takes_all what) self }
     {
         let mut flow = self;
         flow.data_bytes = 0;
-        if all {
+        if what.takes_all() {
             flow.other_bytes = 0;
         }
         flow.full = flow.count() >= flow.high;

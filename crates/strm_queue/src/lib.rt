@@ -3,13 +3,15 @@
 #![tactic(auto)]
 
 mod flow;
+mod flush;
 mod limits;
 mod order;
 mod queue;
 mod share;
 
 pub use flow::Flow;
-pub use limits::{BANDS, HEAD_HIGH, HEAD_LOW, OTHER_HIGH, OTHER_LOW, are_marks, is_band, is_list};
+pub use flush::Flush;
+pub use limits::{HEAD_HIGH, HEAD_LOW, OTHER_HIGH, OTHER_LOW, are_marks, is_band, is_list};
 pub use order::serves_in_order;
 pub use queue::Queue;
 

@@ -2,10 +2,7 @@
 
 ghost use Rattle.std.specs.Prelude.{◌≡◌, ◌&&◌, nat_le, nat_lt};
 
-use strm_types::Band;
-
-/// How many bands a queue has.
-pub const BANDS: usize = 8;
+use strm_types::{BANDS, Band, LISTS};
 
 /// The high-water mark of a stream head's read queue as it is made, in bytes: `STRHIGH` of System V.
 pub const HEAD_HIGH: usize = 5120;
@@ -23,7 +20,7 @@ pub const OTHER_LOW: usize = 128;
 pub fn is_list(list: usize) -> bool
     ensures { result ≡ nat_lt list 8 }
 {
-    list < 8
+    list < LISTS
 }
 
 /// Whether a queue has this band, from 0 to 7.

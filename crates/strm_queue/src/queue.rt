@@ -7,15 +7,17 @@ ghost use Rattle.strm_blocks.specs.Outcomes.{Popped, Unpopped, flushed};
 ghost use Rattle.strm_queue.specs.Kept.{AreCounted, count_of, band_of, enables, flow_at, is_full, FewBytes};
 ghost use Rattle.strm_blocks.specs.Blocks.{Block};
 ghost use Rattle.strm_queue.specs.Flows.{count_in, added_to, removed_from, flushed_of, marked_with, relieves, relieved, plain_flows};
+ghost use Rattle.strm_queue.specs.Flushes.{takes_all};
 ghost use Rattle.strm_types.specs.Queue.{with_writer_at};
 ghost use Rattle.strm_types.specs.Turns.{is_none_left};
 ghost use Rattle.std.specs.Prelude.{replicate};
+ghost use Rattle.std.specs.List.{list_any};
 
 use crate::flow::Flow;
-use crate::limits::BANDS;
+use crate::flush::Flush;
 use crate::share::{Share, share_of};
 use strm_blocks::{Blocks, FlushWhat};
-use strm_types::Band;
+use strm_types::{BANDS, Band};
 
 /// A queue: the number of its list in a store, the flow control of its bands from 0 up, and its flags. Want-read says
 /// that a message of band 0 that is put enables the queue; no-enable that only a message of high priority does.
@@ -152,14 +154,14 @@ impl Queue {
     }
 
     // Counts out what a flush of all messages, or of those of data, has taken.
-    fn count_flush(&mut self, all: bool)
-        ensures flows { (band : ℕ) → band < 8 → flow_at band self.new.flows ≡ flushed_of all (flow_at band self.old.flows) }
+    fn count_flush(&mut self, what: Flush)
+        ensures flows { (band : ℕ) → band < 8 → flow_at band self.new.flows ≡ flushed_of (takes_all what) (flow_at band self.old.flows) }
         ensures eight { length self.new.flows ≡ length self.old.flows }
         ensures others { OnlyCounts self.old self.new }
     {
         for band in 0..BANDS {
             let flow = self.flows[band];
-            self.flows[band] = flow.flushed(all);
+            self.flows[band] = flow.flushed(what);
         }
     }
 
@@ -176,12 +178,12 @@ impl Queue {
         }
     }
 
-    /// Frees the messages of data (M_DATA, M_PROTO, M_PCPROTO), or all of them: `flushq(9F)` with FLUSHDATA or FLUSHALL.
+    /// Frees the messages of data, or all of them: `flushq(9F)` with FLUSHDATA or FLUSHALL.
     /// Want-read is set where that leaves the queue empty.
-    pub fn flushq<B: Blocks>(&mut self, store: &mut B, all: bool)
+    pub fn flushq<B: Blocks>(&mut self, store: &mut B, what: Flush)
         requires { AreCounted self.old.flows (list_at (B.value store.old) self.old.list) }
         ensures flushed { let s = B.value store.old in
-            B.value store.new ≡ placed s self.old.list (flushed (record { all = all; band = None }) (list_at s self.old.list)) }
+            B.value store.new ≡ placed s self.old.list (flushed (record { all = takes_all what; band = None }) (list_at s self.old.list)) }
         ensures counted { AreCounted self.new.flows (list_at (B.value store.new) self.new.list) }
         ensures flows { plain_flows self.new.flows ≡ plain_flows self.old.flows }
         ensures empty { list_at (B.value store.new) self.old.list ≡ [] → self.new.want_read ≡ true }
@@ -190,8 +192,14 @@ impl Queue {
         ensures no_enable { self.new.no_enable ≡ self.old.no_enable }
     {
         store.audit();
-        store.drop_where(self.list, FlushWhat { all, band: None });
-        self.count_flush(all);
+        store.drop_where(
+            self.list,
+            FlushWhat {
+                all: what.takes_all(),
+                band: None,
+            },
+        );
+        self.count_flush(what);
         self.see_empty(store);
     }
 
@@ -228,7 +236,7 @@ impl Queue {
         ensures others { OnlyCounts self.old self.new }
     {
         let flow = self.flows[band];
-        self.flows[band] = flow.flushed(false);
+        self.flows[band] = flow.flushed(Flush::Data);
     }
 
     /// Sets the marks of a band. It is full from then on exactly where its count is at or above the new high-water mark.
@@ -262,22 +270,22 @@ impl Queue {
         self.flows[usize::from(band.0)].want_write = true;
     }
 
-    /// Lets the waiting writers of each band go whose count is at or below its low-water mark: want-write is cleared, and
-    /// the answer says for which bands. The nearest earlier queue that has service is then to be enabled.
-    pub fn back_enable(&mut self) -> [bool; 8]
-        ensures went { (band : ℕ) → band < 8 → slice_index_or result band false ≡ relieves (flow_at band self.old.flows) }
+    /// Lets the waiting writers of each band go whose count is at or below its low-water mark: want-write is cleared.
+    /// Answers whether there was one, and the nearest earlier queue that has service is then to be enabled.
+    pub fn back_enable(&mut self) -> bool
+        ensures went { result ≡ list_any relieves self.old.flows }
         ensures flows { (band : ℕ) → band < 8 → flow_at band self.new.flows ≡ relieved (flow_at band self.old.flows) }
         ensures counted { (q : List (List Block)) → AreCounted self.old.flows q → AreCounted self.new.flows q }
         ensures others { OnlyCounts self.old self.new }
     {
-        let mut goes = [false; 8];
+        let mut went = false;
         for band in 0..BANDS {
             let flow = self.flows[band];
-            goes[band] = flow.lets_go();
             if flow.lets_go() {
                 self.flows[band].want_write = false;
+                went = true;
             }
         }
-        goes
+        went
     }
 }

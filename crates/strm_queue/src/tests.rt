@@ -4,7 +4,7 @@ ghost use Rattle.std.specs.Prelude.{◌≡◌, ◌<◌, List, [], IfOk};
 ghost use Rattle.strm_blocks.specs.Blocks.{Block, IsInHand, in_hand, list_at};
 ghost use Rattle.strm_queue.specs.Kept.{AreCounted, band_of};
 
-use crate::{Queue, are_marks, is_band};
+use crate::{Flush, Queue, are_marks, is_band};
 use std::alloc::Global;
 use std::process::Abort;
 use std::test::Fail;
@@ -129,7 +129,7 @@ fn goes<B: Blocks>(queue: &mut Queue, store: &mut B, step: Step<'_>) -> Result<b
         Step::Counts(band, bytes) => { Ok(is_band(Band(band)) && queue.count(Band(band)) == bytes) }
         Step::Marks(band, high, low, full) => Ok(is_full_at(queue, band, high, low) == full),
         Step::Flush => {
-            queue.flushq(store, false);
+            queue.flushq(store, Flush::Data);
             Ok(true)
         }
     }

@@ -10,16 +10,14 @@ use Rattle.strm_pair.proofs.flows.relieve.Goals as goal
 pub returns-clause-queue : goal.returns-clause-queue
 returns-clause-queue c = λ s ready.
     let q = c.args.queue.now in
-    let q' = c.back_enable-goes.new.self in
-    let after = c.back_enable-goes.ensures.counted (list_at s q.list) ready.counted in
+    let q' = c.back_enable.new.self in
+    let after = c.back_enable.ensures.counted (list_at s q.list) ready.counted in
     let eight = ready.counted.eight in
     let flows : plain_flows q'.flows ≡ plain.relieved_from 0 (messages_on s q.list) (plain_flows q.flows) =
-    relieved-each (messages_on s q.list) q.flows q'.flows 0 (omega (arith, after.eight, eight)) (λ i lt. c.back_enable-goes.ensures.flows i (omega (arith, eight))) (λ i lt. counts-from s q ready i lt) in
-    rw (c.back_enable-goes.ensures.others.list, c.back_enable-goes.ensures.others.want_read, c.back_enable-goes.ensures.others.no_enable, flows) refl
+    relieved-each (messages_on s q.list) q.flows q'.flows 0 (omega (arith, after.eight, eight)) (λ i lt. c.back_enable.ensures.flows i (omega (arith, eight))) (λ i lt. counts-from s q ready i lt) in
+    rw (c.back_enable.ensures.others.list, c.back_enable.ensures.others.want_read, c.back_enable.ensures.others.no_enable, flows) refl
 
 pub returns-clause-went : goal.returns-clause-went
 returns-clause-went c = λ s ready.
     let q = c.args.queue.now in
-    let eight = ready.counted.eight in
-    c.contains.ensures.value
-    ∙ relieves-each (messages_on s q.list) q.flows c.back_enable-goes.result 0 (omega (arith, eight, c.back_enable-goes.type_inv)) (λ i lt. c.back_enable-goes.ensures.went i (omega (arith, eight))) (λ i lt. counts-from s q ready i lt)
+    c.back_enable.ensures.went ∙ relieves-each (messages_on s q.list) q.flows 0 (λ i lt. counts-from s q ready i lt)
