@@ -64,6 +64,15 @@ module _ (t : Inside) {s : StoreValue} (is : value_of t ≡ s) (holds : IsTableS
       let z = sized row.number there in
       ap (λ (b : Block). length b.bytes) row-is ∙ length-range (get_or t.data.bytes row.number []) row.start row.end (omega arith) (omega arith)
 
+  -- the fields and the value with another row in its place
+  module _ (row' : MessageBlock) (hand' : List Message) (changed-hand : hand' ≡ set t.hand (place_in i t.hand) (with_blocks (set (found t is i).blocks n row') (found t is i))) where
+    pub IsTable-changed : row'.number ≡ row.number → askew_row row' ≡ 0 → IsTable t.mblks t.lists hand' t.idle t.spare t.data.references
+    IsTable-changed number straight =
+        rw changed-hand (IsTable-replaced holds (place_in i t.hand) n row' (found-within t is i here) (block-within t is i n inside) (number ∙ number-is) straight)
+
+    pub edited-value : (b : Block) → shown t.data.bytes row' ≡ b → value t.data.bytes t.lists hand' t.mblks (length t.data.references) ≡ changed s i (with_block n b (in_hand s i))
+    edited-value b shows = replaced-value t is i n row' hand' changed-hand ∙ ap (λ (b : Block). changed s i (with_block n b (in_hand s i))) shows
+
   -- the read place moved on
   pub head-is : ((d : ℕ) → d < length t.data.references → length (get_or t.data.bytes d []) ≡ 256) → (k m : ℕ) → m ≡ min k (row.end - row.start) → shown t.data.bytes (record row { start = row.start + m }) ≡ trimmed_head k (block_at n (in_hand s i))
   head-is sized k m few =

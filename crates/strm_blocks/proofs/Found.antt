@@ -6,7 +6,7 @@ use Rattle.std.proofs.lemmas.List.{length-map, get_or-map}
 use Rattle.std.proofs.lemmas.List.Sums.{get_or-le-sum_by}
 use Rattle.strm_blocks.specs.Blocks.{StoreValue, IsInHand, in_hand, block_at, no_block, times_in}
 use Rattle.strm_blocks.specs.Message.{message_at, row_at, no_row, place_in, naming, lacking, askew}
-use Rattle.strm_blocks.specs.Table.{shown, chain_of, hand_of, value_of, IsTable}
+use Rattle.strm_blocks.specs.Table.{shown, chain_of, hand_of, value_of, IsTable, IsTableStore}
 use Rattle.strm_blocks.specs.declared.table.TableStore.TheInside.{Inside}
 use Rattle.strm_blocks.specs.declared.message.Message.{Message}
 use Rattle.strm_blocks.specs.declared.message.MessageBlock.{MessageBlock}
@@ -76,3 +76,7 @@ module _ {mblks : ℕ} {lists : List (List Message)} {hand idle : List Message} 
       let s = is.straight in
       let le = get_or-le-sum_by askew_row blocks n no_row within in
       omega arith
+
+-- a message in hand has a first block
+pub first-within : (t : Inside) {s : StoreValue} (is : value_of t ≡ s) → IsTableStore t → (i : ℕ) → IsInHand s i → 0 < length (in_hand s i)
+first-within t is holds i here = let l = chain-len t is i in let b = some-block holds (place_in i t.hand) (within t is i here) in omega arith

@@ -1,5 +1,5 @@
 -- The list of free data blocks: what taking one, giving one back and other changes of a count do to it.
-use Rattle.std.proofs.Common.{ℕ, zero, suc, ◌≡◌, ◌≢◌, ◌≤◌, ◌<◌, ◌+◌, Bool, true, false, cond, eqb, ltb, List, [], ◌∷◌, ◌++◌, length, get_or, refl, ap, ◌∙◌, arith}
+use Rattle.std.proofs.Common.{ℕ, zero, suc, ◌≡◌, ◌≢◌, ◌≤◌, ◌<◌, ◌+◌, ◌-◌, Bool, true, false, cond, eqb, ltb, List, [], ◌∷◌, ◌++◌, length, get_or, refl, ap, ◌∙◌, arith}
 use Rattle.std.proofs.Math.ListN.{set, length-set}
 use Rattle.std.specs.Prelude.{count_by, replicate}
 use Rattle.std.proofs.lemmas.Bool.Decides.{nat_tests}
@@ -32,6 +32,15 @@ zeros-set references d v within = sum_by-set (λ r. cond (eqb r 0) 1 0) referenc
 -- one count of a list where another one changes
 set_at : (references : List ℕ) (d v n : ℕ) → n ≡ d → d < length references → get_or (set references d v) n 0 ≡ v
 set_at references d v n e within = ap (λ k. get_or (set references d v) k 0) e ∙ get_or-set_same references d v 0 within
+
+-- all counts after one went down by one
+pub released-one : (references : List ℕ) (d n : ℕ) → 0 < get_or references d 0 → get_or (set references d (get_or references d 0 - 1)) n 0 + cond (eqb d n) 1 0 ≡ get_or references n 0
+released-one references d n some =
+    let within = named-within references d some in
+    elim (eqb d n) as (λ b. (eqb d n ≡ b) → get_or (set references d (get_or references d 0 - 1)) n 0 + cond b 1 0 ≡ get_or references n 0) [
+      | true ↦ (λ e. let same : n ≡ d = grind (arith, nat_tests) in let g = set_at references d (get_or references d 0 - 1) n same within in let u : get_or references n 0 ≡ get_or references d 0 = ap (λ k. get_or references k 0) same in omega arith)
+      | false ↦ (λ e. let other : n ≢ d = grind (arith, nat_tests) in let g = get_or-set_other references d n (get_or references d 0 - 1) 0 other in omega arith)
+    ] refl
 
 -- the free list after a member of it got a reference
 pub IsFreeList-taken : (free references : List ℕ) (d v : ℕ) → 0 < v → IsFreeList (free ++ d ∷ []) references → IsFreeList free (set references d v)

@@ -2,6 +2,7 @@
 use Rattle.std.proofs.Common.{ℕ, zero, suc, ◌≡◌, ◌<◌, ◌+◌, Bool, true, false, not, cond, List, [], ◌∷◌, ◌++◌, length, take, drop, get_or, filter, refl, sym, ap, ◌∙◌, arith}
 use Rattle.std.proofs.Math.ListN.{set}
 use Rattle.std.specs.Prelude.{sum_by, replicate}
+use Rattle.std.specs.List.{prefix_len}
 use Rattle.std.proofs.lemmas.List.{drop-drop, append_assoc, ext_get_or, length-replicate, get_or-replicate}
 use Rattle.std.proofs.lemmas.List.Sums.{sum_by-cons}
 
@@ -48,3 +49,10 @@ sums-empty g (suc n) = let ih = sums-empty g n in omega (arith, sum_by-cons (λ 
 -- lists that are empty below a number of them
 pub all-empty : {A : Type 0} (lists : List (List A)) (n : ℕ) → length lists ≡ n → ((k : ℕ) → k < n → get_or lists k [] ≡ []) → lists ≡ replicate n []
 all-empty {A} lists n len each = ext_get_or [] lists (replicate n []) (let r = length-replicate {A = List A} n [] in omega arith) (λ k within. each k (omega arith) ∙ sym (get_or-replicate n k [] [] (omega arith)))
+
+-- one more that passes a test stands before the place that is looked for
+pub prefix-passed : {A : Type 0} (p : A → Bool) (x : A) (xs rest all : List A) (n : ℕ) → rest ≡ x ∷ xs → p x ≡ true → n + prefix_len p rest ≡ prefix_len p all → n + 1 + prefix_len p xs ≡ prefix_len p all
+prefix-passed p x xs rest all n is passes sofar =
+    let here : prefix_len p (x ∷ xs) ≡ 1 + prefix_len p xs = rw passes refl in
+    let whole = ap (λ ys. prefix_len p ys) is in
+    omega arith

@@ -1,17 +1,18 @@
 -- The lists of a store, with messages that are put on them or taken off.
-use Rattle.std.proofs.Common.{ℕ, ◌≡◌, ◌≤◌, ◌<◌, ◌+◌, true, false, not, cond, filter, List, [], ◌∷◌, ◌++◌, length, take, drop, get_or, map, refl, sym, ap, ◌∙◌, arith}
+use Rattle.std.proofs.Common.{ℕ, ◌≡◌, ◌≤◌, ◌<◌, ◌+◌, ◌^◌, Bool, true, false, not, cond, filter, List, [], ◌∷◌, ◌++◌, length, take, drop, get_or, map, refl, sym, ap, ◌∙◌, arith}
 use Rattle.std.proofs.Math.ListN.{set, length-set}
 use Rattle.std.specs.Prelude.{sum_by, nat_le, nat_lt}
 use Rattle.std.specs.List.{prefix_len}
 use Rattle.std.proofs.lemmas.List.{map-set, get_or-map, get_or_default}
-use Rattle.std.proofs.lemmas.List.Sums.{sum_by-cons, get_or-le-sum_by}
+use Rattle.std.proofs.lemmas.List.Sums.{sum_by-cons, get_or-le-sum_by, prefix_len-le-length}
 use Rattle.strm_types.specs.Ranked as ranked
-use Rattle.strm_blocks.specs.Blocks.{Block, Held, StoreValue, in_hand, list_at, held, dropped, placed, put, put_back, times_in}
+use Rattle.strm_blocks.specs.Blocks.{Block, Held, StoreValue, IsInHand, in_hand, list_at, held, dropped, placed, put, put_back, times_in}
 use Rattle.strm_blocks.specs.Outcomes.{Popped, flushes, flushed}
 use Rattle.strm_blocks.specs.Message.{message_at, without_at, place_in, rank_in, weigh, named, listed_rank, AreOrdered, flushes_message}
 use Rattle.strm_blocks.specs.Table.{shown, chain_of, lists_of, value_of, IsTable, IsTableStore}
 use Rattle.strm_blocks.specs.declared.table.TableStore.TheInside.{Inside}
 use Rattle.strm_blocks.specs.declared.message.Message.{Message}
+use Rattle.strm_blocks.specs.declared.message.MessageBlock.{MessageBlock}
 use Rattle.strm_blocks.proofs.Nodes.{ones, sum-without, sum-put, weigh-list}
 use Rattle.strm_blocks.proofs.Values.{without-value, times-value}
 use Rattle.strm_blocks.proofs.Orders.{put-value, put_back-value, Ordered-rest, Ordered-behind, Ordered-before, Ordered-filter, AreOrdered-set}
@@ -21,6 +22,7 @@ use Rattle.std.proofs.lemmas.Bool.Decides.{nat_tests}
 use Rattle.strm_blocks.specs.declared.asked.FlushWhat.{FlushWhat}
 use Rattle.strm_blocks.proofs.Moves.{IsTable-moved}
 use Rattle.strm_blocks.proofs.Found.{chain-is}
+use Rattle.strm_blocks.proofs.Found.{within as found-within}
 
 -- a message goes from the hand to a place of a list, and weighs the same there
 pub inserted-weigh : (g : Message → ℕ) (lists : List (List Message)) (hand : List Message) (k r p : ℕ) (q' : List Message) → k < length lists → r < length hand → q' ≡ take p (get_or lists k []) ++ ((message_at r hand ∷ []) ++ drop p (get_or lists k [])) → weigh g (set lists k q') (without_at r hand) ≡ weigh g lists hand
@@ -149,29 +151,52 @@ module _ (t : Inside) {s : StoreValue} (is : value_of t ≡ s) (holds : IsTableS
       let e5 = ap (λ (s : StoreValue). placed (dropped s i) k new) is in
       e1 ∙ e2 ∙ e3 ∙ e4 ∙ e5
 
-  -- putq and putbq of a message in hand
-  pub put-at : (i p : ℕ) (q' hand' : List Message) → hand' ≡ without_at (place_in i t.hand) t.hand → p ≡ prefix_len (λ x. nat_le (rank_in (message_at (place_in i t.hand) t.hand).blocks) (rank_in x.blocks)) list → q' ≡ take p list ++ ((message_at (place_in i t.hand) t.hand ∷ []) ++ drop p list) → value t.data.bytes (set t.lists k q') hand' t.mblks (length t.data.references) ≡ placed (dropped s i) k (put (in_hand s i) (list_at s k))
-  put-at i p q' hand' eh ep eq =
-      let m = message_at (place_in i t.hand) t.hand in
-      let new = ap (λ (q : List Message). map (chain_of t.data.bytes) q) eq ∙ put-value t.data.bytes m list p ep ∙ ap (λ (chain : List Block). put chain (map (chain_of t.data.bytes) list)) (sym (chain-is t is i)) ∙ ap (λ (q : List (List Block)). put (in_hand s i) q) (sym list-is) in
-      placed-value i q' hand' _ eh new
+  -- a place that was looked for on the list is one of it
+  pub place-fits : (passes : Message → Bool) (p : ℕ) (d e : List Message) → p ≡ prefix_len passes (get_or t.lists k d) → p ≤ length (get_or t.lists k e)
+  place-fits passes p d e is =
+      let here = is ∙ ap (λ (q : List Message). prefix_len passes q) (list-read d) in
+      let long = ap (λ (q : List Message). length q) (list-read e) in
+      omega (arith, prefix_len-le-length passes list)
 
-  pub put_back-at : (i p : ℕ) (q' hand' : List Message) → hand' ≡ without_at (place_in i t.hand) t.hand → p ≡ prefix_len (λ x. nat_lt (rank_in (message_at (place_in i t.hand) t.hand).blocks) (rank_in x.blocks)) list → q' ≡ take p list ++ ((message_at (place_in i t.hand) t.hand ∷ []) ++ drop p list) → value t.data.bytes (set t.lists k q') hand' t.mblks (length t.data.references) ≡ placed (dropped s i) k (put_back (in_hand s i) (list_at s k))
-  put_back-at i p q' hand' eh ep eq =
-      let m = message_at (place_in i t.hand) t.hand in
-      let new = ap (λ (q : List Message). map (chain_of t.data.bytes) q) eq ∙ put_back-value t.data.bytes m list p ep ∙ ap (λ (chain : List Block). put_back chain (map (chain_of t.data.bytes) list)) (sym (chain-is t is i)) ∙ ap (λ (q : List (List Block)). put_back (in_hand s i) q) (sym list-is) in
-      placed-value i q' hand' _ eh new
+  pub list-short : (e : List Message) → length (get_or t.lists k e) + 1 < 2 ^ 63
+  list-short e = let long = ap (λ (q : List Message). length q) (list-read e) in let few = list-few in omega arith
 
-  -- what holds of the fields still holds
-  IsTable-inserted : (i p : ℕ) (q' hand' : List Message) → place_in i t.hand < length t.hand → ranked.IsOrdered listed_rank q' → hand' ≡ without_at (place_in i t.hand) t.hand → q' ≡ take p list ++ ((message_at (place_in i t.hand) t.hand ∷ []) ++ drop p list) → IsTable t.mblks (set t.lists k q') hand' t.idle t.spare t.data.references
-  IsTable-inserted i p q' hand' there o eh eq =
-      IsTable-moved holds (set t.lists k q') hand' (length-set t.lists k q' ∙ holds.eight) (AreOrdered-set t.lists k q' list-within holds.ordered o) (λ g. ap (λ (hand : List Message). weigh g (set t.lists k q') hand) eh ∙ inserted-weigh g t.lists t.hand k (place_in i t.hand) p q' list-within there eq)
+  -- a message in hand that is put on the list behind those that pass a test against its rank
+  module _ (i p rank : ℕ) (blocks : List MessageBlock) (d e node q' hand' : List Message) (rank_is : rank ≡ rank_in blocks) (its : blocks ≡ (message_at (place_in i t.hand) t.hand).blocks) (left : hand' ≡ without_at (place_in i t.hand) t.hand) (node_is : node ≡ message_at (place_in i t.hand) t.hand ∷ []) (new : q' ≡ take p (get_or t.lists k e) ++ (node ++ drop p (get_or t.lists k e))) where
+    abbrev m : Message
+    m = message_at (place_in i t.hand) t.hand
 
-  pub IsTable-put : (i p : ℕ) (q' hand' : List Message) → place_in i t.hand < length t.hand → hand' ≡ without_at (place_in i t.hand) t.hand → p ≡ prefix_len (λ x. nat_le (rank_in (message_at (place_in i t.hand) t.hand).blocks) (rank_in x.blocks)) list → q' ≡ take p list ++ ((message_at (place_in i t.hand) t.hand ∷ []) ++ drop p list) → IsTable t.mblks (set t.lists k q') hand' t.idle t.spare t.data.references
-  IsTable-put i p q' hand' there eh ep eq = IsTable-inserted i p q' hand' there (Ordered-behind (message_at (place_in i t.hand) t.hand) list q' p (holds.ordered k) ep eq) eh eq
+    place-is : (passes : ℕ → ℕ → Bool) → p ≡ prefix_len (λ x. passes rank (rank_in x.blocks)) (get_or t.lists k d) → p ≡ prefix_len (λ x. passes (rank_in (message_at (place_in i t.hand) t.hand).blocks) (rank_in x.blocks)) list
+    place-is passes place =
+        place ∙ ap (λ (q : List Message). prefix_len (λ x. passes rank (rank_in x.blocks)) q) (list-read d)
+        ∙ ap (λ (r : ℕ). prefix_len (λ (x : Message). passes r (rank_in x.blocks)) list) (rank_is ∙ ap (λ (blocks : List MessageBlock). rank_in blocks) its)
 
-  pub IsTable-put_back : (i p : ℕ) (q' hand' : List Message) → place_in i t.hand < length t.hand → hand' ≡ without_at (place_in i t.hand) t.hand → p ≡ prefix_len (λ x. nat_lt (rank_in (message_at (place_in i t.hand) t.hand).blocks) (rank_in x.blocks)) list → q' ≡ take p list ++ ((message_at (place_in i t.hand) t.hand ∷ []) ++ drop p list) → IsTable t.mblks (set t.lists k q') hand' t.idle t.spare t.data.references
-  IsTable-put_back i p q' hand' there eh ep eq = IsTable-inserted i p q' hand' there (Ordered-before (message_at (place_in i t.hand) t.hand) list q' p (holds.ordered k) ep eq) eh eq
+    new-is : q' ≡ take p list ++ ((message_at (place_in i t.hand) t.hand ∷ []) ++ drop p list)
+    new-is = new ∙ ap (λ (node : List Message). take p (get_or t.lists k e) ++ (node ++ drop p (get_or t.lists k e))) node_is ∙ ap (λ (q : List Message). take p q ++ ((message_at (place_in i t.hand) t.hand ∷ []) ++ drop p q)) (list-read e)
+
+    -- what holds of the fields still holds
+    IsTable-inserted : IsInHand s i → ranked.IsOrdered listed_rank q' → IsTable t.mblks (set t.lists k q') hand' t.idle t.spare t.data.references
+    IsTable-inserted here o =
+        IsTable-moved holds (set t.lists k q') hand' (length-set t.lists k q' ∙ holds.eight) (AreOrdered-set t.lists k q' list-within holds.ordered o) (λ g. ap (λ (hand : List Message). weigh g (set t.lists k q') hand) left ∙ inserted-weigh g t.lists t.hand k (place_in i t.hand) p q' list-within (found-within t is i here) new-is)
+
+    -- putq and putbq
+    module _ (place : p ≡ prefix_len (λ x. nat_le rank (rank_in x.blocks)) (get_or t.lists k d)) where
+      pub IsTable-put : IsInHand s i → IsTable t.mblks (set t.lists k q') hand' t.idle t.spare t.data.references
+      IsTable-put here = IsTable-inserted here (Ordered-behind m list q' p (holds.ordered k) (place-is nat_le place) new-is)
+
+      pub put-at : value t.data.bytes (set t.lists k q') hand' t.mblks (length t.data.references) ≡ placed (dropped s i) k (put (in_hand s i) (list_at s k))
+      put-at =
+          placed-value i q' hand' _ left
+          (ap (λ (q : List Message). map (chain_of t.data.bytes) q) new-is ∙ put-value t.data.bytes m list p (place-is nat_le place) ∙ ap (λ (chain : List Block). put chain (map (chain_of t.data.bytes) list)) (sym (chain-is t is i)) ∙ ap (λ (q : List (List Block)). put (in_hand s i) q) (sym list-is))
+
+    module _ (place : p ≡ prefix_len (λ x. nat_lt rank (rank_in x.blocks)) (get_or t.lists k d)) where
+      pub IsTable-put_back : IsInHand s i → IsTable t.mblks (set t.lists k q') hand' t.idle t.spare t.data.references
+      IsTable-put_back here = IsTable-inserted here (Ordered-before m list q' p (holds.ordered k) (place-is nat_lt place) new-is)
+
+      pub put_back-at : value t.data.bytes (set t.lists k q') hand' t.mblks (length t.data.references) ≡ placed (dropped s i) k (put_back (in_hand s i) (list_at s k))
+      put_back-at =
+          placed-value i q' hand' _ left
+          (ap (λ (q : List Message). map (chain_of t.data.bytes) q) new-is ∙ put_back-value t.data.bytes m list p (place-is nat_lt place) ∙ ap (λ (chain : List Block). put_back chain (map (chain_of t.data.bytes) list)) (sym (chain-is t is i)) ∙ ap (λ (q : List (List Block)). put_back (in_hand s i) q) (sym list-is))
 
   pub flushed-ordered : (what : FlushWhat) (q' : List Message) → q' ≡ filter (λ m. not (flushes_message what m)) list → AreOrdered (set t.lists k q')
   flushed-ordered what q' eq = AreOrdered-set t.lists k q' list-within holds.ordered (rw eq (Ordered-filter listed_rank (λ m. not (flushes_message what m)) list (holds.ordered k)))

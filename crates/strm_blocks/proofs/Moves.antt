@@ -121,11 +121,10 @@ module _ {mblks : ℕ} {lists : List (List Message)} {hand idle : List Message} 
       omega arith
 
   -- all messages taken out
-  pub freed-all : (lists' : List (List Message)) (hand' none taken : List Message) → lists' ≡ replicate 8 [] → hand' ≡ [] → none ≡ [] → ((g : Message → ℕ) → sum_by g taken ≡ sum_by g none + weigh g lists hand) → (g : Message → ℕ) → weigh g lists' hand' + sum_by g taken ≡ weigh g lists hand
-  freed-all lists' hand' none taken el eh en all g =
+  pub freed-all : (lists' : List (List Message)) (hand' taken : List Message) → lists' ≡ replicate 8 [] → hand' ≡ [] → ((g : Message → ℕ) → sum_by g taken ≡ weigh g lists hand) → (g : Message → ℕ) → weigh g lists' hand' + sum_by g taken ≡ weigh g lists hand
+  freed-all lists' hand' taken el eh all g =
       let l = ap (λ (lists : List (List Message)). sum_by (λ q. sum_by g q) lists) el ∙ sums-empty g 8 in
       let h = ap (λ (q : List Message). sum_by g q) eh in
-      let n = ap (λ (q : List Message). sum_by g q) en in
       let a = all g in
       omega arith
 

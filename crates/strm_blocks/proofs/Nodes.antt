@@ -2,16 +2,9 @@
 use Rattle.std.proofs.Common.{ℕ, ◌≡◌, ◌≤◌, ◌<◌, ◌+◌, true, false, not, cond, List, [], ◌∷◌, ◌++◌, length, take, drop, get_or, refl, sym, arith}
 use Rattle.std.proofs.Math.ListN.{set}
 use Rattle.std.specs.Prelude.{sum_by, ◌==◌}
-use Rattle.std.proofs.lemmas.List.{get_or-set_same, set-set}
 use Rattle.std.proofs.lemmas.List.Sums.{sum_by-cons, sum_by-set, sum_by-remove, sum_by-insert, get_or-le-sum_by}
-use Rattle.strm_blocks.specs.Message.{message_at, no_message, without_at, with_blocks, place_in, weigh, named}
+use Rattle.strm_blocks.specs.Message.{message_at, no_message, without_at, place_in, weigh, named}
 use Rattle.strm_blocks.specs.declared.message.Message.{Message}
-use Rattle.strm_blocks.specs.declared.message.MessageBlock.{MessageBlock}
-
--- other blocks twice
-pub swap-twice : (q : List Message) (p : ℕ) (xs ys : List MessageBlock) → p < length q → set (set q p (with_blocks xs (message_at p q))) p (with_blocks ys (message_at p (set q p (with_blocks xs (message_at p q))))) ≡ set q p (with_blocks ys (message_at p q))
-swap-twice q p xs ys within =
-    rw (get_or-set_same q p (with_blocks xs (message_at p q)) no_message within) (set-set q p (with_blocks xs (message_at p q)) (with_blocks ys (message_at p q)))
 
 -- a message of a name is there where one is counted
 pub place-within : (i : ℕ) (q : List Message) → 0 < sum_by (named i) q → place_in i q < length q

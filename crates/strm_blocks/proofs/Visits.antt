@@ -1,8 +1,10 @@
 -- What a visitor is told: the messages in front of a list, in order, and all of them where it never stops.
-use Rattle.std.proofs.Common.{◌≡◌, ◌⊎◌, Bool, true, false, cond, List, [], ◌∷◌, ◌++◌, refl, ap, ◌∙◌, inl, inr}
+use Rattle.std.proofs.Common.{◌≡◌, ◌⊎◌, Bool, true, false, cond, List, [], ◌∷◌, ◌++◌, map, refl, sym, ap, ◌∙◌, inl, inr}
 use Rattle.std.specs.Prelude.{fold}
 use Rattle.strm_blocks.specs.Outcomes.{told}
+use Rattle.strm_blocks.specs.Parts.{peek_in}
 use Rattle.strm_blocks.specs.declared.asked.Peek.{Peek}
+use Rattle.strm_blocks.specs.declared.message.Message.{Message}
 
 module _ {V : Type 0} (after : V → Peek → V) (goes_on : V → Bool) where
   -- the messages of which it was told, and those behind them: none, or it wants no more
@@ -41,3 +43,23 @@ module _ {V : Type 0} (after : V → Peek → V) (goes_on : V → Bool) where
   pub told-all : ((v : V) (p : Peek) → goes_on (after v p) ≡ true) → (v : V) (ps : List Peek) → told after goes_on v ps ≡ fold after v ps
   told-all on v [] = refl
   told-all on v (p ∷ ps) = ap (λ (b : Bool). cond b (told after goes_on (after v p) ps) (after v p)) (on v p) ∙ told-all on (after v p) ps
+
+-- a visitor that is told of one more message, and goes on or not
+module _ {V : Type 0} (after : V → Peek → V) (goes_on : V → Bool) (v v' end : V) (m : Message) (ms rest : List Message) (peek : Peek) (more : Bool) (is : rest ≡ m ∷ ms) (peeked : peek ≡ peek_in m) (seen : v' ≡ after v peek) (says : more ≡ goes_on v') (sofar : told after goes_on v (map peek_in rest) ≡ end) where
+  here : after v (peek_in m) ≡ v'
+  here = ap (after v) (sym peeked) ∙ sym seen
+
+  all : told after goes_on v (map peek_in (m ∷ ms)) ≡ end
+  all = ap (λ l. told after goes_on v (map peek_in l)) (sym is) ∙ sofar
+
+  pub told-on : more ≡ true → told after goes_on v' (map peek_in ms) ≡ end
+  told-on wants =
+      let on : goes_on (after v (peek_in m)) ≡ true = ap goes_on here ∙ sym says ∙ wants in
+      let first : told after goes_on v (map peek_in (m ∷ ms)) ≡ told after goes_on (after v (peek_in m)) (map peek_in ms) = rw on refl in
+      ap (λ x. told after goes_on x (map peek_in ms)) (sym here) ∙ sym first ∙ all
+
+  pub told-last : more ≡ false → v' ≡ end
+  told-last ends =
+      let off : goes_on (after v (peek_in m)) ≡ false = ap goes_on here ∙ sym says ∙ ends in
+      let first : told after goes_on v (map peek_in (m ∷ ms)) ≡ after v (peek_in m) = rw off refl in
+      sym here ∙ sym first ∙ all

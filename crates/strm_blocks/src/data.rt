@@ -5,9 +5,6 @@ ghost use Rattle.strm_blocks.specs.Pool.{IsNoneLeft, TakesNumber, WritesBytes, w
 use std::alloc::{AllocError, Global};
 use std::marker::Model;
 
-/// How many bytes a data block holds.
-pub(crate) const BLOCK_SIZE: usize = 256;
-
 /// The data blocks of a store, numbered from 0: their bytes, and for each how many message blocks name it, up to 255.
 #[derive(Drop)]
 pub(crate) struct DataBlocks {

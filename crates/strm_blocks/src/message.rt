@@ -77,6 +77,42 @@ pub(crate) fn set_block(chain: &mut LinkedList<MessageBlock>, at: usize, block: 
     chain.append(&mut rest).unwrap();
 }
 
+/// Takes the blocks from a place on from the message at a place of a list.
+pub(crate) fn part_blocks(
+    list: &mut LinkedList<Message>,
+    at: usize,
+    from: usize,
+) -> LinkedList<MessageBlock>
+    requires within { at < length list.old }
+    requires there { from ≤ length (message_at at list.old).blocks }
+    ensures kept { let m = message_at at list.old in list.new ≡ slice_set list.old at (with_blocks (take from m.blocks) m) }
+    ensures rest { result ≡ drop from (message_at at list.old).blocks }
+{
+    let _len = list.len();
+    let mut rest = list.split_off(at).unwrap();
+    let message = rest.front_mut().unwrap();
+    let parted = message.blocks.split_off(from).unwrap();
+    list.append(&mut rest).unwrap();
+    parted
+}
+
+/// Hangs blocks behind those of the message at a place.
+pub(crate) fn join_blocks(
+    list: &mut LinkedList<Message>,
+    at: usize,
+    mut blocks: LinkedList<MessageBlock>,
+)
+    requires within { at < length list.old }
+    requires few { length (message_at at list.old).blocks + length blocks < 2 ^ 63 }
+    ensures { let m = message_at at list.old in list.new ≡ slice_set list.old at (with_blocks (m.blocks ++ blocks) m) }
+{
+    let _len = list.len();
+    let mut rest = list.split_off(at).unwrap();
+    let message = rest.front_mut().unwrap();
+    message.blocks.append(&mut blocks).unwrap();
+    list.append(&mut rest).unwrap();
+}
+
 /// The place of the message of a name in a list, or the list's length where there is none.
 pub(crate) fn place_of(list: &LinkedList<Message>, name: usize) -> usize
     ensures { result ≡ place_in name list.now }
@@ -90,6 +126,16 @@ pub(crate) fn place_of(list: &LinkedList<Message>, name: usize) -> usize
         place += 1;
     }
     place
+}
+
+/// The message of a name, taken off a list.
+pub(crate) fn take_named(list: &mut LinkedList<Message>, name: usize) -> LinkedList<Message>
+    requires { place_in name list.old < length list.old }
+    ensures rest { list.new ≡ without_at (place_in name list.old) list.old }
+    ensures node { result ≡ message_at (place_in name list.old) list.old ∷ [] }
+{
+    let place = place_of(list, name);
+    take_node(list, place)
 }
 
 /// A block of a chain.
@@ -110,6 +156,15 @@ pub(crate) fn blocks_of(list: &LinkedList<Message>, name: usize) -> &LinkedList<
     let mut rest = list.iter();
     let message = rest.nth(place).unwrap();
     &message.blocks
+}
+
+/// A block of the message of a name.
+pub(crate) fn block_in(list: &LinkedList<Message>, name: usize, at: usize) -> MessageBlock
+    requires there { place_in name list.now < length list.now }
+    requires within { at < length (message_at (place_in name list.now) list.now).blocks }
+    ensures { result ≡ row_at at (message_at (place_in name list.now) list.now).blocks }
+{
+    block_at(blocks_of(list, name), at)
 }
 
 /// Gives a spare block these contents, as a chain of one block.
@@ -160,7 +215,6 @@ pub(crate) fn replace_block(
     name: usize,
     at: usize,
     block: MessageBlock,
-    mut none: LinkedList<MessageBlock>,
 )
     requires there { place_in name list.old < length list.old }
     requires within { at < length (message_at (place_in name list.old) list.old).blocks }
@@ -168,9 +222,11 @@ pub(crate) fn replace_block(
         list.new ≡ slice_set list.old place (with_blocks (slice_set m.blocks at block) m) }
 {
     let place = place_of(list, name);
-    swap_blocks(list, place, &mut none);
-    set_block(&mut none, at, block);
-    swap_blocks(list, place, &mut none);
+    let _len = list.len();
+    let mut rest = list.split_off(place).unwrap();
+    let message = rest.front_mut().unwrap();
+    set_block(&mut message.blocks, at, block);
+    list.append(&mut rest).unwrap();
 }
 
 /// The first block of a chain. For a chain of no block, one of M_DATA and band 0.
@@ -189,52 +245,19 @@ pub(crate) fn first_block(chain: &LinkedList<MessageBlock>) -> MessageBlock
     }
 }
 
-/// Hangs blocks behind those of the message at a place. `none` is a chain of no block.
-pub(crate) fn join_blocks(
-    list: &mut LinkedList<Message>,
-    at: usize,
-    mut blocks: LinkedList<MessageBlock>,
-    mut none: LinkedList<MessageBlock>,
-)
-    requires within { at < length list.old }
-    requires few { length (message_at at list.old).blocks + length blocks < 2 ^ 63 }
-    ensures { let m = message_at at list.old in list.new ≡ slice_set list.old at (with_blocks (m.blocks ++ blocks) m) }
-{
-    swap_blocks(list, at, &mut none);
-    none.append(&mut blocks).unwrap();
-    swap_blocks(list, at, &mut none);
-}
-
-/// Takes all blocks but the first from the message at a place. `none` is a chain of no block.
-pub(crate) fn part_blocks(
-    list: &mut LinkedList<Message>,
-    at: usize,
-    mut none: LinkedList<MessageBlock>,
-) -> LinkedList<MessageBlock>
-    requires within { at < length list.old }
-    requires some { 0 < length (message_at at list.old).blocks }
-    ensures kept { let m = message_at at list.old in list.new ≡ slice_set list.old at (with_blocks (take 1 m.blocks) m) }
-    ensures rest { result ≡ drop 1 (message_at at list.old).blocks }
-{
-    swap_blocks(list, at, &mut none);
-    let rest = none.split_off(1).unwrap();
-    swap_blocks(list, at, &mut none);
-    rest
-}
-
-/// Moves all messages of eight lists and of the hand to another list.
+/// Takes all messages off eight lists and out of the hand.
 pub(crate) fn gather(
     lists: &mut [LinkedList<Message>; 8],
     hand: &mut LinkedList<Message>,
-    taken: &mut LinkedList<Message>,
-)
-    requires { length taken.old + weigh (λ _. 1) lists.old hand.old < 2 ^ 63 }
+) -> LinkedList<Message>
+    requires { weigh (λ _. 1) lists.old hand.old < 2 ^ 63 }
     ensures lists { lists.new ≡ replicate 8 [] }
     ensures hand { hand.new ≡ [] }
-    ensures taken { (g : Message → ℕ) → sum_by g taken.new ≡ sum_by g taken.old + weigh g lists.old hand.old }
+    ensures taken { (g : Message → ℕ) → sum_by g result ≡ weigh g lists.old hand.old }
 {
-    taken.append(hand).unwrap();
+    let mut taken = hand.split_off(0).unwrap();
     for list in 0..8 {
         taken.append(&mut lists[list]).unwrap();
     }
+    taken
 }

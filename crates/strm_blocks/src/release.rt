@@ -5,7 +5,7 @@ ghost use Rattle.strm_blocks.specs.Message.{naming, named, block_count, message_
 use crate::asked::FlushWhat;
 use crate::data::DataBlocks;
 use crate::kinds::is_flushed;
-use crate::message::{Message, MessageBlock, first_block, swap_blocks, take_node};
+use crate::message::{Message, MessageBlock, first_block, part_blocks, take_node};
 use std::collections::LinkedList;
 
 /// Takes away the references that blocks have to their data blocks.
@@ -22,18 +22,16 @@ fn release_all(blocks: &LinkedList<MessageBlock>, pool: &mut DataBlocks)
     }
 }
 
-/// Gives back the blocks of all messages of a list, and lets the messages stand idle. `none` is a chain of no block.
+/// Gives back the blocks of all messages of a list, and lets the messages stand idle.
 pub(crate) fn give_back(
     mut taken: LinkedList<Message>,
     idle: &mut LinkedList<Message>,
     spare: &mut LinkedList<MessageBlock>,
     pool: &mut DataBlocks,
-    mut none: LinkedList<MessageBlock>,
 )
     requires named { (d : ℕ) → sum_by (naming d) taken ≤ slice_index_or pool.old.references d 0 }
     requires few_messages { length idle.old + length taken < 2 ^ 63 }
     requires few_blocks { length spare.old + sum_by block_count taken < 2 ^ 63 }
-    requires empty { none ≡ [] }
     ensures messages { length idle.new ≡ length idle.old + length taken }
     ensures names { (i : ℕ) → sum_by (named i) idle.new ≡ sum_by (named i) idle.old + sum_by (named i) taken }
     ensures blocks { length spare.new ≡ length spare.old + sum_by block_count taken }
@@ -44,9 +42,9 @@ pub(crate) fn give_back(
 {
     'each: while !taken.is_empty() {
         let mut node = take_node(&mut taken, 0);
-        swap_blocks(&mut node, 0, &mut none);
-        release_all(&none, pool);
-        spare.append(&mut none).unwrap();
+        let mut blocks = part_blocks(&mut node, 0, 0);
+        release_all(&blocks, pool);
+        spare.append(&mut blocks).unwrap();
         idle.append(&mut node).unwrap();
     }
 }

@@ -4,10 +4,10 @@ ghost use Rattle.strm_blocks.specs.Blocks.{empty_store};
 
 use crate::asked::{FlushWhat, NoBlocks, Peek, Summary};
 use crate::blocks::Blocks;
-use crate::data::{BLOCK_SIZE, DataBlocks};
+use crate::data::DataBlocks;
 use crate::message::{
-    Message, MessageBlock, block_at, blocks_of, chain_with, first_block, gather, hold, join_blocks,
-    name_of, part_blocks, place_of, put_node, replace_block, swap_blocks, take_node,
+    Message, MessageBlock, block_at, block_in, blocks_of, chain_with, first_block, gather, hold,
+    join_blocks, name_of, part_blocks, place_of, put_node, replace_block, take_named, take_node,
 };
 use crate::parts::{peek_at, place_before, place_behind, rank_of, summary_at, tell};
 use crate::release::{give_back, sift};
@@ -15,7 +15,7 @@ use crate::visitor::Visitor;
 use std::alloc::{AllocError, Global};
 use std::collections::LinkedList;
 use std::marker::Model;
-use strm_types::{Band, MsgKind};
+use strm_types::{BLOCK_SIZE, Band, MsgKind};
 
 /// A store of message blocks and data blocks in linked lists and tables. All of its memory is reserved when it is made:
 /// its blocks and messages are nodes, which move from list to list.
@@ -27,7 +27,6 @@ pub struct TableStore {
     spare: LinkedList<MessageBlock>,
     data: DataBlocks,
     mblks: usize,
-    alloc: Global,
 }
 
 impl Model for TableStore {
@@ -90,7 +89,6 @@ impl TableStore {
             spare,
             data,
             mblks,
-            alloc,
         })
     }
 }
@@ -149,7 +147,7 @@ impl Blocks for TableStore {
     }
 
     fn dup(&mut self, message: &InHand, at: usize) -> Result<InHand, NoBlocks> {
-        let block = block_at(blocks_of(&self.hand, message.name), at);
+        let block = block_in(&self.hand, message.name, at);
         if self.spare.is_empty() {
             return Err(NoBlocks);
         }
@@ -164,7 +162,7 @@ impl Blocks for TableStore {
     }
 
     fn copy(&mut self, message: &InHand, at: usize) -> Result<InHand, NoBlocks> {
-        let block = block_at(blocks_of(&self.hand, message.name), at);
+        let block = block_in(&self.hand, message.name, at);
         if self.spare.is_empty() {
             return Err(NoBlocks);
         }
@@ -187,26 +185,22 @@ impl Blocks for TableStore {
     }
 
     fn free(&mut self, message: InHand) {
-        let place = place_of(&self.hand, message.name);
-        let taken = take_node(&mut self.hand, place);
-        let none = LinkedList::new(self.alloc);
-        give_back(taken, &mut self.idle, &mut self.spare, &mut self.data, none);
+        let taken = take_named(&mut self.hand, message.name);
+        give_back(taken, &mut self.idle, &mut self.spare, &mut self.data);
     }
 
     fn link(&mut self, first: InHand, second: InHand) -> InHand {
-        let place = place_of(&self.hand, second.name);
-        let mut node = take_node(&mut self.hand, place);
-        let mut rest = LinkedList::new(self.alloc);
-        swap_blocks(&mut node, 0, &mut rest);
+        let mut node = take_named(&mut self.hand, second.name);
+        let rest = part_blocks(&mut node, 0, 0);
         put_node(&mut self.idle, 0, node);
         let place = place_of(&self.hand, first.name);
-        join_blocks(&mut self.hand, place, rest, LinkedList::new(self.alloc));
+        join_blocks(&mut self.hand, place, rest);
         first
     }
 
     fn unlink(&mut self, message: InHand) -> (InHand, Option<InHand>) {
         let place = place_of(&self.hand, message.name);
-        let rest = part_blocks(&mut self.hand, place, LinkedList::new(self.alloc));
+        let rest = part_blocks(&mut self.hand, place, 1);
         if rest.is_empty() {
             return (message, None);
         }
@@ -225,30 +219,27 @@ impl Blocks for TableStore {
         let count = bytes.len().min(BLOCK_SIZE - block.end);
         self.data.write(block.number, block.end, &bytes[..count]);
         block.end += count;
-        let none = LinkedList::new(self.alloc);
-        replace_block(&mut self.hand, message.name, last, block, none);
+        replace_block(&mut self.hand, message.name, last, block);
         count
     }
 
     fn bytes_at(&self, message: &InHand, at: usize) -> &[u8] {
-        let block = block_at(blocks_of(&self.hand, message.name), at);
+        let block = block_in(&self.hand, message.name, at);
         self.data.shown(block.number, block.start, block.end)
     }
 
     fn trim_head(&mut self, message: &InHand, at: usize, n: usize) {
-        let mut block = block_at(blocks_of(&self.hand, message.name), at);
+        let mut block = block_in(&self.hand, message.name, at);
         self.data.audit();
         block.start += n.min(block.end.saturating_sub(block.start));
-        let none = LinkedList::new(self.alloc);
-        replace_block(&mut self.hand, message.name, at, block, none);
+        replace_block(&mut self.hand, message.name, at, block);
     }
 
     fn trim_tail(&mut self, message: &InHand, at: usize, n: usize) {
-        let mut block = block_at(blocks_of(&self.hand, message.name), at);
+        let mut block = block_in(&self.hand, message.name, at);
         self.data.audit();
         block.end -= n.min(block.end.saturating_sub(block.start));
-        let none = LinkedList::new(self.alloc);
-        replace_block(&mut self.hand, message.name, at, block, none);
+        replace_block(&mut self.hand, message.name, at, block);
     }
 
     fn blocks(&self, message: &InHand) -> usize {
@@ -256,19 +247,18 @@ impl Blocks for TableStore {
     }
 
     fn block_len(&self, message: &InHand, at: usize) -> usize {
-        let block = block_at(blocks_of(&self.hand, message.name), at);
+        let block = block_in(&self.hand, message.name, at);
         self.data.shown(block.number, block.start, block.end).len()
     }
 
     fn kind(&self, message: &InHand, at: usize) -> MsgKind {
-        block_at(blocks_of(&self.hand, message.name), at).kind
+        block_in(&self.hand, message.name, at).kind
     }
 
     fn set_kind(&mut self, message: &InHand, at: usize, kind: MsgKind) {
-        let mut block = block_at(blocks_of(&self.hand, message.name), at);
+        let mut block = block_in(&self.hand, message.name, at);
         block.kind = kind;
-        let none = LinkedList::new(self.alloc);
-        replace_block(&mut self.hand, message.name, at, block, none);
+        replace_block(&mut self.hand, message.name, at, block);
     }
 
     fn band(&self, message: &InHand) -> Band {
@@ -281,10 +271,9 @@ impl Blocks for TableStore {
     }
 
     fn set_band(&mut self, message: &InHand, band: Band) {
-        let mut block = block_at(blocks_of(&self.hand, message.name), 0);
+        let mut block = block_in(&self.hand, message.name, 0);
         block.band = band.0;
-        let none = LinkedList::new(self.alloc);
-        replace_block(&mut self.hand, message.name, 0, block, none);
+        replace_block(&mut self.hand, message.name, 0, block);
     }
 
     fn is_empty(&self, list: usize) -> bool {
@@ -293,16 +282,14 @@ impl Blocks for TableStore {
 
     fn insert_back(&mut self, list: usize, message: InHand) {
         let rank = rank_of(blocks_of(&self.hand, message.name));
-        let place = place_of(&self.hand, message.name);
-        let node = take_node(&mut self.hand, place);
+        let node = take_named(&mut self.hand, message.name);
         let place = place_behind(&self.lists[list], rank);
         put_node(&mut self.lists[list], place, node);
     }
 
     fn insert_front(&mut self, list: usize, message: InHand) {
         let rank = rank_of(blocks_of(&self.hand, message.name));
-        let place = place_of(&self.hand, message.name);
-        let node = take_node(&mut self.hand, place);
+        let node = take_named(&mut self.hand, message.name);
         let place = place_before(&self.lists[list], rank);
         put_node(&mut self.lists[list], place, node);
     }
@@ -330,8 +317,7 @@ impl Blocks for TableStore {
 
     fn drop_where(&mut self, list: usize, what: FlushWhat) {
         let taken = sift(&mut self.lists[list], what);
-        let none = LinkedList::new(self.alloc);
-        give_back(taken, &mut self.idle, &mut self.spare, &mut self.data, none);
+        give_back(taken, &mut self.idle, &mut self.spare, &mut self.data);
     }
 
     fn free_blocks(&self) -> (usize, usize) {
@@ -339,9 +325,7 @@ impl Blocks for TableStore {
     }
 
     fn reset(&mut self) {
-        let mut taken = LinkedList::new(self.alloc);
-        gather(&mut self.lists, &mut self.hand, &mut taken);
-        let none = LinkedList::new(self.alloc);
-        give_back(taken, &mut self.idle, &mut self.spare, &mut self.data, none);
+        let taken = gather(&mut self.lists, &mut self.hand);
+        give_back(taken, &mut self.idle, &mut self.spare, &mut self.data);
     }
 }

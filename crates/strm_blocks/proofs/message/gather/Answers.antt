@@ -9,19 +9,14 @@ use Rattle.strm_blocks.proofs.message.gather.Goals as goal
 
 pub unwrap-requires : goal.unwrap-requires
 unwrap-requires c =
-    c.append.ensures.succeeds (let h = ones c.args.hand.now in omega (arith, c.requires))
-
-pub unwrap-requires-in-loop-list : goal.unwrap-requires-in-loop-list
-unwrap-requires-in-loop-list c =
     let lists = c.loop-list.lists in
     let k = c.loop-list.list in
     let all = c.loop-list.invariant.sums (λ m. 1) in
     let taken = ones c.loop-list.taken in
-    let before = ones c.args.taken.now in
     let here = get_or-le-sum_by (λ (q : List Message). sum_by (λ m. 1) q) lists k [] (omega (arith, c.loop-list.invariant.eight)) in
     let len = ap (λ (q : List Message). length q) (get_or_default lists k c.index-lists-list.result [] (omega (arith, c.loop-list.invariant.eight))) in
     let one = ones (get_or lists k []) in
-    c.append-in-loop-list.ensures.succeeds (omega (arith, c.requires))
+    c.append.ensures.succeeds (omega (arith, c.requires))
 
 pub returns-clause-lists : goal.returns-clause-lists
 returns-clause-lists c = all-empty c.loop-list.lists 8 c.loop-list.invariant.eight (λ k within. c.loop-list.invariant.below k (omega arith))

@@ -8,5 +8,5 @@ invariant-loop-list l = record {
   empty : l.hand ≡ [];
   eight : length l.lists ≡ 8;
   below : (k : ℕ) → k < l.list → get_or l.lists k [] ≡ [];
-  sums : (g : Message → ℕ) → sum_by g l.taken + sum_by (λ q. sum_by g q) l.lists ≡ sum_by g l.fn.taken + weigh g l.fn.lists l.fn.hand;
+  sums : (g : Message → ℕ) → sum_by g l.taken + sum_by (λ q. sum_by g q) l.lists ≡ weigh g l.fn.lists l.fn.hand;
 }

@@ -1,6 +1,16 @@
-use Rattle.strm_blocks.proofs.Nodes.{swap-twice}
+use Rattle.std.proofs.Common.{◌≡◌, ap, arith}
+use Rattle.std.proofs.Math.ListN.{set}
+use Rattle.std.proofs.lemmas.Grind.{common_steps}
+use Rattle.strm_blocks.proofs.ListParts.{set-behind}
+use Rattle.strm_blocks.specs.Message.{with_blocks, message_at}
+use Rattle.strm_blocks.specs.declared.message.Message.{Message}
 use Rattle.strm_blocks.proofs.message.replace_block.Goals as goal
 
 pub returns : goal.returns
 returns c =
-    rw (c.swap_blocks-2.ensures.given, c.set_block.ensures, c.swap_blocks.ensures.taken, c.swap_blocks.ensures.given, c.place_of-place.ensures) (swap-twice c.args.list.now _ c.args.none _ c.requires.there)
+    let list = c.args.list.now in
+    let place = c.place_of-place.result in
+    let here : c.unwrap-message.result.now ≡ message_at place list = grind (arith, common_steps) in
+    let name = ap (λ (m : Message). m.name) here in
+    let blocks = ap (λ (m : Message). m.blocks) here in
+    grind (arith, common_steps, set-behind list place (with_blocks (set (message_at place list).blocks c.args.at c.args.block) (message_at place list)))

@@ -1,10 +1,9 @@
-use Rattle.std.proofs.Common.{ℕ, ◌≡◌, ◌≤◌, ◌+◌, [], length, sum_by, slice_index_or}
+use Rattle.std.proofs.Common.{ℕ, ◌≡◌, ◌≤◌, ◌+◌, length, sum_by, slice_index_or}
 use Rattle.strm_blocks.specs.Message.{naming, named, block_count}
 use Rattle.strm_blocks.proofs.release.give_back.Given as goal
 
 abbrev pub invariant-each : goal.invariant-each
 invariant-each l = record {
-  empty : l.none ≡ [];
   enough : (d : ℕ) → sum_by (naming d) l.taken ≤ slice_index_or l.pool.references d 0;
   messages : length l.idle + length l.taken ≡ length l.fn.idle + length l.fn.taken;
   names : (i : ℕ) → sum_by (named i) l.idle + sum_by (named i) l.taken ≡ sum_by (named i) l.fn.idle + sum_by (named i) l.fn.taken;

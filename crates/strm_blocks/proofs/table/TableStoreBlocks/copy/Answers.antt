@@ -2,7 +2,7 @@ use Rattle.std.proofs.Common.{arith, ℕ, ◌≡◌, ◌<◌, ◌+◌, ◌-◌, 
 use Rattle.std.proofs.Math.ListN.{set, length-set}
 use Rattle.std.specs.Prelude.{slice_range}
 use Rattle.std.proofs.lemmas.Bool.Decides.{nat_tests}
-use Rattle.strm_blocks.specs.Message.{row_at, with_blocks, message_at}
+use Rattle.strm_blocks.specs.Message.{with_blocks, message_at}
 use Rattle.strm_blocks.specs.Outcomes.{Copied}
 use Rattle.strm_blocks.specs.Table.{shown}
 use Rattle.strm_blocks.specs.Pool.{Pool}
@@ -15,14 +15,11 @@ use Rattle.strm_blocks.proofs.Shown.{length-range}
 use Rattle.strm_blocks.proofs.Stores.{value-same}
 use Rattle.strm_blocks.proofs.table.TableStoreBlocks.copy.Goals as goal
 
-pub blocks_of-requires : goal.blocks_of-requires
-blocks_of-requires c = found.within c.self.inside c.self.view_is c.args.message.now.name c.requires.in_hand
+pub block_in-block-requires-clause-there : goal.block_in-block-requires-clause-there
+block_in-block-requires-clause-there c = found.within c.self.inside c.self.view_is c.args.message.now.name c.requires.in_hand
 
-pub block_at-block-requires : goal.block_at-block-requires
-block_at-block-requires c =
-    let within = found.block-within c.self.inside c.self.view_is c.args.message.now.name c.args.at c.requires.within in
-    let same = ap length c.blocks_of.ensures in
-    omega arith
+pub block_in-block-requires-clause-within : goal.block_in-block-requires-clause-within
+block_in-block-requires-clause-within c = found.block-within c.self.inside c.self.view_is c.args.message.now.name c.args.at c.requires.within
 
 pub returns-then-is_empty : goal.returns-then-is_empty
 returns-then-is_empty c =
@@ -39,8 +36,8 @@ pub copy-requires-clause-from_there : goal.copy-requires-clause-from_there
 copy-requires-clause-from_there c =
     let t = c.self.inside in
     let name = c.args.message.now.name in
-    let row = c.block_at-block.result in
-    let same = c.block_at-block.ensures ∙ ap (λ blocks. row_at c.args.at blocks) c.blocks_of.ensures in
+    let row = c.block_in-block.result in
+    let same = c.block_in-block.ensures in
     let exists = there t c.self.view_is c.self.invariant name c.args.at c.requires.in_hand c.requires.within row same in
     let count = ap (λ (p : Pool). length p.references) c.in-Some.ensures.after ∙ length-set t.data.references c.in-Some.number 1 in
     omega arith
@@ -49,8 +46,8 @@ pub copy-requires-clause-ordered : goal.copy-requires-clause-ordered
 copy-requires-clause-ordered c =
     let t = c.self.inside in
     let name = c.args.message.now.name in
-    let row = c.block_at-block.result in
-    let same = c.block_at-block.ensures ∙ ap (λ blocks. row_at c.args.at blocks) c.blocks_of.ensures in
+    let row = c.block_in-block.result in
+    let same = c.block_in-block.ensures in
     let order = in-order t c.self.view_is c.self.invariant name c.args.at c.requires.in_hand c.requires.within row same in
     omega arith
 
@@ -58,8 +55,8 @@ pub copy-requires-clause-within : goal.copy-requires-clause-within
 copy-requires-clause-within c =
     let t = c.self.inside in
     let name = c.args.message.now.name in
-    let row = c.block_at-block.result in
-    let same = c.block_at-block.ensures ∙ ap (λ blocks. row_at c.args.at blocks) c.blocks_of.ensures in
+    let row = c.block_in-block.result in
+    let same = c.block_in-block.ensures in
     let order = in-order t c.self.view_is c.self.invariant name c.args.at c.requires.in_hand c.requires.within row same in
     omega arith
 
@@ -67,8 +64,8 @@ pub overflow_sub-copied : goal.overflow_sub-copied
 overflow_sub-copied c =
     let t = c.self.inside in
     let name = c.args.message.now.name in
-    let row = c.block_at-block.result in
-    let same = c.block_at-block.ensures ∙ ap (λ blocks. row_at c.args.at blocks) c.blocks_of.ensures in
+    let row = c.block_in-block.result in
+    let same = c.block_in-block.ensures in
     let order = in-order t c.self.view_is c.self.invariant name c.args.at c.requires.in_hand c.requires.within row same in
     omega arith
 
@@ -84,8 +81,8 @@ pub invariant_of-self-2 : goal.invariant_of-self-2
 invariant_of-self-2 c =
     let t = c.self.inside in
     let name = c.args.message.now.name in
-    let row = c.block_at-block.result in
-    let same = c.block_at-block.ensures ∙ ap (λ blocks. row_at c.args.at blocks) c.blocks_of.ensures in
+    let row = c.block_in-block.result in
+    let same = c.block_in-block.ensures in
     let order = in-order t c.self.view_is c.self.invariant name c.args.at c.requires.in_hand c.requires.within row same in
     let taken = c.in-Some.ensures in
     let some : 0 < length t.spare = grind (arith, nat_tests) in
@@ -96,8 +93,8 @@ pub returns : goal.returns
 returns c =
     let t = c.self.inside in
     let name = c.args.message.now.name in
-    let row = c.block_at-block.result in
-    let same = c.block_at-block.ensures ∙ ap (λ blocks. row_at c.args.at blocks) c.blocks_of.ensures in
+    let row = c.block_in-block.result in
+    let same = c.block_in-block.ensures in
     let order = in-order t c.self.view_is c.self.invariant name c.args.at c.requires.in_hand c.requires.within row same in
     let exists = there t c.self.view_is c.self.invariant name c.args.at c.requires.in_hand c.requires.within row same in
     let block = row-is t c.self.view_is c.self.invariant name c.args.at c.requires.in_hand c.requires.within row same in

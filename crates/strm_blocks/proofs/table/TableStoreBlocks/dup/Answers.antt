@@ -2,7 +2,7 @@ use Rattle.std.proofs.Common.{arith, ◌≡◌, ◌<◌, ◌∙◌, ◌∷◌, s
 use Rattle.std.proofs.Math.ListN.{length-set}
 use Rattle.std.proofs.lemmas.Bool.Decides.{nat_tests}
 use Rattle.strm_blocks.specs.Blocks.{Block}
-use Rattle.strm_blocks.specs.Message.{row_at, with_blocks, message_at}
+use Rattle.strm_blocks.specs.Message.{with_blocks, message_at}
 use Rattle.strm_blocks.specs.Outcomes.{Duplicated, NoneShared}
 use Rattle.strm_blocks.specs.Pool.{Pool}
 use Rattle.strm_blocks.specs.Table.{shown}
@@ -14,14 +14,11 @@ use Rattle.strm_blocks.proofs.Moves.{askew_row, idle-some, hand-few, IsTable-add
 use Rattle.strm_blocks.proofs.Stores.{value-same}
 use Rattle.strm_blocks.proofs.table.TableStoreBlocks.dup.Goals as goal
 
-pub blocks_of-requires : goal.blocks_of-requires
-blocks_of-requires c = found.within c.self.inside c.self.view_is c.args.message.now.name c.requires.in_hand
+pub block_in-block-requires-clause-there : goal.block_in-block-requires-clause-there
+block_in-block-requires-clause-there c = found.within c.self.inside c.self.view_is c.args.message.now.name c.requires.in_hand
 
-pub block_at-block-requires : goal.block_at-block-requires
-block_at-block-requires c =
-    let within = found.block-within c.self.inside c.self.view_is c.args.message.now.name c.args.at c.requires.within in
-    let same = ap length c.blocks_of.ensures in
-    omega arith
+pub block_in-block-requires-clause-within : goal.block_in-block-requires-clause-within
+block_in-block-requires-clause-within c = found.block-within c.self.inside c.self.view_is c.args.message.now.name c.args.at c.requires.within
 
 pub returns-then-is_empty : goal.returns-then-is_empty
 returns-then-is_empty c =
@@ -34,22 +31,22 @@ references-requires c =
     let name = c.args.message.now.name in
     let there = found.within c.self.inside c.self.view_is name c.requires.in_hand in
     let within = found.block-within c.self.inside c.self.view_is name c.args.at c.requires.within in
-    rw (c.block_at-block.ensures, c.blocks_of.ensures) (found.row-there c.self.invariant _ there c.args.at within)
+    rw c.block_in-block.ensures (found.row-there c.self.invariant _ there c.args.at within)
 
 pub returns-then-references : goal.returns-then-references
 returns-then-references c =
     let t = c.self.inside in
-    let row = c.block_at-block.ensures ∙ ap (λ blocks. row_at c.args.at blocks) c.blocks_of.ensures in
+    let row = c.block_in-block.ensures in
     let block = found.block-is t c.self.view_is c.args.message.now.name c.args.at c.requires.within ∙ ap (λ (b : MessageBlock). shown t.data.bytes b) (sym row) in
     let full = sym c.references.ensures ∙ c.if-references.true in
-    subst (λ (b : Block). NoneShared c.args.self.now c.args.self.now b.number) (sym block) (rw (← c.self.view_is) (NoneShared-full t.data.bytes c.self.invariant c.block_at-block.result.number full))
+    subst (λ (b : Block). NoneShared c.args.self.now c.args.self.now b.number) (sym block) (rw (← c.self.view_is) (NoneShared-full t.data.bytes c.self.invariant c.block_in-block.result.number full))
 
 pub share-requires-clause-named : goal.share-requires-clause-named
 share-requires-clause-named c =
     let name = c.args.message.now.name in
     let there = found.within c.self.inside c.self.view_is name c.requires.in_hand in
     let within = found.block-within c.self.inside c.self.view_is name c.args.at c.requires.within in
-    rw (c.block_at-block.ensures, c.blocks_of.ensures) (found.row-named c.self.invariant _ there c.args.at within)
+    rw c.block_in-block.ensures (found.row-named c.self.invariant _ there c.args.at within)
 
 pub hold-requires-clause-some : goal.hold-requires-clause-some
 hold-requires-clause-some c =
@@ -66,21 +63,21 @@ invariant_of-self c =
     let there = found.within t c.self.view_is name c.requires.in_hand in
     let within = found.block-within t c.self.view_is name c.args.at c.requires.within in
     let some : 0 < length t.spare = grind (arith, nat_tests) in
-    let row = c.block_at-block.ensures ∙ ap (λ blocks. row_at c.args.at blocks) c.blocks_of.ensures in
+    let row = c.block_in-block.ensures in
     let straight = ap (λ (b : MessageBlock). askew_row b) row ∙ found.row-straight c.self.invariant _ there c.args.at within in
     let number = ap (λ (b : MessageBlock). b.number) row in
     let exists = found.row-there c.self.invariant _ there c.args.at within in
     let counts = ap (λ (p : Pool). p.references) c.share.ensures in
-    rw (c.hold.ensures.hand, c.hold.ensures.idle, c.chain_with-chain.ensures.chain, c.chain_with-chain.ensures.rest, counts) (IsTable-added c.self.invariant c.block_at-block.result _ some straight (count-more t.data.references c.block_at-block.result.number _ (omega arith) refl))
+    rw (c.hold.ensures.hand, c.hold.ensures.idle, c.chain_with-chain.ensures.chain, c.chain_with-chain.ensures.rest, counts) (IsTable-added c.self.invariant c.block_in-block.result _ some straight (count-more t.data.references c.block_in-block.result.number _ (omega arith) refl))
 
 pub returns : goal.returns
 returns c =
     let t = c.self.inside in
-    let row = c.block_at-block.ensures ∙ ap (λ blocks. row_at c.args.at blocks) c.blocks_of.ensures in
+    let row = c.block_in-block.ensures in
     let block = found.block-is t c.self.view_is c.args.message.now.name c.args.at c.requires.within ∙ ap (λ (b : MessageBlock). shown t.data.bytes b) (sym row) in
     let some : 0 < length t.spare = grind (arith, nat_tests) in
-    let few : get_or t.data.references c.block_at-block.result.number 0 < 255 = grind arith in
+    let few : get_or t.data.references c.block_in-block.result.number 0 < 255 = grind arith in
     let bytes = ap (λ (p : Pool). p.bytes) c.share.ensures in
-    let count : length c.share.new.self.references ≡ length t.data.references = ap (λ (p : Pool). length p.references) c.share.ensures ∙ length-set t.data.references c.block_at-block.result.number _ in
+    let count : length c.share.new.self.references ≡ length t.data.references = ap (λ (p : Pool). length p.references) c.share.ensures ∙ length-set t.data.references c.block_in-block.result.number _ in
     let new = value-same t.data.bytes t.lists _ t.mblks _ bytes refl (c.hold.ensures.hand ∙ ap (λ blocks. with_blocks blocks (message_at 0 t.idle) ∷ t.hand) c.chain_with-chain.ensures.chain) count in
-    carried (λ old new name b. Duplicated old new name b) c.self.view_is new c.hold.ensures.name block (Duplicated-value t.data.bytes c.self.invariant c.block_at-block.result some few)
+    carried (λ old new name b. Duplicated old new name b) c.self.view_is new c.hold.ensures.name block (Duplicated-value t.data.bytes c.self.invariant c.block_in-block.result some few)

@@ -1,62 +1,28 @@
-use Rattle.std.proofs.Common.{arith, ℕ, ◌∙◌, ◌++◌, ◌∷◌, [], List, ap, length, take, drop}
+use Rattle.std.proofs.Common.{List, ap, arith, length}
 use Rattle.std.specs.Prelude.{nat_lt}
-use Rattle.std.specs.List.{prefix_len}
-use Rattle.std.proofs.lemmas.List.Sums.{prefix_len-le-length}
-use Rattle.strm_blocks.specs.Message.{rank_in, without_at, message_at}
+use Rattle.strm_blocks.specs.Message.{rank_in}
 use Rattle.strm_blocks.specs.declared.message.Message.{Message}
 use Rattle.strm_blocks.proofs.Found as found
-use Rattle.strm_blocks.proofs.Lists.{list, list-read, list-few, put_back-at, IsTable-put_back}
+use Rattle.strm_blocks.proofs.Lists.{place-fits, list-short, put_back-at, IsTable-put_back}
 use Rattle.strm_blocks.proofs.table.TableStoreBlocks.insert_front.Goals as goal
 
 pub blocks_of-requires : goal.blocks_of-requires
 blocks_of-requires c = found.within c.self.inside c.self.view_is c.args.message.name c.requires.in_hand
 
-pub take_node-node-requires : goal.take_node-node-requires
-take_node-node-requires c = let there = found.within c.self.inside c.self.view_is c.args.message.name c.requires.in_hand in omega arith
+pub take_named-node-requires : goal.take_named-node-requires
+take_named-node-requires c = found.within c.self.inside c.self.view_is c.args.message.name c.requires.in_hand
 
 pub put_node-requires-clause-within : goal.put_node-requires-clause-within
-put_node-requires-clause-within c =
-    let t = c.self.inside in
-    let k = c.args.list in
-    let read = ap (λ (q : List Message). length q) (list-read t c.self.view_is c.self.invariant k c.requires.list c.index-self-list-2.result) in
-    let place = c.place_before-place.ensures ∙ ap (λ (q : List Message). prefix_len (λ m. nat_lt c.rank_of-rank.result (rank_in m.blocks)) q) (list-read t c.self.view_is c.self.invariant k c.requires.list c.index-self-list.result) in
-    let le = prefix_len-le-length (λ (m : Message). nat_lt c.rank_of-rank.result (rank_in m.blocks)) (list t c.self.view_is c.self.invariant k c.requires.list) in
-    omega arith
+put_node-requires-clause-within c = place-fits c.self.inside c.self.view_is c.self.invariant c.args.list c.requires.list (λ (m : Message). nat_lt c.rank_of-rank.result (rank_in m.blocks)) c.place_before-place.result c.index-self-list.result c.index-self-list-2.result c.place_before-place.ensures
 
 pub put_node-requires-clause-few : goal.put_node-requires-clause-few
 put_node-requires-clause-few c =
-    let t = c.self.inside in
-    let k = c.args.list in
-    let read = ap (λ (q : List Message). length q) (list-read t c.self.view_is c.self.invariant k c.requires.list c.index-self-list-2.result) in
-    let few = list-few t c.self.view_is c.self.invariant k c.requires.list in
-    let one = ap (λ (q : List Message). length q) c.take_node-node.ensures.node in
+    let short = list-short c.self.inside c.self.view_is c.self.invariant c.args.list c.requires.list c.index-self-list-2.result in
+    let one = ap (λ (q : List Message). length q) c.take_named-node.ensures.node in
     omega arith
 
 pub invariant_of-self : goal.invariant_of-self
-invariant_of-self c =
-    let t = c.self.inside in
-    let k = c.args.list in
-    let name = c.args.message.name in
-    let there = found.within t c.self.view_is name c.requires.in_hand in
-    let read = list-read t c.self.view_is c.self.invariant k c.requires.list c.index-self-list-2.result in
-    let node = c.take_node-node.ensures.node ∙ ap (λ p. message_at p t.hand ∷ []) c.place_of-place.ensures in
-    let hand = c.take_node-node.ensures.rest ∙ ap (λ p. without_at p t.hand) c.place_of-place.ensures in
-    let q = list t c.self.view_is c.self.invariant k c.requires.list in
-    let rank = c.rank_of-rank.ensures ∙ ap (λ blocks. rank_in blocks) c.blocks_of.ensures in
-    let place = c.place_before-place.ensures ∙ ap (λ (q : List Message). prefix_len (λ m. nat_lt c.rank_of-rank.result (rank_in m.blocks)) q) (list-read t c.self.view_is c.self.invariant k c.requires.list c.index-self-list.result) ∙ ap (λ (r : ℕ). prefix_len (λ (m : Message). nat_lt r (rank_in m.blocks)) q) rank in
-    let new = c.put_node.ensures ∙ ap (λ (q : List Message). take c.place_before-place.result q ++ (c.take_node-node.result ++ drop c.place_before-place.result q)) read ∙ ap (λ node. take c.place_before-place.result (list t c.self.view_is c.self.invariant k c.requires.list) ++ (node ++ drop c.place_before-place.result (list t c.self.view_is c.self.invariant k c.requires.list))) node in
-    IsTable-put_back t c.self.view_is c.self.invariant k c.requires.list name c.place_before-place.result c.put_node.new.list c.take_node-node.new.list there hand place new
+invariant_of-self c = IsTable-put_back c.self.inside c.self.view_is c.self.invariant c.args.list c.requires.list c.args.message.name c.place_before-place.result c.rank_of-rank.result c.blocks_of.result.now c.index-self-list.result c.index-self-list-2.result c.take_named-node.result c.put_node.new.list c.take_named-node.new.list c.rank_of-rank.ensures c.blocks_of.ensures c.take_named-node.ensures.rest c.take_named-node.ensures.node c.put_node.ensures c.place_before-place.ensures c.requires.in_hand
 
 pub returns : goal.returns
-returns c =
-    let t = c.self.inside in
-    let k = c.args.list in
-    let name = c.args.message.name in
-    let q = list t c.self.view_is c.self.invariant k c.requires.list in
-    let read = list-read t c.self.view_is c.self.invariant k c.requires.list c.index-self-list-2.result in
-    let node = c.take_node-node.ensures.node ∙ ap (λ p. message_at p t.hand ∷ []) c.place_of-place.ensures in
-    let hand = c.take_node-node.ensures.rest ∙ ap (λ p. without_at p t.hand) c.place_of-place.ensures in
-    let rank = c.rank_of-rank.ensures ∙ ap (λ blocks. rank_in blocks) c.blocks_of.ensures in
-    let place = c.place_before-place.ensures ∙ ap (λ (q : List Message). prefix_len (λ m. nat_lt c.rank_of-rank.result (rank_in m.blocks)) q) (list-read t c.self.view_is c.self.invariant k c.requires.list c.index-self-list.result) ∙ ap (λ (r : ℕ). prefix_len (λ (m : Message). nat_lt r (rank_in m.blocks)) q) rank in
-    let new = c.put_node.ensures ∙ ap (λ (q : List Message). take c.place_before-place.result q ++ (c.take_node-node.result ++ drop c.place_before-place.result q)) read ∙ ap (λ node. take c.place_before-place.result q ++ (node ++ drop c.place_before-place.result q)) node in
-    put_back-at t c.self.view_is c.self.invariant k c.requires.list name c.place_before-place.result c.put_node.new.list c.take_node-node.new.list hand place new
+returns c = put_back-at c.self.inside c.self.view_is c.self.invariant c.args.list c.requires.list c.args.message.name c.place_before-place.result c.rank_of-rank.result c.blocks_of.result.now c.index-self-list.result c.index-self-list-2.result c.take_named-node.result c.put_node.new.list c.take_named-node.new.list c.rank_of-rank.ensures c.blocks_of.ensures c.take_named-node.ensures.rest c.take_named-node.ensures.node c.put_node.ensures c.place_before-place.ensures

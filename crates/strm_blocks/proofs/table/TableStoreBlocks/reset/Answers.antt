@@ -5,12 +5,12 @@ use Rattle.strm_blocks.proofs.table.TableStoreBlocks.reset.Goals as goal
 
 pub give_back-requires-clause-few_messages : goal.give_back-requires-clause-few_messages
 give_back-requires-clause-few_messages c =
-    let all = moves.freed-all c.self.invariant c.gather.new.lists c.gather.new.hand c.new-taken.result c.gather.new.taken c.gather.ensures.lists c.gather.ensures.hand c.new-taken.ensures c.gather.ensures.taken in
-    let few = moves.freed-messages c.self.invariant c.gather.new.lists c.gather.new.hand c.gather.new.taken all in
+    let all = moves.freed-all c.self.invariant c.gather-taken.new.lists c.gather-taken.new.hand c.gather-taken.result c.gather-taken.ensures.lists c.gather-taken.ensures.hand c.gather-taken.ensures.taken in
+    let few = moves.freed-messages c.self.invariant c.gather-taken.new.lists c.gather-taken.new.hand c.gather-taken.result all in
     omega arith
 
 pub invariant_of-self : goal.invariant_of-self
 invariant_of-self c =
-    let all = moves.freed-all c.self.invariant c.gather.new.lists c.gather.new.hand c.new-taken.result c.gather.new.taken c.gather.ensures.lists c.gather.ensures.hand c.new-taken.ensures c.gather.ensures.taken in
+    let all = moves.freed-all c.self.invariant c.gather-taken.new.lists c.gather-taken.new.hand c.gather-taken.result c.gather-taken.ensures.lists c.gather-taken.ensures.hand c.gather-taken.ensures.taken in
     let after = c.give_back.ensures in
-    moves.IsTable-freed c.self.invariant c.gather.new.lists c.gather.new.hand c.gather.new.taken c.give_back.new.idle c.give_back.new.spare c.give_back.new.pool.references (ap length c.gather.ensures.lists) (rw c.gather.ensures.lists (AreOrdered-empty 8)) all after.blocks after.messages after.names after.released
+    moves.IsTable-freed c.self.invariant c.gather-taken.new.lists c.gather-taken.new.hand c.gather-taken.result c.give_back.new.idle c.give_back.new.spare c.give_back.new.pool.references (ap length c.gather-taken.ensures.lists) (rw c.gather-taken.ensures.lists (AreOrdered-empty 8)) all after.blocks after.messages after.names after.released

@@ -1,18 +1,14 @@
-use Rattle.std.proofs.Common.{arith, ◌∙◌, sym, ap, length}
-use Rattle.strm_blocks.specs.Blocks.{Block, changed, with_block, in_hand, of_kind}
-use Rattle.strm_blocks.specs.Message.{row_at}
-use Rattle.strm_blocks.proofs.Edits.{IsTable-replaced, replaced-value, row-is, in-order, number-is}
+use Rattle.std.proofs.Common.{sym, ap, refl}
+use Rattle.strm_blocks.specs.Blocks.{Block, of_kind}
+use Rattle.strm_blocks.proofs.Edits.{IsTable-changed, edited-value, row-is, in-order}
 use Rattle.strm_blocks.proofs.Found as found
 use Rattle.strm_blocks.proofs.table.TableStoreBlocks.set_kind.Goals as goal
 
-pub blocks_of-requires : goal.blocks_of-requires
-blocks_of-requires c = found.within c.self.inside c.self.view_is c.args.message.now.name c.requires.in_hand
+pub block_in-block-requires-clause-there : goal.block_in-block-requires-clause-there
+block_in-block-requires-clause-there c = found.within c.self.inside c.self.view_is c.args.message.now.name c.requires.in_hand
 
-pub block_at-block-requires : goal.block_at-block-requires
-block_at-block-requires c =
-    let within = found.block-within c.self.inside c.self.view_is c.args.message.now.name c.args.at c.requires.within in
-    let same = ap length c.blocks_of.ensures in
-    omega arith
+pub block_in-block-requires-clause-within : goal.block_in-block-requires-clause-within
+block_in-block-requires-clause-within c = found.block-within c.self.inside c.self.view_is c.args.message.now.name c.args.at c.requires.within
 
 pub replace_block-requires-clause-there : goal.replace_block-requires-clause-there
 replace_block-requires-clause-there c = found.within c.self.inside c.self.view_is c.args.message.now.name c.requires.in_hand
@@ -24,19 +20,14 @@ pub invariant_of-self : goal.invariant_of-self
 invariant_of-self c =
     let t = c.self.inside in
     let name = c.args.message.now.name in
-    let row = c.block_at-block.result in
-    let same = c.block_at-block.ensures ∙ ap (λ blocks. row_at c.args.at blocks) c.blocks_of.ensures in
-    let there = found.within t c.self.view_is name c.requires.in_hand in
-    let within = found.block-within t c.self.view_is name c.args.at c.requires.within in
-    let order = in-order t c.self.view_is c.self.invariant name c.args.at c.requires.in_hand c.requires.within row same in
-    let number = number-is t c.self.view_is c.self.invariant name c.args.at c.requires.in_hand c.requires.within row same in
-    rw c.replace_block.ensures (IsTable-replaced c.self.invariant _ c.args.at (record row { kind = c.args.kind }) there within number order)
+    let row = c.block_in-block.result in
+    let same = c.block_in-block.ensures in
+    IsTable-changed t c.self.view_is c.self.invariant name c.args.at c.requires.in_hand c.requires.within row same (record row { kind = c.args.kind }) c.replace_block.new.list c.replace_block.ensures refl (in-order t c.self.view_is c.self.invariant name c.args.at c.requires.in_hand c.requires.within row same)
 
 pub returns : goal.returns
 returns c =
     let t = c.self.inside in
     let name = c.args.message.now.name in
-    let row = c.block_at-block.result in
-    let same = c.block_at-block.ensures ∙ ap (λ blocks. row_at c.args.at blocks) c.blocks_of.ensures in
-    let is = row-is t c.self.view_is c.self.invariant name c.args.at c.requires.in_hand c.requires.within row same in
-    replaced-value t c.self.view_is name c.args.at (record row { kind = c.args.kind }) c.replace_block.new.list c.replace_block.ensures ∙ ap (λ (b : Block). changed c.args.self.now name (with_block c.args.at (of_kind c.args.kind b) (in_hand c.args.self.now name))) (sym is)
+    let row = c.block_in-block.result in
+    let same = c.block_in-block.ensures in
+    edited-value t c.self.view_is c.self.invariant name c.args.at c.requires.in_hand c.requires.within row same (record row { kind = c.args.kind }) c.replace_block.new.list c.replace_block.ensures _ (ap (λ (b : Block). of_kind c.args.kind b) (sym (row-is t c.self.view_is c.self.invariant name c.args.at c.requires.in_hand c.requires.within row same)))

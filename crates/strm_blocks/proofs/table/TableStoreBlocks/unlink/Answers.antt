@@ -12,10 +12,10 @@ use Rattle.strm_blocks.proofs.table.TableStoreBlocks.unlink.Goals as goal
 pub part_blocks-rest-requires-clause-within : goal.part_blocks-rest-requires-clause-within
 part_blocks-rest-requires-clause-within c = let there = found.within c.self.inside c.self.view_is c.args.message.name c.requires in omega arith
 
-pub part_blocks-rest-requires-clause-some : goal.part_blocks-rest-requires-clause-some
-part_blocks-rest-requires-clause-some c =
+pub part_blocks-rest-requires-clause-there : goal.part_blocks-rest-requires-clause-there
+part_blocks-rest-requires-clause-there c =
     let there = found.within c.self.inside c.self.view_is c.args.message.name c.requires in
-    rw c.place_of-place.ensures (found.some-block c.self.invariant _ there)
+    rw c.place_of-place.ensures (let some = found.some-block c.self.invariant _ there in omega (arith, some))
 
 pub returns-then-is_empty : goal.returns-then-is_empty
 returns-then-is_empty c =
