@@ -1,14 +1,16 @@
 -- The kept numbers of a queue after a flush, with other marks, and after its writers are let go.
-use Rattle.std.proofs.Common.{ℕ, ◌≡◌, ◌<◌, ◌+◌, Bool, true, false, cond, List, [], ◌∷◌, length, refl, sym, subst, ◌∙◌, arith, length-set}
+use Rattle.std.proofs.Common.{ℕ, ◌≡◌, ◌<◌, ◌≤◌, ◌+◌, Bool, true, false, cond, List, [], ◌∷◌, length, take, refl, sym, ap, subst, ◌∙◌, arith, length-set}
 use Rattle.std.specs.Prelude.{sum_by, slice_set, if◌then◌else◌, ◌==◌, ◌&&◌, ◌||◌, not, filter, None, Some}
 use Rattle.std.proofs.lemmas.Bool.Decides.{nat_tests}
 use Rattle.std.proofs.lemmas.List.Sums.{sum_by-cons}
+use Rattle.std.proofs.lemmas.List.Folds.{list_any_more}
+use Rattle.std.specs.List.{list_any}
 use Rattle.strm_types.specs.declared.kinds.Band.{Band}
 use Rattle.strm_blocks.specs.Blocks.{Block}
 use Rattle.strm_blocks.specs.Outcomes.{flushed}
 use Rattle.strm_queue.specs.declared.flow.Flow.{Flow}
 use Rattle.strm_queue.specs.Flows.{flushed_of, marked_with, relieves, relieved}
-use Rattle.strm_queue.specs.Kept.{bytes_of, band_of, is_data, data_share, other_share, flow_at, IsCounted, AreCounted}
+use Rattle.strm_queue.specs.Kept.{bytes_of, band_of, is_data, data_share, other_share, flow_at, no_flow, IsCounted, AreCounted}
 use Rattle.strm_queue.proofs.Counted.{flow-same, flow-other, all-kept}
 
 -- what stays and what goes have the sum of all
@@ -151,3 +153,33 @@ counted-band-flushed flows named q low is = record {
     at band lt false apart =
         rw (flow-other flows named.0 band (flushed_of false (flow_at named.0 flows)) (λ e. grind (arith, nat_tests)))
         (record { data_sum = (is.each band lt).data_sum ∙ sym (band-data-stays named.0 band q apart); other_sum = (is.each band lt).other_sum ∙ sym (band-others-stay named.0 band q); marked = (is.each band lt).marked })
+
+-- a change of each band in turn, so far
+pub record Passed (change : Flow → Flow) (old new : List Flow) (band : ℕ) : Type 0 where
+  pub eight : length new ≡ length old
+  pub before : (k : ℕ) → k < band → flow_at k new ≡ change (flow_at k old)
+  pub behind : (k : ℕ) → band ≤ k → flow_at k new ≡ flow_at k old
+
+pub passed-none : (change : Flow → Flow) (old : List Flow) → Passed change old old 0
+passed-none change old = record { eight = refl; before = λ k lt. absurd (omega arith); behind = λ k le. refl }
+
+pub passed-more : (change : Flow → Flow) (old new : List Flow) (band : ℕ) → band < length new → Passed change old new band → Passed change old (slice_set new band (change (flow_at band new))) (band + 1)
+passed-more change old new band within sofar = record {
+  eight = length-set new band _ ∙ sofar.eight;
+  before = λ k lt. at k lt (k == band) refl;
+  behind = λ k le. flow-other new band k (change (flow_at band new)) (λ e. omega (arith, e, le)) ∙ sofar.behind k (omega (arith, le));
+}
+  where
+    at : (k : ℕ) → k < band + 1 → (b : Bool) → (k == band) ≡ b → flow_at k (slice_set new band (change (flow_at band new))) ≡ change (flow_at k old)
+    at k lt true same =
+        let e : band ≡ k = grind (arith, nat_tests) in
+        subst (λ j. flow_at j (slice_set new band (change (flow_at band new))) ≡ change (flow_at j old)) e
+        (flow-same new band (change (flow_at band new)) within ∙ ap change (sofar.behind band (omega arith)))
+    at k lt false apart =
+        let earlier : k < band = grind (arith, nat_tests) in
+        flow-other new band k (change (flow_at band new)) (λ e. omega (arith, e, earlier)) ∙ sofar.before k earlier
+
+-- whether some band's writer was let go, with one band more
+pub went-more : (old new : List Flow) (band : ℕ) (went : Bool) → band < length old → flow_at band new ≡ flow_at band old → went ≡ list_any relieves (take band old) → (went || relieves (flow_at band new)) ≡ list_any relieves (take (band + 1) old)
+went-more old new band went within same sofar =
+    ap (λ b. b || relieves (flow_at band new)) sofar ∙ ap (λ f. list_any relieves (take band old) || relieves f) same ∙ sym (list_any_more relieves old band no_flow within)

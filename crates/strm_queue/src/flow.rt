@@ -107,4 +107,16 @@ impl Flow {
     {
         self.want_write && self.count() <= self.low
     }
+
+    /// Without its waiting writer, where that is let go.
+    pub(crate) fn relieved(self) -> Flow
+        requires { count_in self < 2 ^ 64 }
+        ensures { result ≡ relieved self }
+    {
+        let mut flow = self;
+        if flow.lets_go() {
+            flow.want_write = false;
+        }
+        flow
+    }
 }

@@ -281,10 +281,8 @@ impl Queue {
         let mut went = false;
         for band in 0..BANDS {
             let flow = self.flows[band];
-            if flow.lets_go() {
-                self.flows[band].want_write = false;
-                went = true;
-            }
+            went |= flow.lets_go();
+            self.flows[band] = flow.relieved();
         }
         went
     }

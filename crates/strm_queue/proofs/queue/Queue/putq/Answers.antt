@@ -24,3 +24,6 @@ returns-clause-flows g c = rw c.count_in.ensures.flows (set-added c.args.self.no
 
 pub returns-clause-placed : goal.returns-clause-placed
 returns-clause-placed g c = cc
+
+pub returns-clause-enables : goal.returns-clause-enables
+returns-clause-enables g c = cc
