@@ -1,5 +1,5 @@
 -- The lengths of a message's parts, as sums that run along its blocks.
-use Rattle.std.proofs.Common.{ℕ, ◌≡◌, ◌<◌, ◌+◌, true, false, cond, List, [], ◌∷◌, ◌++◌, length, drop, Option, None, Some, refl, sym, ap, ◌∙◌, arith, add-one, drop-cons, unwrap_or}
+use Rattle.std.proofs.Common.{ℕ, ◌≡◌, ◌<◌, ◌+◌, Bool, true, false, cond, List, [], ◌∷◌, ◌++◌, length, drop, Option, None, Some, refl, sym, ap, ◌∙◌, arith, add-one, drop-cons, unwrap_or}
 use Rattle.std.proofs.lemmas.List.{length-append}
 use Rattle.std.proofs.lemmas.List.Sums.{take_while-cons}
 use Rattle.strm_blocks.specs.Blocks.{Block, block_at, no_block}
@@ -89,3 +89,18 @@ data-run-is (b ∷ chain) =
       | true ↦ ap (λ k. data_run (Some k) chain) z ∙ ih ∙ ap Some e
       | false ↦ data-run-is chain
     ]
+
+-- one block more of the control part
+pub control-run-at : (found : Option ℕ) (chain : List Block) (at : ℕ) → at < length chain → is_control_kind (block_at at chain).kind ≡ true → control_run found (drop at chain) ≡ control_run (with_block_len found (block_at at chain)) (drop (at + 1) chain)
+control-run-at found chain at within kind =
+    ap (λ rest. control_run found rest) (chain-at chain at within) ∙ ap (λ v. cond v (control_run (with_block_len found (block_at at chain)) (drop (at + 1) chain)) found) kind
+
+-- one block more, of the data part or not
+pub data-run-at : (found : Option ℕ) (chain : List Block) (at : ℕ) (v : Bool) → at < length chain → is_body_kind (block_at at chain).kind ≡ v → data_run found (drop at chain) ≡ data_run (cond v (with_block_len found (block_at at chain)) found) (drop (at + 1) chain)
+data-run-at found chain at v within kind =
+    ap (λ rest. data_run found rest) (chain-at chain at within) ∙ ap (λ v. data_run (cond v (with_block_len found (block_at at chain)) found) (drop (at + 1) chain)) kind
+
+pub data-size-at : (chain : List Block) (at : ℕ) (v : Bool) → at < length chain → is_body_kind (block_at at chain).kind ≡ v → length (data_bytes (drop at chain)) ≡ cond v (length (block_at at chain).bytes) 0 + length (data_bytes (drop (at + 1) chain))
+data-size-at chain at v within kind =
+    ap (λ rest. length (data_bytes rest)) (chain-at chain at within) ∙ data-size-more (block_at at chain) (drop (at + 1) chain)
+    ∙ ap (λ v. cond v (length (block_at at chain).bytes) 0 + length (data_bytes (drop (at + 1) chain))) kind

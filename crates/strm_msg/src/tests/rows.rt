@@ -1,13 +1,16 @@
 //! Rows of calls on a message, what they are to answer, and what is to be seen after each.
 
-ghost use Rattle.std.specs.Prelude.{◌≡◌, IfOk};
+ghost use Rattle.std.specs.Prelude.{◌≡◌, ◌<◌, ◌≤◌, IfOk};
 ghost use Rattle.strm_blocks.specs.Blocks.{IsInHand, dropped};
 
 use crate::{
     NotPulled, adjmsg, control_len, copymsg, data_len, dupmsg, from_bytes, msgdsize, pullup,
     take_data,
 };
-use strm_blocks::{Blocks, NoBlocks};
+use std::alloc::Global;
+use std::process::Abort;
+use std::test::Fail;
+use strm_blocks::{Blocks, NoBlocks, TableStore};
 use strm_types::{Band, MsgKind, Refusal};
 
 // A block of a message: its kind and its bytes.
@@ -41,6 +44,13 @@ pub(crate) enum Call<'a> {
 
 // A call, and what is to be seen after it.
 pub(crate) type Row<'a> = (Call<'a>, Seen);
+
+// A message of band 3, of a block or more for each of one or two runs of bytes, and calls on it.
+pub(crate) struct Case<'a> {
+    pub(crate) first: Wanted<'a>,
+    pub(crate) second: Option<Wanted<'a>>,
+    pub(crate) rows: &'a [Row<'a>],
+}
 
 fn seen<B: Blocks>(store: &B, message: &B::Mp) -> Seen
     requires { IsInHand (B.value store.now) (B.name message.now) }
@@ -194,29 +204,6 @@ fn made<B: Blocks>(
     }
 }
 
-// Makes a message, and then the calls of the rows on it. Returns the first row that is not as wanted.
-pub(crate) fn first_wrong<B: Blocks>(
-    store: &mut B,
-    first: Wanted<'_>,
-    second: Option<Wanted<'_>>,
-    rows: &[Row<'_>],
-) -> Result<Option<usize>, NoBlocks> {
-    let message = made(store, first, second)?;
-    Ok(walk(store, message, rows))
-}
-
-// As `first_wrong`, with rows for a copy of the message beside its duplicate before those for the message.
-pub(crate) fn first_wrong_of_copy<B: Blocks>(
-    store: &mut B,
-    first: Wanted<'_>,
-    of_copy: &[Row<'_>],
-    rows: &[Row<'_>],
-) -> Result<(Option<usize>, Option<usize>), NoBlocks> {
-    let message = made(store, first, None)?;
-    let wrong = walk_beside_dup(store, &message, of_copy)?;
-    Ok((wrong, walk(store, message, rows)))
-}
-
 // Makes the calls of the rows on a copy of a message, while a duplicate stands.
 fn walk_beside_dup<B: Blocks>(
     store: &mut B,
@@ -243,4 +230,56 @@ fn walk_copy<B: Blocks>(
 {
     let copy = copymsg(store, message)?;
     Ok(walk(store, copy, rows))
+}
+
+// Makes a case's message, and then its calls on it. Returns the first row that is not as wanted.
+fn first_wrong<B: Blocks>(store: &mut B, case: &Case<'_>) -> Result<Option<usize>, NoBlocks> {
+    let message = made(store, case.first, case.second)?;
+    Ok(walk(store, message, case.rows))
+}
+
+// As `first_wrong`, after the calls of another case on a copy of the message, beside its duplicate.
+fn first_wrong_of_copy<B: Blocks>(
+    store: &mut B,
+    of_copy: &Case<'_>,
+    case: &Case<'_>,
+) -> Result<(Option<usize>, Option<usize>), NoBlocks> {
+    let message = made(store, case.first, case.second)?;
+    let wrong = walk_beside_dup(store, &message, of_copy.rows)?;
+    Ok((wrong, walk(store, message, case.rows)))
+}
+
+// Plays a case in a store of so many message blocks and data blocks, which has nothing in it before and afterwards.
+pub(crate) fn plays(
+    rt: &impl Abort,
+    alloc: Global,
+    mblks: usize,
+    dblks: usize,
+    case: &Case<'_>,
+) -> Result<(), Fail>
+    requires some_mblks { 0 < mblks }
+    requires few_mblks { mblks ≤ 65536 }
+    requires some_dblks { 0 < dblks }
+    requires few_dblks { dblks ≤ 65536 }
+{
+    let mut store = TableStore::new(alloc, mblks, dblks)?;
+    assert_eq!(rt; first_wrong(&mut store, case)?, None);
+    assert_eq!(rt; store.free_blocks(), (mblks, dblks));
+    Ok(())
+}
+
+// Plays a case on a copy of another one's message, and then that one, in a store of ten blocks of each kind.
+pub(crate) fn plays_on_a_copy(
+    rt: &impl Abort,
+    alloc: Global,
+    of_copy: &Case<'_>,
+    case: &Case<'_>,
+) -> Result<(), Fail> {
+    let mut store = TableStore::new(alloc, 10, 10)?;
+    assert_eq!(rt;
+        first_wrong_of_copy(&mut store, of_copy, case)?,
+        (None, None)
+    );
+    assert_eq!(rt; store.free_blocks(), (10, 10));
+    Ok(())
 }
