@@ -1,5 +1,5 @@
 -- The outcomes of the calls that take blocks, from what is done to a store's fields.
-use Rattle.std.proofs.Common.{ℕ, ◌≡◌, ◌<◌, eqb, List, [], ◌∷◌, length, get_or, refl, sym, ◌∙◌, arith, inl, inr, subst}
+use Rattle.std.proofs.Common.{ℕ, ◌≡◌, ◌<◌, ◌⊎◌, eqb, List, [], ◌∷◌, length, get_or, refl, sym, ◌∙◌, arith, inl, inr, subst}
 use Rattle.std.proofs.Math.ListN.{set}
 use Rattle.std.specs.Prelude.{count_by, slice_range}
 use Rattle.std.proofs.lemmas.List.{get_or-set_same}
@@ -30,11 +30,8 @@ module _ {mblks : ℕ} {lists : List (List Message)} {hand idle : List Message} 
   unnamed-value : free_d old ≡ count_by (λ r. eqb r 0) counts
   unnamed-value = free_d-value bytes lists hand mblks (length counts) idle spare counts is refl
 
-  pub NoneFree-messages : length spare ≡ 0 → NoneFree old old
-  NoneFree-messages none = record { none = inl (spare-value ∙ none); same = refl }
-
-  pub NoneFree-data : count_by (λ r. eqb r 0) counts ≡ 0 → NoneFree old old
-  NoneFree-data none = record { none = inr (unnamed-value ∙ none); same = refl }
+  pub NoneFree-value : (length spare ≡ 0) ⊎ (count_by (λ r. eqb r 0) counts ≡ 0) → NoneFree old old
+  NoneFree-value none = record { none = elim none [ inl m ↦ inl (spare-value ∙ m) | inr d ↦ inr (unnamed-value ∙ d) ]; same = refl }
 
   pub NoneShared-messages : (number : ℕ) → length spare ≡ 0 → NoneShared old old number
   NoneShared-messages number none = record { none = inl (spare-value ∙ none); same = refl }

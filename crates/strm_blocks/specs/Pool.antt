@@ -1,5 +1,5 @@
 -- The data blocks of a store as its other parts see them.
-use Rattle.std.specs.Prelude.{ℕ, ◌≡◌, ◌≤◌, ◌<◌, ◌+◌, ◌==◌, nat_lt, if◌then◌else◌, List, [], ◌++◌, length, count_by, slice_index_or, slice_range, slice_set}
+use Rattle.std.specs.Prelude.{ℕ, ◌≡◌, ◌≤◌, ◌<◌, ◌+◌, ◌==◌, ◌⊎◌, nat_lt, if◌then◌else◌, List, [], ◌++◌, length, count_by, slice_index_or, slice_range, slice_set}
 
 -- the bytes of all data blocks, and how many references each has
 pub record Pool : Type 0 where
@@ -21,6 +21,16 @@ pub record TakesNumber (old new : Pool) (d : ℕ) : Type 0 where
   pub within : d < length old.references
   pub was_free : slice_index_or old.references d 0 ≡ 0
   pub after : new ≡ with_references old d 1
+
+-- one that was free has one reference, and a message block is spare for it
+pub record Reserves (spare : ℕ) (old new : Pool) (d : ℕ) : Type 0 where
+  pub some : 0 < spare
+  pub taken : TakesNumber old new d
+
+-- no message block is spare or no data block is free, and nothing changed
+pub record ReservesNone (spare : ℕ) (old new : Pool) : Type 0 where
+  pub none : (spare ≡ 0) ⊎ (count_by (λ r. r == 0) old.references ≡ 0)
+  pub same : new ≡ old
 
 -- Bytes are written into one data block. What stood before them still stands before them, and no other data block
 -- changes.

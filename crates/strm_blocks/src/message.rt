@@ -201,6 +201,26 @@ pub(crate) fn hold(
     name
 }
 
+/// Gives a spare block these contents, as the only one of an idle message, which then stands in hand, first. Returns its
+/// name.
+pub(crate) fn hold_block(
+    hand: &mut LinkedList<Message>,
+    idle: &mut LinkedList<Message>,
+    spare: &mut LinkedList<MessageBlock>,
+    block: MessageBlock,
+) -> usize
+    requires some { 0 < length idle.old }
+    requires spare { 0 < length spare.old }
+    requires few { length hand.old + 1 < 2 ^ 63 }
+    ensures name { result ≡ (message_at 0 idle.old).name }
+    ensures hand { hand.new ≡ with_blocks (block ∷ []) (message_at 0 idle.old) ∷ hand.old }
+    ensures idle { idle.new ≡ drop 1 idle.old }
+    ensures spare { spare.new ≡ drop 1 spare.old }
+{
+    let chain = chain_with(spare, block);
+    hold(hand, idle, chain)
+}
+
 /// The name of the first message of a list.
 pub(crate) fn name_of(list: &LinkedList<Message>) -> usize
     requires { 0 < length list.now }

@@ -1,12 +1,13 @@
 //! The plain store of blocks.
-ghost use Rattle.std.specs.Prelude.{◌≡◌, ◌<◌, ◌≤◌, IfOk};
+ghost use Rattle.std.specs.Prelude.{◌≡◌, ◌<◌, ◌≤◌, length, IfOk, MatchResult};
 ghost use Rattle.strm_blocks.specs.Blocks.{empty_store};
+ghost use Rattle.strm_blocks.specs.Pool.{Reserves, ReservesNone};
 
 use crate::asked::{FlushWhat, NoBlocks, Peek, Summary};
 use crate::blocks::Blocks;
 use crate::data::DataBlocks;
 use crate::message::{
-    Message, MessageBlock, block_at, block_in, blocks_of, chain_with, first_block, gather, hold,
+    Message, MessageBlock, block_at, block_in, blocks_of, first_block, gather, hold, hold_block,
     join_blocks, name_of, part_blocks, place_of, put_node, replace_block, take_named, take_node,
 };
 use crate::parts::{peek_at, place_before, place_behind, rank_of, summary_at, tell};
@@ -93,6 +94,21 @@ impl TableStore {
     }
 }
 
+// Takes a data block, where a message block is spare for it.
+fn reserve(spare: &LinkedList<MessageBlock>, data: &mut DataBlocks) -> Result<usize, NoBlocks>
+    ensures { MatchResult result
+        (λ d. Reserves (length spare.now) data.old data.new d)
+        (λ _. ReservesNone (length spare.now) data.old data.new) }
+{
+    if spare.is_empty() {
+        return Err(NoBlocks);
+    }
+    match data.take() {
+        Some(number) => Ok(number),
+        None => Err(NoBlocks),
+    }
+}
+
 impl Blocks for TableStore {
     type Mp = InHand;
 
@@ -105,12 +121,7 @@ impl Blocks for TableStore {
     }
 
     fn alloc(&mut self, kind: MsgKind) -> Result<InHand, NoBlocks> {
-        if self.spare.is_empty() {
-            return Err(NoBlocks);
-        }
-        let Some(number) = self.data.take() else {
-            return Err(NoBlocks);
-        };
+        let number = reserve(&self.spare, &mut self.data)?;
         let block = MessageBlock {
             kind,
             band: 0,
@@ -118,19 +129,13 @@ impl Blocks for TableStore {
             start: 0,
             end: 0,
         };
-        let chain = chain_with(&mut self.spare, block);
         Ok(InHand {
-            name: hold(&mut self.hand, &mut self.idle, chain),
+            name: hold_block(&mut self.hand, &mut self.idle, &mut self.spare, block),
         })
     }
 
     fn alloc_with(&mut self, kind: MsgKind, band: Band, bytes: &[u8]) -> Result<InHand, NoBlocks> {
-        if self.spare.is_empty() {
-            return Err(NoBlocks);
-        }
-        let Some(number) = self.data.take() else {
-            return Err(NoBlocks);
-        };
+        let number = reserve(&self.spare, &mut self.data)?;
         self.data.audit();
         self.data.write(number, 0, bytes);
         let block = MessageBlock {
@@ -140,9 +145,8 @@ impl Blocks for TableStore {
             start: 0,
             end: bytes.len(),
         };
-        let chain = chain_with(&mut self.spare, block);
         Ok(InHand {
-            name: hold(&mut self.hand, &mut self.idle, chain),
+            name: hold_block(&mut self.hand, &mut self.idle, &mut self.spare, block),
         })
     }
 
@@ -155,20 +159,14 @@ impl Blocks for TableStore {
             return Err(NoBlocks);
         }
         self.data.share(block.number);
-        let chain = chain_with(&mut self.spare, block);
         Ok(InHand {
-            name: hold(&mut self.hand, &mut self.idle, chain),
+            name: hold_block(&mut self.hand, &mut self.idle, &mut self.spare, block),
         })
     }
 
     fn copy(&mut self, message: &InHand, at: usize) -> Result<InHand, NoBlocks> {
         let block = block_in(&self.hand, message.name, at);
-        if self.spare.is_empty() {
-            return Err(NoBlocks);
-        }
-        let Some(number) = self.data.take() else {
-            return Err(NoBlocks);
-        };
+        let number = reserve(&self.spare, &mut self.data)?;
         self.data.audit();
         self.data.copy(block.number, block.start, block.end, number);
         let copied = MessageBlock {
@@ -178,9 +176,8 @@ impl Blocks for TableStore {
             start: 0,
             end: block.end - block.start,
         };
-        let chain = chain_with(&mut self.spare, copied);
         Ok(InHand {
-            name: hold(&mut self.hand, &mut self.idle, chain),
+            name: hold_block(&mut self.hand, &mut self.idle, &mut self.spare, copied),
         })
     }
 

@@ -1,12 +1,11 @@
-use Rattle.std.proofs.Common.{arith, ℕ, ◌≡◌, ◌<◌, ◌+◌, ◌-◌, ◌∙◌, ◌∷◌, [], List, sym, ap, length, get_or, refl}
+use Rattle.std.proofs.Common.{arith, ℕ, ◌≡◌, ◌<◌, ◌+◌, ◌-◌, ◌∙◌, [], List, sym, ap, length, get_or, refl}
 use Rattle.std.proofs.Math.ListN.{set, length-set}
 use Rattle.std.specs.Prelude.{slice_range}
-use Rattle.std.proofs.lemmas.Bool.Decides.{nat_tests}
-use Rattle.strm_blocks.specs.Message.{with_blocks, message_at}
+use Rattle.std.proofs.lemmas.Result.{err_from_is_err_and}
 use Rattle.strm_blocks.specs.Outcomes.{Copied}
 use Rattle.strm_blocks.specs.Table.{shown}
 use Rattle.strm_blocks.specs.Pool.{Pool}
-use Rattle.strm_blocks.proofs.Calls.{carried, NoneFree-messages, NoneFree-data, Copied-value}
+use Rattle.strm_blocks.proofs.Calls.{carried, NoneFree-value, Copied-value}
 use Rattle.strm_blocks.proofs.Edits.{in-order, there, row-is}
 use Rattle.strm_blocks.proofs.Found as found
 use Rattle.strm_blocks.proofs.FreeList.{count-taken}
@@ -21,16 +20,11 @@ block_in-block-requires-clause-there c = found.within c.self.inside c.self.view_
 pub block_in-block-requires-clause-within : goal.block_in-block-requires-clause-within
 block_in-block-requires-clause-within c = found.block-within c.self.inside c.self.view_is c.args.message.now.name c.args.at c.requires.within
 
-pub returns-then-is_empty : goal.returns-then-is_empty
-returns-then-is_empty c =
+pub returns-in_err-number : goal.returns-in_err-number
+returns-in_err-number c =
     let t = c.self.inside in
-    let none : length t.spare ≡ 0 = grind (arith, nat_tests) in
-    rw (← c.self.view_is) (NoneFree-messages t.data.bytes c.self.invariant none)
-
-pub returns-in_default : goal.returns-in_default
-returns-in_default c =
-    let t = c.self.inside in
-    rw (← c.self.view_is, c.in_default.ensures.same) (NoneFree-data t.data.bytes c.self.invariant c.in_default.ensures.none)
+    let failed = err_from_is_err_and c.from_residual.result c.from_residual.ensures.1 in
+    rw (failed.1, ← c.self.view_is, c.in_err-number.ensures.same) (NoneFree-value t.data.bytes c.self.invariant c.in_err-number.ensures.none)
 
 pub copy-requires-clause-from_there : goal.copy-requires-clause-from_there
 copy-requires-clause-from_there c =
@@ -39,7 +33,7 @@ copy-requires-clause-from_there c =
     let row = c.block_in-block.result in
     let same = c.block_in-block.ensures in
     let exists = there t c.self.view_is c.self.invariant name c.args.at c.requires.in_hand c.requires.within row same in
-    let count = ap (λ (p : Pool). length p.references) c.in-Some.ensures.after ∙ length-set t.data.references c.in-Some.number 1 in
+    let count = ap (λ (p : Pool). length p.references) c.in_ok-number.ensures.taken.after ∙ length-set t.data.references c.in_ok-number.number 1 in
     omega arith
 
 pub copy-requires-clause-ordered : goal.copy-requires-clause-ordered
@@ -69,13 +63,12 @@ overflow_sub-copied c =
     let order = in-order t c.self.view_is c.self.invariant name c.args.at c.requires.in_hand c.requires.within row same in
     omega arith
 
-pub hold-requires-clause-some : goal.hold-requires-clause-some
-hold-requires-clause-some c =
-    let some : 0 < length c.self.inside.spare = grind (arith, nat_tests) in
-    idle-some c.self.invariant some
+pub hold_block-requires-clause-some : goal.hold_block-requires-clause-some
+hold_block-requires-clause-some c =
+    idle-some c.self.invariant c.in_ok-number.ensures.some
 
-pub hold-requires-clause-few : goal.hold-requires-clause-few
-hold-requires-clause-few c = let few = hand-few c.self.invariant in omega arith
+pub hold_block-requires-clause-few : goal.hold_block-requires-clause-few
+hold_block-requires-clause-few c = let few = hand-few c.self.invariant in omega arith
 
 pub invariant_of-self-2 : goal.invariant_of-self-2
 invariant_of-self-2 c =
@@ -84,10 +77,10 @@ invariant_of-self-2 c =
     let row = c.block_in-block.result in
     let same = c.block_in-block.ensures in
     let order = in-order t c.self.view_is c.self.invariant name c.args.at c.requires.in_hand c.requires.within row same in
-    let taken = c.in-Some.ensures in
-    let some : 0 < length t.spare = grind (arith, nat_tests) in
+    let taken = c.in_ok-number.ensures.taken in
+    let some = c.in_ok-number.ensures.some in
     let counts = ap (λ (p : Pool). p.references) c.copy.ensures.after ∙ ap (λ (p : Pool). p.references) taken.after in
-    rw (c.hold.ensures.hand, c.hold.ensures.idle, c.chain_with-chain.ensures.chain, c.chain_with-chain.ensures.rest, counts) (IsTable-added c.self.invariant _ _ some (omega arith) (count-taken t.data.references c.in-Some.number taken.within taken.was_free))
+    rw (c.hold_block.ensures.hand, c.hold_block.ensures.idle, c.hold_block.ensures.spare, counts) (IsTable-added c.self.invariant _ _ some (omega arith) (count-taken t.data.references c.in_ok-number.number taken.within taken.was_free))
 
 pub returns : goal.returns
 returns c =
@@ -98,20 +91,20 @@ returns c =
     let order = in-order t c.self.view_is c.self.invariant name c.args.at c.requires.in_hand c.requires.within row same in
     let exists = there t c.self.view_is c.self.invariant name c.args.at c.requires.in_hand c.requires.within row same in
     let block = row-is t c.self.view_is c.self.invariant name c.args.at c.requires.in_hand c.requires.within row same in
-    let taken = c.in-Some.ensures in
-    let number = c.in-Some.number in
+    let taken = c.in_ok-number.ensures.taken in
+    let number = c.in_ok-number.number in
     let content = c.copy.ensures.content in
-    let some : 0 < length t.spare = grind (arith, nat_tests) in
+    let some = c.in_ok-number.ensures.some in
     let bytes = ap (λ (p : Pool). p.bytes) taken.after in
     let count = ap (λ (p : Pool). length p.references) taken.after ∙ length-set t.data.references number 1 in
     let sized : length (get_or t.data.bytes row.number []) ≡ 256 = ap (λ (bytes : List (List ℕ)). length (get_or bytes row.number [])) (sym bytes) ∙ c.audit.ensures.sized row.number (omega arith) in
     let source = ap (λ (bytes : List (List ℕ)). slice_range (get_or bytes row.number []) row.start row.end) bytes in
     let len = length-range (get_or t.data.bytes row.number []) row.start row.end (omega arith) (omega arith) in
-    let long : row.end - row.start ≡ 0 + length (slice_range (get_or c.take.new.self.bytes row.number []) row.start row.end) = let l = ap (λ (xs : List ℕ). length xs) source in omega arith in
+    let long : row.end - row.start ≡ 0 + length (slice_range (get_or c.reserve.new.data.bytes row.number []) row.start row.end) = let l = ap (λ (xs : List ℕ). length xs) source in omega arith in
     let front = ap (λ (n : ℕ). slice_range content 0 n) long ∙ c.copy.ensures.shown 0 (omega arith) ∙ source in
     let all = ap (λ (bytes : List (List ℕ)). length bytes) bytes in
     let there : number < length t.data.bytes = omega (arith, c.audit.ensures.same_count, taken.within) in
     let bytes_after = ap (λ (p : Pool). p.bytes) c.copy.ensures.after ∙ ap (λ (bytes : List (List ℕ)). set bytes number content) bytes in
     let count_after = ap (λ (p : Pool). length p.references) c.copy.ensures.after ∙ count in
-    let new = value-same (set t.data.bytes number content) t.lists _ t.mblks _ bytes_after refl (c.hold.ensures.hand ∙ ap (λ blocks. with_blocks blocks (message_at 0 t.idle) ∷ t.hand) c.chain_with-chain.ensures.chain) count_after in
-    carried (λ old new name b. Copied old new name b) c.self.view_is new c.hold.ensures.name block (Copied-value t.data.bytes c.self.invariant (shown t.data.bytes row) number content (row.end - row.start) some taken.some taken.within there taken.was_free len front)
+    let new = value-same (set t.data.bytes number content) t.lists _ t.mblks _ bytes_after refl c.hold_block.ensures.hand count_after in
+    carried (λ old new name b. Copied old new name b) c.self.view_is new c.hold_block.ensures.name block (Copied-value t.data.bytes c.self.invariant (shown t.data.bytes row) number content (row.end - row.start) some taken.some taken.within there taken.was_free len front)

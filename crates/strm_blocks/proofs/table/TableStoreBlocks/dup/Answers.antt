@@ -1,8 +1,7 @@
-use Rattle.std.proofs.Common.{arith, ◌≡◌, ◌<◌, ◌∙◌, ◌∷◌, sym, ap, length, get_or, refl, subst}
+use Rattle.std.proofs.Common.{arith, ◌≡◌, ◌<◌, ◌∙◌, sym, ap, length, get_or, refl, subst}
 use Rattle.std.proofs.Math.ListN.{length-set}
 use Rattle.std.proofs.lemmas.Bool.Decides.{nat_tests}
 use Rattle.strm_blocks.specs.Blocks.{Block}
-use Rattle.strm_blocks.specs.Message.{with_blocks, message_at}
 use Rattle.strm_blocks.specs.Outcomes.{Duplicated, NoneShared}
 use Rattle.strm_blocks.specs.Pool.{Pool}
 use Rattle.strm_blocks.specs.Table.{shown}
@@ -48,13 +47,13 @@ share-requires-clause-named c =
     let within = found.block-within c.self.inside c.self.view_is name c.args.at c.requires.within in
     rw c.block_in-block.ensures (found.row-named c.self.invariant _ there c.args.at within)
 
-pub hold-requires-clause-some : goal.hold-requires-clause-some
-hold-requires-clause-some c =
+pub hold_block-requires-clause-some : goal.hold_block-requires-clause-some
+hold_block-requires-clause-some c =
     let some : 0 < length c.self.inside.spare = grind (arith, nat_tests) in
     idle-some c.self.invariant some
 
-pub hold-requires-clause-few : goal.hold-requires-clause-few
-hold-requires-clause-few c = let few = hand-few c.self.invariant in omega arith
+pub hold_block-requires-clause-few : goal.hold_block-requires-clause-few
+hold_block-requires-clause-few c = let few = hand-few c.self.invariant in omega arith
 
 pub invariant_of-self : goal.invariant_of-self
 invariant_of-self c =
@@ -68,7 +67,7 @@ invariant_of-self c =
     let number = ap (λ (b : MessageBlock). b.number) row in
     let exists = found.row-there c.self.invariant _ there c.args.at within in
     let counts = ap (λ (p : Pool). p.references) c.share.ensures in
-    rw (c.hold.ensures.hand, c.hold.ensures.idle, c.chain_with-chain.ensures.chain, c.chain_with-chain.ensures.rest, counts) (IsTable-added c.self.invariant c.block_in-block.result _ some straight (count-more t.data.references c.block_in-block.result.number _ (omega arith) refl))
+    rw (c.hold_block.ensures.hand, c.hold_block.ensures.idle, c.hold_block.ensures.spare, counts) (IsTable-added c.self.invariant c.block_in-block.result _ some straight (count-more t.data.references c.block_in-block.result.number _ (omega arith) refl))
 
 pub returns : goal.returns
 returns c =
@@ -79,5 +78,5 @@ returns c =
     let few : get_or t.data.references c.block_in-block.result.number 0 < 255 = grind arith in
     let bytes = ap (λ (p : Pool). p.bytes) c.share.ensures in
     let count : length c.share.new.self.references ≡ length t.data.references = ap (λ (p : Pool). length p.references) c.share.ensures ∙ length-set t.data.references c.block_in-block.result.number _ in
-    let new = value-same t.data.bytes t.lists _ t.mblks _ bytes refl (c.hold.ensures.hand ∙ ap (λ blocks. with_blocks blocks (message_at 0 t.idle) ∷ t.hand) c.chain_with-chain.ensures.chain) count in
-    carried (λ old new name b. Duplicated old new name b) c.self.view_is new c.hold.ensures.name block (Duplicated-value t.data.bytes c.self.invariant c.block_in-block.result some few)
+    let new = value-same t.data.bytes t.lists _ t.mblks _ bytes refl c.hold_block.ensures.hand count in
+    carried (λ old new name b. Duplicated old new name b) c.self.view_is new c.hold_block.ensures.name block (Duplicated-value t.data.bytes c.self.invariant c.block_in-block.result some few)
