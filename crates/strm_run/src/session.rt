@@ -28,7 +28,7 @@ const JOURNAL_EVENTS: usize = 8192;
 const JOURNAL_BYTES: usize = 262144;
 
 /// What a command leads to. The bytes that it gives stand in a buffer apart.
-#[derive(Clone, Copy, Debug)]
+#[derive(Clone, Copy)]
 pub struct Answered {
     /// The line that answers it.
     pub line: Line,

@@ -11,7 +11,7 @@ use crate::words::after;
 use std::alloc::{AllocError, Global};
 
 /// How far the spelling of a text has come.
-#[derive(Clone, Copy, Debug, PartialEq, Eq)]
+#[derive(Clone, Copy)]
 enum Mode {
     /// Between two pieces.
     Inside,
@@ -26,7 +26,7 @@ enum Mode {
 }
 
 /// What a byte does to a spelling.
-#[derive(Clone, Copy, Debug, PartialEq, Eq)]
+#[derive(Clone, Copy)]
 enum Move {
     /// No text is spelled so.
     Breaks,
