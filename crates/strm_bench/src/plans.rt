@@ -2,8 +2,8 @@
 
 ghost use Rattle.std.specs.Prelude.{◌≤◌, ◌<◌};
 
-/// A plan: so many pairs one after the other, on each so many rounds of a write of `size` bytes, a turn and a read, while
-/// `standing` messages of one byte stand on the slave's head.
+/// A plan: so many pairs one after the other, on each so many rounds of a write of `size` bytes, a turn and a read,
+/// while `standing` messages of one byte stand on the slave's head.
 #[derive(Clone, Copy, Debug)]
 pub struct Plan {
     pub pairs: u32,
