@@ -1,5 +1,5 @@
-//! Rounds of a write, a turn and a read on a pair, for `bench/run` to time. Each line of standard input is a plan of six
-//! numbers; the answer is how many bytes were read.
+//! Rounds of a write, a turn and a read on a pair, for `bench/run` to time. Each line of standard input is a plan of
+//! six numbers; the answer is how many bytes were read.
 #![tactic(auto)]
 
 mod plans;

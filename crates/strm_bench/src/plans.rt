@@ -2,8 +2,8 @@
 
 ghost use Rattle.std.specs.Prelude.{◌≤◌, ◌<◌};
 
-/// A plan: so many pairs one after the other, on each so many rounds of a write of `size` bytes, a turn and a read, while
-/// `standing` messages of one byte stand on the slave's head.
+/// A plan: so many pairs one after the other, on each so many rounds of a write of `size` bytes, a turn and a read,
+/// while `standing` messages of one byte stand on the slave's head.
 #[derive(Clone, Copy, Debug)]
 pub struct Plan {
     pub pairs: u32,
@@ -19,13 +19,7 @@ pub struct Plan {
 
 /// The plan that a line of six numbers says: blocks from 1 to 65536, a size of at most 4096.
 pub fn read_plan(line: &str) -> Option<Plan> {
-    let mut words = line.split_whitespace();
-    let pairs = words.next()?.parse::<u32>().ok()?;
-    let rounds = words.next()?.parse::<u32>().ok()?;
-    let size = words.next()?.parse::<u32>().ok()?;
-    let standing = words.next()?.parse::<u32>().ok()?;
-    let blocks = words.next()?.parse::<u32>().ok()?;
-    let entries = words.next()?.parse::<u32>().ok()?;
+    let [pairs, rounds, size, standing, blocks, entries] = six_numbers(line)?;
     if blocks == 0 || blocks > 65536 || size > 4096 {
         return None;
     }
@@ -37,4 +31,14 @@ pub fn read_plan(line: &str) -> Option<Plan> {
         blocks,
         entries,
     })
+}
+
+// The first six words of a line, if each is a number.
+fn six_numbers(line: &str) -> Option<[u32; 6]> {
+    let mut numbers = [0u32; 6];
+    let mut words = line.split_whitespace();
+    for place in 0..6usize {
+        numbers[place] = words.next()?.parse::<u32>().ok()?;
+    }
+    Some(numbers)
 }

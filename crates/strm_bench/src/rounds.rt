@@ -12,8 +12,8 @@ const SLAVE: Caller = Caller { side: Side::Slave };
 
 static BYTES: [u8; 4096] = [b'z'; 4096];
 
-// A pair with both sides open.
-fn opened(alloc: Global, plan: &Plan) -> Option<Pair<TableStore>> {
+// A new pair of a plan's sizes.
+fn new_pair(alloc: Global, plan: &Plan) -> Option<Pair<TableStore>> {
     let blocks = plan.blocks as usize;
     let sizes = Config {
         mblks: blocks,
@@ -22,19 +22,30 @@ fn opened(alloc: Global, plan: &Plan) -> Option<Pair<TableStore>> {
         journal_bytes: (plan.entries as usize) * 4096,
     };
     let store = TableStore::new(alloc, blocks, blocks).ok()?;
-    let Ok(mut pair) = Pair::new(alloc, sizes, store) else {
-        return None;
-    };
-    let mut out = ReadBytes::new();
-    pair.call(MASTER, &Event::OpenMaster, &mut out).ok()?;
-    pair.call(MASTER, &Event::Unlock, &mut out).ok()?;
-    pair.call(SLAVE, &Event::OpenSlave, &mut out).ok()?;
-    Some(pair)
+    Pair::new(alloc, sizes, store).ok()
+}
+
+// A call; nothing where it is refused.
+fn calls(
+    pair: &mut Pair<TableStore>,
+    caller: Caller,
+    event: &Event<&[u8]>,
+    out: &mut ReadBytes,
+) -> Option<()> {
+    pair.call(caller, event, out).ok()?;
+    Some(())
+}
+
+// Opens both sides of a new pair.
+fn opens(pair: &mut Pair<TableStore>, out: &mut ReadBytes) -> Option<()> {
+    calls(pair, MASTER, &Event::OpenMaster, out)?;
+    calls(pair, MASTER, &Event::Unlock, out)?;
+    calls(pair, SLAVE, &Event::OpenSlave, out)
 }
 
 // A write on the master, and the turns that carry it to the slave's head.
 fn sends(pair: &mut Pair<TableStore>, bytes: &[u8], out: &mut ReadBytes) -> Option<()> {
-    pair.call(MASTER, &Event::Write { bytes }, out).ok()?;
+    calls(pair, MASTER, &Event::Write { bytes }, out)?;
     for _ in 0..16 {
         let Some(queue) = pair.first_enabled() else {
             break;
@@ -44,28 +55,34 @@ fn sends(pair: &mut Pair<TableStore>, bytes: &[u8], out: &mut ReadBytes) -> Opti
     Some(())
 }
 
-// The rounds of one pair: how many bytes were read.
-fn rounds(alloc: Global, plan: &Plan) -> Option<u64> {
-    let mut pair = opened(alloc, plan)?;
+// The rounds on a pair: how many bytes were read.
+fn rounds(pair: &mut Pair<TableStore>, plan: &Plan) -> Option<u64> {
     let mut out = ReadBytes::new();
+    opens(pair, &mut out)?;
     for _ in 0..plan.standing {
-        sends(&mut pair, &BYTES[..1], &mut out)?;
+        sends(pair, &BYTES[..1], &mut out)?;
     }
     let mut read = 0u64;
     let event = Event::Read { n: plan.size };
     for _ in 0..plan.rounds {
-        sends(&mut pair, &BYTES[..plan.size as usize], &mut out)?;
-        pair.call(SLAVE, &event, &mut out).ok()?;
+        sends(pair, &BYTES[..plan.size as usize], &mut out)?;
+        calls(pair, SLAVE, &event, &mut out)?;
         read = read.saturating_add(out.len() as u64);
     }
     Some(read)
+}
+
+// The rounds of a pair of its own.
+fn one_pair(alloc: Global, plan: &Plan) -> Option<u64> {
+    let mut pair = new_pair(alloc, plan)?;
+    rounds(&mut pair, plan)
 }
 
 /// Carries out a plan, and says how many bytes were read; nothing where memory or a call was refused.
 pub fn run(alloc: Global, plan: &Plan) -> Option<u64> {
     let mut read = 0u64;
     for _ in 0..plan.pairs {
-        read = read.saturating_add(rounds(alloc, plan)?);
+        read = read.saturating_add(one_pair(alloc, plan)?);
     }
     Some(read)
 }

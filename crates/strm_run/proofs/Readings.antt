@@ -1,10 +1,13 @@
 -- What the small readers of words and numbers do, step by step.
-use Rattle.std.proofs.Common.{◌≡◌, ℕ, ◌+◌, ◌*◌, ◌<◌, ◌≤◌, true, false, cond, eqb, List, [], ◌∷◌, length, take, drop, get_or, Option, None, Some, refl, arith, sym, ap, ◌∙◌, inl, inr, ◌++◌, append_assoc, append-nil}
-use Rattle.std.proofs.lemmas.List.{at_drop_more, at_drop_all}
+use Rattle.std.proofs.Common.{◌≡◌, ℕ, suc, ◌+◌, ◌*◌, ◌<◌, ◌≤◌, Bool, true, false, not, cond, eqb, ltb, ◌||◌, List, [], ◌∷◌, length, take, drop, get_or, Option, None, Some, unwrap_or, refl, arith, sym, ap, ◌∙◌, subst, inl, inr, ◌++◌, append_assoc, append-nil}
+use Rattle.std.proofs.lemmas.List.{at_drop_more, at_drop_all, drop-drop}
 use Rattle.std.proofs.lemmas.Bool.Decides.{nat_tests, eqb_tells}
-use Rattle.std.proofs.lemmas.Bool.{cond-true, cond-false, eq-eqb}
+use Rattle.std.proofs.lemmas.Bool.{cond-true, cond-false, eq-eqb, ltb-false, cases_Bool}
+use Rattle.std.specs.List.{position_from, position_or_len}
+use Rattle.std.proofs.lemmas.Iterator.Adapters.{position_from-zero}
+use Rattle.std.proofs.lemmas.List.Sums.{prefix_len-le-length}
 use Rattle.strm_run.specs.Script.{digit_of}
-use Rattle.strm_run.specs.ScriptReading.{after, number_from, Mode, Inside, Breaks, Goes, Gives, moved_by, text_from, with_front, is_closed}
+use Rattle.strm_run.specs.ScriptReading.{after, number_from, Mode, Inside, Escaped, Coded, HalfCoded, Closed, Breaks, Goes, Gives, moved_by, text_from, with_front, is_closed, is_marked, own_len}
 
 -- a word that stands at the front, and one that doesn't
 pub after_front : (word line : List ℕ) → take (length word) line ≡ word → after word line ≡ Some (drop (length word) line)
@@ -93,3 +96,75 @@ TextTo-closed mode front i bytes past so h =
 pub TextTo-open : (mode : Mode) (front : List ℕ) (i : ℕ) (bytes : List ℕ) → length bytes ≤ i → TextTo mode front i bytes → is_closed mode ≡ false → None ≡ text_from Inside bytes
 TextTo-open mode front i bytes past so h =
     ap (with_front front) (sym (cond-false (is_closed mode) (Some []) None h)) ∙ TextTo-ends mode front i bytes past so
+
+-- the place that a search found, or else the length
+pub position-found : (test : ℕ → Bool) (bytes : List ℕ) → unwrap_or (position_from test 0 bytes) (length bytes) ≡ position_or_len test bytes
+position-found test bytes = elim (cases_Bool (ltb (position_or_len test bytes) (length bytes))) [
+  | inl e ↦ ap (λ o. unwrap_or o (length bytes)) (sym (position_from-zero test bytes) ∙ cond-true _ _ _ e)
+  | inr e ↦ ap (λ o. unwrap_or o (length bytes)) (sym (position_from-zero test bytes) ∙ cond-false _ _ _ e)
+      ∙ omega (arith, ltb-false _ _ e, prefix_len-le-length (λ x. not (test x)) bytes)
+]
+
+pub position-within : (test : ℕ → Bool) (bytes : List ℕ) → position_or_len test bytes ≤ length bytes
+position-within test bytes = prefix_len-le-length (λ x. not (test x)) bytes
+
+-- the first element is the one that is looked for, or isn't
+position-here : (test : ℕ → Bool) (b : ℕ) (bytes : List ℕ) → test b ≡ true → position_or_len test (b ∷ bytes) ≡ 0
+position-here test b bytes e = cond-false (not (test b)) (1 + position_or_len test bytes) 0 (ap not e)
+
+position-later : (test : ℕ → Bool) (b : ℕ) (bytes : List ℕ) → test b ≡ false → position_or_len test (b ∷ bytes) ≡ suc (position_or_len test bytes)
+position-later test b bytes e =
+    let one : 1 + position_or_len test bytes ≡ suc (position_or_len test bytes) = omega arith in
+    cond-true (not (test b)) (1 + position_or_len test bytes) 0 (ap not e) ∙ one
+
+-- bytes that spell themselves, and the text behind them
+or_none : (a b : Bool) → (a || b) ≡ false → (a ≡ false) × (b ≡ false)
+or_none true b h = absurd cc
+or_none false b h = (refl, h)
+
+gives_itself : (b : ℕ) → is_marked b ≡ false → moved_by Inside b ≡ Gives b
+gives_itself b e =
+    let x = or_none (eqb b 34) (eqb b 92 || eqb b 10) e in
+    let y = or_none (eqb b 92) (eqb b 10) x.1 in
+    rw (x.0, y.0, y.1) refl
+
+with_front-none : (text : Option (List ℕ)) → with_front [] text ≡ text
+with_front-none None = refl
+with_front-none (Some text) = refl
+
+-- a text whose first bytes, so many, are those that spell themselves
+abbrev Splits : List ℕ → ℕ → Type 0
+Splits bytes n = with_front (take n bytes) (text_from Inside (drop n bytes)) ≡ text_from Inside bytes
+
+own_run : (bytes : List ℕ) → Splits bytes (position_or_len is_marked bytes)
+own_run [] = with_front-none (text_from Inside [])
+own_run (b ∷ bytes) = elim (cases_Bool (is_marked b)) [
+  | inl e ↦ subst (Splits (b ∷ bytes)) (sym (position-here is_marked b bytes e)) (with_front-none (text_from Inside (b ∷ bytes)))
+  | inr e ↦
+      let n = position_or_len is_marked bytes in
+      subst (Splits (b ∷ bytes)) (sym (position-later is_marked b bytes e))
+      (with_front-more (b ∷ []) (take n bytes) (text_from Inside (drop n bytes))
+      ∙ ap (with_front (b ∷ [])) (own_run bytes)
+      ∙ sym (text_gives Inside b b bytes (gives_itself b e)))
+]
+
+pub TextTo-own : (mode : Mode) (front : List ℕ) (i n : ℕ) (bytes : List ℕ) → TextTo mode front i bytes → n ≡ own_len mode (drop i bytes) → 0 < n
+    → TextTo mode (front ++ take n (drop i bytes)) (i + n) bytes
+TextTo-own Inside front i n bytes so e some = record {
+  reads =
+      with_front-more front (take n (drop i bytes)) (text_from Inside (drop (i + n) bytes))
+      ∙ ap (λ rest. with_front front (with_front (take n (drop i bytes)) (text_from Inside rest))) (sym (drop-drop n i bytes))
+      ∙ ap (with_front front) (subst (Splits (drop i bytes)) (sym e) (own_run (drop i bytes)))
+      ∙ so.reads;
+}
+TextTo-own Escaped front i n bytes so e some = let none : n ≡ 0 = e in absurd (omega arith)
+TextTo-own Coded front i n bytes so e some = let none : n ≡ 0 = e in absurd (omega arith)
+TextTo-own (HalfCoded high) front i n bytes so e some = let none : n ≡ 0 = e in absurd (omega arith)
+TextTo-own Closed front i n bytes so e some = let none : n ≡ 0 = e in absurd (omega arith)
+
+pub own-within : (mode : Mode) (bytes : List ℕ) → own_len mode bytes ≤ length bytes
+own-within Inside bytes = position-within is_marked bytes
+own-within Escaped bytes = omega arith
+own-within Coded bytes = omega arith
+own-within (HalfCoded high) bytes = omega arith
+own-within Closed bytes = omega arith

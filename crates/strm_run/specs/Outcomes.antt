@@ -1,7 +1,9 @@
 -- What a command of the code leads to.
-use Rattle.std.specs.Prelude.{◌≡◌, ℕ, List, ◌++◌, Option}
+use Rattle.std.specs.Prelude.{◌≡◌, ℕ, List, ◌++◌, Option, Some}
+use Rattle.strm_types.specs.Pair.{PairState}
 use Rattle.strm_run.specs.ScriptRun as script
 use Rattle.strm_run.specs.ScriptRun.{Supply, PlainPair}
+use Rattle.strm_run.specs.Plain.{plain}
 use Rattle.strm_run.specs.Lines.{line_of}
 use Rattle.strm_run.specs.declared.session.Answered.{Answered}
 
@@ -14,3 +16,8 @@ answered_as found bytes pair account =
 pub record LeadsTo (command : List Supply → script.Answered) (found : Answered) (bytes : List ℕ) (pair : Option PlainPair) : Type 0 where
   pub events : List Supply
   pub leads : (account : List Supply) → command (events ++ account) ≡ answered_as found bytes pair account
+
+-- The same of a command on a pair that gives no bytes, whatever bytes stand apart.
+abbrev pub Leads : (List Supply → PlainPair → script.Answered) → Answered → PairState → PairState → Type 0
+Leads command found old new =
+    (bytes : List ℕ) → LeadsTo (λ account. command account (plain old)) found bytes (Some (plain new))

@@ -1,6 +1,7 @@
 -- What a line of a script says, computed. `IsSpelled` says the same without an order of reading; that the two agree is
 -- the contract of public functions of the crate that reads scripts.
-use Rattle.std.specs.Prelude.{ℕ, ◌+◌, ◌*◌, nat_lt, nat_le, ◌==◌, ◌&&◌, Bool, true, false, if◌then◌else◌, List, [], ◌∷◌, ◌++◌, length, codes, Option, None, Some, option_map}
+use Rattle.std.specs.Prelude.{ℕ, ◌+◌, ◌*◌, nat_lt, nat_le, ◌==◌, ◌&&◌, ◌||◌, Bool, true, false, if◌then◌else◌, List, [], ◌∷◌, ◌++◌, length, codes, Option, None, Some, option_map}
+use Rattle.std.specs.List.{position_or_len}
 use Rattle.strm_types.specs.declared.names.Side.{Side}
 use Rattle.strm_types.specs.declared.names.Side.TheVariants.{Master, Slave}
 use Rattle.strm_types.specs.declared.names.Way.{Way}
@@ -87,6 +88,15 @@ moved_by Closed b = Breaks
 abbrev pub is_closed : Mode → Bool
 is_closed Closed = true
 is_closed _ = false
+
+-- a byte between two pieces that doesn't spell itself: a quote, a backslash, LF
+abbrev pub is_marked : ℕ → Bool
+is_marked b = (b == 34) || ((b == 92) || (b == 10))
+
+-- how many bytes of a text that goes on spell themselves, up to the first that doesn't
+abbrev pub own_len : Mode → List ℕ → ℕ
+own_len Inside bytes = position_or_len is_marked bytes
+own_len _ bytes = 0
 
 -- the text with bytes in front, if it is one
 abbrev pub with_front : List ℕ → Option (List ℕ) → Option (List ℕ)

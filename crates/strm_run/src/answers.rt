@@ -8,7 +8,7 @@ use std::fmt;
 use strm_types::{Answer, Refusal, Turn};
 
 /// An answer line, without its LF. The bytes that a call gave stand apart.
-#[derive(Clone, Copy, Debug, PartialEq, Eq)]
+#[derive(Clone, Copy)]
 pub enum Line {
     /// A call was answered.
     Done(Answer<usize>),

@@ -6,7 +6,7 @@ ghost use Rattle.strm_types.specs.Calls.{request, map_event};
 use strm_types::{Event, QueueName, Side};
 
 /// A command, as a line of a script gives it.
-#[derive(Debug, Drop)]
+#[derive(Drop)]
 pub enum Command {
     /// Makes the pair and opens its master, with so many blocks of each kind.
     Open { blocks: Option<u32> },
@@ -34,7 +34,7 @@ pub fn lent(event: &Event<Vec<u8>>) -> Event<&[u8]>
 }
 
 /// What a line of a script says.
-#[derive(Debug, Drop)]
+#[derive(Drop)]
 pub enum Reading {
     /// The line asks for nothing: it is empty, or a comment.
     Silent,

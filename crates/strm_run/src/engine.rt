@@ -16,7 +16,7 @@ use strm_pair::Pair;
 use strm_types::ReadBytes;
 
 /// Why a script ends before its input does.
-#[derive(Clone, Copy, Debug, PartialEq, Eq)]
+#[derive(Clone, Copy)]
 pub enum Stop {
     /// A line was malformed, and the answers say so.
     Malformed,

@@ -3,7 +3,8 @@
 ghost use Rattle.std.specs.Prelude.{◌≡◌, ◌≤◌, IfOk, length};
 ghost use Rattle.strm_run.specs.Script as script;
 ghost use Rattle.strm_run.specs.Script.{IsSpelled};
-ghost use Rattle.strm_run.specs.ScriptReading.{open_in, named_in, write_in, read_in, turn_in, run_in, command_in, reading, Spoken};
+ghost use Rattle.strm_run.specs.ScriptReading.{open_in, named_in, write_in, read_in, turn_in, run_in};
+ghost use Rattle.strm_run.specs.ScriptReading.{command_in, reading, Spoken};
 ghost use Rattle.strm_run.specs.Commands.{commands_of, reading_of};
 
 use crate::commands::{Command, Reading};

@@ -59,7 +59,8 @@ fn send_answers<W: Write>(engine: &mut Engine, writer: &mut W) -> bool
 
 /// The status of a script that stopped, once its answers are written.
 fn stopped<W: Write>(stop: Stop, engine: &mut Engine, writer: &mut W) -> ScriptStatus
-    ensures ended { Ended (W.contents writer.old) (W.contents writer.new) engine.old.answers.items result (status_of stop) }
+    ensures ended { Ended (W.contents writer.old) (W.contents writer.new) engine.old.answers.items
+        result (status_of stop) }
     ensures short { engine.new.short ≡ engine.old.short }
 {
     let well = send_answers(engine, writer);
@@ -110,16 +111,24 @@ fn serve<R: Read, W: Write>(
     ScriptStatus::Broken
 }
 
-/// Runs a script: reads commands, one a line, and writes an answer line for each. What it writes, up to a fault, is the
-/// text that the script's bytes say, for some account of which calls and turns the pool had enough blocks for; before
-/// the line `short`, and where there is none in all of it, the pool had enough.
-pub fn run_script<R: Read, W: Write>(alloc: Global, reader: &mut R, writer: &mut W) -> ScriptEnd
-    ensures { IsRun (R.remaining reader.old) (W.contents writer.old) (W.contents writer.new) result.status result.short }
+/// What a run came to, by its status and by where its engine stands.
+fn end_of(status: ScriptStatus, engine: &Engine) -> ScriptEnd
+    ensures { result ≡ record { status = status; short = engine.now.short } }
 {
-    let mut engine = Engine::new(alloc);
-    let status = serve(alloc, &mut engine, reader, writer);
     ScriptEnd {
         status,
         short: engine.short,
     }
+}
+
+/// Runs a script: reads commands, one a line, and writes an answer line for each. What it writes, up to a fault, is the
+/// text that the script's bytes say, for some account of which calls and turns the pool had enough blocks for; before
+/// the line `short`, and where there is none in all of it, the pool had enough.
+pub fn run_script<R: Read, W: Write>(alloc: Global, reader: &mut R, writer: &mut W) -> ScriptEnd
+    ensures { IsRun (R.remaining reader.old) (W.contents writer.old) (W.contents writer.new)
+        result.status result.short }
+{
+    let mut engine = Engine::new(alloc);
+    let status = serve(alloc, &mut engine, reader, writer);
+    end_of(status, &engine)
 }

@@ -1,12 +1,12 @@
 //! What commands lead to on the pair of a script.
 
-ghost use Rattle.std.specs.Prelude.{◌≡◌, ℕ, List, false, Some, None, IfOk, OnErr, option_map};
+ghost use Rattle.std.specs.Prelude.{◌≡◌, false, Some, None, IfOk, OnErr, option_map};
 ghost use Rattle.strm_types.specs.Calls.{request};
 ghost use Rattle.strm_run.specs.ScriptAnswers as script;
-ghost use Rattle.strm_run.specs.ScriptRun.{by_call, by_turn, by_run, by_open, answered, unanswered, script_limits, is_enosr};
+ghost use Rattle.strm_run.specs.ScriptRun.{by_call, by_turn, by_run, by_open, answered, script_limits, is_enosr};
 ghost use Rattle.strm_run.specs.Commands.{command_of};
 ghost use Rattle.strm_run.specs.Plain.{plain};
-ghost use Rattle.strm_run.specs.Outcomes.{LeadsTo};
+ghost use Rattle.strm_run.specs.Outcomes.{LeadsTo, Leads};
 
 use crate::answers::Line;
 use crate::commands::{Command, lent};
@@ -28,7 +28,7 @@ const JOURNAL_EVENTS: usize = 8192;
 const JOURNAL_BYTES: usize = 262144;
 
 /// What a command leads to. The bytes that it gives stand in a buffer apart.
-#[derive(Clone, Copy, Debug)]
+#[derive(Clone, Copy)]
 pub struct Answered {
     /// The line that answers it.
     pub line: Line,
@@ -80,7 +80,7 @@ fn call(
 
 /// A turn by a command.
 fn turn(pair: &mut Pair<TableStore>, name: QueueName) -> Answered
-    ensures { (bytes : List ℕ) → LeadsTo (λ account. by_turn name account (plain pair.old)) result bytes (Some (plain pair.new)) }
+    ensures { Leads (by_turn name) result pair.old pair.new }
 {
     match pair.turn(name) {
         Ok(turn) => Answered {
@@ -96,7 +96,7 @@ fn turn(pair: &mut Pair<TableStore>, name: QueueName) -> Answered
 
 /// Turns of the first enabled queue, so many at most. They end where none is enabled, and where one is refused.
 fn run(pair: &mut Pair<TableStore>, turns: u32) -> Answered
-    ensures { (bytes : List ℕ) → LeadsTo (λ account. by_run turns account (plain pair.old)) result bytes (Some (plain pair.new)) }
+    ensures { Leads (by_run turns) result pair.old pair.new }
 {
     for taken in 0..turns {
         let Some(name) = pair.first_enabled() else {
@@ -143,8 +143,8 @@ fn limits(blocks: u32) -> Config
     }
 }
 
-/// Makes a pair over a store of tables and opens its master, where the number of blocks is from 1 to 4096. Want of memory,
-/// for the store or for the pair, changes nothing.
+/// Makes a pair over a store of tables and opens its master, where the number of blocks is from 1 to 4096. Want of
+/// memory, for the store or for the pair, changes nothing.
 fn open(
     alloc: Global,
     pair: &mut Option<Pair<TableStore>>,
@@ -152,7 +152,7 @@ fn open(
     out: &mut ReadBytes,
 ) -> Result<Answered, AllocError>
     requires { pair.old ≡ None }
-    ensures ok { IfOk result (λ found. LeadsTo (λ account. by_open blocks account) found out.new.items (option_map plain pair.new)) }
+    ensures ok { IfOk result (λ found. LeadsTo (by_open blocks) found out.new.items (option_map plain pair.new)) }
     ensures err { OnErr result (pair.new ≡ pair.old) }
 {
     if blocks == 0 || blocks > BLOCKS_MAX {

@@ -29,20 +29,40 @@ const FIRST_RUN: &[u8] = b"open\nunlock\nslave\nwrite m \"abc\"\nrun 10\nread s 
 
 const FIRST_ANSWERS: &[u8] = b"ok\nok\nok\nok 3\nran 1\ndata 3 \"abc\"\n";
 
+// Compares how the run of this title and number ended with what is wanted of it.
+fn ends_as(rt: &impl Abort, title: &str, number: usize, ended: ScriptEnd, wanted: ScriptEnd) {
+    assert_eq!(rt; ended, wanted, "{title}, {number}");
+}
+
+// Compares what the run of this title and number wrote with what is wanted of it.
+fn wrote(rt: &impl Abort, title: &str, number: usize, written: &[u8], wanted: &[u8]) {
+    assert!(rt; written == wanted, "{title}, {number}");
+}
+
 // Runs a script and compares what it writes, its status and its first short line.
 fn plays(
     rt: &impl Abort,
     alloc: Global,
+    title: &str,
     script: &[u8],
     answers: &[u8],
     end: ScriptEnd,
-) -> Result<(), Fail> {
+) {
     let mut reader = script;
     let mut written = Vec::new(alloc);
     let ended = run_script(alloc, &mut reader, &mut written);
-    let script = String::from_utf8_lossy(alloc, script)?;
-    assert!(rt; written.as_slice() == answers, "after {script}");
-    assert_eq!(rt; ended, end, "after {script}");
+    wrote(rt, title, script.len(), written.as_slice(), answers);
+    ends_as(rt, title, script.len(), ended, end);
+}
+
+// Takes the text of a scene apart, into its commands and their answers.
+fn take_apart(text: &str, commands: &mut Vec<u8>, answers: &mut Vec<u8>) -> Result<(), AllocError> {
+    for line in text.lines() {
+        match line.strip_prefix("  ") {
+            Some(answer) => add_line(answers, answer)?,
+            None => add_line(commands, line)?,
+        }
+    }
     Ok(())
 }
 
@@ -50,13 +70,16 @@ fn plays(
 fn plays_scene(rt: &impl Abort, alloc: Global, scene: &Scene) -> Result<(), Fail> {
     let mut commands = Vec::new(alloc);
     let mut answers = Vec::new(alloc);
-    for line in scene.2.lines() {
-        match line.strip_prefix("  ") {
-            Some(answer) => add_line(&mut answers, answer)?,
-            None => add_line(&mut commands, line)?,
-        }
-    }
-    plays(rt, alloc, commands.as_slice(), answers.as_slice(), scene.1)
+    take_apart(scene.2, &mut commands, &mut answers)?;
+    plays(
+        rt,
+        alloc,
+        scene.0,
+        commands.as_slice(),
+        answers.as_slice(),
+        scene.1,
+    );
+    Ok(())
 }
 
 // Puts a line and its LF behind a text.
@@ -83,8 +106,8 @@ fn each_scene_answers_as_it_says(rt: HostRuntime) -> Result<(), Fail> {
 }
 
 #[test]
-fn an_empty_script_says_nothing(rt: HostRuntime) -> Result<(), Fail> {
-    plays(&rt, rt.alloc(), b"", b"", WELL)
+fn an_empty_script_says_nothing(rt: HostRuntime) {
+    plays(&rt, rt.alloc(), "an empty script", b"", b"", WELL);
 }
 
 // Scripts whose last line lacks its LF, their answers, and how they end.
@@ -98,35 +121,43 @@ const LAST_LINES: [(&[u8], &[u8], ScriptEnd); 2] = [
 ];
 
 #[test]
-fn a_last_line_may_lack_its_end(rt: HostRuntime) -> Result<(), Fail> {
+fn a_last_line_may_lack_its_end(rt: HostRuntime) {
     for case in &LAST_LINES {
-        plays(&rt, rt.alloc(), case.0, case.1, case.2)?;
+        plays(&rt, rt.alloc(), "no LF", case.0, case.1, case.2);
     }
-    Ok(())
+}
+
+static SPACES: [u8; 4096] = [b' '; 4096];
+
+// Puts texts one behind the other.
+fn joined(alloc: Global, texts: &[&[u8]]) -> Result<Vec<u8>, AllocError> {
+    let mut all = Vec::new(alloc);
+    for text in texts {
+        all.extend_from_slice(*text)?;
+    }
+    Ok(all)
 }
 
 #[test]
 fn a_line_has_4096_bytes_at_most(rt: HostRuntime) -> Result<(), Fail> {
-    let mut script = Vec::new(rt.alloc());
-    script.push(b'#')?;
-    for _ in 1..4096 {
-        script.push(b' ')?;
-    }
-    script.extend_from_slice(b"\nopen\n#")?;
-    plays(&rt, rt.alloc(), script.as_slice(), b"ok\n", WELL)?;
-    for _ in 0..4096 {
-        script.push(b' ')?;
-    }
+    let alloc = rt.alloc();
+    let whole = joined(alloc, &[b"#", &SPACES[1..], b"\nopen\n#"])?;
+    plays(&rt, alloc, "4096 bytes", whole.as_slice(), b"ok\n", WELL);
+    let script = joined(alloc, &[whole.as_slice(), &SPACES])?;
+    let answers = b"ok\nerr line 3\n";
     plays(
         &rt,
-        rt.alloc(),
+        alloc,
+        "4097 bytes",
         script.as_slice(),
-        b"ok\nerr line 3\n",
+        answers,
         MALFORMED,
-    )
+    );
+    Ok(())
 }
 
-// A reader that is interrupted first, so many times, and then gives a script's bytes one a call, up to the call that fails.
+// A reader that is interrupted first, so many times, and then gives a script's bytes one a call, up to the call that
+// fails.
 #[derive(Drop)]
 struct SlowReader<'a> {
     bytes: &'a [u8],
@@ -192,8 +223,8 @@ impl Write for SlowWriter {
     }
 }
 
-// Runs a script byte by byte, with so many interruptions of its reader and of its writer first, to its end, and compares
-// what it writes.
+// Runs a script byte by byte, with so many interruptions of its reader and of its writer first, to its end, and
+// compares what it writes.
 fn plays_slowly(
     rt: &impl Abort,
     alloc: Global,
@@ -213,10 +244,13 @@ fn plays_slowly(
         flushes: true,
     };
     let ended = run_script(alloc, &mut reader, &mut writer);
-    assert_eq!(rt; ended, WELL, "after {interruptions} interruptions");
-    assert!(rt;
-        writer.written.as_slice() == answers,
-        "after {interruptions} interruptions"
+    ends_as(rt, "interruptions", interruptions, ended, WELL);
+    wrote(
+        rt,
+        "interruptions",
+        interruptions,
+        writer.written.as_slice(),
+        answers,
     );
 }
 
@@ -238,8 +272,16 @@ fn count_lines(text: &[u8]) -> usize {
     count
 }
 
+// Compares what a run wrote whose reader failed behind so many bytes of the script: the answers of the lines that had
+// ended.
+fn wrote_whole_lines(rt: &impl Abort, calls: usize, written: &[u8]) {
+    assert!(rt; FIRST_ANSWERS.starts_with(written), "at call {calls}");
+    let wanted = count_lines(FIRST_RUN.get(..calls).unwrap_or(FIRST_RUN));
+    assert_eq!(rt; count_lines(written), wanted, "at call {calls}");
+}
+
 #[test]
-fn a_reader_that_fails_leaves_the_answers_of_whole_lines(rt: HostRuntime) -> Result<(), Fail> {
+fn a_reader_that_fails_leaves_the_answers_of_whole_lines(rt: HostRuntime) {
     for calls in 0..=FIRST_RUN.len() {
         let mut reader = SlowReader {
             bytes: FIRST_RUN,
@@ -248,19 +290,13 @@ fn a_reader_that_fails_leaves_the_answers_of_whole_lines(rt: HostRuntime) -> Res
         };
         let mut written = Vec::new(rt.alloc());
         let ended = run_script(rt.alloc(), &mut reader, &mut written);
-        assert_eq!(rt; ended, BROKEN, "at call {calls}");
-        assert!(rt;
-            FIRST_ANSWERS.starts_with(written.as_slice()),
-            "at call {calls}"
-        );
-        let lines = count_lines(written.as_slice());
-        assert_eq!(rt; lines, count_lines(&FIRST_RUN[..calls]), "at call {calls}");
+        ends_as(&rt, "at call", calls, ended, BROKEN);
+        wrote_whole_lines(&rt, calls, written.as_slice());
     }
-    Ok(())
 }
 
 #[test]
-fn a_writer_that_fails_has_the_front_of_the_answers(rt: HostRuntime) -> Result<(), Fail> {
+fn a_writer_that_fails_has_the_front_of_the_answers(rt: HostRuntime) {
     for calls in 0..=FIRST_ANSWERS.len() {
         let mut reader = FIRST_RUN;
         let mut writer = SlowWriter {
@@ -271,15 +307,16 @@ fn a_writer_that_fails_has_the_front_of_the_answers(rt: HostRuntime) -> Result<(
         };
         let ended = run_script(rt.alloc(), &mut reader, &mut writer);
         let all = calls == FIRST_ANSWERS.len();
-        let wanted = if all { WELL } else { BROKEN };
-        assert_eq!(rt; ended, wanted, "at call {calls}");
-        assert_eq!(rt;
-            writer.written.as_slice(),
-            &FIRST_ANSWERS[..calls],
-            "at call {calls}"
+        ends_as(
+            &rt,
+            "at call",
+            calls,
+            ended,
+            if all { WELL } else { BROKEN },
         );
+        let front = &FIRST_ANSWERS[..calls];
+        wrote(&rt, "at call", calls, writer.written.as_slice(), front);
     }
-    Ok(())
 }
 
 #[test]
@@ -291,8 +328,9 @@ fn a_flush_that_fails_is_a_write_fault(rt: HostRuntime) {
         calls_left: usize::MAX,
         flushes: false,
     };
-    assert_eq!(rt; run_script(rt.alloc(), &mut reader, &mut writer), BROKEN);
-    assert!(rt; writer.written.as_slice() == FIRST_ANSWERS);
+    let ended = run_script(rt.alloc(), &mut reader, &mut writer);
+    ends_as(&rt, "a flush", 0, ended, BROKEN);
+    wrote(&rt, "a flush", 0, writer.written.as_slice(), FIRST_ANSWERS);
 }
 
 #[test]
@@ -306,5 +344,13 @@ fn a_large_script_runs_on_one_pair(rt: HostRuntime) -> Result<(), Fail> {
         answers.extend_from_slice(b"ok 2\nran 1\ndata 2 \"ab\"\n")?;
     }
     plays_slowly(&rt, rt.alloc(), script.as_slice(), answers.as_slice(), 1);
-    plays(&rt, rt.alloc(), script.as_slice(), answers.as_slice(), WELL)
+    plays(
+        &rt,
+        rt.alloc(),
+        "a large script",
+        script.as_slice(),
+        answers.as_slice(),
+        WELL,
+    );
+    Ok(())
 }

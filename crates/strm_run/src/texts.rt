@@ -3,7 +3,8 @@
 ghost use Rattle.std.specs.Prelude.{◌≡◌, ◌≤◌, IfOk, IfSome};
 ghost use Rattle.std.specs.Option.{option_map};
 ghost use Rattle.strm_run.specs.Script.{hex_of, escaped};
-ghost use Rattle.strm_run.specs.ScriptReading.{moved_by, text_in, text_from, is_closed};
+ghost use Rattle.std.specs.List.{position_from, position_or_len};
+ghost use Rattle.strm_run.specs.ScriptReading.{moved_by, text_in, text_from, is_closed, is_marked, own_len};
 ghost use Rattle.strm_run.specs.ScriptReading as readings;
 ghost use Rattle.strm_run.specs.Modes.{mode_of, move_of, IsMode, IsMove};
 
@@ -11,7 +12,7 @@ use crate::words::after;
 use std::alloc::{AllocError, Global};
 
 /// How far the spelling of a text has come.
-#[derive(Clone, Copy, Debug, PartialEq, Eq)]
+#[derive(Clone, Copy)]
 enum Mode {
     /// Between two pieces.
     Inside,
@@ -26,7 +27,7 @@ enum Mode {
 }
 
 /// What a byte does to a spelling.
-#[derive(Clone, Copy, Debug, PartialEq, Eq)]
+#[derive(Clone, Copy)]
 enum Move {
     /// No text is spelled so.
     Breaks,
@@ -116,14 +117,56 @@ fn is_closed(mode: Mode) -> bool
     }
 }
 
-/// The text that bytes spell, up to the quote at their end.
+/// Whether a byte between two pieces doesn't spell itself.
+fn is_marked(byte: u8) -> bool
+    ensures { result ≡ is_marked byte }
+{
+    match byte {
+        b'"' | b'\\' | b'\n' => true,
+        _ => false,
+    }
+}
+
+/// The place of the first byte that doesn't spell itself.
+fn first_marked(bytes: &[u8]) -> Option<usize>
+    ensures { result ≡ position_from is_marked 0 bytes.now }
+{
+    bytes.iter().position(|byte| is_marked(*byte))
+}
+
+/// How many bytes spell themselves, up to the first that doesn't.
+fn unmarked_len(bytes: &[u8]) -> usize
+    ensures { result ≡ position_or_len is_marked bytes.now }
+{
+    first_marked(bytes).unwrap_or(bytes.len())
+}
+
+/// How many bytes spell themselves where the spelling has come so far: none within an escape.
+fn own_len(mode: Mode, bytes: &[u8]) -> usize
+    ensures { result ≡ own_len (mode_of mode) bytes.now }
+{
+    match mode {
+        Mode::Inside => unmarked_len(bytes),
+        _ => 0,
+    }
+}
+
+/// The text that bytes spell, up to the quote at their end. A run of bytes that spell themselves is taken at once.
 fn spelled(alloc: Global, bytes: &[u8]) -> Result<Option<Vec<u8>>, AllocError>
     ensures { IfOk result (λ found. option_map (λ text. text.items) found ≡ text_from readings.Inside bytes.now) }
 {
     let mut text = Vec::new(alloc);
     let mut mode = Mode::Inside;
-    for byte in bytes {
-        match moved(mode, *byte) {
+    let mut done = 0usize;
+    while done < bytes.len() {
+        let rest = &bytes[done..];
+        let own = own_len(mode, rest);
+        if own > 0 {
+            text.extend_from_slice(&rest[..own])?;
+            done += own;
+            continue;
+        }
+        match moved(mode, bytes[done]) {
             Move::Breaks => return Ok(None),
             Move::Goes(next) => mode = next,
             Move::Gives(byte) => {
@@ -131,6 +174,7 @@ fn spelled(alloc: Global, bytes: &[u8]) -> Result<Option<Vec<u8>>, AllocError>
                 mode = Mode::Inside;
             }
         }
+        done += 1;
     }
     if is_closed(mode) {
         Ok(Some(text))
