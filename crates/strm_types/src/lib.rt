@@ -11,6 +11,8 @@ pub mod laws;
 mod limits;
 mod names;
 mod refusals;
+mod rules;
+mod spots;
 
 pub use answers::{Answer, ReadBytes, Turn};
 pub use entries::Entry;
@@ -22,3 +24,5 @@ pub use limits::{
 };
 pub use names::{Dir, Openness, Place, QueueName, Side, Way, line};
 pub use refusals::{NoMemory, Refusal};
+pub use rules::{Fates, RULES, Rule};
+pub use spots::Spot;
