@@ -2,9 +2,16 @@
 #![tactic(auto)]
 
 mod carrying;
+mod modules;
 mod parcels;
 mod places;
+mod stack;
 
 pub use carrying::deliver;
+pub use modules::{Acts, Module};
 pub use parcels::{Outbox, Sent};
 pub use places::Stations;
+pub use stack::Stream;
+
+#[cfg(test)]
+mod tests;

@@ -8,6 +8,7 @@ use Rattle.strm_types.specs.declared.names.Way.TheVariants.{Up, Down}
 use Rattle.strm_types.specs.declared.rules.Rule.{Rule}
 use Rattle.strm_types.specs.declared.rules.Fates.{Fates}
 use Rattle.strm_types.specs.declared.spots.Spot.{Spot}
+use Rattle.strm_types.specs.declared.spots.Note.{Note}
 use Rattle.strm_types.specs.Message.{Message}
 use Rattle.strm_types.specs.Rules.{told_more}
 
@@ -30,6 +31,14 @@ pub record Fate (C : Type 0) : Type 0 where
 -- what a put does: the state behind it, what is sent on, in order, and what has gone
 pub record Took (C S : Type 0) : Type 0 where
   pub state : S
+  pub sent : List (Parcel C)
+  pub gone : List (Fate C)
+
+-- what a put at a module does: the module behind it, what becomes of its queues' places on the enabled list, in order, what
+-- is sent on after that, in order, and what has gone
+pub record Acted (C S : Type 0) : Type 0 where
+  pub state : S
+  pub notes : List Note
   pub sent : List (Parcel C)
   pub gone : List (Fate C)
 

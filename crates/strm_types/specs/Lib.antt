@@ -10,6 +10,7 @@ pub mod Head
 pub mod Write
 pub mod Rules
 pub mod Deliver
+pub mod Modules
 pub mod Places
 pub mod Origins
 pub mod Turns

@@ -46,3 +46,17 @@ impl Spot {
         }
     }
 }
+
+/// What a put does to the enabled list beside sending: a queue of the module's own is enabled, or has room again, so that
+/// the nearest earlier queue with service is. `Up` is its read queue, `Down` its write queue.
+#[derive(Clone, Copy, Debug, PartialEq, Eq)]
+pub enum Note {
+    Enable(Way),
+    Room(Way),
+}
+
+impl Default for Note {
+    fn default() -> Note {
+        Note::Enable(Way::Up)
+    }
+}
