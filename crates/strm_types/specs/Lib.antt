@@ -8,6 +8,11 @@ pub mod State
 pub mod Flush
 pub mod Head
 pub mod Write
+pub mod Rules
+pub mod Deliver
+pub mod Modules
+pub mod Places
+pub mod Origins
 pub mod Turns
 pub mod Calls
 pub mod Refused

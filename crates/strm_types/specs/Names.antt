@@ -8,6 +8,8 @@ use Rattle.strm_types.specs.declared.names.Way.TheVariants.{Up, Down}
 use Rattle.strm_types.specs.declared.names.Place.{Place}
 use Rattle.strm_types.specs.declared.names.Place.TheVariants.{Head, Ldterm, Driver}
 use Rattle.strm_types.specs.declared.names.QueueName.{QueueName}
+use Rattle.strm_types.specs.declared.names.ModuleName.{ModuleName}
+use Rattle.strm_types.specs.declared.names.ModuleName.TheVariants as modules
 use Rattle.strm_types.specs.declared.names.Dir.{Dir}
 use Rattle.strm_types.specs.declared.names.Dir.TheVariants.{MasterToSlave, SlaveToMaster}
 use Rattle.strm_types.specs.declared.names.Openness.{Openness}
@@ -70,6 +72,18 @@ driver_of side = record { side = side; place = Driver; way = Down }
 -- the queue of a side's head
 abbrev pub head_of : Side → QueueName
 head_of side = record { side = side; place = Head; way = Up }
+
+abbrev pub same_module : ModuleName → ModuleName → Bool
+same_module modules.Ldterm modules.Ldterm = true
+same_module modules.Ptem modules.Ptem = true
+same_module modules.Pckt modules.Pckt = true
+same_module _ _ = false
+
+-- the place of a module's queues, where it has any
+abbrev pub place_of : ModuleName → Option Place
+place_of modules.Ldterm = Some Ldterm
+place_of modules.Ptem = None
+place_of modules.Pckt = None
 
 -- whether a queue has a service procedure: every queue but a head's
 abbrev pub has_service_at : Place → Bool

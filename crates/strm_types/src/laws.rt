@@ -13,6 +13,10 @@ ghost use Rattle.strm_types.specs.Kept.{NothingUnread, state_weight, came, gone}
 ghost use Rattle.strm_types.specs.Cells.{Cells, AreCells, plain};
 ghost use Rattle.strm_types.specs.Calls.{Request, called, map_outcome};
 ghost use Rattle.strm_types.specs.Turns.{turned, map_turn_outcome};
+ghost use Rattle.strm_types.specs.declared.spots.Spot.{Spot};
+ghost use Rattle.strm_types.specs.Deliver.{Parcel, Took, Falls, carried};
+ghost use Rattle.strm_types.specs.Places.{PutKeeps, CarryKeeps};
+ghost use Rattle.strm_types.specs.Origins.{PutsAgree, CarriesAgree};
 ghost use Rattle.strm_types.specs.Journal.{PlainEntry};
 ghost use Rattle.strm_types.specs.Step.{Step, replay};
 
@@ -86,4 +90,18 @@ pub fn bytes_are_kept<C>()
     ensures put { (p : C → Bool) (m : Message C) (q : List (Message C)) → weight p (put m q) ≡ weight_of p m + weight p q }
     ensures put_back { (p : C → Bool) (m : Message C) (q : List (Message C)) → weight p (put_back m q) ≡ weight_of p m + weight p q }
     ensures taken { (p : C → Bool) (m : Message C) (q rest : List (Message C)) → take_first q ≡ Some (m, rest) → weight p q ≡ weight_of p m + weight p rest }
+{}
+
+/// Where no put loses or makes a cell, and what a put sends on has less before it than what was put, no delivery loses or
+/// makes a cell: of any cells, as many as before are held, or have gone by a rule.
+pub fn delivery_keeps_cells<C, S>()
+    ensures { (p : C → Bool) (weigh : S → ℕ) (height : Spot → Message C → ℕ) (put : Spot → Message C → S → Took C S) →
+        PutKeeps p weigh put → Falls height put → (hops : ℕ) (q : Parcel C) → height q.to q.message < hops →
+        CarryKeeps p weigh (carried put hops) q }
+{}
+
+/// Where puts do the same to cells and to what these are mapped to, as where their origins are forgotten, deliveries do.
+pub fn delivery_forgets<C, D, S, T>()
+    ensures { (f : C → D) (g : S → T) (put : Spot → Message C → S → Took C S) (put' : Spot → Message D → T → Took D T) →
+        PutsAgree f g put put' → (hops : ℕ) → CarriesAgree f g (carried put hops) (carried put' hops) }
 {}

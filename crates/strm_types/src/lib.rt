@@ -11,14 +11,18 @@ pub mod laws;
 mod limits;
 mod names;
 mod refusals;
+mod rules;
+mod spots;
 
 pub use answers::{Answer, ReadBytes, Turn};
 pub use entries::Entry;
 pub use events::{Caller, Event};
 pub use kinds::{Band, MsgKind};
 pub use limits::{
-    BANDS, BLOCK_SIZE, Config, HIGH_PRIORITY_RANK, LISTS, READ_MAX, TURN_BLOCKS, WRITE_BLOCKS,
+    BANDS, BLOCK_SIZE, Config, HIGH_PRIORITY_RANK, LISTS, MODULES, READ_MAX, TURN_BLOCKS, WRITE_BLOCKS,
     chunk_count,
 };
-pub use names::{Dir, Openness, Place, QueueName, Side, Way, line};
+pub use names::{Dir, ModuleName, Openness, Place, QueueName, Side, Way, line};
 pub use refusals::{NoMemory, Refusal};
+pub use rules::{Fates, RULES, Rule};
+pub use spots::{Note, Spot};

@@ -15,6 +15,9 @@ pub const BANDS: usize = 8;
 /// The rank of messages of high priority, above that of any band.
 pub const HIGH_PRIORITY_RANK: usize = 256;
 
+/// How many modules a stream has at most.
+pub const MODULES: usize = 3;
+
 /// The most bytes that one read gives.
 pub const READ_MAX: usize = 4096;
 

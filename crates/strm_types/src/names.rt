@@ -107,6 +107,34 @@ pub struct QueueName {
     pub way: Way,
 }
 
+/// A module that may be pushed on a stream: the line discipline `ldterm(7M)`, the terminal emulation `ptem(7M)`, or the
+/// packet mode `pckt(7M)`.
+#[derive(Clone, Copy, Debug, PartialEq, Eq)]
+pub enum ModuleName {
+    Ldterm,
+    Ptem,
+    Pckt,
+}
+
+impl ModuleName {
+    /// Whether two names are one.
+    pub fn is_same(self, other: ModuleName) -> bool
+        ensures { result ≡ names.same_module self other }
+    {
+        self == other
+    }
+
+    /// The place of its queues; None where it has none.
+    pub fn place(self) -> Option<Place>
+        ensures { result ≡ names.place_of self }
+    {
+        match self {
+            ModuleName::Ldterm => Some(Place::Ldterm),
+            ModuleName::Ptem | ModuleName::Pckt => None,
+        }
+    }
+}
+
 /// The queues of a direction that exist, from the writer's driver to the reader's head.
 pub fn line(direction: Dir) -> [QueueName; 2]
     ensures { result ≡ names.line_of direction }

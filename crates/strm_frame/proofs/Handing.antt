@@ -1,0 +1,245 @@
+-- Messages in hand, where a message is put, and each that this gives rise to is carried on.
+use Rattle.std.proofs.Common.{ℕ, ◌≡◌, ◌≢◌, ◌≤◌, ◌<◌, ◌+◌, true, false, cond, eqb, List, [], ◌∷◌, length, refl, sym, ap, subst, ◌∙◌, arith, inl, inr}
+use Rattle.std.proofs.lemmas.Bool.{cases_eq}
+use Rattle.std.proofs.lemmas.Bool.Decides.{nat_tests}
+use Rattle.std.proofs.lemmas.List.Sums.{sum_by-cons}
+use Rattle.strm_blocks.specs.Blocks.{Block, Held, StoreValue, IsStore, IsInHand, in_hand, dropped, times_in, without, names_of}
+use Rattle.strm_blocks.proofs.Laws.{in_hand-dropped, total-dropped, used-is, free_m-is, free_d-more, references-is}
+use Rattle.strm_msg.proofs.Hands.{other-name}
+use Rattle.strm_types.specs.Message.{Message}
+use Rattle.strm_types.specs.declared.spots.Spot.{Spot}
+use Rattle.std.specs.List.{AllByRecursion}
+use Rattle.strm_frame.specs.declared.parcels.Sent.{Sent}
+use Rattle.strm_types.specs.Deliver.{Parcel, AreLower}
+use Rattle.strm_msg.specs.Messages.{IsChain}
+use Rattle.strm_frame.specs.Hands.{once, CanPut, Hands, SameFor, HasRoom, Spends}
+use Rattle.strm_frame.specs.Outboxes.{times_sent, parcels_in, parcel_in, AreChains, cost_of}
+
+same-name : (i : ℕ) → eqb i i ≡ true
+same-name i = grind (arith, nat_tests)
+
+-- a name is once itself
+pub once-self : (i : ℕ) → once i i ≡ 1
+unfolding once
+once-self i = ap (λ v. cond {A = ℕ} v 1 0) (same-name i)
+
+pub once-apart : (i j : ℕ) → once i j ≡ 0 → i ≢ j
+once-apart i j none = λ e. (let t = ap (once i) (sym e) in let u = once-self i in absurd (omega arith))
+
+-- what is put is in hand
+pub can-in_hand : (s : StoreValue) (i : ℕ) (keeps : ℕ → ℕ) → IsStore s → CanPut s i keeps → IsInHand s i
+can-in_hand s i keeps st can = let a = can.apart i in let o = once-self i in let few = st.apart i in omega arith
+
+-- the message that is freed goes, and no other
+times-without : (i j : ℕ) (hand : List Held) → 0 < times_in i hand → times_in j (without i hand) + once i j ≡ times_in j hand
+unfolding once
+times-without i j [] some = absurd (omega arith)
+times-without i j (h ∷ hand) some =
+    let all = sum_by-cons (λ (x : Held). cond (eqb x.name j) 1 0) h hand in
+    let these = sum_by-cons (λ (x : Held). cond (eqb x.name i) 1 0) h hand in
+    let kept = sum_by-cons (λ (x : Held). cond (eqb x.name j) 1 0) h (without i hand) in
+    let ih : 0 < times_in i hand → times_in j (without i hand) + cond {A = ℕ} (eqb i j) 1 0 ≡ times_in j hand = times-without i j hand in
+    elim (cases_eq h.name i) [
+      | inl e ↦
+          (let hit : eqb h.name i ≡ true = ap (λ k. eqb k i) e ∙ same-name i in
+          let one = ap (λ k. cond {A = ℕ} (eqb k j) 1 0) e in
+          rw hit (omega arith))
+      | inr ne ↦
+          (let miss : eqb h.name i ≡ false = other-name h.name i ne in
+          let none = ap (λ v. cond {A = ℕ} v 1 0) miss in
+          let more = ih (omega arith) in
+          rw miss (omega arith))
+    ]
+
+pub freed-hands : (s : StoreValue) (i : ℕ) (keeps : ℕ → ℕ) → IsStore s → CanPut s i keeps → Hands s (dropped s i) i keeps keeps (λ _. 0)
+freed-hands s i keeps st can =
+    record {
+      counts = λ j. let is = can-in_hand s i keeps st can in let t = times-without i j s.hand (omega arith) in omega arith;
+      others = λ j apart kept some. in_hand-dropped s i j (once-apart i j apart);
+    }
+
+pub freed-same : (s : StoreValue) (i : ℕ) (keeps : ℕ → ℕ) → IsStore s → CanPut s i keeps → SameFor s (dropped s i) keeps
+freed-same s i keeps st can =
+    record {
+      lists = refl;
+      mblks = refl;
+      dblks = refl;
+      kept = λ j some. let a = can.apart j in let few = st.apart j in in_hand-dropped s i j (once-apart i j (omega arith));
+    }
+
+-- no fewer blocks are free
+pub freed-spends : (s : StoreValue) (i : ℕ) (keeps : ℕ → ℕ) (most : ℕ) → IsStore s → CanPut s i keeps → Spends s (dropped s i) most 0
+freed-spends s i keeps most st can =
+    let is = can-in_hand s i keeps st can in
+    record {
+      mblks = (let t = total-dropped length s i is in let u = used-is s in let v = used-is (dropped s i) in let a = free_m-is s in let b = free_m-is (dropped s i) in omega arith);
+      dblks = (let m = free_d-more s (dropped s i) refl (λ d. let t = total-dropped (names_of d) s i is in let u = references-is s d in let v = references-is (dropped s i) d in omega arith) in omega arith);
+    }
+
+module _ {M : Type 0} (name : M → ℕ) where
+  -- what was sent stands for the same, where those messages stay
+  pub parcels-same : (s t : StoreValue) (sent : List (Sent M)) → ((i : ℕ) → 0 < times_sent name i sent → in_hand t i ≡ in_hand s i) → parcels_in name t sent ≡ parcels_in name s sent
+  unfolding parcels_in times_sent
+  parcels-same s t [] same = refl
+  parcels-same s t (x ∷ more) same =
+      let o = once-self (name x.message) in
+      let here = same (name x.message) (omega arith) in
+      let rest = parcels-same s t more (λ i some. same i (omega arith)) in
+      parcels-cons s t x more here rest
+    where
+      parcels-cons : (s t : StoreValue) (x : Sent M) (more : List (Sent M)) → in_hand t (name x.message) ≡ in_hand s (name x.message) → parcels_in name t more ≡ parcels_in name s more →
+          ◌≡◌ {A = List (Parcel ℕ)} (parcel_in name t x ∷ parcels_in name t more) (parcel_in name s x ∷ parcels_in name s more)
+      parcels-cons s t x more here rest = rw (here, rest) refl
+
+  -- and are chains
+  pub chains-same : (s t : StoreValue) (sent : List (Sent M)) → ((i : ℕ) → 0 < times_sent name i sent → in_hand t i ≡ in_hand s i) → AreChains name s sent → AreChains name t sent
+  unfolding AreChains times_sent
+  chains-same s t [] same chains = tt
+  chains-same s t (x ∷ more) same chains =
+      let o = once-self (name x.message) in
+      let here = same (name x.message) (omega arith) in
+      (subst IsChain (sym here) chains.0, chains-same s t more (λ i some. same i (omega arith)) chains.1)
+
+  -- A put has sent x and more, and x is carried on.
+  module _ (s0 s t : StoreValue) (m : ℕ) (kept keeps keeps' : ℕ → ℕ) (x : Sent M) (more all : List (Sent M))
+      (split : all ≡ x ∷ more) (st : IsStore s) (can : CanPut s0 m kept) (put : Hands s0 s m kept keeps (λ i. times_sent name i all)) where
+    times-split : (i : ℕ) → times_sent name i all ≡ once (name x.message) i + times_sent name i more
+    unfolding times_sent
+    times-split i = ap (times_sent name i) split
+
+    pub next-parts : parcels_in name s all ≡ parcel_in name s x ∷ parcels_in name s more
+    unfolding parcels_in
+    next-parts = ap (parcels_in name s) split
+
+    -- x may be put
+    pub next-can : CanPut s (name x.message) keeps
+    next-can = record { apart = λ i. let c = put.counts i in let a = can.apart i in let e = times-split i in omega arith }
+
+    cost-split : (cost : Spot → Message ℕ → ℕ) → cost_of cost (parcels_in name s all) ≡ cost x.to (parcel_in name s x).message + cost_of cost (parcels_in name s more)
+    unfolding cost_of
+    cost-split cost = ap (cost_of cost) next-parts
+
+    -- x is a chain
+    pub next-chain : AreChains name s all → IsChain (in_hand s (name x.message))
+    unfolding AreChains
+    next-chain chains = (subst (AreChains name s) split chains).0
+
+    -- x has less before it, and so has the rest
+    next-lowers : (height : Spot → Message ℕ → ℕ) (top : ℕ) → AreLower height top (parcels_in name s all) → AreLower height top (parcel_in name s x ∷ parcels_in name s more)
+    next-lowers height top lower = subst (AreLower height top) next-parts lower
+
+    pub next-low : (height : Spot → Message ℕ → ℕ) (top : ℕ) → AreLower height top (parcels_in name s all) → height x.to (parcel_in name s x).message < top
+    next-low height top lower = (next-lowers height top lower).0
+
+    -- what x takes is free
+    pub next-room : (cost : Spot → Message ℕ → ℕ) (most : ℕ) → HasRoom s0 most → Spends s0 s most (cost_of cost (parcels_in name s all)) → HasRoom s (cost x.to (parcel_in name s x).message)
+    next-room cost most room spends = let e = cost-split cost in record { mblks = omega arith; dblks = omega arith }
+
+    module _ (carried : Hands s t (name x.message) keeps keeps' (λ _. 0)) where
+      -- and then the rest is as if it alone had been sent
+      pub next-hands : Hands s0 t m kept keeps' (λ i. times_sent name i more)
+      next-hands = record {
+        counts = λ i. let c = put.counts i in let d = carried.counts i in let e = times-split i in omega arith;
+        others = λ i apart none some.
+            let c = put.counts i in let e = times-split i in let few = st.apart i in
+            carried.others i (omega arith) (omega arith) (omega arith) ∙ put.others i apart none some;
+      }
+
+      pub next-same : parcels_in name t more ≡ parcels_in name s more
+      next-same = parcels-same s t more (λ i some.
+          let c = put.counts i in let a = can.apart i in let e = times-split i in let few = st.apart i in
+          carried.others i (omega arith) (omega arith) (omega arith))
+
+      pub next-chains : AreChains name s all → AreChains name t more
+      unfolding AreChains
+      next-chains chains = chains-same s t more (λ i some.
+          let c = put.counts i in let a = can.apart i in let e = times-split i in let few = st.apart i in
+          carried.others i (omega arith) (omega arith) (omega arith)) (subst (AreChains name s) split chains).1
+
+      pub next-lower : (height : Spot → Message ℕ → ℕ) (top : ℕ) → AreLower height top (parcels_in name s all) → AreLower height top (parcels_in name t more)
+      next-lower height top lower = subst (AreLower height top) (sym next-same) (next-lowers height top lower).1
+
+      module _ (cost : Spot → Message ℕ → ℕ) (most : ℕ) (room : HasRoom s0 most) (spends : Spends s0 s most (cost_of cost (parcels_in name s all))) where
+        pub next-spends : Spends s t (cost x.to (parcel_in name s x).message) 0 → Spends s0 t most (cost_of cost (parcels_in name t more))
+        next-spends then = let e = cost-split cost in let f = ap (cost_of cost) next-same in record { mblks = omega arith; dblks = omega arith }
+
+  pub no-cost : (s0 s : StoreValue) (cost : Spot → Message ℕ → ℕ) (most : ℕ) (all : List (Sent M)) → all ≡ [] → Spends s0 s most (cost_of cost (parcels_in name s all)) → Spends s0 s most 0
+  unfolding cost_of parcels_in
+  no-cost s0 s cost most all none spends = let e = ap (λ xs. cost_of cost (parcels_in name s xs)) none in record { mblks = omega arith; dblks = omega arith }
+
+  -- nothing is left that was sent
+  pub no-more : (s0 s : StoreValue) (m : ℕ) (kept keeps : ℕ → ℕ) (all : List (Sent M)) → all ≡ [] → Hands s0 s m kept keeps (λ i. times_sent name i all) → Hands s0 s m kept keeps (λ _. 0)
+  unfolding times_sent
+  no-more s0 s m kept keeps all none put = record {
+    counts = λ i. let c = put.counts i in let e = ap (times_sent name i) none in omega arith;
+    others = put.others;
+  }
+
+  pub no-parts : (s : StoreValue) (all : List (Sent M)) → all ≡ [] → parcels_in name s all ≡ []
+  unfolding parcels_in
+  no-parts s all none = ap (parcels_in name s) none
+
+  -- nothing is sent
+  pub none-hands : (s0 s : StoreValue) (m : ℕ) (kept keeps : ℕ → ℕ) (all : List (Sent M)) → all ≡ [] → Hands s0 s m kept keeps (λ _. 0) → Hands s0 s m kept keeps (λ i. times_sent name i all)
+  unfolding times_sent
+  none-hands s0 s m kept keeps all none put = record {
+    counts = λ i. let c = put.counts i in let e = ap (times_sent name i) none in omega arith;
+    others = put.others;
+  }
+
+  pub none-spends : (s0 s : StoreValue) (cost : Spot → Message ℕ → ℕ) (most : ℕ) (all : List (Sent M)) → all ≡ [] → Spends s0 s most 0 → Spends s0 s most (cost_of cost (parcels_in name s all))
+  unfolding cost_of parcels_in
+  none-spends s0 s cost most all none spends = let e = ap (λ xs. cost_of cost (parcels_in name s xs)) none in record { mblks = omega arith; dblks = omega arith }
+
+  pub none-chains : (s : StoreValue) (all : List (Sent M)) → all ≡ [] → AreChains name s all
+  unfolding AreChains
+  none-chains s all none = subst (AreChains name s) (sym none) tt
+
+  pub none-lower : (s : StoreValue) (height : Spot → Message ℕ → ℕ) (top : ℕ) (all : List (Sent M)) → all ≡ [] → AreLower height top (parcels_in name s all)
+  none-lower s height top all none = subst (AreLower height top) (sym (no-parts s all none)) tt
+
+  -- one message is sent on, and it is the one that was put
+  pub one-parts : (s : StoreValue) (x : Sent M) (all : List (Sent M)) → all ≡ x ∷ [] → parcels_in name s all ≡ parcel_in name s x ∷ []
+  unfolding parcels_in
+  one-parts s x all one = ap (parcels_in name s) one
+
+  pub one-hands : (s : StoreValue) (x : Sent M) (keeps : ℕ → ℕ) (all : List (Sent M)) → all ≡ x ∷ [] → Hands s s (name x.message) keeps keeps (λ i. times_sent name i all)
+  unfolding times_sent
+  one-hands s x keeps all one = record {
+    counts = λ i. let e = ap (times_sent name i) one in omega arith;
+    others = λ i apart kept some. refl;
+  }
+
+  pub one-spends : (s : StoreValue) (x : Sent M) (cost : Spot → Message ℕ → ℕ) (most : ℕ) (all : List (Sent M)) → all ≡ x ∷ [] → cost x.to (parcel_in name s x).message ≤ most → Spends s s most (cost_of cost (parcels_in name s all))
+  unfolding cost_of
+  one-spends s x cost most all one few = let e = ap (cost_of cost) (one-parts s x all one) in record { mblks = omega arith; dblks = omega arith }
+
+  pub one-chains : (s : StoreValue) (x : Sent M) (all : List (Sent M)) → all ≡ x ∷ [] → IsChain (in_hand s (name x.message)) → AreChains name s all
+  unfolding AreChains
+  one-chains s x all one chain = subst (AreChains name s) (sym one) (chain, tt)
+
+  pub one-lower : (s : StoreValue) (x : Sent M) (height : Spot → Message ℕ → ℕ) (top : ℕ) (all : List (Sent M)) → all ≡ x ∷ [] → height x.to (parcel_in name s x).message < top → AreLower height top (parcels_in name s all)
+  one-lower s x height top all one low = subst (AreLower height top) (sym (one-parts s x all one)) (low, tt)
+
+-- the only message in hand is once there
+times-alone : (s : StoreValue) (n : ℕ) (chain : List Block) (i : ℕ) → s.hand ≡ record { name = n; chain = chain } ∷ [] → times_in i s.hand ≡ once n i
+unfolding once
+times-alone s n chain i is =
+    let c = sum_by-cons (λ (x : Held). cond {A = ℕ} (eqb x.name i) 1 0) (record { name = n; chain = chain }) [] in
+    ap (times_in i) is ∙ (omega arith)
+
+-- it may be put where nothing is kept
+pub alone-can : (s : StoreValue) (n : ℕ) (chain : List Block) (keeps : ℕ → ℕ) → s.hand ≡ record { name = n; chain = chain } ∷ [] → ((i : ℕ) → keeps i ≡ 0) → CanPut s n keeps
+alone-can s n chain keeps is none = record { apart = λ i. let t = times-alone s n chain i is in let z = none i in omega arith }
+
+no-hand : (hand : List Held) → ((i : ℕ) → times_in i hand ≡ 0) → hand ≡ []
+no-hand [] none = refl
+no-hand (h ∷ hand) none =
+    let c = sum_by-cons (λ (x : Held). cond {A = ℕ} (eqb x.name h.name) 1 0) h hand in
+    let e = ap (λ v. cond {A = ℕ} v 1 0) (same-name h.name) in
+    let z = none h.name in
+    absurd (omega arith)
+
+-- and nothing is in hand when all is delivered
+pub none-left : (s t : StoreValue) (n : ℕ) (chain : List Block) (kept keeps : ℕ → ℕ) → s.hand ≡ record { name = n; chain = chain } ∷ [] → ((i : ℕ) → keeps i ≡ 0) → Hands s t n kept keeps (λ _. 0) → t.hand ≡ []
+none-left s t n chain kept keeps is none put = no-hand t.hand (λ i. let c = put.counts i in let a = times-alone s n chain i is in let z = none i in omega arith)

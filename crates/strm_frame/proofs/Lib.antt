@@ -1,0 +1,4 @@
+pub mod Handing
+pub mod Turns
+pub mod Beside
+pub mod ToySteps

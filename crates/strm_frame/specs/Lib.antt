@@ -1,0 +1,5 @@
+pub mod Outboxes
+pub mod Hands
+pub mod Stacks
+pub mod StackLaws
+pub mod Toys

@@ -1,0 +1,51 @@
+-- What the toys of the tests do.
+use Rattle.std.specs.Prelude.{ℕ, suc, ◌+◌, ◌-◌, ◌%◌, ◌^◌, ◌==◌, if◌then◌else◌, Bool, true, false, List, [], ◌∷◌}
+use Rattle.strm_types.specs.declared.kinds.MsgKind.{MsgKind}
+use Rattle.strm_types.specs.declared.kinds.MsgKind.TheVariants.{Flush}
+use Rattle.strm_types.specs.declared.names.ModuleName.{ModuleName}
+use Rattle.strm_types.specs.declared.names.Way.{Way}
+use Rattle.strm_types.specs.declared.names.Way.TheVariants.{Up, Down}
+use Rattle.strm_types.specs.declared.spots.Spot.{Spot}
+use Rattle.strm_types.specs.Message.{Message}
+use Rattle.strm_types.specs.Deliver.{Parcel, Took, Acted, toward}
+
+abbrev pub is_flush : MsgKind → Bool
+is_flush Flush = true
+is_flush _ = false
+
+-- which way a message goes on: an M_FLUSH that comes up is sent down again
+abbrev pub onward : MsgKind → Way → Way
+onward kind Up = if is_flush kind then Down else Up
+onward kind Down = Down
+
+-- how far a message has to go, where it may be turned once
+abbrev pub far_at : Way → ℕ → ℕ
+far_at Up at = at + 11
+far_at Down at = 10 - at
+
+abbrev pub far : {C : Type 0} → Spot → Message C → ℕ
+far here m = far_at here.way here.at
+
+-- no block is taken
+abbrev pub nothing : {C : Type 0} → Spot → Message C → ℕ
+nothing here m = 0
+
+-- the next message of a module that turns flushes
+abbrev pub turns : {C : Type 0} → Spot → Message C → ModuleName → Acted C ModuleName
+turns here m name = record {
+  state = name;
+  notes = [];
+  sent = record { to = toward (onward m.kind here.way) here; message = m } ∷ [];
+  gone = [];
+}
+
+-- Stations that count what passes: a message goes on upward, and at the top it ends.
+abbrev pub counts : {C : Type 0} → Spot → Message C → ℕ → Took C ℕ
+counts to m n =
+    let next = (n + 1) % 2 ^ 64 in
+    if to.at == 0 then record { state = next; sent = []; gone = [] }
+    else record { state = next; sent = record { to = toward Up to; message = m } ∷ []; gone = [] }
+
+-- how far it is to the top
+abbrev pub upward : {C : Type 0} → Spot → Message C → ℕ
+upward to m = to.at

@@ -1,0 +1,46 @@
+//! Delivery: a message is put at a spot, and each message that this gives rise to is carried on in turn, with all that
+//! it gives rise to, until queues or ends have taken all.
+
+ghost use Rattle.std.specs.Prelude.{ℕ, ◌≡◌, ◌<◌, ◌≤◌};
+ghost use Rattle.strm_types.specs.Deliver.{carried, tallied};
+ghost use Rattle.strm_blocks.specs.Blocks.{in_hand};
+ghost use Rattle.strm_msg.specs.Messages.{IsChain};
+ghost use Rattle.strm_frame.specs.Outboxes.{message_in};
+ghost use Rattle.strm_frame.specs.Hands.{CanPut, Hands, SamePool, HasRoom, Spends};
+
+use crate::places::Stations;
+use strm_blocks::Blocks;
+use strm_types::{Fates, Spot};
+
+/// Delivers a message to a spot, with all that it gives rise to: what is put there sends others on, and each is carried
+/// with all that it gives rise to before the next. It is handed on fewer than `hops` times.
+///
+/// The cost is that of the puts. No byte is copied but by a put, and no memory is taken.
+pub fn deliver<B: Blocks, S: Stations<B>>(
+    store: &mut B,
+    stations: &mut S,
+    hops: usize,
+    to: Spot,
+    message: B::Mp,
+    told: &mut Fates,
+)
+    requires held { S.IsHeld (B.value store.old) stations.old }
+    requires can_put { CanPut (B.value store.old) (B.name message) (S.keeps stations.old) }
+    requires chain { IsChain (in_hand (B.value store.old) (B.name message)) }
+    requires low { S.height to (message_in (B.value store.old) (B.name message)) < hops }
+    requires room { HasRoom (B.value store.old) (S.cost to (message_in (B.value store.old) (B.name message))) }
+    ensures state { let s = B.value store.old in
+        S.plain (B.value store.new) stations.new ≡ (carried S.puts hops (record { to = to; message = message_in s (B.name message) }) (S.plain s stations.old)).state }
+    ensures told { let s = B.value store.old in
+        told.new ≡ tallied (carried S.puts hops (record { to = to; message = message_in s (B.name message) }) (S.plain s stations.old)).gone told.old }
+    ensures held { S.IsHeld (B.value store.new) stations.new }
+    ensures hands { Hands (B.value store.old) (B.value store.new) (B.name message) (S.keeps stations.old) (S.keeps stations.new) (λ _. 0) }
+    ensures spends { Spends (B.value store.old) (B.value store.new) (S.cost to (message_in (B.value store.old) (B.name message))) 0 }
+    ensures pool { SamePool (B.value store.old) (B.value store.new) }
+{
+    let mut sent = stations.put_at(store, to, message, told);
+    while let Some(next) = sent.take_first() {
+        store.audit();
+        deliver(store, stations, hops - 1, next.to, next.message, told);
+    }
+}

@@ -1,0 +1,17 @@
+//! Delivery of messages among what stands on the streams of a pair, over any store of blocks and any stations.
+#![tactic(auto)]
+
+mod carrying;
+mod modules;
+mod parcels;
+mod places;
+mod stack;
+
+pub use carrying::deliver;
+pub use modules::{Acts, Module};
+pub use parcels::{Outbox, Sent};
+pub use places::Stations;
+pub use stack::Stream;
+
+#[cfg(test)]
+mod tests;

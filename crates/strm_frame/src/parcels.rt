@@ -1,0 +1,78 @@
+//! Messages that a station sends on, in order.
+
+ghost use Rattle.std.specs.Prelude.{◌≡◌, [], ◌∷◌, MatchOption};
+ghost use Rattle.strm_frame.specs.Outboxes.{sent_of};
+
+use strm_types::Spot;
+
+/// A message on its way to a spot.
+#[derive(Drop)]
+pub struct Sent<Mp> {
+    pub to: Spot,
+    pub message: Mp,
+}
+
+/// At most four messages on their way, the first one first.
+#[derive(Drop)]
+pub struct Outbox<Mp> {
+    pub first: Option<Sent<Mp>>,
+    pub second: Option<Sent<Mp>>,
+    pub third: Option<Sent<Mp>>,
+    pub fourth: Option<Sent<Mp>>,
+}
+
+impl<Mp: Drop> Outbox<Mp> {
+    /// Nothing.
+    pub fn none() -> Self
+        ensures { sent_of result ≡ [] }
+    {
+        Outbox {
+            first: None,
+            second: None,
+            third: None,
+            fourth: None,
+        }
+    }
+
+    /// One message.
+    pub fn one(first: Sent<Mp>) -> Self
+        ensures { sent_of result ≡ first ∷ [] }
+    {
+        Outbox {
+            first: Some(first),
+            second: None,
+            third: None,
+            fourth: None,
+        }
+    }
+
+    /// Two messages.
+    pub fn two(first: Sent<Mp>, second: Sent<Mp>) -> Self
+        ensures { sent_of result ≡ first ∷ second ∷ [] }
+    {
+        Outbox {
+            first: Some(first),
+            second: Some(second),
+            third: None,
+            fourth: None,
+        }
+    }
+
+    /// The first message, taken out.
+    pub fn take_first(&mut self) -> Option<Sent<Mp>>
+        ensures { MatchOption result
+            ((sent_of self.old ≡ []) × (sent_of self.new ≡ []))
+            (λ sent. sent_of self.old ≡ sent ∷ sent_of self.new) }
+    {
+        if let Some(sent) = self.first.take() {
+            return Some(sent);
+        }
+        if let Some(sent) = self.second.take() {
+            return Some(sent);
+        }
+        if let Some(sent) = self.third.take() {
+            return Some(sent);
+        }
+        self.fourth.take()
+    }
+}

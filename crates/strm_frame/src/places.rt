@@ -1,0 +1,60 @@
+//! What stands on the streams of a pair.
+
+ghost use Rattle.std.specs.Prelude.{ℕ, ◌≡◌};
+ghost use Rattle.strm_types.specs.declared.spots.Spot.{Spot};
+ghost use Rattle.strm_types.specs.Message.{Message};
+ghost use Rattle.strm_types.specs.Deliver.{Took, AreLower, tallied};
+ghost use Rattle.strm_blocks.specs.Blocks.{StoreValue, in_hand};
+ghost use Rattle.strm_msg.specs.Messages.{IsChain};
+ghost use Rattle.strm_frame.specs.Outboxes.{message_in, sent_of, times_sent, parcels_in, AreChains, cost_of};
+ghost use Rattle.strm_frame.specs.Hands.{CanPut, Hands, SamePool, SameFor, HasRoom, Spends};
+
+use crate::parcels::Outbox;
+use strm_blocks::Blocks;
+use strm_types::{Fates, Spot};
+
+/// Stations at which messages are put: heads, modules and drivers with their queues, on a store of blocks.
+pub trait Stations<B: Blocks> {
+    /// The plain state of the stations.
+    ghost Plain: { Type 0 };
+
+    /// What the stations and the store stand for.
+    ghost plain: { StoreValue → Self → Plain };
+
+    /// The store and the stations beside it fit.
+    ghost IsHeld: { StoreValue → Self → Type 0 };
+
+    /// How often the stations themselves keep a message of a name in hand.
+    ghost keeps: { Self → ℕ → ℕ };
+
+    /// What a message does that is put at a spot.
+    ghost puts: { Spot → Message ℕ → Plain → Took ℕ Plain };
+
+    /// How often a message can be handed on at most that is put at a spot, with all that it gives rise to.
+    ghost height: { Spot → Message ℕ → ℕ };
+
+    /// How many blocks of each kind a message takes at most that is put at a spot, with all that it gives rise to.
+    ghost cost: { Spot → Message ℕ → ℕ };
+
+    /// Puts a message in hand at a spot, and gives what is sent on, in order.
+    fn put_at(&mut self, store: &mut B, to: Spot, message: B::Mp, told: &mut Fates) -> Outbox<B::Mp>
+        requires held { IsHeld (B.value store.old) self.old }
+        requires can_put { CanPut (B.value store.old) (B.name message) (keeps self.old) }
+        requires chain { IsChain (in_hand (B.value store.old) (B.name message)) }
+        requires room { HasRoom (B.value store.old) (cost to (message_in (B.value store.old) (B.name message))) }
+        ensures state { let s = B.value store.old in
+            plain (B.value store.new) self.new ≡ (puts to (message_in s (B.name message)) (plain s self.old)).state }
+        ensures sent { let s = B.value store.old in
+            parcels_in B.name (B.value store.new) (sent_of result) ≡ (puts to (message_in s (B.name message)) (plain s self.old)).sent }
+        ensures told { let s = B.value store.old in
+            told.new ≡ tallied (puts to (message_in s (B.name message)) (plain s self.old)).gone told.old }
+        ensures held { IsHeld (B.value store.new) self.new }
+        ensures chains { AreChains B.name (B.value store.new) (sent_of result) }
+        ensures falls { AreLower height (height to (message_in (B.value store.old) (B.name message))) (parcels_in B.name (B.value store.new) (sent_of result)) }
+        ensures hands { Hands (B.value store.old) (B.value store.new) (B.name message) (keeps self.old) (keeps self.new) (λ i. times_sent B.name i (sent_of result)) }
+        ensures spends { Spends (B.value store.old) (B.value store.new) (cost to (message_in (B.value store.old) (B.name message))) (cost_of cost (parcels_in B.name (B.value store.new) (sent_of result))) }
+        ensures pool { SamePool (B.value store.old) (B.value store.new) };
+
+    /// The stations stand for the same, and fit, wherever the lists are the same and what they keep in hand is.
+    ghost frame: { (s t : StoreValue) (x : Self) → SameFor s t (keeps x) → IsHeld s x → (plain t x ≡ plain s x) × IsHeld t x };
+}

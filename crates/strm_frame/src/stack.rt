@@ -1,0 +1,147 @@
+//! The modules of a stream.
+
+ghost use Rattle.std.specs.Prelude.{ℕ, ◌≡◌, ◌<◌, ◌≤◌, ◌-◌, [], ◌∷◌, length, map, true, false, MatchOption, MatchResult};
+ghost use Rattle.strm_types.specs.declared.limits.TheConstants.{MODULES};
+ghost use Rattle.strm_types.specs.Deliver.{AreLower, tallied};
+ghost use Rattle.strm_types.specs.Modules.{put_among, may_push, stands, top_name};
+ghost use Rattle.strm_blocks.specs.Blocks.{StoreValue, in_hand};
+ghost use Rattle.strm_msg.specs.Messages.{IsChain};
+ghost use Rattle.strm_frame.specs.Stacks.{all_of, AreHeld};
+ghost use Rattle.strm_frame.specs.Outboxes.{message_in, sent_of, times_sent, parcels_in, AreChains, cost_of};
+ghost use Rattle.strm_frame.specs.Hands.{CanPut, Hands, SamePool, HasRoom, Spends};
+
+use crate::modules::{Acts, Module};
+use arrayvec::ArrayVec;
+use strm_blocks::Blocks;
+use strm_types::{Fates, MODULES, ModuleName, Spot};
+
+/// The modules of a stream, from the top down: at most three, each name once.
+#[derive(Drop)]
+pub struct Stream<M> {
+    pub modules: ArrayVec<M, 3>,
+}
+
+// Whether a module of a name stands among these.
+fn stands<B: Blocks, M: Module<B>>(modules: &[M], name: ModuleName) -> bool
+    ensures { (s : StoreValue) → result ≡ stands M.name_of name (map (M.plain s) modules.now) }
+{
+    let Some((first, rest)) = modules.split_first() else {
+        return false;
+    };
+    first.name().is_same(name) || stands(rest, name)
+}
+
+// Puts a message at one of several modules, counted from 0.
+fn put_among<B: Blocks, M: Module<B>>(
+    store: &mut B,
+    modules: &mut [M],
+    at: usize,
+    to: Spot,
+    message: B::Mp,
+    told: &mut Fates,
+) -> Acts<B::Mp>
+    requires within { at < length modules.old }
+    requires held { AreHeld M.IsHeld M.owns (B.value store.old) modules.old }
+    requires can_put { CanPut (B.value store.old) (B.name message) (all_of M.keeps modules.old) }
+    requires chain { IsChain (in_hand (B.value store.old) (B.name message)) }
+    requires room { HasRoom (B.value store.old) (M.cost to (message_in (B.value store.old) (B.name message))) }
+    requires inside { 0 < to.at }
+    requires small { to.at ≤ MODULES }
+    ensures length { length modules.new ≡ length modules.old }
+    ensures state { let s = B.value store.old in
+        map (M.plain (B.value store.new)) modules.new ≡ (put_among M.puts at to (message_in s (B.name message)) (map (M.plain s) modules.old)).state }
+    ensures notes { let s = B.value store.old in
+        result.notes.items ≡ (put_among M.puts at to (message_in s (B.name message)) (map (M.plain s) modules.old)).notes }
+    ensures sent { let s = B.value store.old in
+        parcels_in B.name (B.value store.new) (sent_of result.sent) ≡ (put_among M.puts at to (message_in s (B.name message)) (map (M.plain s) modules.old)).sent }
+    ensures told { let s = B.value store.old in
+        told.new ≡ tallied (put_among M.puts at to (message_in s (B.name message)) (map (M.plain s) modules.old)).gone told.old }
+    ensures held { AreHeld M.IsHeld M.owns (B.value store.new) modules.new }
+    ensures chains { AreChains B.name (B.value store.new) (sent_of result.sent) }
+    ensures falls { AreLower M.height (M.height to (message_in (B.value store.old) (B.name message))) (parcels_in B.name (B.value store.new) (sent_of result.sent)) }
+    ensures hands { Hands (B.value store.old) (B.value store.new) (B.name message) (all_of M.keeps modules.old) (all_of M.keeps modules.new) (λ i. times_sent B.name i (sent_of result.sent)) }
+    ensures spends { Spends (B.value store.old) (B.value store.new) (M.cost to (message_in (B.value store.old) (B.name message))) (cost_of M.cost (parcels_in B.name (B.value store.new) (sent_of result.sent))) }
+    ensures pool { SamePool (B.value store.old) (B.value store.new) }
+{
+    store.audit();
+    modules[at].put(store, to, message, told)
+}
+
+impl<M: Default + Drop> Stream<M> {
+    /// No module.
+    pub fn new() -> Stream<M>
+        ensures { result.modules.items ≡ [] }
+    {
+        Stream {
+            modules: ArrayVec::new(),
+        }
+    }
+
+    /// Whether a module of a name stands on the stream: `I_FIND` of streamio(7I).
+    pub fn has<B: Blocks>(&self, name: ModuleName) -> bool
+        where M: Module<B>
+        ensures { (s : StoreValue) → result ≡ stands M.name_of name (map (M.plain s) self.now.modules.items) }
+    {
+        stands(self.modules.as_slice(), name)
+    }
+
+    /// Pushes a module on top: `I_PUSH` of streamio(7I). It comes back where three stand, or one of its name.
+    pub fn push<B: Blocks>(&mut self, pushed: M) -> Result<(), M>
+        where M: Module<B>
+        ensures pushed { (s : StoreValue) → MatchResult result
+            (λ _. (may_push M.name_of (M.plain s pushed) (map (M.plain s) self.old.modules.items) ≡ true) × (self.new.modules.items ≡ pushed ∷ self.old.modules.items))
+            (λ back. (may_push M.name_of (M.plain s pushed) (map (M.plain s) self.old.modules.items) ≡ false) × ((back ≡ pushed) × (self.new ≡ self.old))) }
+    {
+        if self.modules.len() >= MODULES || self.has(pushed.name()) {
+            return Err(pushed);
+        }
+        self.modules.insert(0, pushed);
+        Ok(())
+    }
+
+    /// Takes the module off that is on top, if there is one: `I_POP` of streamio(7I).
+    pub fn pop(&mut self) -> Option<M>
+        ensures { MatchOption result
+            ((self.old.modules.items ≡ []) × (self.new ≡ self.old))
+            (λ top. self.old.modules.items ≡ top ∷ self.new.modules.items) }
+    {
+        self.modules.pop_at(0)
+    }
+
+    /// The name of the module on top, if there is one: `I_LOOK` of streamio(7I).
+    pub fn look<B: Blocks>(&self) -> Option<ModuleName>
+        where M: Module<B>
+        ensures { (s : StoreValue) → result ≡ top_name M.name_of (map (M.plain s) self.now.modules.items) }
+    {
+        let top = self.modules.as_slice().first()?;
+        Some(top.name())
+    }
+
+    /// Puts a message at a module, whose place counts from 1 for the one on top. The cost is that of its put.
+    pub fn put<B: Blocks>(&mut self, store: &mut B, to: Spot, message: B::Mp, told: &mut Fates) -> Acts<B::Mp>
+        where M: Module<B>
+        requires inside { 0 < to.at }
+        requires within { to.at ≤ length self.old.modules.items }
+        requires held { AreHeld M.IsHeld M.owns (B.value store.old) self.old.modules.items }
+        requires can_put { CanPut (B.value store.old) (B.name message) (all_of M.keeps self.old.modules.items) }
+        requires chain { IsChain (in_hand (B.value store.old) (B.name message)) }
+        requires room { HasRoom (B.value store.old) (M.cost to (message_in (B.value store.old) (B.name message))) }
+        ensures length { length self.new.modules.items ≡ length self.old.modules.items }
+        ensures state { let s = B.value store.old in
+            map (M.plain (B.value store.new)) self.new.modules.items ≡ (put_among M.puts (to.at - 1) to (message_in s (B.name message)) (map (M.plain s) self.old.modules.items)).state }
+        ensures notes { let s = B.value store.old in
+            result.notes.items ≡ (put_among M.puts (to.at - 1) to (message_in s (B.name message)) (map (M.plain s) self.old.modules.items)).notes }
+        ensures sent { let s = B.value store.old in
+            parcels_in B.name (B.value store.new) (sent_of result.sent) ≡ (put_among M.puts (to.at - 1) to (message_in s (B.name message)) (map (M.plain s) self.old.modules.items)).sent }
+        ensures told { let s = B.value store.old in
+            told.new ≡ tallied (put_among M.puts (to.at - 1) to (message_in s (B.name message)) (map (M.plain s) self.old.modules.items)).gone told.old }
+        ensures held { AreHeld M.IsHeld M.owns (B.value store.new) self.new.modules.items }
+        ensures chains { AreChains B.name (B.value store.new) (sent_of result.sent) }
+        ensures falls { AreLower M.height (M.height to (message_in (B.value store.old) (B.name message))) (parcels_in B.name (B.value store.new) (sent_of result.sent)) }
+        ensures hands { Hands (B.value store.old) (B.value store.new) (B.name message) (all_of M.keeps self.old.modules.items) (all_of M.keeps self.new.modules.items) (λ i. times_sent B.name i (sent_of result.sent)) }
+        ensures spends { Spends (B.value store.old) (B.value store.new) (M.cost to (message_in (B.value store.old) (B.name message))) (cost_of M.cost (parcels_in B.name (B.value store.new) (sent_of result.sent))) }
+        ensures pool { SamePool (B.value store.old) (B.value store.new) }
+    {
+        put_among(store, self.modules.as_mut_slice(), to.at - 1, to, message, told)
+    }
+}

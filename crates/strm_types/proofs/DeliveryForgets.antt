@@ -1,0 +1,31 @@
+-- A delivery does the same to what is mapped.
+use Rattle.std.proofs.Common.{ℕ, zero, suc, ◌≡◌, List, [], ◌∷◌, ◌++◌, map, refl, sym, ap, ◌∙◌}
+use Rattle.strm_types.specs.Message.{Message}
+use Rattle.strm_types.specs.declared.spots.Spot.{Spot}
+use Rattle.strm_types.specs.Deliver.{Parcel, Took, Carried, in_turn, carried}
+use Rattle.strm_types.specs.Origins.{map_parcel, map_fate, map_carried, PutsAgree, CarriesAgree}
+
+map-join : {A B : Type 0} (h : A → B) (xs ys : List A) → map h (xs ++ ys) ≡ map h xs ++ map h ys
+map-join h [] ys = refl
+map-join h (x ∷ xs) ys = ap (λ zs. h x ∷ zs) (map-join h xs ys)
+
+module _ {C D S T : Type 0} (f : C → D) (g : S → T) where
+  in_turn-agrees : (carry : Parcel C → S → Carried C S) (carry' : Parcel D → T → Carried D T) → CarriesAgree f g carry carry' → (ps : List (Parcel C)) (s : S) →
+      in_turn carry' (map (map_parcel f) ps) (g s) ≡ map_carried f g (in_turn carry ps s)
+  in_turn-agrees carry carry' agree [] s = refl
+  in_turn-agrees carry carry' agree (q ∷ qs) s =
+      let t = carry q s in
+      let rest = in_turn-agrees carry carry' agree qs t.state in
+      ap (λ (u : Carried D T). record { state = (in_turn carry' (map (map_parcel f) qs) u.state).state; gone = u.gone ++ (in_turn carry' (map (map_parcel f) qs) u.state).gone }) (agree q s)
+      ∙ ap (λ (u : Carried D T). record { state = u.state; gone = map (map_fate f) t.gone ++ u.gone }) rest
+      ∙ ap (λ fates. record { state = g (in_turn carry qs t.state).state; gone = fates }) (sym (map-join (map_fate f) t.gone (in_turn carry qs t.state).gone))
+
+  pub carried-agrees : (put : Spot → Message C → S → Took C S) (put' : Spot → Message D → T → Took D T) → PutsAgree f g put put' → (hops : ℕ) → CarriesAgree f g (carried put hops) (carried put' hops)
+  unfolding carried
+  carried-agrees put put' agree zero q s = refl
+  carried-agrees put put' agree (suc hops) q s =
+      let t = put q.to q.message s in
+      let rest = in_turn-agrees (carried put hops) (carried put' hops) (carried-agrees put put' agree hops) t.sent t.state in
+      ap (λ (u : Took D T). record { state = (in_turn (carried put' hops) u.sent u.state).state; gone = u.gone ++ (in_turn (carried put' hops) u.sent u.state).gone }) (agree q.to q.message s)
+      ∙ ap (λ (u : Carried D T). record { state = u.state; gone = map (map_fate f) t.gone ++ u.gone }) rest
+      ∙ ap (λ fates. record { state = g (in_turn (carried put hops) t.sent t.state).state; gone = fates }) (sym (map-join (map_fate f) t.gone (in_turn (carried put hops) t.sent t.state).gone))
