@@ -8,7 +8,6 @@ use Rattle.strm_blocks.proofs.Laws.{in_hand-dropped, total-dropped, used-is, fre
 use Rattle.strm_msg.proofs.Hands.{other-name}
 use Rattle.strm_types.specs.Message.{Message}
 use Rattle.strm_types.specs.declared.spots.Spot.{Spot}
-use Rattle.std.specs.List.{AllByRecursion}
 use Rattle.strm_frame.specs.declared.parcels.Sent.{Sent}
 use Rattle.strm_types.specs.Deliver.{Parcel, AreLower}
 use Rattle.strm_msg.specs.Messages.{IsChain}

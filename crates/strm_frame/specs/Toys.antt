@@ -1,5 +1,5 @@
 -- What the toys of the tests do.
-use Rattle.std.specs.Prelude.{ℕ, suc, ◌+◌, ◌-◌, ◌%◌, ◌^◌, ◌==◌, if◌then◌else◌, Bool, true, false, List, [], ◌∷◌}
+use Rattle.std.specs.Prelude.{ℕ, ◌+◌, ◌-◌, ◌%◌, ◌^◌, ◌==◌, if◌then◌else◌, Bool, true, false, [], ◌∷◌}
 use Rattle.strm_types.specs.declared.kinds.MsgKind.{MsgKind}
 use Rattle.strm_types.specs.declared.kinds.MsgKind.TheVariants.{Flush}
 use Rattle.strm_types.specs.declared.names.ModuleName.{ModuleName}
@@ -7,7 +7,7 @@ use Rattle.strm_types.specs.declared.names.Way.{Way}
 use Rattle.strm_types.specs.declared.names.Way.TheVariants.{Up, Down}
 use Rattle.strm_types.specs.declared.spots.Spot.{Spot}
 use Rattle.strm_types.specs.Message.{Message}
-use Rattle.strm_types.specs.Deliver.{Parcel, Took, Acted, toward}
+use Rattle.strm_types.specs.Deliver.{Took, Acted, toward}
 
 abbrev pub is_flush : MsgKind → Bool
 is_flush Flush = true

@@ -1,5 +1,5 @@
 -- Each message that was sent is carried in turn, and the rest is as if it alone had been sent.
-use Rattle.std.proofs.Common.{ℕ, suc, ◌≡◌, ◌-◌, ◌<◌, sym, ap, ◌∙◌, arith}
+use Rattle.std.proofs.Common.{ℕ, suc, ◌≡◌, ◌-◌, sym, ◌∙◌, arith}
 use Rattle.strm_types.specs.Deliver.{Parcel, carried}
 use Rattle.strm_frame.specs.Outboxes.{message_in, sent_of, parcels_in, parcel_in}
 use Rattle.strm_frame.proofs.Handing.{next-chain, next-chains, next-low, next-lower, next-room, next-spends, no-cost, next-parts, next-can, next-hands, next-same, no-more, no-parts}

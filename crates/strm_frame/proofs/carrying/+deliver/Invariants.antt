@@ -1,4 +1,4 @@
-use Rattle.std.proofs.Common.{◌≡◌, ◌-◌, ◌<◌, length}
+use Rattle.std.proofs.Common.{◌≡◌, ◌-◌, length}
 use Rattle.strm_types.specs.Deliver.{in_turn, carried, tallied, AreLower}
 use Rattle.strm_frame.specs.Hands.{Hands, SamePool, Spends}
 use Rattle.strm_frame.specs.Outboxes.{message_in, sent_of, times_sent, parcels_in, AreChains, cost_of}
