@@ -1,4 +1,5 @@
 pub mod Readings
+pub mod Printings
 pub mod Events
 pub mod Ways
 pub mod EngineSteps

@@ -6,6 +6,7 @@ use Rattle.std.proofs.lemmas.Bool.{cond-true, cond-false, eq-eqb, ltb-false, cas
 use Rattle.std.specs.List.{position_from, position_or_len}
 use Rattle.std.proofs.lemmas.Iterator.Adapters.{position_from-zero}
 use Rattle.std.proofs.lemmas.List.Sums.{prefix_len-le-length}
+use Rattle.std.proofs.lemmas.List.Folds.{length-prefix_len}
 use Rattle.strm_run.specs.Script.{digit_of}
 use Rattle.strm_run.specs.ScriptReading.{after, number_from, Mode, Inside, Escaped, Coded, HalfCoded, Closed, Breaks, Goes, Gives, moved_by, text_from, with_front, is_closed, is_marked, own_len}
 
@@ -108,17 +109,20 @@ position-found test bytes = elim (cases_Bool (ltb (position_or_len test bytes) (
 pub position-within : (test : ℕ → Bool) (bytes : List ℕ) → position_or_len test bytes ≤ length bytes
 position-within test bytes = prefix_len-le-length (λ x. not (test x)) bytes
 
+pub length-position : (test : ℕ → Bool) (bytes : List ℕ) → length (take (position_or_len test bytes) bytes) ≡ position_or_len test bytes
+length-position test bytes = length-prefix_len (λ x. not (test x)) bytes
+
 -- the first element is the one that is looked for, or isn't
-position-here : (test : ℕ → Bool) (b : ℕ) (bytes : List ℕ) → test b ≡ true → position_or_len test (b ∷ bytes) ≡ 0
+pub position-here : (test : ℕ → Bool) (b : ℕ) (bytes : List ℕ) → test b ≡ true → position_or_len test (b ∷ bytes) ≡ 0
 position-here test b bytes e = cond-false (not (test b)) (1 + position_or_len test bytes) 0 (ap not e)
 
-position-later : (test : ℕ → Bool) (b : ℕ) (bytes : List ℕ) → test b ≡ false → position_or_len test (b ∷ bytes) ≡ suc (position_or_len test bytes)
+pub position-later : (test : ℕ → Bool) (b : ℕ) (bytes : List ℕ) → test b ≡ false → position_or_len test (b ∷ bytes) ≡ suc (position_or_len test bytes)
 position-later test b bytes e =
     let one : 1 + position_or_len test bytes ≡ suc (position_or_len test bytes) = omega arith in
     cond-true (not (test b)) (1 + position_or_len test bytes) 0 (ap not e) ∙ one
 
 -- bytes that spell themselves, and the text behind them
-or_none : (a b : Bool) → (a || b) ≡ false → (a ≡ false) × (b ≡ false)
+pub or_none : (a b : Bool) → (a || b) ≡ false → (a ≡ false) × (b ≡ false)
 or_none true b h = absurd cc
 or_none false b h = (refl, h)
 

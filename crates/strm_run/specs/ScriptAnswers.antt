@@ -1,5 +1,5 @@
 -- The answer lines of a script.
-use Rattle.std.specs.Prelude.{ℕ, ◌/◌, ◌%◌, ◌+◌, nat_lt, nat_le, ◌==◌, ◌&&◌, if◌then◌else◌, List, [], ◌∷◌, ◌++◌, length, codes, Result, Ok, Err}
+use Rattle.std.specs.Prelude.{ℕ, ◌/◌, ◌%◌, ◌+◌, nat_lt, nat_le, ◌==◌, ◌&&◌, ◌||◌, Bool, if◌then◌else◌, List, [], ◌∷◌, ◌++◌, length, codes, Result, Ok, Err}
 use Rattle.std.specs.List.{flat_map}
 use Rattle.std.specs.Fmt.{decimal}
 use Rattle.strm_types.specs.declared.answers.Turn.{Turn}
@@ -35,6 +35,10 @@ printed b =
     else (if b == 92 then codes "\\\\"
     else (if nat_le 32 b && nat_le b 126 then b ∷ []
     else codes "\\x" ++ hex_digit (b / 16) ∷ hex_digit (b % 16) ∷ [])))))
+
+-- a byte that is printed by an escape
+abbrev pub is_escaped : ℕ → Bool
+is_escaped b = (b == 34) || ((b == 92) || (nat_lt b 32 || nat_lt 126 b))
 
 -- a text as it is printed, in quotes
 abbrev pub quoted : List ℕ → List ℕ

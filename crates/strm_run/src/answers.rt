@@ -1,7 +1,8 @@
 //! The answer lines of a script, as they are printed.
 
-ghost use Rattle.std.specs.Prelude.{◌≡◌, ◌<◌, Some};
-ghost use Rattle.strm_run.specs.ScriptAnswers.{hex_digit, printed, quoted, line_text, refusal_name};
+ghost use Rattle.std.specs.Prelude.{◌≡◌, ◌<◌, Some, take};
+ghost use Rattle.std.specs.List.{position_from, position_or_len};
+ghost use Rattle.strm_run.specs.ScriptAnswers.{hex_digit, is_escaped, printed, quoted, line_text, refusal_name};
 ghost use Rattle.strm_run.specs.Lines.{line_of};
 
 use std::fmt;
@@ -67,6 +68,42 @@ impl fmt::Display for Printed {
     }
 }
 
+/// Whether a byte of a text is printed by an escape.
+fn is_escaped(byte: u8) -> bool
+    ensures { result ≡ is_escaped byte }
+{
+    match byte {
+        b'"' | b'\\' => true,
+        0x20..=0x7e => false,
+        _ => true,
+    }
+}
+
+/// The place of the first byte that is printed by an escape.
+fn first_escaped(text: &[u8]) -> Option<usize>
+    ensures { result ≡ position_from is_escaped 0 text.now }
+{
+    text.iter().position(|byte| is_escaped(*byte))
+}
+
+/// How many bytes are printed as they are, up to the first that isn't.
+fn plain_len(text: &[u8]) -> usize
+    ensures { result ≡ position_or_len is_escaped text.now }
+{
+    first_escaped(text).unwrap_or(text.len())
+}
+
+/// The front of a text that is printed as it is, up to the first byte that isn't.
+fn plain_front(text: &[u8]) -> &str
+    ensures { result.now ≡ take (position_or_len is_escaped text.now) text.now }
+{
+    let len = plain_len(text);
+    match str::from_utf8(&text[..len]) {
+        Ok(front) => front,
+        Err(_) => "",
+    }
+}
+
 /// A text in quotes.
 #[derive(Drop)]
 struct Quoted<'a>(&'a [u8]);
@@ -76,9 +113,19 @@ impl fmt::Display for Quoted<'_> {
 
     fn fmt<W: fmt::Write>(&self, f: &mut fmt::Formatter<W>) -> fmt::Result {
         write!(f, "\"")?;
-        for byte in self.0 {
-            let piece = Printed(*byte);
+        let text = self.0;
+        let mut done = 0usize;
+        while done < text.len() {
+            let plain = plain_front(&text[done..]);
+            let len = plain.len();
+            if len > 0 {
+                f.write_str(plain)?;
+                done += len;
+                continue;
+            }
+            let piece = Printed(text[done]);
             write!(f, "{piece}")?;
+            done += 1;
         }
         write!(f, "\"")
     }
