@@ -4,7 +4,7 @@ use crate::plans::Plan;
 use std::alloc::Global;
 use strm_blocks::TableStore;
 use strm_pair::Pair;
-use strm_types::{Caller, Config, Event, ReadBytes, Side};
+use strm_types::{Caller, Event, ReadBytes, Side};
 
 const MASTER: Caller = Caller { side: Side::Master };
 
@@ -15,14 +15,9 @@ static BYTES: [u8; 4096] = [b'z'; 4096];
 // A pair with both sides open.
 fn opened(alloc: Global, plan: &Plan) -> Option<Pair<TableStore>> {
     let blocks = plan.blocks as usize;
-    let sizes = Config {
-        mblks: blocks,
-        dblks: blocks,
-        journal_events: plan.entries as usize,
-        journal_bytes: (plan.entries as usize) * 4096,
-    };
+    let entries = plan.entries as usize;
     let store = TableStore::new(alloc, blocks, blocks).ok()?;
-    let Ok(mut pair) = Pair::new(alloc, sizes, store) else {
+    let Ok(mut pair) = Pair::new(alloc, store, entries, entries * 4096) else {
         return None;
     };
     let mut out = ReadBytes::new();

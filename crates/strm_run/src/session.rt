@@ -160,7 +160,7 @@ fn open(
     }
     let sizes = limits(blocks);
     let store = TableStore::new(alloc, sizes.mblks, sizes.dblks)?;
-    let Ok(mut fresh) = Pair::new(alloc, sizes, store) else {
+    let Ok(mut fresh) = Pair::new(alloc, store, sizes.journal_events, sizes.journal_bytes) else {
         return Err(AllocError);
     };
     let answered = call(&mut fresh, Side::Master, &Event::OpenMaster, out);
