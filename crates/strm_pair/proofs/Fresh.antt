@@ -1,14 +1,15 @@
 -- A pair over a store with nothing in it, with an empty journal, is as new.
-use Rattle.std.proofs.Common.{ℕ, ◌≡◌, [], ap, sym, subst, refl, ◌∙◌}
+use Rattle.std.proofs.Common.{ℕ, ◌≡◌, List, [], ap, sym, subst, refl, ◌∙◌}
+use Rattle.std.specs.Prelude.{replicate}
 use Rattle.strm_types.specs.declared.limits.Config.{Config}
 use Rattle.strm_types.specs.State.{opening}
 use Rattle.strm_types.specs.Cells.{plain}
 use Rattle.strm_types.specs.Step.{IsLegal}
 use Rattle.strm_types.specs.Pair.{new_pair}
-use Rattle.strm_blocks.specs.Blocks.{StoreValue, empty_store}
+use Rattle.strm_blocks.specs.Blocks.{Block, Held, StoreValue, empty_store}
 use Rattle.strm_pair.specs.declared.streams.Streams.{Streams}
 use Rattle.strm_pair.specs.declared.journal.Journal.{Journal}
-use Rattle.strm_pair.specs.Pairs.{state_in, AreHeld, journal_of}
+use Rattle.strm_pair.specs.Pairs.{state_in, AreHeld, free_in, journal_of}
 use Rattle.strm_pair.specs.PairViews.{pair_of, IsKept}
 use Rattle.strm_pair.proofs.Shown.{free-empty}
 use Rattle.strm_pair.proofs.Steps.{led-nowhere}
@@ -34,3 +35,12 @@ pub fresh-shown : (s : StoreValue) (p : Streams) (j : Journal) (limits : Config)
 fresh-shown s p j limits blank fresh empty =
     ap (λ v. pair_of v p j limits) blank
     ∙ rw (led-nowhere j empty, fresh.state, empty, free-empty limits.mblks limits.dblks) refl
+
+-- a store that holds nothing, as it stands with its numbers of blocks, all of which are free
+pub vacant : (s : StoreValue) → s.lists ≡ replicate 8 [] → s.hand ≡ [] → s ≡ empty_store s.mblks s.dblks
+vacant s lists hand =
+    ap (λ (ls : List (List (List Block))). record { lists = ls; hand = s.hand; mblks = s.mblks; dblks = s.dblks }) lists
+    ∙ ap (λ (hs : List Held). record { lists = replicate 8 []; hand = hs; mblks = s.mblks; dblks = s.dblks }) hand
+
+pub all-free : (s : StoreValue) → s.lists ≡ replicate 8 [] → s.hand ≡ [] → free_in s ≡ record { mblks = s.mblks; dblks = s.dblks }
+all-free s lists hand = ap free_in (vacant s lists hand) ∙ free-empty s.mblks s.dblks

@@ -20,6 +20,11 @@ pub driver-ready : (s : StoreValue) (p : Streams) → AreHeld s p → (side : Si
 driver-ready s p held Master = held.master.driver.ready
 driver-ready s p held Slave = held.slave.driver.ready
 
+-- the head of a side is ready
+pub head-ready : (s : StoreValue) (p : Streams) → AreHeld s p → (side : Side) → IsReady s (end_at side p).head
+head-ready s p held Master = held.master.head.ready
+head-ready s p held Slave = held.slave.head.ready
+
 -- a queue with M_DATA messages alone, whose list stays, or is empty
 pub queue-stays : (s t : StoreValue) (q : Queue) → list_at t q.list ≡ list_at s q.list → IsDataQueue s q → IsDataQueue t q
 queue-stays s t q same is = record { ready = ready-same s t q same is.ready; data_only = subst HoldsData (sym same) is.data_only }

@@ -4,7 +4,8 @@ use Rattle.strm_types.specs.declared.entries.Entry.{Entry}
 use Rattle.strm_types.specs.Journal.{PlainEntry, entry_len, room_used}
 
 -- the buffer has the bytes of the entries, and both have their room
-pub record IsStored (entries : List (Entry ℕ)) (bytes : List ℕ) (room_entries room_bytes most_entries most_bytes : ℕ) : Type 0 where
+pub record IsStored (entries : List (Entry ℕ)) (bytes : List ℕ)
+    (room_entries room_bytes most_entries most_bytes : ℕ) : Type 0 where
   pub lengths : sum_by entry_len entries ≡ length bytes
   pub few_entries : length entries ≤ most_entries
   pub few_bytes : length bytes ≤ most_bytes

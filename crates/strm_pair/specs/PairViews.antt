@@ -14,6 +14,10 @@ use Rattle.strm_pair.specs.Pairs.{state_in, free_in, journal_of, AreHeld}
 abbrev pub led_to : Journal → State ℕ
 led_to journal = replay plain opening (journal_of journal)
 
+-- the sizes of a pair over a store, which gives its numbers of blocks
+abbrev pub sizes_over : StoreValue → Config → Config
+sizes_over s sizes = record sizes { mblks = s.mblks; dblks = s.dblks }
+
 -- the pair that the store, the streams and the journal stand for
 abbrev pub pair_of : StoreValue → Streams → Journal → Config → PairState
 pair_of s streams journal limits = record {

@@ -13,6 +13,7 @@ pub record Ends (wanted : ℕ) (old new : List (Message ℕ)) (out out' : List �
 pub record GoesOn (wanted more : ℕ) (old new : List (Message ℕ)) (out out' : List ℕ) : Type 0 where
   pub piece : List ℕ
   pub given : out' ≡ out ++ piece
-  pub rest : gathered wanted old ≡ record { given = piece ++ (gathered more new).given; left = (gathered more new).left }
+  pub rest : gathered wanted old
+      ≡ record { given = piece ++ (gathered more new).given; left = (gathered more new).left }
   pub fewer : more + length piece ≡ wanted
   pub some : 0 < length piece

@@ -1,14 +1,41 @@
--- What the store of a pair shows of its queues.
-use Rattle.std.specs.Prelude.{ℕ, ◌≡◌, []}
-use Rattle.strm_types.specs.State.{State}
+-- What a pair shows of its queues.
+use Rattle.std.specs.Prelude.{ℕ, ◌≡◌, Bool, false, []}
+use Rattle.strm_types.specs.declared.names.Place.{Place}
+use Rattle.strm_types.specs.declared.names.Place.TheVariants.{Head, Driver}
+use Rattle.strm_types.specs.declared.names.Way.{Way}
+use Rattle.strm_types.specs.declared.names.Way.TheVariants.{Up, Down}
+use Rattle.strm_types.specs.declared.names.QueueName.{QueueName}
+use Rattle.strm_types.specs.Queue.{count_of, is_full}
+use Rattle.strm_types.specs.State.{State, Stream, stream}
 use Rattle.strm_blocks.specs.Blocks.{StoreValue}
 use Rattle.strm_pair.specs.Stored.{messages_on}
 
--- Each list of the store, read along its chains, is the state's queue: the master's head and driver on the lists 0 and 1,
--- the slave's on 4 and 5. Nothing is in hand.
+-- Each list of the store, read along its chains, is the state's queue: the master's head and driver on the lists 0
+-- and 1, the slave's on 4 and 5. Nothing is in hand.
 pub record Shows (s : StoreValue) (state : State ℕ) : Type 0 where
   pub hand : s.hand ≡ []
   pub master_head : messages_on s 0 ≡ state.master.head.queue.messages
   pub master_driver : messages_on s 1 ≡ state.master.driver.queue.messages
   pub slave_head : messages_on s 4 ≡ state.slave.head.queue.messages
   pub slave_driver : messages_on s 5 ≡ state.slave.driver.queue.messages
+
+-- how many bytes count in a band of a stream's queue: the head's read queue or the driver's write queue, as no other
+-- exists
+abbrev pub count_in : Place → Way → ℕ → Stream ℕ → ℕ
+count_in Head Up band t = count_of band t.head.queue.messages
+count_in Driver Down band t = count_of band t.driver.queue.messages
+count_in _ _ band t = 0
+
+-- whether a band of it is full
+abbrev pub full_in : Place → Way → ℕ → Stream ℕ → Bool
+full_in Head Up band t = is_full band t.head.queue
+full_in Driver Down band t = is_full band t.driver.queue
+full_in _ _ band t = false
+
+-- how many bytes count in a band of a queue: none in one that doesn't exist
+abbrev pub count_at : QueueName → ℕ → State ℕ → ℕ
+count_at name band s = count_in name.place name.way band (stream name.side s)
+
+-- whether a band of a queue is full: none of one that doesn't exist is
+abbrev pub full_at : QueueName → ℕ → State ℕ → Bool
+full_at name band s = full_in name.place name.way band (stream name.side s)

@@ -17,10 +17,15 @@ messages_on s k = map message_of (list_at s k)
 
 -- the plain queue
 abbrev pub queue_in : StoreValue → Queue → plain.Queue ℕ
-queue_in s q = record { messages = messages_on s q.list; flows = plain_flows q.flows; want_read = q.want_read; no_enable = q.no_enable }
+queue_in s q = record {
+  messages = messages_on s q.list;
+  flows = plain_flows q.flows;
+  want_read = q.want_read;
+  no_enable = q.no_enable;
+}
 
--- A queue beside a store: the chains on its list are messages, in order, and its kept numbers are those of them. What is in
--- hand and what other lists hold is left open.
+-- A queue beside a store: the chains on its list are messages, in order, and its kept numbers are those of them. What
+-- is in hand and what other lists hold is left open.
 pub record IsReady (s : StoreValue) (q : Queue) : Type 0 where
   pub messages : AreMessages (list_at s q.list)
   pub counted : AreCounted q.flows (list_at s q.list)
@@ -34,8 +39,8 @@ pub record IsDataQueue (s : StoreValue) (q : Queue) : Type 0 where
   pub ready : IsReady s q
   pub data_only : HoldsData (list_at s q.list)
 
--- One queue of a store may have changed, and no other one, nor what is in hand. The queue is ready, and has M_DATA messages
--- alone where it had them.
+-- One queue of a store may have changed, and no other one, nor what is in hand. The queue is ready, and has M_DATA
+-- messages alone where it had them.
 pub record Keeps (old new : StoreValue) (q q' : Queue) : Type 0 where
   pub ready : IsReady new q'
   pub data_only : HoldsData (list_at old q.list) → HoldsData (list_at new q'.list)
@@ -51,8 +56,8 @@ pub record SameFlags (old new : Queue) : Type 0 where
   pub want_read : old.want_read ≡ false → new.want_read ≡ false
   pub no_enable : new.no_enable ≡ old.no_enable
 
--- Two queues of a store may have changed, and no other one, nor what is in hand. Both are ready, and have M_DATA messages
--- alone where they had.
+-- Two queues of a store may have changed, and no other one, nor what is in hand. Both are ready, and have M_DATA
+-- messages alone where they had.
 pub record KeepsBoth (old new : StoreValue) (from from' to to' : Queue) : Type 0 where
   pub from_ready : IsReady new from'
   pub to_ready : IsReady new to'

@@ -1,13 +1,22 @@
 -- What the two streams stand for, beside their store.
 use Rattle.std.specs.Prelude.{ℕ, ◌≡◌, ◌≢◌, ◌+◌, []}
 use Rattle.strm_types.specs.State.{Stream}
+use Rattle.strm_types.specs.Turns.{Served, driver_serves}
 use Rattle.strm_blocks.specs.Blocks.{StoreValue, list_at}
 use Rattle.strm_pair.specs.declared.ends.End.{End}
-use Rattle.strm_pair.specs.Stored.{queue_in, IsReady, IsDataQueue, KeepsBoth}
+use Rattle.strm_pair.specs.Stored.{queue_in, messages_on, IsReady, IsDataQueue, KeepsBoth}
 
 -- the plain stream of a side
 abbrev pub stream_in : StoreValue → End → Stream ℕ
-stream_in s e = record { opened = e.opened; head = record { queue = queue_in s e.head }; driver = record { queue = queue_in s e.driver } }
+stream_in s e = record {
+  opened = e.opened;
+  head = record { queue = queue_in s e.head };
+  driver = record { queue = queue_in s e.driver };
+}
+
+-- what a turn of one side's driver leads to, where its messages go to the other side's head
+abbrev pub served_in : StoreValue → End → End → Served ℕ
+served_in s from to = driver_serves (messages_on s from.driver.list) (stream_in s from) (stream_in s to)
 
 -- the four lists from a number on are empty
 pub record IsBlank (s : StoreValue) (first : ℕ) : Type 0 where
@@ -16,8 +25,8 @@ pub record IsBlank (s : StoreValue) (first : ℕ) : Type 0 where
   pub up : list_at s (first + 2) ≡ []
   pub down : list_at s (first + 3) ≡ []
 
--- A side's queues stand on lists of their own, from a number on: the head's and the driver's, which have M_DATA messages
--- alone, with their kept numbers right; two more, for the queues of a module, are empty.
+-- A side's queues stand on lists of their own, from a number on: the head's and the driver's, which have M_DATA
+-- messages alone, with their kept numbers right; two more, for the queues of a module, are empty.
 pub record IsSide (s : StoreValue) (first : ℕ) (e : End) : Type 0 where
   pub head_list : e.head.list ≡ first
   pub driver_list : e.driver.list ≡ first + 1
@@ -26,8 +35,8 @@ pub record IsSide (s : StoreValue) (first : ℕ) (e : End) : Type 0 where
   pub spare_up : list_at s (first + 2) ≡ []
   pub spare_down : list_at s (first + 3) ≡ []
 
--- Both sides beside their store while nobody is in a call: the master's lists are 0 to 3, the slave's 4 to 7, and nothing
--- is in hand.
+-- Both sides beside their store while nobody is in a call: the master's lists are 0 to 3, the slave's 4 to 7, and
+-- nothing is in hand.
 pub record AreSides (s : StoreValue) (m sl : End) : Type 0 where
   pub hand : s.hand ≡ []
   pub master : IsSide s 0 m

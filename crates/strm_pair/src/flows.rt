@@ -2,38 +2,24 @@
 
 ghost use Rattle.std.specs.Prelude.{◌≡◌, ◌<◌, ◌&&◌, List};
 ghost use Rattle.strm_types.specs.Message.{is_held};
-ghost use Rattle.strm_types.specs.Queue.{is_full, relieved, relieves};
+ghost use Rattle.strm_types.specs.Queue.{count_of, is_full, relieved, relieves};
 ghost use Rattle.strm_blocks.specs.Blocks.{Block, StoreValue};
 ghost use Rattle.strm_queue.specs.Kept.{AreCounted};
 ghost use Rattle.strm_queue.specs.Queues.{OnlyCounts};
-ghost use Rattle.strm_pair.specs.Stored.{queue_in, IsReady};
+ghost use Rattle.strm_pair.specs.Stored.{queue_in, messages_on, IsReady};
 
 use strm_blocks::Blocks;
 use strm_queue::Queue;
 use strm_types::{Band, MsgKind};
 
-// Whether flow control holds back a kind of message.
-#[tactic(auto, unfolding(strm_types::specs::Message::is_held))]
-fn is_held(kind: MsgKind) -> bool
-    ensures { result ≡ is_held kind }
+/// How many bytes count in a band of a queue.
+pub(crate) fn count<B: Blocks>(store: &B, queue: &Queue, band: Band) -> usize
+    requires ready { IsReady (B.value store.now) queue.now }
+    requires band { band.0 < 8 }
+    ensures { result ≡ count_of band.0 (messages_on (B.value store.now) queue.now.list) }
 {
-    match kind {
-        MsgKind::Data | MsgKind::Proto => true,
-        MsgKind::Sig
-        | MsgKind::Ctl
-        | MsgKind::Ioctl
-        | MsgKind::Setopts
-        | MsgKind::Iocack
-        | MsgKind::Iocnak
-        | MsgKind::Pcproto
-        | MsgKind::Pcsig
-        | MsgKind::Read
-        | MsgKind::Flush
-        | MsgKind::Stop
-        | MsgKind::Start
-        | MsgKind::Hangup
-        | MsgKind::Error => false,
-    }
+    store.audit();
+    queue.count(band)
 }
 
 /// Whether a band of a queue is full: its count is at or above its high-water mark.
@@ -52,7 +38,7 @@ pub(crate) fn is_stopped<B: Blocks>(store: &B, queue: &Queue, kind: MsgKind, ban
     requires band { band.0 < 8 }
     ensures { result ≡ (is_held kind && is_full band.0 (queue_in (B.value store.now) queue.now)) }
 {
-    is_held(kind) && is_full(store, queue, band)
+    kind.is_held() && is_full(store, queue, band)
 }
 
 /// Lets waiting writers go where the count has come down to the low-water mark, and says whether one was.

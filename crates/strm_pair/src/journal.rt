@@ -17,7 +17,8 @@ pub(crate) struct Journal {
     pub bytes: Vec<u8>,
     pub most_entries: usize,
     pub most_bytes: usize,
-    pub ghost stored: { IsStored entries.items bytes.items (vec_capacity entries) (vec_capacity bytes) most_entries most_bytes },
+    pub ghost stored: { IsStored entries.items bytes.items (vec_capacity entries) (vec_capacity bytes)
+        most_entries most_bytes },
 }
 
 // Adds bytes to a buffer that has room for them.
@@ -67,7 +68,8 @@ impl Journal {
     fn add(&mut self, entry: Entry<usize>, payload: &[u8], content: &[u8])
         requires lengths { entry_len entry ≡ length payload.now + length content.now }
         requires room_entries { length self.old.entries.items < self.old.most_entries }
-        requires room_bytes { length self.old.bytes.items + (length payload.now + length content.now) ≤ self.old.most_bytes }
+        requires room_bytes { length self.old.bytes.items + (length payload.now + length content.now)
+            ≤ self.old.most_bytes }
         ensures added { journal_of self.new ≡ journal_of self.old ++ entry_in entry (payload.now ++ content.now) ∷ [] }
         ensures most_entries { self.new.most_entries ≡ self.old.most_entries }
         ensures most_bytes { self.new.most_bytes ≡ self.old.most_bytes }
@@ -86,8 +88,10 @@ impl Journal {
         content: &[u8],
     )
         requires filled { answer_len answer ≡ length content.now }
-        requires room { has_room_for (journal_of self.old) self.old.most_entries self.old.most_bytes (length (payload_of (request event.now)) + length content.now) ≡ true }
-        ensures added { journal_of self.new ≡ journal_of self.old ++ Called caller (request event.now) (reply_in answer content.now) ∷ [] }
+        requires room { has_room_for (journal_of self.old) self.old.most_entries self.old.most_bytes
+            (length (payload_of (request event.now)) + length content.now) ≡ true }
+        ensures added { journal_of self.new
+            ≡ journal_of self.old ++ Called caller (request event.now) (reply_in answer content.now) ∷ [] }
         ensures most_entries { self.new.most_entries ≡ self.old.most_entries }
         ensures most_bytes { self.new.most_bytes ≡ self.old.most_bytes }
     {

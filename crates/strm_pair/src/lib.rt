@@ -6,6 +6,7 @@ mod enabled;
 mod ends;
 mod flows;
 mod journal;
+mod looking;
 mod pair;
 mod passing;
 mod reading;
@@ -16,8 +17,4 @@ mod streams;
 pub use pair::{Pair, Recorded};
 
 #[cfg(test)]
-mod recount;
-#[cfg(test)]
 mod tests;
-#[cfg(test)]
-mod walk;

@@ -1,6 +1,6 @@
 //! The pair: calls, turns, and the journal of what was carried out.
 
-ghost use Rattle.std.specs.Prelude.{◌≡◌, ◌≤◌, ◌<◌, ◌+◌, length, MatchResult, MatchOption, IsOk, Err, IfOk, slice_get};
+ghost use Rattle.std.specs.Prelude.{◌≡◌, ◌<◌, [], length, replicate, MatchResult, MatchOption, IsOk, Err, IfOk, slice_get};
 ghost use Rattle.strm_types.specs.Calls.{request, map_answer};
 ghost use Rattle.strm_types.specs.Cells.{plain};
 ghost use Rattle.strm_types.specs.declared.entries.Entry.TheVariants.{Called, Turned};
@@ -9,9 +9,9 @@ ghost use Rattle.strm_types.specs.Journal.{entries_in, reply_in, answer_len};
 ghost use Rattle.strm_types.specs.Refused.{enough, has_room};
 ghost use Rattle.strm_types.specs.Step.{replay, IsLegal};
 ghost use Rattle.strm_types.specs.State.{AreOrdered, messages_in};
-ghost use Rattle.strm_pair.specs.Shows.{Shows};
+ghost use Rattle.strm_pair.specs.Shows.{Shows, count_at, full_at};
 ghost use Rattle.strm_pair.specs.Pool.{IsPoolOf};
-ghost use Rattle.strm_blocks.specs.Blocks.{empty_store};
+ghost use Rattle.strm_pair.specs.PairViews.{sizes_over};
 
 use crate::journal::Journal;
 use crate::refusals::{blocks_asked, content_most};
@@ -21,8 +21,8 @@ use std::alloc::Global;
 use std::marker::Model;
 use strm_blocks::Blocks;
 use strm_types::{
-    Answer, Caller, Config, Entry, Event, NoMemory, QueueName, ReadBytes, Refusal, TURN_BLOCKS,
-    Turn,
+    Answer, BANDS, Band, Caller, Config, Entry, Event, LISTS, NoMemory, QueueName, ReadBytes,
+    Refusal, TURN_BLOCKS, Turn,
 };
 
 /// A pair of a master and a slave, whose messages stand in a store of its own. Contracts see it as its plain state, its
@@ -55,15 +55,24 @@ impl<B: Blocks + Drop> Model for Pair<B> {
 }
 
 impl<B: Blocks + Drop> Pair<B> {
-    /// A pair with these sizes, which nobody opened, over a store that holds nothing and has as many blocks as `limits`
-    /// says. The memory of the journal is reserved here, and no later call takes any; where that is refused, the store
-    /// comes back.
-    pub fn new(alloc: Global, limits: Config, store: B) -> Result<Pair<B>, (NoMemory, B)>
-        requires { B.value store ≡ empty_store limits.mblks limits.dblks }
-        ensures { MatchResult result (λ p. p ≡ new_pair limits) (λ e. B.value e.1 ≡ B.value store) }
+    /// A pair which nobody opened, over a store that holds nothing: its lists are empty, and nothing is in hand. The
+    /// sizes of its journal are those of `sizes`, its numbers of blocks are the store's. The memory of the journal is
+    /// reserved here, and no later call takes any; where that is refused, the store comes back.
+    pub fn new(alloc: Global, sizes: Config, store: B) -> Result<Pair<B>, (NoMemory, B)>
+        requires lists { (B.value store).lists ≡ replicate LISTS [] }
+        requires hand { (B.value store).hand ≡ [] }
+        ensures { MatchResult result
+            (λ p. p ≡ new_pair (sizes_over (B.value store) sizes))
+            (λ e. B.value e.1 ≡ B.value store) }
     {
-        let Ok(journal) = Journal::new(alloc, limits.journal_events, limits.journal_bytes) else {
+        let Ok(journal) = Journal::new(alloc, sizes.journal_events, sizes.journal_bytes) else {
             return Err((NoMemory, store));
+        };
+        let (mblks, dblks) = store.free_blocks();
+        let limits = Config {
+            mblks,
+            dblks,
+            ..sizes
         };
         Ok(Pair {
             store,
@@ -73,8 +82,8 @@ impl<B: Blocks + Drop> Pair<B> {
         })
     }
 
-    /// Makes the pair as new, in place: nobody opened it, and its store and its journal are empty. It takes no memory. The
-    /// cost is a step for each message block in use.
+    /// Makes the pair as new, in place: nobody opened it, and its store and its journal are empty. It takes no
+    /// memory. The cost is a step for each message block in use.
     pub fn reset(&mut self)
         ensures { self.new ≡ new_pair self.old.limits }
     {
@@ -105,11 +114,30 @@ impl<B: Blocks + Drop> Pair<B> {
         self.store.free_blocks()
     }
 
-    /// The store, whose lists show the queues of the state, each chain read along its links from read place to write place.
+    /// The store, whose lists show the queues of the state, each chain read along its links from read place to write
+    /// place.
     pub fn store(&self) -> &B
         ensures { Shows (B.value result.now) self.now.state }
     {
         &self.store
+    }
+
+    /// How many bytes count in a band, from 0 to 7, of a queue, which is what its marks are compared with: those of its
+    /// messages of that band, and in band 0 those of high priority too. A queue that doesn't exist counts none.
+    pub fn count(&self, queue: QueueName, band: Band) -> usize
+        requires { band.0 < BANDS }
+        ensures { result ≡ count_at queue band.0 self.now.state }
+    {
+        self.streams.count(&self.store, queue, band)
+    }
+
+    /// Whether a band, from 0 to 7, of a queue is full: its count is at or above its high-water mark. A queue that
+    /// doesn't exist isn't full.
+    pub fn is_full(&self, queue: QueueName, band: Band) -> bool
+        requires { band.0 < BANDS }
+        ensures { result ≡ full_at queue band.0 self.now.state }
+    {
+        self.streams.is_full(&self.store, queue, band)
     }
 
     // Whether so many blocks of each kind are free.
@@ -159,15 +187,17 @@ impl<B: Blocks + Drop> Pair<B> {
         None
     }
 
-    /// Makes a call, and tells it as [`Pair::call`] does, with the bytes of a read in the answer. An answer has room for
-    /// 4096 bytes, and whoever makes many calls keeps a buffer and takes `call`.
+    /// Makes a call, and tells it as [`Pair::call`] does, with the bytes of a read in the answer. An answer has room
+    /// for 4096 bytes, and whoever makes many calls keeps a buffer and takes `call`.
     pub fn apply(
         &mut self,
         caller: Caller,
         event: &Event<&[u8]>,
     ) -> Result<Answer<ReadBytes>, Refusal>
-        ensures refused { MatchOption (call_refused self.old caller (request event.now)) (IsOk result) (λ r. (result ≡ Err r) × (self.new ≡ self.old)) }
-        ensures adds { IfOk result (λ answer. AddsEntry self.old self.new (Called caller (request event.now) (map_answer (λ b. b.items) answer))) }
+        ensures refused { MatchOption (call_refused self.old caller (request event.now)) (IsOk result)
+            (λ r. (result ≡ Err r) × (self.new ≡ self.old)) }
+        ensures adds { IfOk result (λ answer.
+            AddsEntry self.old self.new (Called caller (request event.now) (map_answer (λ b. b.items) answer))) }
     {
         let mut out = ArrayVec::new();
         match self.call(caller, event, &mut out) {
@@ -180,8 +210,8 @@ impl<B: Blocks + Drop> Pair<B> {
 
     /// Makes a call. It is refused for the first of: its side isn't open (ENXIO); an argument is wrong (EINVAL); the
     /// journal is full; too few blocks are free (ENOSR); the state doesn't allow it (EAGAIN, EINVAL). A refused call
-    /// changes nothing, and `out` stays. Else the call is carried out, and the journal gains it with its answer; `out` has
-    /// the bytes that it gives, which are none for any call but a read.
+    /// changes nothing, and `out` stays. Else the call is carried out, and the journal gains it with its answer;
+    /// `out` has the bytes that it gives, which are none for any call but a read.
     ///
     /// The cost is in proportion to the bytes that the call moves. No memory is taken.
     pub fn call(
@@ -190,8 +220,10 @@ impl<B: Blocks + Drop> Pair<B> {
         event: &Event<&[u8]>,
         out: &mut ReadBytes,
     ) -> Result<Answer<usize>, Refusal>
-        ensures refused { MatchOption (call_refused self.old caller (request event.now)) (IsOk result) (λ r. (result ≡ Err r) × ((self.new ≡ self.old) × (out.new ≡ out.old))) }
-        ensures adds { IfOk result (λ answer. AddsEntry self.old self.new (Called caller (request event.now) (reply_in answer out.new.items))) }
+        ensures refused { MatchOption (call_refused self.old caller (request event.now)) (IsOk result)
+            (λ r. (result ≡ Err r) × ((self.new ≡ self.old) × (out.new ≡ out.old))) }
+        ensures adds { IfOk result (λ answer.
+            AddsEntry self.old self.new (Called caller (request event.now) (reply_in answer out.new.items))) }
         ensures filled { IfOk result (λ answer. answer_len answer ≡ length out.new.items) }
     {
         if let Some(refusal) = self.refusal(caller, event) {
@@ -208,7 +240,8 @@ impl<B: Blocks + Drop> Pair<B> {
     ///
     /// The cost is that of one message. No memory is taken.
     pub fn turn(&mut self, name: QueueName) -> Result<Turn, Refusal>
-        ensures refused { MatchOption (queue_refused self.old name) (IsOk result) (λ r. (result ≡ Err r) × (self.new ≡ self.old)) }
+        ensures refused { MatchOption (queue_refused self.old name) (IsOk result)
+            (λ r. (result ≡ Err r) × (self.new ≡ self.old)) }
         ensures adds { IfOk result (λ turn. AddsEntry self.old self.new (Turned name turn)) }
     {
         if let Some(refusal) = self.turn_refusal(name) {

@@ -1,10 +1,10 @@
 //! A turn of a driver: what goes from it to the other side's head (STREAMS Programming Guide, "Service Procedures").
 
 ghost use Rattle.std.specs.Prelude.{◌≡◌, ◌≢◌, false};
-ghost use Rattle.strm_types.specs.Turns.{driver_serves, goes_on, is_none_left};
+ghost use Rattle.strm_types.specs.Turns.{goes_on, is_none_left};
 ghost use Rattle.strm_blocks.specs.Blocks.{list_at};
-ghost use Rattle.strm_pair.specs.Stored.{queue_in, IsReady, messages_on, PassedOn, MovedOn};
-ghost use Rattle.strm_pair.specs.Streams.{stream_in, CanPass, Passes};
+ghost use Rattle.strm_pair.specs.Stored.{queue_in, IsReady, PassedOn, MovedOn};
+ghost use Rattle.strm_pair.specs.Streams.{stream_in, served_in, CanPass, Passes};
 
 use crate::ends::End;
 use crate::flows::{is_stopped, relieve};
@@ -49,12 +49,9 @@ fn advance<B: Blocks>(store: &mut B, from: &mut Queue, to: &mut Queue) -> usize
 /// A turn of a driver: its first message goes to the other side's head, unless it may not.
 pub(crate) fn serve<B: Blocks>(store: &mut B, from: &mut End, to: &mut End) -> Turn
     requires { CanPass (B.value store.old) from.old to.old }
-    ensures turn { let s = B.value store.old in
-        result ≡ (driver_serves (messages_on s from.old.driver.list) (stream_in s from.old) (stream_in s to.old)).turn }
-    ensures from { let s = B.value store.old in
-        stream_in (B.value store.new) from.new ≡ (driver_serves (messages_on s from.old.driver.list) (stream_in s from.old) (stream_in s to.old)).from }
-    ensures to { let s = B.value store.old in
-        stream_in (B.value store.new) to.new ≡ (driver_serves (messages_on s from.old.driver.list) (stream_in s from.old) (stream_in s to.old)).to }
+    ensures turn { result ≡ (served_in (B.value store.old) from.old to.old).turn }
+    ensures from { stream_in (B.value store.new) from.new ≡ (served_in (B.value store.old) from.old to.old).from }
+    ensures to { stream_in (B.value store.new) to.new ≡ (served_in (B.value store.old) from.old to.old).to }
     ensures passes { Passes (B.value store.old) (B.value store.new) from.old from.new to.old to.new }
 {
     let Some(first) = store.peek(from.driver.list) else {

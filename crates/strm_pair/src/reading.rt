@@ -41,7 +41,8 @@ fn take_into<B: Blocks>(store: &mut B, message: &B::Mp, count: usize, out: &mut 
     requires in_hand { IsInHand (B.value store.old) (B.name message.now) }
     requires has { count ≤ length (data_bytes (in_hand (B.value store.old) (B.name message.now))) }
     requires room { length out.old.items + count ≤ 4096 }
-    ensures given { out.new.items ≡ out.old.items ++ take count (data_bytes (in_hand (B.value store.old) (B.name message.now))) }
+    ensures given { let chain = in_hand (B.value store.old) (B.name message.now) in
+        out.new.items ≡ out.old.items ++ take count (data_bytes chain) }
     ensures trimmed { let chain = in_hand (B.value store.old) (B.name message.now) in
         B.value store.new ≡ changed (B.value store.old) (B.name message.now) (without_data count chain) }
 {
@@ -50,8 +51,8 @@ fn take_into<B: Blocks>(store: &mut B, message: &B::Mp, count: usize, out: &mut 
     take_data(store, message, &mut out.as_mut_slice()[from..]);
 }
 
-// Adds up to `wanted` bytes of the first message to `out`, and says how many are wanted still. A message that has no bytes,
-// or more than are wanted, ends the read: what it has left is put back.
+// Adds up to `wanted` bytes of the first message to `out`, and says how many are wanted still. A message that has no
+// bytes, or more than are wanted, ends the read: what it has left is put back.
 fn take_first<B: Blocks>(
     store: &mut B,
     queue: &mut Queue,
@@ -63,7 +64,8 @@ fn take_first<B: Blocks>(
     requires room { length out.old.items + wanted ≤ 4096 }
     ensures took { let old = messages_on (B.value store.old) queue.old.list in
         let new = messages_on (B.value store.new) queue.old.list in
-        MatchOption result (Ends wanted old new out.old.items out.new.items) (λ more. GoesOn wanted more old new out.old.items out.new.items) }
+        MatchOption result (Ends wanted old new out.old.items out.new.items)
+        (λ more. GoesOn wanted more old new out.old.items out.new.items) }
     ensures flags { SameFlags queue.old queue.new }
     ensures keeps { Keeps (B.value store.old) (B.value store.new) queue.old queue.new }
 {
@@ -84,8 +86,10 @@ fn take_first<B: Blocks>(
 fn gather<B: Blocks>(store: &mut B, queue: &mut Queue, wanted: usize, out: &mut ArrayVec<u8, 4096>)
     requires ready { IsDataQueue (B.value store.old) queue.old }
     requires room { length out.old.items + wanted ≤ 4096 }
-    ensures given { out.new.items ≡ out.old.items ++ (gathered wanted (messages_on (B.value store.old) queue.old.list)).given }
-    ensures left { messages_on (B.value store.new) queue.old.list ≡ (gathered wanted (messages_on (B.value store.old) queue.old.list)).left }
+    ensures given { out.new.items
+        ≡ out.old.items ++ (gathered wanted (messages_on (B.value store.old) queue.old.list)).given }
+    ensures left { messages_on (B.value store.new) queue.old.list
+        ≡ (gathered wanted (messages_on (B.value store.old) queue.old.list)).left }
     ensures most { length out.new.items ≤ length out.old.items + wanted }
     ensures flags { SameFlags queue.old queue.new }
     ensures keeps { Keeps (B.value store.old) (B.value store.new) queue.old queue.new }
@@ -102,8 +106,12 @@ fn gather<B: Blocks>(store: &mut B, queue: &mut Queue, wanted: usize, out: &mut 
 // Takes a zero-length message away where one stands first, and says so.
 fn takes_empty<B: Blocks>(store: &mut B, queue: &mut Queue) -> bool
     requires ready { IsDataQueue (B.value store.old) queue.old }
-    ensures took { OnTrue result ((n : ℕ) → 0 < n → head_read n (messages_on (B.value store.old) queue.old.list) ≡ record { given = []; left = messages_on (B.value store.new) queue.old.list }) }
-    ensures stays { OnFalse result ((n : ℕ) → 0 < n → head_read n (messages_on (B.value store.old) queue.old.list) ≡ gathered n (messages_on (B.value store.new) queue.old.list)) }
+    ensures took { OnTrue result ((n : ℕ) → 0 < n →
+        head_read n (messages_on (B.value store.old) queue.old.list)
+        ≡ record { given = []; left = messages_on (B.value store.new) queue.old.list }) }
+    ensures stays { OnFalse result ((n : ℕ) → 0 < n →
+        head_read n (messages_on (B.value store.old) queue.old.list)
+        ≡ gathered n (messages_on (B.value store.new) queue.old.list)) }
     ensures flags { SameFlags queue.old queue.new }
     ensures keeps { Keeps (B.value store.old) (B.value store.new) queue.old queue.new }
 {

@@ -59,8 +59,8 @@ impl Streams {
     ghost use Rattle.strm_pair.specs.Streams.{stream_in};
     ghost use Rattle.strm_pair.specs.Pairs.{state_in, end_at, AreHeld};
 
-    // The stream of a side.
-    fn end(&self, side: Side) -> &End
+    /// The stream of a side.
+    pub(crate) fn end(&self, side: Side) -> &End
         ensures end { result.now ≡ end_at side self.now }
         ensures stream { (s : StoreValue) (t : State ℕ) → stream_in s result.now ≡ stream side (state_in s self.now t) }
     {
@@ -72,14 +72,16 @@ impl Streams {
 
     // ENXIO where a side isn't open.
     fn unopened(&self, side: Side) -> Option<Refusal>
-        ensures { (s : StoreValue) (t : State ℕ) → result ≡ unless (is_open (stream side (state_in s self.now t)).opened) Enxio }
+        ensures { (s : StoreValue) (t : State ℕ) →
+            result ≡ unless (is_open (stream side (state_in s self.now t)).opened) Enxio }
     {
         unless(self.end(side).opened.is_open(), Refusal::Enxio)
     }
 
     /// What a call is refused for before all else: its side, and then its arguments.
     pub fn refused_at_once(&self, caller: Caller, event: &Event<&[u8]>) -> Option<Refusal>
-        ensures { (s : StoreValue) (t : State ℕ) → result ≡ refused_at_once (state_in s self.now t) caller (request event.now) }
+        ensures { (s : StoreValue) (t : State ℕ) →
+            result ≡ refused_at_once (state_in s self.now t) caller (request event.now) }
     {
         match event {
             Event::OpenMaster => None,
@@ -100,7 +102,8 @@ impl Streams {
         event: &Event<&[u8]>,
     ) -> Option<Refusal>
         requires { AreHeld (B.value store.now) self.now }
-        ensures { (t : State ℕ) → result ≡ refused_by_state (state_in (B.value store.now) self.now t) caller (request event.now) }
+        ensures { (t : State ℕ) →
+            result ≡ refused_by_state (state_in (B.value store.now) self.now t) caller (request event.now) }
     {
         match event {
             Event::OpenMaster => unless(

@@ -41,7 +41,8 @@ fn put_chunk<B: Blocks>(store: &mut B, queue: &mut Queue, chunk: &[u8]) -> bool
     requires room_m { 0 < free_m (B.value store.old) }
     requires room_d { 0 < free_d (B.value store.old) }
     ensures enables { result ≡ put_enables (data_message chunk.now) (queue_in (B.value store.old) queue.old) }
-    ensures queue { queue_in (B.value store.new) queue.new ≡ put_on (data_message chunk.now) (queue_in (B.value store.old) queue.old) }
+    ensures queue { queue_in (B.value store.new) queue.new
+        ≡ put_on (data_message chunk.now) (queue_in (B.value store.old) queue.old) }
     ensures takes_m { free_m (B.value store.new) + 1 ≡ free_m (B.value store.old) }
     ensures takes_d { free_d (B.value store.new) + 1 ≡ free_d (B.value store.old) }
     ensures keeps { Keeps (B.value store.old) (B.value store.new) queue.old queue.new }
@@ -53,15 +54,17 @@ fn put_chunk<B: Blocks>(store: &mut B, queue: &mut Queue, chunk: &[u8]) -> bool
     queue.putq(store, message)
 }
 
-/// Sends so many chunks of the bytes, of at most 256 each, while the queue isn't full. Each is one M_DATA message of band
-/// 0, and takes one block of each kind.
+/// Sends so many chunks of the bytes, of at most 256 each, while the queue isn't full. Each is one M_DATA message of
+/// band 0, and takes one block of each kind.
 pub(crate) fn send<B: Blocks>(store: &mut B, queue: &mut Queue, bytes: &[u8], chunks: usize) -> Down
     requires ready { IsReady (B.value store.old) queue.old }
     requires room_m { chunks ≤ free_m (B.value store.old) }
     requires room_d { chunks ≤ free_d (B.value store.old) }
     ensures taken { result.taken ≡ (sent (chunks_of chunks bytes.now) (queue_in (B.value store.old) queue.old)).taken }
-    ensures enables { result.enables ≡ (sent (chunks_of chunks bytes.now) (queue_in (B.value store.old) queue.old)).enables }
-    ensures queue { queue_in (B.value store.new) queue.new ≡ (sent (chunks_of chunks bytes.now) (queue_in (B.value store.old) queue.old)).queue }
+    ensures enables { result.enables
+        ≡ (sent (chunks_of chunks bytes.now) (queue_in (B.value store.old) queue.old)).enables }
+    ensures queue { queue_in (B.value store.new) queue.new
+        ≡ (sent (chunks_of chunks bytes.now) (queue_in (B.value store.old) queue.old)).queue }
     ensures fits { result.taken ≤ length bytes.now }
     ensures keeps { Keeps (B.value store.old) (B.value store.new) queue.old queue.new }
 {

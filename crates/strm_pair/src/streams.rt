@@ -66,7 +66,8 @@ impl Streams {
     /// Opens the slave: its head is as new, and what waits for it may come.
     pub fn open_slave<B: Blocks>(&mut self, store: &mut B)
         requires { AreHeld (B.value store.old) self.old }
-        ensures state { (t : State ℕ) → state_in (B.value store.new) self.new t ≡ opened_slave (state_in (B.value store.old) self.old t) }
+        ensures state { (t : State ℕ) →
+            state_in (B.value store.new) self.new t ≡ opened_slave (state_in (B.value store.old) self.old t) }
         ensures held { AreHeld (B.value store.new) self.new }
         ensures pool { SamePool (B.value store.old) (B.value store.new) }
     {
@@ -84,8 +85,10 @@ impl Streams {
         requires held { AreHeld (B.value store.old) self.old }
         requires room_m { chunk_count (length bytes.now) ≤ free_m (B.value store.old) }
         requires room_d { chunk_count (length bytes.now) ≤ free_d (B.value store.old) }
-        ensures answer { (t : State ℕ) → Count result ≡ (wrote_plain side bytes.now (state_in (B.value store.old) self.old t)).answer }
-        ensures state { LeadsTo (B.value store.old) (B.value store.new) self.old self.new (λ s. (wrote_plain side bytes.now s).state) }
+        ensures answer { (t : State ℕ) →
+            Count result ≡ (wrote_plain side bytes.now (state_in (B.value store.old) self.old t)).answer }
+        ensures state { LeadsTo (B.value store.old) (B.value store.new) self.old self.new
+            (λ s. (wrote_plain side bytes.now s).state) }
         ensures held { AreHeld (B.value store.new) self.new }
         ensures pool { SamePool (B.value store.old) (B.value store.new) }
     {
@@ -104,9 +107,11 @@ impl Streams {
     pub fn read<B: Blocks>(&mut self, store: &mut B, side: Side, n: u32, out: &mut ReadBytes)
         requires held { AreHeld (B.value store.old) self.old }
         requires fresh { out.old.items ≡ [] }
-        ensures answer { (t : State ℕ) → Bytes out.new.items ≡ (read_plain side n (state_in (B.value store.old) self.old t)).answer }
+        ensures answer { (t : State ℕ) →
+            Bytes out.new.items ≡ (read_plain side n (state_in (B.value store.old) self.old t)).answer }
         ensures most { length out.new.items ≤ min n READ_MAX }
-        ensures state { LeadsTo (B.value store.old) (B.value store.new) self.old self.new (λ s. (read_plain side n s).state) }
+        ensures state { LeadsTo (B.value store.old) (B.value store.new) self.old self.new
+            (λ s. (read_plain side n s).state) }
         ensures held { AreHeld (B.value store.new) self.new }
         ensures pool { SamePool (B.value store.old) (B.value store.new) }
     {
@@ -134,10 +139,12 @@ impl Streams {
         requires held { AreHeld (B.value store.old) self.old }
         requires room_m { blocks_taken (request event.now) ≤ free_m (B.value store.old) }
         requires room_d { blocks_taken (request event.now) ≤ free_d (B.value store.old) }
-        ensures answer { (t : State ℕ) → reply_in result out.new.items ≡ (called plain caller (request event.now) (state_in (B.value store.old) self.old t)).answer }
+        ensures answer { (t : State ℕ) → reply_in result out.new.items
+            ≡ (called plain caller (request event.now) (state_in (B.value store.old) self.old t)).answer }
         ensures filled { answer_len result ≡ length out.new.items }
         ensures content { length out.new.items ≤ content_max (request event.now) }
-        ensures state { LeadsTo (B.value store.old) (B.value store.new) self.old self.new (λ s. (called plain caller (request event.now) s).state) }
+        ensures state { LeadsTo (B.value store.old) (B.value store.new) self.old self.new
+            (λ s. (called plain caller (request event.now) s).state) }
         ensures held { AreHeld (B.value store.new) self.new }
         ensures pool { SamePool (B.value store.old) (B.value store.new) }
     {
@@ -167,7 +174,8 @@ impl Streams {
     fn turn_driver<B: Blocks>(&mut self, store: &mut B, side: Side) -> Turn
         requires { AreHeld (B.value store.old) self.old }
         ensures turn { (t : State ℕ) → result ≡ (driver_turned side (state_in (B.value store.old) self.old t)).turn }
-        ensures state { LeadsTo (B.value store.old) (B.value store.new) self.old self.new (λ s. (driver_turned side s).state) }
+        ensures state { LeadsTo (B.value store.old) (B.value store.new) self.old self.new
+            (λ s. (driver_turned side s).state) }
         ensures held { AreHeld (B.value store.new) self.new }
         ensures pool { SamePool (B.value store.old) (B.value store.new) }
     {
@@ -190,8 +198,10 @@ impl Streams {
     /// A turn of an enabled queue.
     pub fn turn<B: Blocks>(&mut self, store: &mut B, name: QueueName) -> Turn
         requires { AreHeld (B.value store.old) self.old }
-        ensures turn { (t : State ℕ) → result ≡ (turned plain name result (state_in (B.value store.old) self.old t)).turn }
-        ensures state { LeadsTo (B.value store.old) (B.value store.new) self.old self.new (λ s. (turned plain name result s).state) }
+        ensures turn { (t : State ℕ) →
+            result ≡ (turned plain name result (state_in (B.value store.old) self.old t)).turn }
+        ensures state { LeadsTo (B.value store.old) (B.value store.new) self.old self.new
+            (λ s. (turned plain name result s).state) }
         ensures held { AreHeld (B.value store.new) self.new }
         ensures pool { SamePool (B.value store.old) (B.value store.new) }
     {

@@ -1,14 +1,15 @@
 //! Calls and turns on a pair, with answers worked out by hand.
 
-ghost use Rattle.std.specs.Prelude.{◌<◌, ◌≤◌};
+mod recount;
+mod walk;
 
 use crate::Pair;
-use std::alloc::Global;
+use std::alloc::{AllocError, Global};
 use std::process::Abort;
 use std::test::Fail;
-use strm_blocks::TableStore;
+use strm_blocks::{Blocks, TableStore};
 use strm_types::{
-    Answer, Caller, Config, Event, Place, QueueName, ReadBytes, Refusal, Side, Turn, Way,
+    Answer, Band, Caller, Config, Event, Place, QueueName, ReadBytes, Refusal, Side, Turn, Way,
 };
 
 const MASTER: Caller = Caller { side: Side::Master };
@@ -34,221 +35,293 @@ const SIZES: Config = Config {
     journal_bytes: 262144,
 };
 
-// What came of a call: done, so many bytes taken, these bytes given, or refused so.
-#[derive(Clone, Copy, PartialEq, Eq)]
-enum Came<'a> {
-    Done,
-    Count(usize),
-    Bytes(&'a [u8]),
-    Refused(Refusal),
-}
+// What a call answers, where a read has how many bytes it gives.
+type Came = Result<Answer<usize>, Refusal>;
 
-// A step of a run, and what must come of it: a call, a turn, how many queues are enabled and which one first, how many
-// blocks are free, and how many entries and which bytes the journal has.
+const DONE: Came = Ok(Answer::Done);
+
+const NOT_OPEN: Came = Err(Refusal::Enxio);
+
+const INVALID: Came = Err(Refusal::Einval);
+
+const AGAIN: Came = Err(Refusal::Eagain);
+
+const NO_BLOCKS: Came = Err(Refusal::Enosr);
+
+const FULL: Came = Err(Refusal::JournalFull);
+
+// A step of a run, and what must come of it.
 #[derive(Clone, Copy)]
 enum Step<'a> {
-    Call(Caller, Event<&'a [u8]>, Came<'a>),
+    // A call answers so.
+    Call(Caller, Event<&'a [u8]>, Came),
+    // A read of at most so many bytes gives these.
+    Read(Caller, u32, &'a [u8]),
+    // A turn answers so.
     Turn(QueueName, Result<Turn, Refusal>),
+    // So many queues are enabled, and this one first.
     Enabled(usize, Option<QueueName>),
+    // So many message blocks and so many data blocks are free.
     Free(usize, usize),
+    // So many bytes count in band 0 of a queue, and it is full or isn't.
+    Counts(QueueName, usize, bool),
+    // The first message on the list of the master's driver has so many bytes, or there is none.
+    Stored(Option<usize>),
+    // The journal has so many entries, and these bytes.
     Entered(usize, &'a [u8]),
+    // The pair is made as new.
+    Reset,
 }
 
-// Whether this came of a call.
-fn is_what_came(answer: Result<Answer<ReadBytes>, Refusal>, wanted: Came<'_>) -> bool {
-    let came = match &answer {
-        Ok(Answer::Done) => Came::Done,
-        Ok(Answer::Count(n)) => Came::Count(*n),
-        Ok(Answer::Bytes(bytes)) => Came::Bytes(bytes.as_slice()),
-        Err(refusal) => Came::Refused(*refusal),
-    };
-    came == wanted
+fn gives<B: Blocks + Drop>(pair: &mut Pair<B>, caller: Caller, n: u32, bytes: &[u8]) -> bool {
+    match pair.apply(caller, &Event::Read { n }) {
+        Ok(Answer::Bytes(given)) => given.as_slice() == bytes,
+        _ => false,
+    }
+}
+
+fn answers<B: Blocks + Drop>(
+    pair: &mut Pair<B>,
+    caller: Caller,
+    event: &Event<&[u8]>,
+    came: Came,
+) -> bool {
+    let mut out = ReadBytes::new();
+    pair.call(caller, event, &mut out) == came
+}
+
+fn enables<B: Blocks + Drop>(pair: &Pair<B>, count: usize, first: Option<QueueName>) -> bool {
+    pair.enabled().len() == count && pair.first_enabled() == first
+}
+
+fn counts<B: Blocks + Drop>(pair: &Pair<B>, queue: QueueName, bytes: usize, full: bool) -> bool {
+    pair.count(queue, Band(0)) == bytes && pair.is_full(queue, Band(0)) == full
+}
+
+fn stored<B: Blocks + Drop>(pair: &Pair<B>) -> Option<usize> {
+    pair.store().peek(1)?.body
+}
+
+fn has_entered<B: Blocks + Drop>(pair: &Pair<B>, count: usize, bytes: &[u8]) -> bool {
+    let journal = pair.journal();
+    journal.entries.len() == count && journal.bytes == bytes
 }
 
 // Whether what must come of a step comes of it.
-fn goes(pair: &mut Pair<TableStore>, step: &Step<'_>) -> bool {
+fn goes<B: Blocks + Drop>(pair: &mut Pair<B>, step: &Step<'_>) -> bool {
     match step {
-        Step::Call(caller, event, came) => is_what_came(pair.apply(*caller, event), *came),
+        Step::Call(caller, event, came) => answers(pair, *caller, event, *came),
+        Step::Read(caller, n, bytes) => gives(pair, *caller, *n, bytes),
         Step::Turn(queue, answer) => pair.turn(*queue) == *answer,
-        Step::Enabled(count, first) => {
-            pair.enabled().len() == *count && pair.first_enabled() == *first
+        Step::Reset => {
+            pair.reset();
+            true
         }
+        _ => shows(pair, step),
+    }
+}
+
+// Whether the pair shows what a step says.
+fn shows<B: Blocks + Drop>(pair: &Pair<B>, step: &Step<'_>) -> bool {
+    match step {
+        Step::Enabled(count, first) => enables(pair, *count, *first),
         Step::Free(mblks, dblks) => pair.free_blocks() == (*mblks, *dblks),
-        Step::Entered(count, bytes) => {
-            let journal = pair.journal();
-            journal.entries.len() == *count && journal.bytes == *bytes
-        }
+        Step::Counts(queue, bytes, full) => counts(pair, *queue, *bytes, *full),
+        Step::Stored(body) => stored(pair) == *body,
+        Step::Entered(count, bytes) => has_entered(pair, *count, bytes),
+        _ => false,
     }
 }
 
 // Goes through the steps of a run.
-fn follow(rt: &impl Abort, pair: &mut Pair<TableStore>, steps: &[Step<'_>]) {
+fn follow<B: Blocks + Drop>(rt: &impl Abort, pair: &mut Pair<B>, steps: &[Step<'_>]) {
     for index in 0..steps.len() {
         assert!(rt; goes(pair, &steps[index]), "at step {index}");
     }
 }
 
-// A pair over a store of tables that nobody opened.
-pub(crate) fn over_tables(alloc: Global, sizes: Config) -> Result<Pair<TableStore>, Fail>
-    requires mblks { 0 < sizes.mblks }
-    requires few_mblks { sizes.mblks ≤ 65536 }
-    requires dblks { 0 < sizes.dblks }
-    requires few_dblks { sizes.dblks ≤ 65536 }
-{
-    let store = TableStore::new(alloc, sizes.mblks, sizes.dblks)?;
-    match Pair::new(alloc, sizes, store) {
-        Ok(pair) => Ok(pair),
-        Err((refused, _)) => Err(refused.into()),
-    }
+// A pair over a store of tables that nobody opened, of 1 to 65536 blocks of each kind.
+fn over_tables(alloc: Global, sizes: Config) -> Result<Pair<TableStore>, AllocError> {
+    let mblks = sizes.mblks.clamp(1, 65536);
+    let dblks = sizes.dblks.clamp(1, 65536);
+    let store = TableStore::new(alloc, mblks, dblks)?;
+    let Ok(pair) = Pair::new(alloc, sizes, store) else {
+        return Err(AllocError);
+    };
+    Ok(pair)
 }
 
-// Opens both sides of a pair of these sizes, and goes through the steps of a run.
-fn follow_opened(
+// The steps that open both sides.
+const OPENING: [Step<'static>; 3] = [
+    Step::Call(MASTER, Event::OpenMaster, DONE),
+    Step::Call(MASTER, Event::Unlock, DONE),
+    Step::Call(MASTER, Event::OpenSlave, DONE),
+];
+
+// Goes through the steps of two runs, one after the other, on a new pair of these sizes.
+fn run(
     rt: &impl Abort,
     alloc: Global,
     sizes: Config,
-    steps: &[Step<'_>],
-) -> Result<(), Fail>
-    requires mblks { 0 < sizes.mblks }
-    requires few_mblks { sizes.mblks ≤ 65536 }
-    requires dblks { 0 < sizes.dblks }
-    requires few_dblks { sizes.dblks ≤ 65536 }
-{
+    first: &[Step<'_>],
+    then: &[Step<'_>],
+) -> Result<(), AllocError> {
     let mut pair = over_tables(alloc, sizes)?;
-    let opening = [
-        Step::Call(MASTER, Event::OpenMaster, Came::Done),
-        Step::Call(MASTER, Event::Unlock, Came::Done),
-        Step::Call(MASTER, Event::OpenSlave, Came::Done),
-    ];
-    follow(rt, &mut pair, &opening);
-    follow(rt, &mut pair, steps);
+    follow(rt, &mut pair, first);
+    follow(rt, &mut pair, then);
     Ok(())
 }
 
-// Writes one byte where there are so many blocks of each kind, and this must come of it.
-fn write_with(rt: &impl Abort, alloc: Global, blocks: usize, came: Came<'_>) -> Result<(), Fail>
-    requires some { 0 < blocks }
-    requires few { blocks ≤ 65536 }
-{
-    let sizes = Config {
-        mblks: blocks,
-        dblks: blocks,
-        journal_events: 10,
-        journal_bytes: 10,
-    };
-    let steps = [Step::Call(MASTER, Event::Write { bytes: b"a" }, came)];
-    follow_opened(rt, alloc, sizes, &steps)
-}
+const CROSSING: [Step<'static>; 10] = [
+    Step::Call(MASTER, Event::Write { bytes: b"abc" }, Ok(Answer::Count(3))),
+    Step::Enabled(1, Some(MASTER_DRIVER)),
+    Step::Turn(MASTER_DRIVER, Ok(Turn::Moved(3))),
+    Step::Enabled(0, None),
+    Step::Read(SLAVE, 2, b"ab"),
+    Step::Read(SLAVE, 10, b"c"),
+    Step::Call(SLAVE, Event::Read { n: 10 }, AGAIN),
+    Step::Read(SLAVE, 0, b""),
+    Step::Free(256, 256),
+    Step::Entered(8, b"abcabc"),
+];
 
 #[test]
 fn bytes_cross_to_the_slave(rt: HostRuntime) -> Result<(), Fail> {
-    let steps = [
-        Step::Call(MASTER, Event::Write { bytes: b"abc" }, Came::Count(3)),
-        Step::Enabled(1, Some(MASTER_DRIVER)),
-        Step::Turn(MASTER_DRIVER, Ok(Turn::Moved(3))),
-        Step::Enabled(0, None),
-        Step::Call(SLAVE, Event::Read { n: 2 }, Came::Bytes(b"ab")),
-        Step::Call(SLAVE, Event::Read { n: 10 }, Came::Bytes(b"c")),
-        Step::Call(SLAVE, Event::Read { n: 10 }, Came::Refused(Refusal::Eagain)),
-        Step::Call(SLAVE, Event::Read { n: 0 }, Came::Bytes(b"")),
-        Step::Free(256, 256),
-        Step::Entered(8, b"abcabc"),
-    ];
-    follow_opened(&rt, rt.alloc(), SIZES, &steps)
+    Ok(run(&rt, rt.alloc(), SIZES, &OPENING, &CROSSING)?)
 }
+
+const LONG: &[u8] = &[b'z'; 600];
+
+const FILLING: [Step<'static>; 5] = [
+    Step::Call(MASTER, Event::Write { bytes: LONG }, Ok(Answer::Count(512))),
+    Step::Counts(MASTER_DRIVER, 512, true),
+    Step::Call(MASTER, Event::Write { bytes: b"z" }, AGAIN),
+    Step::Turn(MASTER_DRIVER, Ok(Turn::Moved(256))),
+    Step::Call(MASTER, Event::Write { bytes: b"z" }, Ok(Answer::Count(1))),
+];
 
 #[test]
 fn a_full_driver_holds_writers(rt: HostRuntime) -> Result<(), Fail> {
-    let long = [b'z'; 600];
-    let steps = [
-        Step::Call(MASTER, Event::Write { bytes: &long }, Came::Count(512)),
-        Step::Call(
-            MASTER,
-            Event::Write { bytes: b"z" },
-            Came::Refused(Refusal::Eagain),
-        ),
-        Step::Turn(MASTER_DRIVER, Ok(Turn::Moved(256))),
-        Step::Call(MASTER, Event::Write { bytes: b"z" }, Came::Count(1)),
-    ];
-    follow_opened(&rt, rt.alloc(), SIZES, &steps)
+    Ok(run(&rt, rt.alloc(), SIZES, &OPENING, &FILLING)?)
 }
+
+const RENEWING: [Step<'static>; 14] = [
+    Step::Call(MASTER, Event::Write { bytes: LONG }, Ok(Answer::Count(512))),
+    Step::Turn(MASTER_DRIVER, Ok(Turn::Moved(256))),
+    Step::Counts(MASTER_DRIVER, 256, false),
+    Step::Counts(SLAVE_HEAD, 256, false),
+    Step::Stored(Some(256)),
+    Step::Reset,
+    Step::Counts(MASTER_DRIVER, 0, false),
+    Step::Counts(SLAVE_HEAD, 0, false),
+    Step::Stored(None),
+    Step::Enabled(0, None),
+    Step::Free(256, 256),
+    Step::Entered(0, b""),
+    Step::Call(MASTER, Event::OpenMaster, DONE),
+    Step::Call(MASTER, Event::OpenSlave, AGAIN),
+];
+
+#[test]
+fn a_pair_is_made_as_new_in_place(rt: HostRuntime) -> Result<(), Fail> {
+    Ok(run(&rt, rt.alloc(), SIZES, &OPENING, &RENEWING)?)
+}
+
+const ONE_BYTE: Event<&'static [u8]> = Event::Write { bytes: b"a" };
+
+const FEW_BLOCKS: Config = Config {
+    mblks: 32,
+    dblks: 32,
+    journal_events: 10,
+    journal_bytes: 10,
+};
+
+const ONE_BLOCK_MORE: Config = Config {
+    mblks: 33,
+    dblks: 33,
+    journal_events: 10,
+    journal_bytes: 10,
+};
+
+const TOO_FEW: [Step<'static>; 1] = [Step::Call(MASTER, ONE_BYTE, NO_BLOCKS)];
+
+const ENOUGH: [Step<'static>; 1] = [Step::Call(MASTER, ONE_BYTE, Ok(Answer::Count(1)))];
 
 #[test]
 fn thirty_two_blocks_are_kept_back(rt: HostRuntime) -> Result<(), Fail> {
-    write_with(&rt, rt.alloc(), 32, Came::Refused(Refusal::Enosr))?;
-    write_with(&rt, rt.alloc(), 33, Came::Count(1))
+    run(&rt, rt.alloc(), FEW_BLOCKS, &OPENING, &TOO_FEW)?;
+    Ok(run(&rt, rt.alloc(), ONE_BLOCK_MORE, &OPENING, &ENOUGH)?)
 }
+
+const THREE_ENTRIES: Config = Config {
+    mblks: 256,
+    dblks: 256,
+    journal_events: 3,
+    journal_bytes: 100,
+};
+
+const REFUSED_AS_FULL: [Step<'static>; 3] = [
+    Step::Call(MASTER, ONE_BYTE, FULL),
+    Step::Call(MASTER, Event::Read { n: 1 }, FULL),
+    Step::Entered(3, b""),
+];
 
 #[test]
 fn a_full_journal_refuses(rt: HostRuntime) -> Result<(), Fail> {
-    let sizes = Config {
-        mblks: 256,
-        dblks: 256,
-        journal_events: 3,
-        journal_bytes: 100,
-    };
-    let full = Came::Refused(Refusal::JournalFull);
-    let steps = [
-        Step::Call(MASTER, Event::Write { bytes: b"a" }, full),
-        Step::Call(MASTER, Event::Read { n: 1 }, full),
-        Step::Entered(3, b""),
-    ];
-    follow_opened(&rt, rt.alloc(), sizes, &steps)
+    Ok(run(&rt, rt.alloc(), THREE_ENTRIES, &OPENING, &REFUSED_AS_FULL)?)
 }
+
+const BAD_CALLS: [Step<'static>; 15] = [
+    Step::Call(MASTER, Event::Read { n: 1 }, NOT_OPEN),
+    Step::Call(SLAVE, Event::OpenSlave, NOT_OPEN),
+    Step::Call(SLAVE, Event::OpenMaster, DONE),
+    Step::Call(MASTER, Event::OpenMaster, INVALID),
+    Step::Call(MASTER, Event::OpenSlave, AGAIN),
+    Step::Call(SLAVE, Event::Unlock, NOT_OPEN),
+    Step::Call(MASTER, Event::Unlock, DONE),
+    Step::Call(MASTER, Event::Unlock, DONE),
+    Step::Call(MASTER, Event::OpenSlave, DONE),
+    Step::Call(MASTER, Event::OpenSlave, INVALID),
+    Step::Call(SLAVE, Event::Unlock, INVALID),
+    Step::Turn(MASTER_DRIVER, Err(Refusal::Einval)),
+    Step::Turn(SLAVE_HEAD, Err(Refusal::Einval)),
+    Step::Call(SLAVE, Event::Read { n: u32::MAX }, AGAIN),
+    Step::Entered(4, b""),
+];
 
 #[test]
 fn bad_calls_are_refused_by_name(rt: HostRuntime) -> Result<(), Fail> {
-    let not_open = Came::Refused(Refusal::Enxio);
-    let invalid = Came::Refused(Refusal::Einval);
-    let again = Came::Refused(Refusal::Eagain);
-    let steps = [
-        Step::Call(MASTER, Event::Read { n: 1 }, not_open),
-        Step::Call(SLAVE, Event::OpenSlave, not_open),
-        Step::Call(SLAVE, Event::OpenMaster, Came::Done),
-        Step::Call(MASTER, Event::OpenMaster, invalid),
-        Step::Call(MASTER, Event::OpenSlave, again),
-        Step::Call(SLAVE, Event::Unlock, not_open),
-        Step::Call(MASTER, Event::Unlock, Came::Done),
-        Step::Call(MASTER, Event::Unlock, Came::Done),
-        Step::Call(MASTER, Event::OpenSlave, Came::Done),
-        Step::Call(MASTER, Event::OpenSlave, invalid),
-        Step::Call(SLAVE, Event::Unlock, invalid),
-        Step::Turn(MASTER_DRIVER, Err(Refusal::Einval)),
-        Step::Turn(SLAVE_HEAD, Err(Refusal::Einval)),
-        Step::Call(SLAVE, Event::Read { n: u32::MAX }, again),
-        Step::Entered(4, b""),
-    ];
-    let mut pair = over_tables(rt.alloc(), SIZES)?;
-    follow(&rt, &mut pair, &steps);
-    Ok(())
+    Ok(run(&rt, rt.alloc(), SIZES, &BAD_CALLS, &[])?)
 }
+
+const ALL_BLOCKS: Config = Config {
+    mblks: 65536,
+    dblks: 65536,
+    journal_events: 10,
+    journal_bytes: 2097152,
+};
 
 #[test]
 fn a_huge_write_is_taken_up_to_the_mark(rt: HostRuntime) -> Result<(), Fail> {
-    let sizes = Config {
-        mblks: 65536,
-        dblks: 65536,
-        journal_events: 10,
-        journal_bytes: 2097152,
-    };
     let huge = vec![in rt.alloc(); 7u8; 1048576]?;
     let bytes = huge.as_slice();
-    let steps = [Step::Call(SLAVE, Event::Write { bytes }, Came::Count(512))];
-    follow_opened(&rt, rt.alloc(), sizes, &steps)
+    let steps = [Step::Call(SLAVE, Event::Write { bytes }, Ok(Answer::Count(512)))];
+    Ok(run(&rt, rt.alloc(), ALL_BLOCKS, &OPENING, &steps)?)
 }
+
+const WITH_AN_EMPTY_WRITE: [Step<'static>; 9] = [
+    Step::Call(MASTER, ONE_BYTE, Ok(Answer::Count(1))),
+    Step::Call(MASTER, Event::Write { bytes: b"" }, Ok(Answer::Count(0))),
+    Step::Call(MASTER, Event::Write { bytes: b"b" }, Ok(Answer::Count(1))),
+    Step::Turn(MASTER_DRIVER, Ok(Turn::Moved(1))),
+    Step::Turn(MASTER_DRIVER, Ok(Turn::Moved(0))),
+    Step::Turn(MASTER_DRIVER, Ok(Turn::Moved(1))),
+    Step::Read(SLAVE, 9, b"a"),
+    Step::Read(SLAVE, 9, b""),
+    Step::Read(SLAVE, 9, b"b"),
+];
 
 #[test]
 fn an_empty_write_reads_as_nothing(rt: HostRuntime) -> Result<(), Fail> {
-    let steps = [
-        Step::Call(MASTER, Event::Write { bytes: b"a" }, Came::Count(1)),
-        Step::Call(MASTER, Event::Write { bytes: b"" }, Came::Count(0)),
-        Step::Call(MASTER, Event::Write { bytes: b"b" }, Came::Count(1)),
-        Step::Turn(MASTER_DRIVER, Ok(Turn::Moved(1))),
-        Step::Turn(MASTER_DRIVER, Ok(Turn::Moved(0))),
-        Step::Turn(MASTER_DRIVER, Ok(Turn::Moved(1))),
-        Step::Call(SLAVE, Event::Read { n: 9 }, Came::Bytes(b"a")),
-        Step::Call(SLAVE, Event::Read { n: 9 }, Came::Bytes(b"")),
-        Step::Call(SLAVE, Event::Read { n: 9 }, Came::Bytes(b"b")),
-    ];
-    follow_opened(&rt, rt.alloc(), SIZES, &steps)
+    Ok(run(&rt, rt.alloc(), SIZES, &OPENING, &WITH_AN_EMPTY_WRITE)?)
 }

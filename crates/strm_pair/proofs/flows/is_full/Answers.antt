@@ -1,5 +1,5 @@
 -- The kept flag is that of the messages on the list.
-use Rattle.std.proofs.Common.{◌∙◌}
+use Rattle.std.proofs.Common.{◌∙◌, rules}
 use Rattle.strm_blocks.specs.Blocks.{list_at}
 use Rattle.strm_pair.proofs.FlowControl.{full-same}
 use Rattle.strm_pair.proofs.flows.is_full.Goals as goal
@@ -9,3 +9,6 @@ returns g c =
     let s = g.B.Blocks.value c.args.store.now in
     let q = c.args.queue.now in
     c.is_full.ensures.full (list_at s q.list) c.requires.ready.counted ∙ full-same s q c.args.band.0 c.requires.ready c.requires.band
+
+pub is_full-requires : goal.is_full-requires
+is_full-requires g c = search rules steps 100000

@@ -6,4 +6,19 @@ pub returns-then-size-gt0 : goal.returns-then-size-gt0
 returns-then-size-gt0 g c = search rules steps 3000000
 
 pub returns-else-size-gt0 : goal.returns-else-size-gt0
-returns-else-size-gt0 g c = search rules steps 3000000
+returns-else-size-gt0 g c = search rules steps 1000000
+
+pub pass_on-size-requires-clause-from : goal.pass_on-size-requires-clause-from
+pass_on-size-requires-clause-from g c = search rules steps 100000
+
+pub pass_on-size-requires-clause-to : goal.pass_on-size-requires-clause-to
+pass_on-size-requires-clause-to g c = search rules steps 100000
+
+pub pass_on-size-requires-clause-apart : goal.pass_on-size-requires-clause-apart
+pass_on-size-requires-clause-apart g c = search rules steps 30000
+
+pub pass_on-size-requires-clause-some : goal.pass_on-size-requires-clause-some
+pass_on-size-requires-clause-some g c = search rules steps 100000
+
+pub invariant_of-from : goal.invariant_of-from
+invariant_of-from g c = search rules steps 300000

@@ -1,4 +1,6 @@
 -- The message that is taken is the one that is put.
+use Rattle.std.proofs.Common.{arith, rules}
+use Rattle.std.proofs.lemmas.Grind.{common_steps}
 use Rattle.strm_pair.proofs.Gotten.{has-list}
 use Rattle.strm_pair.proofs.Passed.{passed, still-counted, low-first}
 use Rattle.strm_pair.proofs.passing.pass_on.Goals as goal
@@ -23,3 +25,15 @@ pub putq-requires-clause-band : goal.putq-requires-clause-band
 putq-requires-clause-band g c =
     let s = g.B.Blocks.value c.args.store.now in
     low-first s (g.B.Blocks.value c.getq.new.store) c.args.from.now (g.B.Blocks.name c.in-Some.message) (has-list s c.args.from.now c.audit.ensures) c.in-Some.ensures.taken c.requires.from
+
+pub getq-requires : goal.getq-requires
+getq-requires g c = search rules steps 100000
+
+pub returns-in_default : goal.returns-in_default
+returns-in_default g c = search rules steps 300000
+
+pub message_size-size-requires : goal.message_size-size-requires
+message_size-size-requires g c = grind (arith, common_steps) steps 100000
+
+pub putq-requires-clause-in_hand : goal.putq-requires-clause-in_hand
+putq-requires-clause-in_hand g c = grind (arith, common_steps) steps 100000

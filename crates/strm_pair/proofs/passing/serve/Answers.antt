@@ -1,5 +1,5 @@
 -- The first message goes, unless flow control stops it at the head.
-use Rattle.std.proofs.Common.{◌∙◌, ℕ, refl, sym, ap}
+use Rattle.std.proofs.Common.{◌∙◌, ℕ, refl, sym, ap, rules}
 use Rattle.strm_types.specs.State.{with_head_queue, with_driver_queue}
 use Rattle.strm_types.specs.declared.answers.Turn.TheVariants.{Moved}
 use Rattle.strm_types.specs.Turns.{Served, driver_serves}
@@ -87,3 +87,57 @@ returns-then-is_stopped-clause-passes g c =
     let s = g.B.Blocks.value c.args.store.now in
     passes-none s c.args.from.now _ c.args.to.now _ c.requires
     refl refl refl c.let_wait.ensures.others.list (c.let_wait.ensures.counted (list_at s c.args.to.now.head.list) c.requires.head.counted) refl
+
+pub peek-requires : goal.peek-requires
+peek-requires g c = search rules steps 100000
+
+pub invariant_of-from : goal.invariant_of-from
+invariant_of-from g c = search rules steps 100000
+
+pub returns-in_default-clause-turn : goal.returns-in_default-clause-turn
+returns-in_default-clause-turn g c = search rules steps 100000
+
+pub returns-in_default-clause-from : goal.returns-in_default-clause-from
+returns-in_default-clause-from g c = search rules steps 100000
+
+pub returns-in_default-clause-to : goal.returns-in_default-clause-to
+returns-in_default-clause-to g c = search rules steps 100000
+
+pub returns-in_default-clause-passes : goal.returns-in_default-clause-passes
+returns-in_default-clause-passes g c = search rules steps 1000000
+
+pub invariant_of-from-then-not-is_open : goal.invariant_of-from-then-not-is_open
+invariant_of-from-then-not-is_open g c = search rules steps 300000
+
+pub returns-then-not-is_open-clause-turn : goal.returns-then-not-is_open-clause-turn
+returns-then-not-is_open-clause-turn g c = search rules steps 100000
+
+pub returns-then-not-is_open-clause-from : goal.returns-then-not-is_open-clause-from
+returns-then-not-is_open-clause-from g c = search rules steps 300000
+
+pub returns-then-not-is_open-clause-to : goal.returns-then-not-is_open-clause-to
+returns-then-not-is_open-clause-to g c = search rules steps 300000
+
+pub returns-then-not-is_open-clause-passes : goal.returns-then-not-is_open-clause-passes
+returns-then-not-is_open-clause-passes g c = search rules steps 1000000
+
+pub is_stopped-requires-clause-ready : goal.is_stopped-requires-clause-ready
+is_stopped-requires-clause-ready g c = search rules steps 100000
+
+pub invariant_of-from-then-is_stopped : goal.invariant_of-from-then-is_stopped
+invariant_of-from-then-is_stopped g c = search rules steps 300000
+
+pub advance-requires-clause-from : goal.advance-requires-clause-from
+advance-requires-clause-from g c = search rules steps 100000
+
+pub advance-requires-clause-to : goal.advance-requires-clause-to
+advance-requires-clause-to g c = search rules steps 100000
+
+pub advance-requires-clause-apart : goal.advance-requires-clause-apart
+advance-requires-clause-apart g c = search rules steps 100000
+
+pub advance-requires-clause-some : goal.advance-requires-clause-some
+advance-requires-clause-some g c = search rules steps 100000
+
+pub returns-clause-passes : goal.returns-clause-passes
+returns-clause-passes g c = search rules steps 300000

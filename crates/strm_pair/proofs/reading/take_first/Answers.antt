@@ -1,5 +1,6 @@
 -- The first message gives its bytes, and is freed or put back with what it has left.
-use Rattle.std.proofs.Common.{◌≡◌, ◌∙◌, ◌++◌, ◌≤◌, ◌<◌, ◌⊎◌, map, length, take, min, sym, ap, subst, arith}
+use Rattle.std.proofs.Common.{◌≡◌, ◌∙◌, ◌++◌, ◌≤◌, ◌<◌, ◌⊎◌, map, length, take, min, sym, ap, subst, arith, rules}
+use Rattle.std.proofs.lemmas.Grind.{common_steps}
 use Rattle.std.specs.Bool.{OnTrue, OnFalse}
 use Rattle.strm_types.specs.Message.{size_of}
 use Rattle.strm_blocks.specs.Blocks.{list_at, placed, dropped, put_back, in_hand}
@@ -84,3 +85,48 @@ returns-clause-keeps g c =
     let within = has-list s q c.audit.ensures in
     freed-keeps s got new q c.getq.new.self i within p c.requires.ready.ready
     (freed-less s got q.list i within p part cut new (trimmed s got q.list i within p part cut c.take_into.ensures.trimmed) c.free.ensures) c.getq.ensures.list c.getq.ensures.counted
+
+pub getq-requires : goal.getq-requires
+getq-requires g c = search rules steps 100000
+
+pub returns-in_err-message-clause-took : goal.returns-in_err-message-clause-took
+returns-in_err-message-clause-took g c = search rules steps 300000
+
+pub returns-in_err-message-clause-flags : goal.returns-in_err-message-clause-flags
+returns-in_err-message-clause-flags g c = search rules steps 300000
+
+pub returns-in_err-message-clause-keeps : goal.returns-in_err-message-clause-keeps
+returns-in_err-message-clause-keeps g c = search rules steps 1000000
+
+pub msgdsize-len-requires : goal.msgdsize-len-requires
+msgdsize-len-requires g c = grind (arith, common_steps) steps 100000
+
+pub take_into-requires-clause-in_hand : goal.take_into-requires-clause-in_hand
+take_into-requires-clause-in_hand g c = grind (arith, common_steps) steps 100000
+
+pub take_into-requires-clause-has : goal.take_into-requires-clause-has
+take_into-requires-clause-has g c = search rules steps 100000
+
+pub take_into-requires-clause-room : goal.take_into-requires-clause-room
+take_into-requires-clause-room g c = search rules steps 100000
+
+pub putbq-requires-clause-counted : goal.putbq-requires-clause-counted
+putbq-requires-clause-counted g c = search rules steps 1000000
+
+pub putbq-requires-clause-in_hand : goal.putbq-requires-clause-in_hand
+putbq-requires-clause-in_hand g c = grind (arith, common_steps) steps 1000000
+
+pub putbq-requires-clause-band : goal.putbq-requires-clause-band
+putbq-requires-clause-band g c = grind (arith, common_steps) steps 300000
+
+pub returns-then-ends_read-clause-flags : goal.returns-then-ends_read-clause-flags
+returns-then-ends_read-clause-flags g c = search rules steps 300000
+
+pub free-requires : goal.free-requires
+free-requires g c = grind (arith, common_steps) steps 2000000
+
+pub overflow_sub-result : goal.overflow_sub-result
+overflow_sub-result g c = search rules steps 300000
+
+pub returns-clause-flags : goal.returns-clause-flags
+returns-clause-flags g c = search rules steps 300000

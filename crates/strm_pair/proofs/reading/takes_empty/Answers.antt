@@ -46,10 +46,10 @@ returns-in-Some-getq-clause-keeps g c =
     freed-keeps s got (g.B.Blocks.value c.free.new.self) q c.getq.new.self i within p c.requires.ready.ready (freed s got q.list i within p (g.B.Blocks.value c.free.new.self) c.free.ensures) c.getq.ensures.list c.getq.ensures.counted
 
 pub returns-then-ne-clause-took : goal.returns-then-ne-clause-took
-returns-then-ne-clause-took g c = search rules steps 300000
+returns-then-ne-clause-took g c = search rules steps 30000
 
 pub returns-then-ne-clause-flags : goal.returns-then-ne-clause-flags
-returns-then-ne-clause-flags g c = search rules steps 300000
+returns-then-ne-clause-flags g c = search rules steps 100000
 
 pub returns-in-Some-getq-clause-stays : goal.returns-in-Some-getq-clause-stays
-returns-in-Some-getq-clause-stays g c = search rules steps 300000
+returns-in-Some-getq-clause-stays g c = search rules steps 30000

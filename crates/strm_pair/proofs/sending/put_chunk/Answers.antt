@@ -1,5 +1,6 @@
 -- The chunk is one block of a message that is made, and put on the queue.
-use Rattle.std.proofs.Common.{inl, inr, length, sym, ap, subst, ◌∙◌, arith}
+use Rattle.std.proofs.Common.{inl, inr, length, sym, ap, subst, ◌∙◌, arith, rules}
+use Rattle.std.proofs.lemmas.Grind.{common_steps}
 use Rattle.strm_types.specs.Queue.{put_enables}
 use Rattle.strm_blocks.specs.Blocks.{in_hand}
 use Rattle.strm_queue.specs.Kept.{AreCounted}
@@ -74,3 +75,9 @@ returns-clause-keeps g c =
     let q = c.args.queue.now in
     let m = one-made s made i c.args.chunk.now c.requires.small c.in-Ok.ensures in
     sent-keeps s made (g.B.Blocks.value c.putq.new.store) q i c.args.chunk.now (list-within s made q i c.args.chunk.now m c.audit.ensures) m c.putq.ensures.placed c.putq.new.self c.requires.ready c.putq.ensures.others.list c.putq.ensures.counted
+
+pub unreachable-unreachable : goal.unreachable-unreachable
+unreachable-unreachable g c = search rules steps 30000
+
+pub putq-requires-clause-in_hand : goal.putq-requires-clause-in_hand
+putq-requires-clause-in_hand g c = grind (arith, common_steps) steps 100000

@@ -1,8 +1,10 @@
 use Rattle.std.proofs.Common.{rules, ◌<◌, ◌≤◌, None, inl, inr, arith, ap, sym, ◌∙◌}
+use Rattle.strm_blocks.specs.Blocks.{StoreValue}
 use Rattle.strm_run.specs.ScriptRun.{by_open, by_call}
 use Rattle.strm_types.specs.declared.events.Event.TheVariants.{OpenMaster}
 use Rattle.strm_types.specs.Pair.{new_pair}
 use Rattle.strm_types.specs.declared.names.Side.TheVariants.{Master}
+use Rattle.strm_pair.specs.PairViews.{sizes_over}
 use Rattle.strm_run.specs.Plain.{plain}
 use Rattle.strm_types.specs.declared.refusals.Refusal.TheVariants.{Einval}
 use Rattle.strm_run.proofs.Events.{leads_unanswered, leads_same, open_refused, open_made}
@@ -19,7 +21,8 @@ returns-clause-ok c =
     let blocks = c.args.blocks in
     let some : 0 < blocks = omega arith in
     let most : blocks ≤ 4096 = omega arith in
-    let made = c.in-Ok.ensures ∙ ap new_pair c.limits-sizes.ensures in
+    let sizes = c.limits-sizes.result in
+    let made = c.in-Ok.ensures ∙ ap (λ (s : StoreValue). new_pair (sizes_over s sizes.journal_events sizes.journal_bytes)) c.in_ok-store.ensures ∙ ap new_pair c.limits-sizes.ensures in
     leads_same _ (λ account. by_open blocks account) _ _ _
     (λ account. open_made blocks account some most
     ∙ ap (λ p. by_call (record { side = Master }) OpenMaster account (plain p)) (sym made))

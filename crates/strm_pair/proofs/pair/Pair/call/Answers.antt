@@ -1,5 +1,5 @@
 -- A call that isn't refused is a step, and the journal gains it with its answer.
-use Rattle.std.proofs.Common.{◌≡◌, ◌∙◌, ◌++◌, ◌∷◌, [], ap, sym, refl, subst}
+use Rattle.std.proofs.Common.{◌≡◌, ◌∙◌, ◌++◌, ◌∷◌, [], ap, sym, refl, subst, rules}
 use Rattle.std.specs.Prelude.{None}
 use Rattle.strm_types.specs.declared.entries.Entry.TheVariants.{Called}
 use Rattle.strm_types.specs.Cells.{plain}
@@ -58,3 +58,36 @@ returns-clause-adds g c =
       base = refl;
       limits = refl;
     })
+
+pub returns-in-Some-clause-refused : goal.returns-in-Some-clause-refused
+returns-in-Some-clause-refused g c = search rules steps 300000
+
+pub returns-in-Some-clause-adds : goal.returns-in-Some-clause-adds
+returns-in-Some-clause-adds g c = search rules steps 30000
+
+pub returns-in-Some-clause-filled : goal.returns-in-Some-clause-filled
+returns-in-Some-clause-filled g c = search rules steps 30000
+
+pub carry_out-answer-requires-clause-held : goal.carry_out-answer-requires-clause-held
+carry_out-answer-requires-clause-held g c = search rules steps 100000
+
+pub carry_out-answer-requires-clause-room_m : goal.carry_out-answer-requires-clause-room_m
+carry_out-answer-requires-clause-room_m g c = search rules steps 300000
+
+pub carry_out-answer-requires-clause-room_d : goal.carry_out-answer-requires-clause-room_d
+carry_out-answer-requires-clause-room_d g c = search rules steps 300000
+
+pub as_slice-requires : goal.as_slice-requires
+as_slice-requires g c = search rules steps 30000
+
+pub add_call-requires-clause-filled : goal.add_call-requires-clause-filled
+add_call-requires-clause-filled g c = search rules steps 300000
+
+pub add_call-requires-clause-room : goal.add_call-requires-clause-room
+add_call-requires-clause-room g c = search rules steps 1000000
+
+pub returns-clause-refused : goal.returns-clause-refused
+returns-clause-refused g c = search rules steps 1000000
+
+pub returns-clause-filled : goal.returns-clause-filled
+returns-clause-filled g c = search rules steps 300000

@@ -3,4 +3,4 @@ use Rattle.std.proofs.Common.{rules}
 use Rattle.strm_pair.proofs.pair.Pair.first_enabled.Goals as goal
 
 pub returns : goal.returns
-returns g c = search rules steps 300000
+returns g c = search rules steps 100000

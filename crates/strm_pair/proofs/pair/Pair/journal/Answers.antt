@@ -1,5 +1,5 @@
 -- The plain journal is what the stored entries and bytes say, and the plain queues are what the blocks say.
-use Rattle.std.proofs.Common.{ap, subst, ◌∙◌}
+use Rattle.std.proofs.Common.{ap, subst, ◌∙◌, rules}
 use Rattle.strm_types.specs.State.{AreOrdered, messages_in}
 use Rattle.strm_pair.specs.Pool.{IsPoolOf}
 use Rattle.strm_types.specs.Journal.{entries_in}
@@ -25,3 +25,9 @@ returns-clause-blocks g c =
     let p = c.self.inside in
     subst (λ (v : PairState). IsPoolOf (messages_in v.state) v.limits v.free) c.self.view_is
     (free-shown (g.B.Blocks.value p.store) p.streams (led_to p.journal) p.limits c.audit.ensures c.self.invariant.held c.self.invariant.mblks c.self.invariant.dblks)
+
+pub returns-clause-replayed : goal.returns-clause-replayed
+returns-clause-replayed g c = search rules steps 1000000
+
+pub returns-clause-legal : goal.returns-clause-legal
+returns-clause-legal g c = search rules steps 300000

@@ -1,5 +1,5 @@
 -- A turn that isn't refused is a step, and the journal gains it.
-use Rattle.std.proofs.Common.{◌≡◌, ◌∙◌, ap, sym, refl, subst}
+use Rattle.std.proofs.Common.{◌≡◌, ◌∙◌, ap, sym, refl, subst, rules}
 use Rattle.std.specs.Prelude.{None}
 use Rattle.strm_types.specs.declared.limits.TheConstants.{TURN_BLOCKS}
 use Rattle.strm_types.specs.declared.entries.Entry.TheVariants.{Turned}
@@ -52,3 +52,18 @@ returns-clause-adds g c =
       base = refl;
       limits = refl;
     })
+
+pub returns-in-Some-clause-refused : goal.returns-in-Some-clause-refused
+returns-in-Some-clause-refused g c = search rules steps 300000
+
+pub returns-in-Some-clause-adds : goal.returns-in-Some-clause-adds
+returns-in-Some-clause-adds g c = search rules steps 30000
+
+pub turn-turn-requires : goal.turn-turn-requires
+turn-turn-requires g c = search rules steps 100000
+
+pub add_turn-requires : goal.add_turn-requires
+add_turn-requires g c = search rules steps 300000
+
+pub returns-clause-refused : goal.returns-clause-refused
+returns-clause-refused g c = search rules steps 1000000

@@ -1,5 +1,5 @@
 -- The slave's head is emptied and as new, and all else stays.
-use Rattle.std.proofs.Common.{◌∙◌, ap, refl}
+use Rattle.std.proofs.Common.{◌∙◌, ap, refl, rules}
 use Rattle.std.specs.Prelude.{not}
 use Rattle.strm_types.specs.declared.names.Side.TheVariants.{Master}
 use Rattle.strm_types.specs.declared.names.Openness.TheVariants.{Open}
@@ -45,3 +45,21 @@ returns-else-not-is_empty-clause-held g c =
     let p = c.args.self.now in
     let cl = cleared s new p.slave.head.list c.audit.ensures c.requires.slave.head_list c.flushq.ensures.flushed in
     opened-sides s new p (record { opened = Open; head = c.new-self.result; driver = p.slave.driver }) c.requires cl (c.new-self.ensures.list ∙ c.flushq.ensures.list ∙ c.requires.slave.head_list) c.new-self.ensures.counted refl
+
+pub flushq-requires : goal.flushq-requires
+flushq-requires g c = search rules steps 100000
+
+pub new-self-requires-clause-list : goal.new-self-requires-clause-list
+new-self-requires-clause-list g c = search rules steps 100000
+
+pub new-self-requires-clause-some : goal.new-self-requires-clause-some
+new-self-requires-clause-some g c = search rules steps 100000
+
+pub new-self-requires-clause-order : goal.new-self-requires-clause-order
+new-self-requires-clause-order g c = search rules steps 100000
+
+pub returns-then-not-is_empty-clause-pool : goal.returns-then-not-is_empty-clause-pool
+returns-then-not-is_empty-clause-pool g c = search rules steps 300000
+
+pub returns-else-not-is_empty-clause-pool : goal.returns-else-not-is_empty-clause-pool
+returns-else-not-is_empty-clause-pool g c = search rules steps 300000

@@ -10,7 +10,7 @@ is_full-requires-clause-ready g c =
     subst (λ (e : End). IsReady s e.driver) (sym c.end.ensures.end) (driver-ready s c.args.self.now c.requires c.args.caller.side)
 
 pub returns-in-Unlock : goal.returns-in-Unlock
-returns-in-Unlock g c = search rules steps 300000
+returns-in-Unlock g c = search rules steps 100000
 
 pub returns-in-OpenSlave : goal.returns-in-OpenSlave
 returns-in-OpenSlave g c = search rules steps 300000
@@ -20,3 +20,9 @@ returns-in-Write g c = search rules steps 300000
 
 pub returns-after-n-eq0 : goal.returns-after-n-eq0
 returns-after-n-eq0 g c = search rules steps 300000
+
+pub is_full-requires-clause-band : goal.is_full-requires-clause-band
+is_full-requires-clause-band g c = search rules steps 100000
+
+pub returns-after-matches : goal.returns-after-matches
+returns-after-matches g c = search rules steps 100000

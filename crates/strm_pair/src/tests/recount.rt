@@ -1,17 +1,18 @@
-//! A plain model of a pair, which a journal leads on: queues of messages as their bytes, with every count summed afresh. It
-//! says what is refused and what is answered.
+//! A plain model of a pair, which a journal leads on: queues as the sizes of their messages and one row of bytes,
+//! counted afresh each time. It says what is refused and what is answered.
 
 use crate::Recorded;
 use crate::pair::kept::Kept;
-use std::alloc::Global;
+use std::alloc::{AllocError, Global};
 use std::collections::VecDeque;
-use std::test::Fail;
 use strm_types::{Answer, Caller, Config, Entry, Event, Place, QueueName, Refusal, Side, Turn};
 
-// A queue: its messages, the first one first, its marks, whether it wants to be read, and whether a writer waits.
+// A queue: the sizes of its messages, the first one first, and all their bytes in order; its marks, whether it wants
+// to be read, and whether a writer waits.
 #[derive(Drop)]
 struct PlainQueue {
-    messages: VecDeque<Vec<u8>>,
+    sizes: VecDeque<usize>,
+    bytes: VecDeque<u8>,
     high: usize,
     low: usize,
     want_read: bool,
@@ -21,7 +22,8 @@ struct PlainQueue {
 impl PlainQueue {
     fn new(alloc: Global, high: usize, low: usize) -> PlainQueue {
         PlainQueue {
-            messages: VecDeque::new(alloc),
+            sizes: VecDeque::new(alloc),
+            bytes: VecDeque::new(alloc),
             high,
             low,
             want_read: true,
@@ -29,75 +31,92 @@ impl PlainQueue {
         }
     }
 
-    fn count(&self) -> usize {
-        let mut bytes = 0usize;
-        for message in self.messages.iter() {
-            bytes = bytes.saturating_add(message.len());
-        }
-        bytes
-    }
-
     fn is_full(&self) -> bool {
-        self.count() >= self.high
+        self.bytes.len() >= self.high
     }
 
     fn kept(&self) -> Kept {
         Kept {
-            bytes: self.count(),
+            bytes: self.bytes.len(),
             is_full: self.is_full(),
             want_write: self.want_write,
             want_read: self.want_read,
         }
     }
 
+    // As it was made.
+    fn renew(&mut self) {
+        self.sizes.clear();
+        self.bytes.clear();
+        self.want_read = true;
+        self.want_write = false;
+    }
+
     // Lets a waiting writer go where the count is down to the low mark, and says whether one was.
     fn relieve(&mut self) -> bool {
-        let goes = self.want_write && self.count() <= self.low;
+        let goes = self.want_write && self.bytes.len() <= self.low;
         self.want_write = self.want_write && !goes;
         goes
     }
 
+    fn put(&mut self, message: &[u8]) -> Result<(), AllocError> {
+        for byte in message {
+            self.bytes.push_back(*byte)?;
+        }
+        self.sizes.push_back(message.len())?;
+        Ok(())
+    }
+
     // Puts pieces of 256 bytes on the queue while it isn't full, at least one, and says how many bytes went.
-    fn send(&mut self, alloc: Global, bytes: &[u8]) -> Result<usize, Fail> {
-        let mut taken = 0usize;
+    fn send(&mut self, bytes: &[u8]) -> Result<usize, AllocError> {
         let mut rest = bytes;
         for _ in 0..messages_of(bytes) {
             if self.is_full() {
                 break;
             }
             let (chunk, more) = rest.split_at(rest.len().min(256));
-            self.messages.push_back(chunk.to_vec(alloc)?)?;
-            taken = taken.saturating_add(chunk.len());
+            self.put(chunk)?;
             rest = more;
         }
-        Ok(taken)
+        Ok(bytes.len().saturating_sub(rest.len()))
     }
 
-    // Takes up to so many bytes off the first messages. One of no bytes is taken alone, where it stands first.
-    fn give(&mut self, alloc: Global, wanted: usize) -> Result<Vec<u8>, Fail> {
-        let mut given = Vec::new(alloc);
-        self.want_read = false;
-        let is_empty = match self.messages.front() {
-            Some(first) => first.is_empty(),
-            None => false,
-        };
-        if is_empty {
-            let _ = self.messages.pop_front();
-            return Ok(given);
-        }
-        for _ in 0..self.messages.len() {
-            let left = wanted.saturating_sub(given.len());
-            let Some(message) = self.messages.pop_front() else {
-                break;
-            };
-            let (front, rest) = message.as_slice().split_at(left.min(message.len()));
-            given.extend_from_slice(front)?;
-            if front.is_empty() || !rest.is_empty() {
-                self.messages.push_front(rest.to_vec(alloc)?)?;
-                break;
+    // Moves the first message, of so many bytes, behind all of another queue.
+    fn pass(&mut self, size: usize, to: &mut PlainQueue) -> Result<(), AllocError> {
+        let _ = self.sizes.pop_front();
+        for _ in 0..size {
+            if let Some(byte) = self.bytes.pop_front() {
+                to.bytes.push_back(byte)?;
             }
         }
-        Ok(given)
+        to.sizes.push_back(size)?;
+        Ok(())
+    }
+
+    // Takes the next byte of the first message, if it has one. A message goes with its last byte.
+    fn next_byte(&mut self) -> Option<u8> {
+        let left = self.sizes.front()?.checked_sub(1)?;
+        if left == 0 {
+            let _ = self.sizes.pop_front();
+        } else if let Some(size) = self.sizes.front_mut() {
+            *size = left;
+        }
+        self.bytes.pop_front()
+    }
+
+    // Takes up to so many bytes off the first messages, and says whether they are these. One of no bytes is taken
+    // alone, where it stands first.
+    fn gives(&mut self, wanted: usize, bytes: &[u8]) -> bool {
+        self.want_read = false;
+        if self.sizes.front() == Some(&0) {
+            let _ = self.sizes.pop_front();
+            return bytes.is_empty();
+        }
+        let mut same = bytes.len() <= wanted;
+        for byte in bytes {
+            same = self.next_byte() == Some(*byte) && same;
+        }
+        same && (bytes.len() == wanted || self.next_byte().is_none())
     }
 }
 
@@ -113,19 +132,15 @@ impl PlainEnd {
     fn new(alloc: Global) -> PlainEnd {
         PlainEnd {
             is_open: false,
-            head: new_head(alloc),
+            head: PlainQueue::new(alloc, 5120, 1024),
             driver: PlainQueue::new(alloc, 512, 128),
         }
     }
 
     fn messages(&self) -> usize {
-        let head = self.head.messages.len();
-        head.saturating_add(self.driver.messages.len())
+        let head = self.head.sizes.len();
+        head.saturating_add(self.driver.sizes.len())
     }
-}
-
-fn new_head(alloc: Global) -> PlainQueue {
-    PlainQueue::new(alloc, 5120, 1024)
 }
 
 // How many of the journal's bytes belong to an entry.
@@ -149,22 +164,18 @@ fn messages_of(bytes: &[u8]) -> usize {
 }
 
 // A turn of a driver's queue, across from a stream.
-fn serve(from: &mut PlainQueue, to: &mut PlainEnd) -> Result<Turn, Fail> {
-    if from.messages.is_empty() {
+fn serve(from: &mut PlainQueue, to: &mut PlainEnd) -> Result<Turn, AllocError> {
+    let Some(size) = from.sizes.front().copied() else {
         from.want_read = true;
         return Ok(Turn::Idle);
-    }
+    };
     if !to.is_open || to.head.is_full() {
         from.want_read = false;
         to.head.want_write = to.head.want_write || to.is_open;
         return Ok(Turn::Blocked);
     }
-    let Some(message) = from.messages.pop_front() else {
-        return Ok(Turn::Idle);
-    };
-    let size = message.len();
-    to.head.messages.push_back(message)?;
-    from.want_read = from.messages.is_empty();
+    from.pass(size, &mut to.head)?;
+    from.want_read = from.sizes.is_empty();
     if size > 0 {
         let _ = from.relieve();
     }
@@ -174,7 +185,6 @@ fn serve(from: &mut PlainQueue, to: &mut PlainEnd) -> Result<Turn, Fail> {
 /// A pair, as far as a journal has led it.
 #[derive(Drop)]
 pub(crate) struct PlainPair {
-    alloc: Global,
     limits: Config,
     master: PlainEnd,
     slave: PlainEnd,
@@ -188,7 +198,6 @@ impl PlainPair {
     /// A pair with these sizes before the first entry of its journal.
     pub fn new(alloc: Global, limits: Config) -> PlainPair {
         PlainPair {
-            alloc,
             limits,
             master: PlainEnd::new(alloc),
             slave: PlainEnd::new(alloc),
@@ -225,10 +234,10 @@ impl PlainPair {
 
     /// The next entry of a journal with its bytes, if there is one.
     pub fn next_of<'a>(&self, journal: Recorded<'a>) -> Option<(Entry<usize>, &'a [u8])> {
-        let entry = *journal.entries.get(self.entries)?;
-        let (_, behind) = journal.bytes.split_at_checked(self.bytes)?;
-        let (bytes, _) = behind.split_at_checked(entry_len(&entry))?;
-        Some((entry, bytes))
+        let entry = journal.entries.get(self.entries)?;
+        let end = self.bytes.saturating_add(entry_len(entry));
+        let bytes = journal.bytes.get(self.bytes..end)?;
+        Some((*entry, bytes))
     }
 
     /// Whether a journal has no more entries, and no more bytes.
@@ -237,7 +246,7 @@ impl PlainPair {
     }
 
     /// Goes on by an entry with its bytes, and says whether the answer there is this pair's.
-    pub fn replay(&mut self, entry: &Entry<usize>, bytes: &[u8]) -> Result<bool, Fail> {
+    pub fn replay(&mut self, entry: &Entry<usize>, bytes: &[u8]) -> Result<bool, AllocError> {
         self.entries = self.entries.saturating_add(1);
         self.bytes = self.bytes.saturating_add(bytes.len());
         match *entry {
@@ -256,22 +265,24 @@ impl PlainPair {
         event: Event<usize>,
         answer: Answer<usize>,
         bytes: &[u8],
-    ) -> Result<bool, Fail> {
-        match event {
-            Event::OpenMaster => self.master.is_open = true,
-            Event::Unlock => self.locked = false,
-            Event::OpenSlave => self.open_slave()?,
-            Event::Write { .. } => {
-                let taken = self.write(side, bytes)?;
-                return Ok(answer == Answer::Count(taken));
+    ) -> Result<bool, AllocError> {
+        let wanted = match event {
+            Event::OpenMaster => {
+                self.master.is_open = true;
+                Answer::Done
             }
-            Event::Read { n } => {
-                let given = self.read(side, n as usize)?;
-                let len = given.len();
-                return Ok(answer == Answer::Bytes(len) && given.as_slice() == bytes);
+            Event::Unlock => {
+                self.locked = false;
+                Answer::Done
             }
-        }
-        Ok(answer == Answer::Done && bytes.is_empty())
+            Event::OpenSlave => {
+                self.open_slave()?;
+                Answer::Done
+            }
+            Event::Write { .. } => Answer::Count(self.write(side, bytes)?),
+            Event::Read { n } => return self.reads(side, n as usize, answer, bytes),
+        };
+        Ok(answer == wanted)
     }
 
     fn end(&self, side: Side) -> &PlainEnd {
@@ -288,7 +299,7 @@ impl PlainPair {
         }
     }
 
-    fn enable_driver(&mut self, side: Side) -> Result<(), Fail> {
+    fn enable_driver(&mut self, side: Side) -> Result<(), AllocError> {
         let name = side.driver();
         if !self.enabled.as_slice().contains(&name) {
             self.enabled.push(name)?;
@@ -296,40 +307,46 @@ impl PlainPair {
         Ok(())
     }
 
-    fn open_slave(&mut self) -> Result<(), Fail> {
+    fn open_slave(&mut self) -> Result<(), AllocError> {
         self.slave.is_open = true;
-        self.slave.head = new_head(self.alloc);
-        if !self.master.driver.messages.is_empty() {
-            self.enable_driver(Side::Master)?;
+        self.slave.head.renew();
+        if self.master.driver.sizes.is_empty() {
+            return Ok(());
         }
-        Ok(())
+        self.enable_driver(Side::Master)
     }
 
-    fn write(&mut self, side: Side, bytes: &[u8]) -> Result<usize, Fail> {
-        let alloc = self.alloc;
+    fn write(&mut self, side: Side, bytes: &[u8]) -> Result<usize, AllocError> {
         let driver = &mut self.end_mut(side).driver;
         let enables = driver.want_read && !driver.is_full();
-        let taken = driver.send(alloc, bytes)?;
+        let taken = driver.send(bytes)?;
         if enables {
             self.enable_driver(side)?;
         }
         Ok(taken)
     }
 
-    fn read(&mut self, side: Side, n: usize) -> Result<Vec<u8>, Fail> {
-        let alloc = self.alloc;
+    // Whether a read is answered so, with these bytes.
+    fn reads(
+        &mut self,
+        side: Side,
+        n: usize,
+        answer: Answer<usize>,
+        bytes: &[u8],
+    ) -> Result<bool, AllocError> {
+        let told = answer == Answer::Bytes(bytes.len());
         if n == 0 {
-            return Ok(Vec::new(alloc));
+            return Ok(told && bytes.is_empty());
         }
         let head = &mut self.end_mut(side).head;
-        let given = head.give(alloc, n.min(4096))?;
-        if !given.is_empty() && head.relieve() {
+        let given = head.gives(n.min(4096), bytes);
+        if !bytes.is_empty() && head.relieve() {
             self.enable_driver(side.other())?;
         }
-        Ok(given)
+        Ok(told && given)
     }
 
-    fn turn(&mut self, name: QueueName) -> Result<Turn, Fail> {
+    fn turn(&mut self, name: QueueName) -> Result<Turn, AllocError> {
         self.enabled.retain(|other| *other != name);
         if name.place != Place::Driver {
             return Ok(Turn::Idle);
@@ -338,7 +355,7 @@ impl PlainPair {
             Side::Master => serve(&mut self.master.driver, &mut self.slave)?,
             Side::Slave => serve(&mut self.slave.driver, &mut self.master)?,
         };
-        let is_left = !self.end(name.side).driver.messages.is_empty();
+        let is_left = !self.end(name.side).driver.sizes.is_empty();
         if is_left && matches!(turn, Turn::Moved(_)) {
             self.enable_driver(name.side)?;
         }
@@ -406,7 +423,7 @@ impl PlainPair {
             Event::OpenSlave if self.slave.is_open => Some(Refusal::Einval),
             Event::OpenSlave if self.locked => Some(Refusal::Eagain),
             Event::Write { .. } if end.driver.is_full() => Some(Refusal::Eagain),
-            Event::Read { n } if *n > 0 && end.head.messages.is_empty() => Some(Refusal::Eagain),
+            Event::Read { n } if *n > 0 && end.head.sizes.is_empty() => Some(Refusal::Eagain),
             _ => None,
         }
     }

@@ -1,0 +1,54 @@
+//! What the queues of both streams count, as those ask who hold the pair.
+
+ghost use Rattle.std.specs.Prelude.{ℕ, ◌≡◌, ◌<◌};
+ghost use Rattle.strm_types.specs.State.{State};
+ghost use Rattle.strm_pair.specs.Shows.{count_at, full_at};
+
+use crate::flows::{count, is_full};
+use crate::streams::Streams;
+use strm_blocks::Blocks;
+use strm_types::{BANDS, Band, Place, QueueName, Way};
+
+impl Streams {
+    ghost use Rattle.strm_pair.specs.Pairs.{state_in, AreHeld};
+
+    /// How many bytes count in a band of a queue.
+    pub fn count<B: Blocks>(&self, store: &B, queue: QueueName, band: Band) -> usize
+        requires held { AreHeld (B.value store.now) self.now }
+        requires band { band.0 < BANDS }
+        ensures { (t : State ℕ) → result ≡ count_at queue band.0 (state_in (B.value store.now) self.now t) }
+    {
+        let end = self.end(queue.side);
+        match queue.place {
+            Place::Head => match queue.way {
+                Way::Up => count(store, &end.head, band),
+                Way::Down => 0,
+            },
+            Place::Driver => match queue.way {
+                Way::Up => 0,
+                Way::Down => count(store, &end.driver, band),
+            },
+            Place::Ldterm => 0,
+        }
+    }
+
+    /// Whether a band of a queue is full.
+    pub fn is_full<B: Blocks>(&self, store: &B, queue: QueueName, band: Band) -> bool
+        requires held { AreHeld (B.value store.now) self.now }
+        requires band { band.0 < BANDS }
+        ensures { (t : State ℕ) → result ≡ full_at queue band.0 (state_in (B.value store.now) self.now t) }
+    {
+        let end = self.end(queue.side);
+        match queue.place {
+            Place::Head => match queue.way {
+                Way::Up => is_full(store, &end.head, band),
+                Way::Down => false,
+            },
+            Place::Driver => match queue.way {
+                Way::Up => false,
+                Way::Down => is_full(store, &end.driver, band),
+            },
+            Place::Ldterm => false,
+        }
+    }
+}
