@@ -2,12 +2,14 @@
 #![tactic(auto)]
 
 mod carrying;
+mod enabled;
 mod modules;
 mod parcels;
 mod places;
 mod stack;
 
 pub use carrying::deliver;
+pub use enabled::Enabled;
 pub use modules::{Acts, Module};
 pub use parcels::{Outbox, Sent};
 pub use places::Stations;

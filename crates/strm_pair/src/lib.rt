@@ -2,7 +2,6 @@
 //! time, each is refused by name or carried out whole, and the journal tells all that were carried out.
 #![tactic(auto)]
 
-mod enabled;
 mod ends;
 mod flows;
 mod journal;

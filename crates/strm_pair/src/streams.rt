@@ -13,12 +13,12 @@ ghost use Rattle.strm_blocks.specs.Blocks.{StoreValue, free_m, free_d, empty_sto
 ghost use Rattle.strm_pair.specs.Streams.{IsBlank, IsSide, stream_in};
 ghost use Rattle.strm_pair.specs.PlainCalls.{wrote_plain, read_plain};
 
-use crate::enabled::Enabled;
 use crate::ends::End;
 use crate::passing::{goes_on, serve};
 use crate::reading::read;
 use crate::sending::send;
 use strm_blocks::Blocks;
+use strm_frame::Enabled;
 use strm_queue::{Flush, HEAD_HIGH, HEAD_LOW, OTHER_HIGH, OTHER_LOW, Queue};
 use strm_types::{
     Answer, Caller, Event, Openness, Place, QueueName, READ_MAX, ReadBytes, Side, Turn, chunk_count,

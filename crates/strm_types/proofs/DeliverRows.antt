@@ -1,8 +1,7 @@
 -- What the definitions of delivery, of modules and of rules compute, on small cases.
-use Rattle.std.proofs.Common.{ℕ, ◌≡◌, true, false, Bool, List, [], ◌∷◌, ◌++◌, map, refl}
-use Rattle.std.specs.Prelude.{Option, None, Some, take, ◌==◌, if◌then◌else◌}
-use Rattle.strm_types.specs.declared.kinds.MsgKind.TheVariants.{Data}
-use Rattle.strm_types.specs.declared.names.Side.TheVariants.{Master, Slave}
+use Rattle.std.proofs.Common.{ℕ, ◌≡◌, true, false, List, [], ◌∷◌, ◌++◌, map, refl}
+use Rattle.std.specs.Prelude.{None, Some, take, ◌==◌, if◌then◌else◌}
+use Rattle.strm_types.specs.declared.names.Side.TheVariants.{Slave}
 use Rattle.strm_types.specs.declared.names.Dir.TheVariants.{MasterToSlave, SlaveToMaster}
 use Rattle.strm_types.specs.declared.names.Way.TheVariants.{Up, Down}
 use Rattle.strm_types.specs.declared.names.Place.TheVariants as places
@@ -15,7 +14,7 @@ use Rattle.strm_types.specs.Message.{Message, data_message}
 use Rattle.strm_types.specs.Names.{place_of, same_module, direction_at}
 use Rattle.strm_types.specs.Rules.{number_of, no_fates, told_more}
 use Rattle.strm_types.specs.Deliver.{Parcel, Took, Acted, toward, carried, tallied}
-use Rattle.strm_types.specs.Modules.{stands, may_push, top_name, put_among}
+use Rattle.strm_types.specs.Modules.{may_push, top_name, put_among}
 
 pub rules-have-numbers : map number_of (rules.Read ∷ rules.Igncr ∷ rules.EraseKey ∷ rules.Erased ∷ rules.Killed ∷ rules.EofKey ∷ rules.SignalKey ∷ rules.FlowKey ∷ rules.LnextKey ∷ rules.ReprintKey ∷ rules.LineFull ∷ rules.LineOver ∷ rules.Flushed ∷ rules.RestDiscarded ∷ rules.ControlDropped ∷ rules.Doubled ∷ rules.ModulePopped ∷ rules.EndClosed ∷ rules.Replaced ∷ rules.Onocr ∷ rules.EchoFull ∷ []) ≡ 0 ∷ 1 ∷ 2 ∷ 3 ∷ 4 ∷ 5 ∷ 6 ∷ 7 ∷ 8 ∷ 9 ∷ 10 ∷ 11 ∷ 12 ∷ 13 ∷ 14 ∷ 15 ∷ 16 ∷ 17 ∷ 18 ∷ 19 ∷ 20 ∷ []
 rules-have-numbers = refl

@@ -9,7 +9,7 @@ use strm_types::QueueName;
 
 /// The enabled queues, in order of enabling, each once. Contracts see their names as a list.
 #[derive(Drop)]
-pub(crate) struct Enabled {
+pub struct Enabled {
     names: ArrayVec<QueueName, 12>,
 }
 

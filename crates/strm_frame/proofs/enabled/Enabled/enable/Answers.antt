@@ -2,7 +2,7 @@
 use Rattle.std.proofs.Common.{◌≡◌, false, lit<}
 use Rattle.strm_types.specs.Names.{is_enabled}
 use Rattle.strm_types.proofs.EnabledNames.{once-room, once-added}
-use Rattle.strm_pair.proofs.enabled.Enabled.enable.Goals as goal
+use Rattle.strm_frame.proofs.enabled.Enabled.enable.Goals as goal
 
 pub push-requires : goal.push-requires
 push-requires c =

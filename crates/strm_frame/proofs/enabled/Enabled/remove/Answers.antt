@@ -3,8 +3,8 @@ use Rattle.std.proofs.Common.{◌∙◌, arith, refl, ap}
 use Rattle.std.proofs.lemmas.List.{take_all}
 use Rattle.strm_types.specs.Names.{without}
 use Rattle.strm_types.proofs.EnabledNames.{once-without, without-kept, without-gone}
-use Rattle.strm_pair.proofs.enabled.Enabled.remove.Goals as goal
-use Rattle.strm_pair.proofs.enabled.Enabled.remove.Goals.{then-not-is_same, else-not-is_same}
+use Rattle.strm_frame.proofs.enabled.Enabled.remove.Goals as goal
+use Rattle.strm_frame.proofs.enabled.Enabled.remove.Goals.{then-not-is_same, else-not-is_same}
 
 pub loop-other-preserved : goal.loop-other-preserved
 loop-other-preserved c =
