@@ -30,12 +30,16 @@ pub fn deliver<B: Blocks, S: Stations<B>>(
     requires low { S.height to (message_in (B.value store.old) (B.name message)) < hops }
     requires room { HasRoom (B.value store.old) (S.cost to (message_in (B.value store.old) (B.name message))) }
     ensures state { let s = B.value store.old in
-        S.plain (B.value store.new) stations.new ≡ (carried S.puts hops (record { to = to; message = message_in s (B.name message) }) (S.plain s stations.old)).state }
+        S.plain (B.value store.new) stations.new ≡ (carried S.puts hops
+            (record { to = to; message = message_in s (B.name message) }) (S.plain s stations.old)).state }
     ensures told { let s = B.value store.old in
-        told.new ≡ tallied (carried S.puts hops (record { to = to; message = message_in s (B.name message) }) (S.plain s stations.old)).gone told.old }
+        told.new ≡ tallied (carried S.puts hops (record { to = to; message = message_in s (B.name message) })
+            (S.plain s stations.old)).gone told.old }
     ensures held { S.IsHeld (B.value store.new) stations.new }
-    ensures hands { Hands (B.value store.old) (B.value store.new) (B.name message) (S.keeps stations.old) (S.keeps stations.new) (λ _. 0) }
-    ensures spends { Spends (B.value store.old) (B.value store.new) (S.cost to (message_in (B.value store.old) (B.name message))) 0 }
+    ensures hands { Hands (B.value store.old) (B.value store.new) (B.name message) (S.keeps stations.old)
+        (S.keeps stations.new) (λ _. 0) }
+    ensures spends { Spends (B.value store.old) (B.value store.new) (S.cost to
+        (message_in (B.value store.old) (B.name message))) 0 }
     ensures pool { SamePool (B.value store.old) (B.value store.new) }
 {
     let mut sent = stations.put_at(store, to, message, told);

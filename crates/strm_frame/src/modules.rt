@@ -70,17 +70,23 @@ pub trait Module<B: Blocks>: Drop {
         ensures notes { let s = B.value store.old in
             result.notes.items ≡ (puts here (message_in s (B.name message)) (plain s self.old)).notes }
         ensures sent { let s = B.value store.old in
-            parcels_in B.name (B.value store.new) (sent_of result.sent) ≡ (puts here (message_in s (B.name message)) (plain s self.old)).sent }
+            parcels_in B.name (B.value store.new) (sent_of result.sent) ≡
+                (puts here (message_in s (B.name message)) (plain s self.old)).sent }
         ensures told { let s = B.value store.old in
             told.new ≡ tallied (puts here (message_in s (B.name message)) (plain s self.old)).gone told.old }
         ensures held { IsHeld (B.value store.new) self.new }
         ensures own { OnlyOwn (B.value store.old) (B.value store.new) (owns self.old) (owns self.new) }
         ensures chains { AreChains B.name (B.value store.new) (sent_of result.sent) }
-        ensures falls { AreLower height (height here (message_in (B.value store.old) (B.name message))) (parcels_in B.name (B.value store.new) (sent_of result.sent)) }
-        ensures hands { Hands (B.value store.old) (B.value store.new) (B.name message) (keeps self.old) (keeps self.new) (λ i. times_sent B.name i (sent_of result.sent)) }
-        ensures spends { Spends (B.value store.old) (B.value store.new) (cost here (message_in (B.value store.old) (B.name message))) (cost_of cost (parcels_in B.name (B.value store.new) (sent_of result.sent))) }
+        ensures falls { AreLower height (height here (message_in (B.value store.old) (B.name message)))
+            (parcels_in B.name (B.value store.new) (sent_of result.sent)) }
+        ensures hands { Hands (B.value store.old) (B.value store.new) (B.name message) (keeps self.old)
+            (keeps self.new) (λ i. times_sent B.name i (sent_of result.sent)) }
+        ensures spends { Spends (B.value store.old) (B.value store.new)
+            (cost here (message_in (B.value store.old) (B.name message)))
+            (cost_of cost (parcels_in B.name (B.value store.new) (sent_of result.sent))) }
         ensures pool { SamePool (B.value store.old) (B.value store.new) };
 
     /// It stands for the same, and fits, wherever its own lists are the same and what it keeps in hand is.
-    ghost frame: { (s t : StoreValue) (x : Self) → SameOwn s t (owns x) (keeps x) → IsHeld s x → (plain t x ≡ plain s x) × IsHeld t x };
+    ghost frame: { (s t : StoreValue) (x : Self) → SameOwn s t (owns x) (keeps x) → IsHeld s x →
+        (plain t x ≡ plain s x) × IsHeld t x };
 }

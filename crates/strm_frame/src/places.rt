@@ -45,16 +45,22 @@ pub trait Stations<B: Blocks> {
         ensures state { let s = B.value store.old in
             plain (B.value store.new) self.new ≡ (puts to (message_in s (B.name message)) (plain s self.old)).state }
         ensures sent { let s = B.value store.old in
-            parcels_in B.name (B.value store.new) (sent_of result) ≡ (puts to (message_in s (B.name message)) (plain s self.old)).sent }
+            parcels_in B.name (B.value store.new) (sent_of result) ≡ (puts to (message_in s (B.name message))
+                (plain s self.old)).sent }
         ensures told { let s = B.value store.old in
             told.new ≡ tallied (puts to (message_in s (B.name message)) (plain s self.old)).gone told.old }
         ensures held { IsHeld (B.value store.new) self.new }
         ensures chains { AreChains B.name (B.value store.new) (sent_of result) }
-        ensures falls { AreLower height (height to (message_in (B.value store.old) (B.name message))) (parcels_in B.name (B.value store.new) (sent_of result)) }
-        ensures hands { Hands (B.value store.old) (B.value store.new) (B.name message) (keeps self.old) (keeps self.new) (λ i. times_sent B.name i (sent_of result)) }
-        ensures spends { Spends (B.value store.old) (B.value store.new) (cost to (message_in (B.value store.old) (B.name message))) (cost_of cost (parcels_in B.name (B.value store.new) (sent_of result))) }
+        ensures falls { AreLower height (height to (message_in (B.value store.old) (B.name message)))
+            (parcels_in B.name (B.value store.new) (sent_of result)) }
+        ensures hands { Hands (B.value store.old) (B.value store.new) (B.name message) (keeps self.old)
+            (keeps self.new) (λ i. times_sent B.name i (sent_of result)) }
+        ensures spends { Spends (B.value store.old) (B.value store.new)
+            (cost to (message_in (B.value store.old) (B.name message)))
+            (cost_of cost (parcels_in B.name (B.value store.new) (sent_of result))) }
         ensures pool { SamePool (B.value store.old) (B.value store.new) };
 
     /// The stations stand for the same, and fit, wherever the lists are the same and what they keep in hand is.
-    ghost frame: { (s t : StoreValue) (x : Self) → SameFor s t (keeps x) → IsHeld s x → (plain t x ≡ plain s x) × IsHeld t x };
+    ghost frame: { (s t : StoreValue) (x : Self) → SameFor s t (keeps x) → IsHeld s x → (plain t x ≡ plain s x) ×
+        IsHeld t x };
 }

@@ -49,18 +49,26 @@ fn put_among<B: Blocks, M: Module<B>>(
     requires small { to.at ≤ MODULES }
     ensures length { length modules.new ≡ length modules.old }
     ensures state { let s = B.value store.old in
-        map (M.plain (B.value store.new)) modules.new ≡ (put_among M.puts at to (message_in s (B.name message)) (map (M.plain s) modules.old)).state }
+        map (M.plain (B.value store.new)) modules.new ≡ (put_among M.puts at to (message_in s (B.name message))
+            (map (M.plain s) modules.old)).state }
     ensures notes { let s = B.value store.old in
-        result.notes.items ≡ (put_among M.puts at to (message_in s (B.name message)) (map (M.plain s) modules.old)).notes }
+        result.notes.items ≡ (put_among M.puts at to (message_in s (B.name message))
+            (map (M.plain s) modules.old)).notes }
     ensures sent { let s = B.value store.old in
-        parcels_in B.name (B.value store.new) (sent_of result.sent) ≡ (put_among M.puts at to (message_in s (B.name message)) (map (M.plain s) modules.old)).sent }
+        parcels_in B.name (B.value store.new) (sent_of result.sent) ≡ (put_among M.puts at to
+            (message_in s (B.name message)) (map (M.plain s) modules.old)).sent }
     ensures told { let s = B.value store.old in
-        told.new ≡ tallied (put_among M.puts at to (message_in s (B.name message)) (map (M.plain s) modules.old)).gone told.old }
+        told.new ≡ tallied (put_among M.puts at to (message_in s (B.name message)) (map (M.plain s) modules.old)).gone
+            told.old }
     ensures held { AreHeld M.IsHeld M.owns (B.value store.new) modules.new }
     ensures chains { AreChains B.name (B.value store.new) (sent_of result.sent) }
-    ensures falls { AreLower M.height (M.height to (message_in (B.value store.old) (B.name message))) (parcels_in B.name (B.value store.new) (sent_of result.sent)) }
-    ensures hands { Hands (B.value store.old) (B.value store.new) (B.name message) (all_of M.keeps modules.old) (all_of M.keeps modules.new) (λ i. times_sent B.name i (sent_of result.sent)) }
-    ensures spends { Spends (B.value store.old) (B.value store.new) (M.cost to (message_in (B.value store.old) (B.name message))) (cost_of M.cost (parcels_in B.name (B.value store.new) (sent_of result.sent))) }
+    ensures falls { AreLower M.height (M.height to (message_in (B.value store.old) (B.name message)))
+        (parcels_in B.name (B.value store.new) (sent_of result.sent)) }
+    ensures hands { Hands (B.value store.old) (B.value store.new) (B.name message) (all_of M.keeps modules.old)
+        (all_of M.keeps modules.new) (λ i. times_sent B.name i (sent_of result.sent)) }
+    ensures spends { Spends (B.value store.old) (B.value store.new) (M.cost to
+        (message_in (B.value store.old) (B.name message))) (cost_of M.cost
+        (parcels_in B.name (B.value store.new) (sent_of result.sent))) }
     ensures pool { SamePool (B.value store.old) (B.value store.new) }
 {
     store.audit();
@@ -89,8 +97,10 @@ impl<M: Default + Drop> Stream<M> {
     pub fn push<B: Blocks>(&mut self, pushed: M) -> Result<(), M>
         where M: Module<B>
         ensures pushed { (s : StoreValue) → MatchResult result
-            (λ _. (may_push M.name_of (M.plain s pushed) (map (M.plain s) self.old.modules.items) ≡ true) × (self.new.modules.items ≡ pushed ∷ self.old.modules.items))
-            (λ back. (may_push M.name_of (M.plain s pushed) (map (M.plain s) self.old.modules.items) ≡ false) × ((back ≡ pushed) × (self.new ≡ self.old))) }
+            (λ _. (may_push M.name_of (M.plain s pushed) (map (M.plain s) self.old.modules.items) ≡ true) ×
+                (self.new.modules.items ≡ pushed ∷ self.old.modules.items))
+            (λ back. (may_push M.name_of (M.plain s pushed) (map (M.plain s) self.old.modules.items) ≡ false) ×
+                ((back ≡ pushed) × (self.new ≡ self.old))) }
     {
         if self.modules.len() >= MODULES || self.has(pushed.name()) {
             return Err(pushed);
@@ -128,18 +138,29 @@ impl<M: Default + Drop> Stream<M> {
         requires room { HasRoom (B.value store.old) (M.cost to (message_in (B.value store.old) (B.name message))) }
         ensures length { length self.new.modules.items ≡ length self.old.modules.items }
         ensures state { let s = B.value store.old in
-            map (M.plain (B.value store.new)) self.new.modules.items ≡ (put_among M.puts (to.at - 1) to (message_in s (B.name message)) (map (M.plain s) self.old.modules.items)).state }
+            map (M.plain (B.value store.new)) self.new.modules.items ≡
+                (put_among M.puts (to.at - 1) to (message_in s (B.name message))
+                (map (M.plain s) self.old.modules.items)).state }
         ensures notes { let s = B.value store.old in
-            result.notes.items ≡ (put_among M.puts (to.at - 1) to (message_in s (B.name message)) (map (M.plain s) self.old.modules.items)).notes }
+            result.notes.items ≡ (put_among M.puts (to.at - 1) to (message_in s (B.name message))
+                (map (M.plain s) self.old.modules.items)).notes }
         ensures sent { let s = B.value store.old in
-            parcels_in B.name (B.value store.new) (sent_of result.sent) ≡ (put_among M.puts (to.at - 1) to (message_in s (B.name message)) (map (M.plain s) self.old.modules.items)).sent }
+            parcels_in B.name (B.value store.new) (sent_of result.sent) ≡
+                (put_among M.puts (to.at - 1) to (message_in s (B.name message))
+                (map (M.plain s) self.old.modules.items)).sent }
         ensures told { let s = B.value store.old in
-            told.new ≡ tallied (put_among M.puts (to.at - 1) to (message_in s (B.name message)) (map (M.plain s) self.old.modules.items)).gone told.old }
+            told.new ≡ tallied (put_among M.puts (to.at - 1) to (message_in s (B.name message))
+                (map (M.plain s) self.old.modules.items)).gone told.old }
         ensures held { AreHeld M.IsHeld M.owns (B.value store.new) self.new.modules.items }
         ensures chains { AreChains B.name (B.value store.new) (sent_of result.sent) }
-        ensures falls { AreLower M.height (M.height to (message_in (B.value store.old) (B.name message))) (parcels_in B.name (B.value store.new) (sent_of result.sent)) }
-        ensures hands { Hands (B.value store.old) (B.value store.new) (B.name message) (all_of M.keeps self.old.modules.items) (all_of M.keeps self.new.modules.items) (λ i. times_sent B.name i (sent_of result.sent)) }
-        ensures spends { Spends (B.value store.old) (B.value store.new) (M.cost to (message_in (B.value store.old) (B.name message))) (cost_of M.cost (parcels_in B.name (B.value store.new) (sent_of result.sent))) }
+        ensures falls { AreLower M.height (M.height to (message_in (B.value store.old) (B.name message)))
+            (parcels_in B.name (B.value store.new) (sent_of result.sent)) }
+        ensures hands { Hands (B.value store.old) (B.value store.new) (B.name message)
+            (all_of M.keeps self.old.modules.items) (all_of M.keeps self.new.modules.items)
+            (λ i. times_sent B.name i (sent_of result.sent)) }
+        ensures spends { Spends (B.value store.old) (B.value store.new)
+            (M.cost to (message_in (B.value store.old) (B.name message)))
+            (cost_of M.cost (parcels_in B.name (B.value store.new) (sent_of result.sent))) }
         ensures pool { SamePool (B.value store.old) (B.value store.new) }
     {
         put_among(store, self.modules.as_mut_slice(), to.at - 1, to, message, told)
