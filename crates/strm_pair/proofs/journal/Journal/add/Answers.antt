@@ -1,5 +1,5 @@
 -- The entry's bytes are the last of the buffer.
-use Rattle.std.proofs.Common.{◌∙◌, ◌++◌, ◌∷◌, [], ap, append_assoc}
+use Rattle.std.proofs.Common.{◌≡◌, ◌∙◌, ◌++◌, ◌∷◌, [], ap, append_assoc}
 use Rattle.strm_types.specs.Journal.{entries_in}
 use Rattle.strm_types.proofs.JournalEntries.{entries_in-push}
 use Rattle.strm_pair.specs.Pairs.{journal_of}
@@ -9,7 +9,8 @@ pub returns-clause-added : goal.returns-clause-added
 unfolding journal_of
 returns-clause-added c =
     let j = c.args.self.now in
-    let bytes = c.append-2.ensures.items ∙ ap (λ b. b ++ c.args.content.now) c.append.ensures.items ∙ append_assoc j.bytes.items c.args.payload.now c.args.content.now in
+    let bytes : c.append-2.new.buffer.items ≡ j.bytes.items ++ (c.args.payload.now ++ c.args.content.now) =
+    c.append-2.ensures.items ∙ ap (λ b. b ++ c.args.content.now) c.append.ensures.items ∙ append_assoc j.bytes.items c.args.payload.now c.args.content.now in
     ap (λ es. entries_in es c.append-2.new.buffer.items) c.push_reserved.ensures.items
     ∙ ap (λ b. entries_in (j.entries.items ++ c.args.entry ∷ []) b) bytes
     ∙ entries_in-push j.entries.items c.args.entry j.bytes.items (c.args.payload.now ++ c.args.content.now) j.stored.lengths
