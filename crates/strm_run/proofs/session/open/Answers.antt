@@ -22,7 +22,7 @@ returns-clause-ok c =
     let some : 0 < blocks = omega arith in
     let most : blocks ≤ 4096 = omega arith in
     let sizes = c.limits-sizes.result in
-    let made = c.in-Ok.ensures ∙ ap (λ (s : StoreValue). new_pair (sizes_over s sizes.journal_events sizes.journal_bytes)) c.in_ok-store.ensures ∙ ap new_pair c.limits-sizes.ensures in
+    let made = c.in-Ok.ensures ∙ ap (λ (s : StoreValue). new_pair (sizes_over s sizes)) c.in_ok-store.ensures ∙ ap new_pair c.limits-sizes.ensures in
     leads_same _ (λ account. by_open blocks account) _ _ _
     (λ account. open_made blocks account some most
     ∙ ap (λ p. by_call (record { side = Master }) OpenMaster account (plain p)) (sym made))
