@@ -95,15 +95,15 @@ impl TableStore {
 }
 
 // Takes a data block, where a message block is spare for it.
-fn reserve(spare: &LinkedList<MessageBlock>, data: &mut DataBlocks) -> Result<usize, NoBlocks>
+fn reserve(spare: &LinkedList<MessageBlock>, pool: &mut DataBlocks) -> Result<usize, NoBlocks>
     ensures { MatchResult result
-        (λ d. Reserves (length spare.now) data.old data.new d)
-        (λ _. ReservesNone (length spare.now) data.old data.new) }
+        (λ d. Reserves (length spare.now) pool.old pool.new d)
+        (λ _. ReservesNone (length spare.now) pool.old pool.new) }
 {
     if spare.is_empty() {
         return Err(NoBlocks);
     }
-    match data.take() {
+    match pool.take() {
         Some(number) => Ok(number),
         None => Err(NoBlocks),
     }

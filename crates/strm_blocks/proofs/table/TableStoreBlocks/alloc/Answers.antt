@@ -37,6 +37,6 @@ returns c =
     let taken = c.in_ok-number.ensures.taken in
     let some = c.in_ok-number.ensures.some in
     let bytes = ap (λ (p : Pool). p.bytes) taken.after in
-    let count : length c.reserve.new.data.references ≡ length t.data.references = ap (λ (p : Pool). length p.references) taken.after ∙ length-set t.data.references c.in_ok-number.number 1 in
+    let count : length c.reserve.new.pool.references ≡ length t.data.references = ap (λ (p : Pool). length p.references) taken.after ∙ length-set t.data.references c.in_ok-number.number 1 in
     let new = value-same t.data.bytes t.lists _ t.mblks _ bytes refl c.hold_block.ensures.hand count in
     subst (λ (s : StoreValue). Allocated c.args.self.now s c.hold_block.result c.args.kind) (sym new) (rw (← c.self.view_is, c.hold_block.ensures.name) (Allocated-value t.data.bytes c.self.invariant c.args.kind c.in_ok-number.number some taken.some taken.within taken.was_free))

@@ -100,7 +100,7 @@ returns c =
     let sized : length (get_or t.data.bytes row.number []) ≡ 256 = ap (λ (bytes : List (List ℕ)). length (get_or bytes row.number [])) (sym bytes) ∙ c.audit.ensures.sized row.number (omega arith) in
     let source = ap (λ (bytes : List (List ℕ)). slice_range (get_or bytes row.number []) row.start row.end) bytes in
     let len = length-range (get_or t.data.bytes row.number []) row.start row.end (omega arith) (omega arith) in
-    let long : row.end - row.start ≡ 0 + length (slice_range (get_or c.reserve.new.data.bytes row.number []) row.start row.end) = let l = ap (λ (xs : List ℕ). length xs) source in omega arith in
+    let long : row.end - row.start ≡ 0 + length (slice_range (get_or c.reserve.new.pool.bytes row.number []) row.start row.end) = let l = ap (λ (xs : List ℕ). length xs) source in omega arith in
     let front = ap (λ (n : ℕ). slice_range content 0 n) long ∙ c.copy.ensures.shown 0 (omega arith) ∙ source in
     let all = ap (λ (bytes : List (List ℕ)). length bytes) bytes in
     let there : number < length t.data.bytes = omega (arith, c.audit.ensures.same_count, taken.within) in
