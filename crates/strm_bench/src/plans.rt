@@ -4,7 +4,7 @@ ghost use Rattle.std.specs.Prelude.{◌≤◌, ◌<◌};
 
 /// A plan: so many pairs one after the other, on each so many rounds of a write of `size` bytes, a turn and a read,
 /// while `standing` messages of one byte stand on the slave's head.
-#[derive(Clone, Copy, Debug)]
+#[derive(Clone, Copy)]
 pub struct Plan {
     pub pairs: u32,
     pub rounds: u32,
@@ -38,7 +38,10 @@ fn six_numbers(line: &str) -> Option<[u32; 6]> {
     let mut numbers = [0u32; 6];
     let mut words = line.split_whitespace();
     for place in 0..6usize {
-        numbers[place] = words.next()?.parse::<u32>().ok()?;
+        let Ok(number) = words.next()?.parse::<u32>() else {
+            return None;
+        };
+        numbers[place] = number;
     }
     Some(numbers)
 }

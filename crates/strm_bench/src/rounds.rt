@@ -21,52 +21,66 @@ fn new_pair(alloc: Global, plan: &Plan) -> Option<Pair<TableStore>> {
         journal_events: plan.entries as usize,
         journal_bytes: (plan.entries as usize) * 4096,
     };
-    let store = TableStore::new(alloc, blocks, blocks).ok()?;
-    Pair::new(alloc, sizes, store).ok()
+    let Ok(store) = TableStore::new(alloc, blocks, blocks) else {
+        return None;
+    };
+    match Pair::new(alloc, sizes, store) {
+        Ok(pair) => Some(pair),
+        Err(_) => None,
+    }
 }
 
-// A call; nothing where it is refused.
+// Makes a call; whether it was granted.
 fn calls(
     pair: &mut Pair<TableStore>,
     caller: Caller,
     event: &Event<&[u8]>,
     out: &mut ReadBytes,
-) -> Option<()> {
-    pair.call(caller, event, out).ok()?;
-    Some(())
+) -> bool {
+    pair.call(caller, event, out).is_ok()
 }
 
-// Opens both sides of a new pair.
-fn opens(pair: &mut Pair<TableStore>, out: &mut ReadBytes) -> Option<()> {
-    calls(pair, MASTER, &Event::OpenMaster, out)?;
-    calls(pair, MASTER, &Event::Unlock, out)?;
-    calls(pair, SLAVE, &Event::OpenSlave, out)
+// Opens both sides of a new pair; whether that went well.
+fn opens(pair: &mut Pair<TableStore>, out: &mut ReadBytes) -> bool {
+    calls(pair, MASTER, &Event::OpenMaster, out)
+        && calls(pair, MASTER, &Event::Unlock, out)
+        && calls(pair, SLAVE, &Event::OpenSlave, out)
 }
 
-// A write on the master, and the turns that carry it to the slave's head.
-fn sends(pair: &mut Pair<TableStore>, bytes: &[u8], out: &mut ReadBytes) -> Option<()> {
-    calls(pair, MASTER, &Event::Write { bytes }, out)?;
+// A write on the master, and the turns that carry it to the slave's head; whether all went well.
+fn sends(pair: &mut Pair<TableStore>, bytes: &[u8], out: &mut ReadBytes) -> bool {
+    if !calls(pair, MASTER, &Event::Write { bytes }, out) {
+        return false;
+    }
     for _ in 0..16 {
         let Some(queue) = pair.first_enabled() else {
             break;
         };
-        let _ = pair.turn(queue).ok()?;
+        if pair.turn(queue).is_err() {
+            return false;
+        }
     }
-    Some(())
+    true
 }
 
 // The rounds on a pair: how many bytes were read.
 fn rounds(pair: &mut Pair<TableStore>, plan: &Plan) -> Option<u64> {
     let mut out = ReadBytes::new();
-    opens(pair, &mut out)?;
+    if !opens(pair, &mut out) {
+        return None;
+    }
     for _ in 0..plan.standing {
-        sends(pair, &BYTES[..1], &mut out)?;
+        if !sends(pair, &BYTES[..1], &mut out) {
+            return None;
+        }
     }
     let mut read = 0u64;
+    let bytes = &BYTES[..plan.size as usize];
     let event = Event::Read { n: plan.size };
     for _ in 0..plan.rounds {
-        sends(pair, &BYTES[..plan.size as usize], &mut out)?;
-        calls(pair, SLAVE, &event, &mut out)?;
+        if !sends(pair, bytes, &mut out) || !calls(pair, SLAVE, &event, &mut out) {
+            return None;
+        }
         read = read.saturating_add(out.len() as u64);
     }
     Some(read)
