@@ -31,10 +31,10 @@ pub fn deliver<B: Blocks, S: Stations<B>>(
     requires room { HasRoom (B.value store.old) (S.cost to (message_in (B.value store.old) (B.name message))) }
     ensures state { let s = B.value store.old in
         S.plain (B.value store.new) stations.new ≡ (carried S.puts hops
-            (record { to = to; message = message_in s (B.name message) }) (S.plain s stations.old)).state }
+        (record { to = to; message = message_in s (B.name message) }) (S.plain s stations.old)).state }
     ensures told { let s = B.value store.old in
         told.new ≡ tallied (carried S.puts hops (record { to = to; message = message_in s (B.name message) })
-            (S.plain s stations.old)).gone told.old }
+        (S.plain s stations.old)).gone told.old }
     ensures held { S.IsHeld (B.value store.new) stations.new }
     ensures hands { Hands (B.value store.old) (B.value store.new) (B.name message) (S.keeps stations.old)
         (S.keeps stations.new) (λ _. 0) }

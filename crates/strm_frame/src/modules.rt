@@ -71,7 +71,7 @@ pub trait Module<B: Blocks>: Drop {
             result.notes.items ≡ (puts here (message_in s (B.name message)) (plain s self.old)).notes }
         ensures sent { let s = B.value store.old in
             parcels_in B.name (B.value store.new) (sent_of result.sent) ≡
-                (puts here (message_in s (B.name message)) (plain s self.old)).sent }
+            (puts here (message_in s (B.name message)) (plain s self.old)).sent }
         ensures told { let s = B.value store.old in
             told.new ≡ tallied (puts here (message_in s (B.name message)) (plain s self.old)).gone told.old }
         ensures held { IsHeld (B.value store.new) self.new }

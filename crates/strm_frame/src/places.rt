@@ -46,7 +46,7 @@ pub trait Stations<B: Blocks> {
             plain (B.value store.new) self.new ≡ (puts to (message_in s (B.name message)) (plain s self.old)).state }
         ensures sent { let s = B.value store.old in
             parcels_in B.name (B.value store.new) (sent_of result) ≡ (puts to (message_in s (B.name message))
-                (plain s self.old)).sent }
+            (plain s self.old)).sent }
         ensures told { let s = B.value store.old in
             told.new ≡ tallied (puts to (message_in s (B.name message)) (plain s self.old)).gone told.old }
         ensures held { IsHeld (B.value store.new) self.new }

@@ -50,16 +50,16 @@ fn put_among<B: Blocks, M: Module<B>>(
     ensures length { length modules.new ≡ length modules.old }
     ensures state { let s = B.value store.old in
         map (M.plain (B.value store.new)) modules.new ≡ (put_among M.puts at to (message_in s (B.name message))
-            (map (M.plain s) modules.old)).state }
+        (map (M.plain s) modules.old)).state }
     ensures notes { let s = B.value store.old in
         result.notes.items ≡ (put_among M.puts at to (message_in s (B.name message))
-            (map (M.plain s) modules.old)).notes }
+        (map (M.plain s) modules.old)).notes }
     ensures sent { let s = B.value store.old in
         parcels_in B.name (B.value store.new) (sent_of result.sent) ≡ (put_among M.puts at to
-            (message_in s (B.name message)) (map (M.plain s) modules.old)).sent }
+        (message_in s (B.name message)) (map (M.plain s) modules.old)).sent }
     ensures told { let s = B.value store.old in
         told.new ≡ tallied (put_among M.puts at to (message_in s (B.name message)) (map (M.plain s) modules.old)).gone
-            told.old }
+        told.old }
     ensures held { AreHeld M.IsHeld M.owns (B.value store.new) modules.new }
     ensures chains { AreChains B.name (B.value store.new) (sent_of result.sent) }
     ensures falls { AreLower M.height (M.height to (message_in (B.value store.old) (B.name message)))
@@ -87,7 +87,8 @@ impl<M: Default + Drop> Stream<M> {
 
     /// Whether a module of a name stands on the stream: `I_FIND` of streamio(7I).
     pub fn has<B: Blocks>(&self, name: ModuleName) -> bool
-        where M: Module<B>
+    where
+        M: Module<B>,
         ensures { (s : StoreValue) → result ≡ stands M.name_of name (map (M.plain s) self.now.modules.items) }
     {
         stands(self.modules.as_slice(), name)
@@ -95,12 +96,13 @@ impl<M: Default + Drop> Stream<M> {
 
     /// Pushes a module on top: `I_PUSH` of streamio(7I). It comes back where three stand, or one of its name.
     pub fn push<B: Blocks>(&mut self, pushed: M) -> Result<(), M>
-        where M: Module<B>
+    where
+        M: Module<B>,
         ensures pushed { (s : StoreValue) → MatchResult result
             (λ _. (may_push M.name_of (M.plain s pushed) (map (M.plain s) self.old.modules.items) ≡ true) ×
-                (self.new.modules.items ≡ pushed ∷ self.old.modules.items))
+            (self.new.modules.items ≡ pushed ∷ self.old.modules.items))
             (λ back. (may_push M.name_of (M.plain s pushed) (map (M.plain s) self.old.modules.items) ≡ false) ×
-                ((back ≡ pushed) × (self.new ≡ self.old))) }
+            ((back ≡ pushed) × (self.new ≡ self.old))) }
     {
         if self.modules.len() >= MODULES || self.has(pushed.name()) {
             return Err(pushed);
@@ -120,7 +122,8 @@ impl<M: Default + Drop> Stream<M> {
 
     /// The name of the module on top, if there is one: `I_LOOK` of streamio(7I).
     pub fn look<B: Blocks>(&self) -> Option<ModuleName>
-        where M: Module<B>
+    where
+        M: Module<B>,
         ensures { (s : StoreValue) → result ≡ top_name M.name_of (map (M.plain s) self.now.modules.items) }
     {
         let top = self.modules.as_slice().first()?;
@@ -128,8 +131,15 @@ impl<M: Default + Drop> Stream<M> {
     }
 
     /// Puts a message at a module, whose place counts from 1 for the one on top. The cost is that of its put.
-    pub fn put<B: Blocks>(&mut self, store: &mut B, to: Spot, message: B::Mp, told: &mut Fates) -> Acts<B::Mp>
-        where M: Module<B>
+    pub fn put<B: Blocks>(
+        &mut self,
+        store: &mut B,
+        to: Spot,
+        message: B::Mp,
+        told: &mut Fates,
+    ) -> Acts<B::Mp>
+    where
+        M: Module<B>,
         requires inside { 0 < to.at }
         requires within { to.at ≤ length self.old.modules.items }
         requires held { AreHeld M.IsHeld M.owns (B.value store.old) self.old.modules.items }
@@ -139,18 +149,18 @@ impl<M: Default + Drop> Stream<M> {
         ensures length { length self.new.modules.items ≡ length self.old.modules.items }
         ensures state { let s = B.value store.old in
             map (M.plain (B.value store.new)) self.new.modules.items ≡
-                (put_among M.puts (to.at - 1) to (message_in s (B.name message))
-                (map (M.plain s) self.old.modules.items)).state }
+            (put_among M.puts (to.at - 1) to (message_in s (B.name message))
+            (map (M.plain s) self.old.modules.items)).state }
         ensures notes { let s = B.value store.old in
             result.notes.items ≡ (put_among M.puts (to.at - 1) to (message_in s (B.name message))
-                (map (M.plain s) self.old.modules.items)).notes }
+            (map (M.plain s) self.old.modules.items)).notes }
         ensures sent { let s = B.value store.old in
             parcels_in B.name (B.value store.new) (sent_of result.sent) ≡
-                (put_among M.puts (to.at - 1) to (message_in s (B.name message))
-                (map (M.plain s) self.old.modules.items)).sent }
+            (put_among M.puts (to.at - 1) to (message_in s (B.name message))
+            (map (M.plain s) self.old.modules.items)).sent }
         ensures told { let s = B.value store.old in
             told.new ≡ tallied (put_among M.puts (to.at - 1) to (message_in s (B.name message))
-                (map (M.plain s) self.old.modules.items)).gone told.old }
+            (map (M.plain s) self.old.modules.items)).gone told.old }
         ensures held { AreHeld M.IsHeld M.owns (B.value store.new) self.new.modules.items }
         ensures chains { AreChains B.name (B.value store.new) (sent_of result.sent) }
         ensures falls { AreLower M.height (M.height to (message_in (B.value store.old) (B.name message)))
@@ -163,6 +173,13 @@ impl<M: Default + Drop> Stream<M> {
             (cost_of M.cost (parcels_in B.name (B.value store.new) (sent_of result.sent))) }
         ensures pool { SamePool (B.value store.old) (B.value store.new) }
     {
-        put_among(store, self.modules.as_mut_slice(), to.at - 1, to, message, told)
+        put_among(
+            store,
+            self.modules.as_mut_slice(),
+            to.at - 1,
+            to,
+            message,
+            told,
+        )
     }
 }

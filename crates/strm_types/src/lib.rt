@@ -19,8 +19,8 @@ pub use entries::Entry;
 pub use events::{Caller, Event};
 pub use kinds::{Band, MsgKind};
 pub use limits::{
-    BANDS, BLOCK_SIZE, Config, HIGH_PRIORITY_RANK, LISTS, MODULES, READ_MAX, TURN_BLOCKS, WRITE_BLOCKS,
-    chunk_count,
+    BANDS, BLOCK_SIZE, Config, HIGH_PRIORITY_RANK, LISTS, MODULES, READ_MAX, TURN_BLOCKS,
+    WRITE_BLOCKS, chunk_count,
 };
 pub use names::{Dir, ModuleName, Openness, Place, QueueName, Side, Way, line};
 pub use refusals::{NoMemory, Refusal};

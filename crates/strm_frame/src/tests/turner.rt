@@ -66,13 +66,7 @@ impl<B: Blocks> Module<B> for Turner {
         self.name
     }
 
-    fn put(
-        &mut self,
-        store: &mut B,
-        here: Spot,
-        message: B::Mp,
-        _told: &mut Fates,
-    ) -> Acts<B::Mp> {
+    fn put(&mut self, store: &mut B, here: Spot, message: B::Mp, _told: &mut Fates) -> Acts<B::Mp> {
         store.audit();
         let kind = store.kind(&message, 0);
         Acts {
