@@ -1,4 +1,5 @@
 pub mod Stored
+pub mod Choices
 pub mod Reads
 pub mod Streams
 pub mod Journals

@@ -21,7 +21,7 @@ sizes_over s sizes = record sizes { mblks = s.mblks; dblks = s.dblks }
 -- the pair that the store, the streams and the journal stand for
 abbrev pub pair_of : StoreValue → Streams → Journal → Config → PairState
 pair_of s streams journal limits = record {
-  state = state_in s streams (led_to journal);
+  state = state_in s streams;
   base = opening;
   journal = journal_of journal;
   limits = limits;
@@ -32,7 +32,7 @@ pair_of s streams journal limits = record {
 -- numbers that are kept beside the blocks are those of the blocks, and nothing is in hand; and the sizes are those that
 -- the pair was made with.
 pub record IsKept (s : StoreValue) (streams : Streams) (journal : Journal) (limits : Config) : Type 0 where
-  pub replayed : state_in s streams (led_to journal) ≡ led_to journal
+  pub replayed : state_in s streams ≡ led_to journal
   pub legal : IsLegal plain opening (journal_of journal)
   pub held : AreHeld s streams
   pub mblks : s.mblks ≡ limits.mblks

@@ -11,20 +11,17 @@ use Rattle.strm_pair.specs.declared.ends.End.{End}
 use Rattle.strm_pair.specs.declared.journal.Journal.{Journal}
 use Rattle.strm_pair.specs.Streams.{stream_in, AreSides}
 
--- The plain state. What no part of the code keeps yet, the number of the next ioctl and the books, is that of a state
--- beside it.
-abbrev pub state_in : StoreValue → Streams → State ℕ → State ℕ
-state_in s p beside = record beside {
+-- the plain state
+abbrev pub state_in : StoreValue → Streams → State ℕ
+state_in s p = record {
   master = stream_in s p.master;
   slave = stream_in s p.slave;
   locked = p.locked;
   enabled = p.enabled;
+  next_ioctl = p.next_ioctl;
+  from_master = p.from_master;
+  from_slave = p.from_slave;
 }
-
--- What the store and the streams stand for changed as a change of plain states says, whatever stands beside.
-abbrev pub LeadsTo : StoreValue → StoreValue → Streams → Streams → (State ℕ → State ℕ) → Type 0
-LeadsTo old new p q change =
-    (beside : State ℕ) → state_in new q (change (state_in old p beside)) ≡ change (state_in old p beside)
 
 -- the stream of a side
 abbrev pub end_at : Side → Streams → End

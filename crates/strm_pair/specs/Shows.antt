@@ -1,5 +1,6 @@
 -- What a pair shows of its queues.
-use Rattle.std.specs.Prelude.{ℕ, ◌≡◌, Bool, false, []}
+use Rattle.std.specs.Prelude.{ℕ, ◌≡◌, Bool, false, List, []}
+use Rattle.strm_types.specs.Message.{Message}
 use Rattle.strm_types.specs.declared.names.Place.{Place}
 use Rattle.strm_types.specs.declared.names.Place.TheVariants.{Head, Driver}
 use Rattle.strm_types.specs.declared.names.Way.{Way}
@@ -18,6 +19,12 @@ pub record Shows (s : StoreValue) (state : State ℕ) : Type 0 where
   pub master_driver : messages_on s 1 ≡ state.master.driver.queue.messages
   pub slave_head : messages_on s 4 ≡ state.slave.head.queue.messages
   pub slave_driver : messages_on s 5 ≡ state.slave.driver.queue.messages
+
+-- the messages of a stream's queue: the head's read queue or the driver's write queue, as no other exists
+abbrev pub messages_in : Place → Way → Stream ℕ → List (Message ℕ)
+messages_in Head Up t = t.head.queue.messages
+messages_in Driver Down t = t.driver.queue.messages
+messages_in _ _ t = []
 
 -- how many bytes count in a band of a stream's queue: the head's read queue or the driver's write queue, as no other
 -- exists
@@ -39,3 +46,7 @@ count_at name band s = count_in name.place name.way band (stream name.side s)
 -- whether a band of a queue is full: none of one that doesn't exist is
 abbrev pub full_at : QueueName → ℕ → State ℕ → Bool
 full_at name band s = full_in name.place name.way band (stream name.side s)
+
+-- the messages of a queue: none of one that doesn't exist
+abbrev pub messages_at : QueueName → State ℕ → List (Message ℕ)
+messages_at name s = messages_in name.place name.way (stream name.side s)

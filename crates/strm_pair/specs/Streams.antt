@@ -10,7 +10,7 @@ use Rattle.strm_pair.specs.Stored.{queue_in, messages_on, IsReady, IsDataQueue, 
 abbrev pub stream_in : StoreValue → End → Stream ℕ
 stream_in s e = record {
   opened = e.opened;
-  head = record { queue = queue_in s e.head };
+  head = record { queue = queue_in s e.head; hung_up = e.hung_up };
   driver = record { queue = queue_in s e.driver };
 }
 

@@ -22,6 +22,34 @@ pub(crate) fn count<B: Blocks>(store: &B, queue: &Queue, band: Band) -> usize
     queue.count(band)
 }
 
+// Counts messages.
+struct Counted {
+    messages: usize,
+}
+
+impl Visitor for Counted {
+    ghost after = { λ v peek. counted_one_more v };
+
+    ghost goes_on = { λ v. true };
+
+    fn see(&mut self, _message: Peek) -> bool {
+        self.messages = self.messages.saturating_add(1);
+        true
+    }
+}
+
+/// How many messages stand on a queue, and how many bytes they have. The cost is a step for each block of them.
+pub(crate) fn sizes<B: Blocks>(store: &B, queue: &Queue) -> (usize, usize)
+    requires ready { IsReady (B.value store.now) queue.now }
+    ensures messages { result.0 ≡ length (messages_on (B.value store.now) queue.now.list) }
+    ensures bytes { result.1 ≡ bytes_of (messages_on (B.value store.now) queue.now.list) }
+{
+    store.audit();
+    let mut counted = Counted { messages: 0 };
+    store.visit(queue.list, &mut counted);
+    (counted.messages, queue.total())
+}
+
 /// Whether a band of a queue is full: its count is at or above its high-water mark.
 pub(crate) fn is_full<B: Blocks>(store: &B, queue: &Queue, band: Band) -> bool
     requires ready { IsReady (B.value store.now) queue.now }

@@ -2,6 +2,8 @@
 //! time, each is refused by name or carried out whole, and the journal tells all that were carried out.
 #![tactic(auto)]
 
+mod closing;
+mod emptying;
 mod ends;
 mod flows;
 mod journal;

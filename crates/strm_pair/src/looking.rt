@@ -1,10 +1,11 @@
 //! What the queues of both streams count, as those ask who hold the pair.
 
-ghost use Rattle.std.specs.Prelude.{ℕ, ◌≡◌, ◌<◌};
+ghost use Rattle.std.specs.Prelude.{ℕ, ◌≡◌, ◌<◌, length};
+ghost use Rattle.strm_types.specs.Queue.{bytes_of};
 ghost use Rattle.strm_types.specs.State.{State};
-ghost use Rattle.strm_pair.specs.Shows.{count_at, full_at};
+ghost use Rattle.strm_pair.specs.Shows.{count_at, full_at, messages_at};
 
-use crate::flows::{count, is_full};
+use crate::flows::{count, is_full, sizes};
 use crate::streams::Streams;
 use strm_blocks::Blocks;
 use strm_types::{BANDS, Band, Place, QueueName, Way};
@@ -16,7 +17,7 @@ impl Streams {
     pub fn count<B: Blocks>(&self, store: &B, queue: QueueName, band: Band) -> usize
         requires held { AreHeld (B.value store.now) self.now }
         requires band { band.0 < BANDS }
-        ensures { (t : State ℕ) → result ≡ count_at queue band.0 (state_in (B.value store.now) self.now t) }
+        ensures { result ≡ count_at queue band.0 (state_in (B.value store.now) self.now) }
     {
         let end = self.end(queue.side);
         match queue.place {
@@ -32,11 +33,31 @@ impl Streams {
         }
     }
 
+    /// How many messages stand on a queue, and how many bytes they have.
+    pub fn sizes<B: Blocks>(&self, store: &B, queue: QueueName) -> (usize, usize)
+        requires { AreHeld (B.value store.now) self.now }
+        ensures messages { result.0 ≡ length (messages_at queue (state_in (B.value store.now) self.now)) }
+        ensures bytes { result.1 ≡ bytes_of (messages_at queue (state_in (B.value store.now) self.now)) }
+    {
+        let end = self.end(queue.side);
+        match queue.place {
+            Place::Head => match queue.way {
+                Way::Up => sizes(store, &end.head),
+                Way::Down => (0, 0),
+            },
+            Place::Driver => match queue.way {
+                Way::Up => (0, 0),
+                Way::Down => sizes(store, &end.driver),
+            },
+            Place::Ldterm => (0, 0),
+        }
+    }
+
     /// Whether a band of a queue is full.
     pub fn is_full<B: Blocks>(&self, store: &B, queue: QueueName, band: Band) -> bool
         requires held { AreHeld (B.value store.now) self.now }
         requires band { band.0 < BANDS }
-        ensures { (t : State ℕ) → result ≡ full_at queue band.0 (state_in (B.value store.now) self.now t) }
+        ensures { result ≡ full_at queue band.0 (state_in (B.value store.now) self.now) }
     {
         let end = self.end(queue.side);
         match queue.place {

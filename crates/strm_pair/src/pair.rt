@@ -8,8 +8,9 @@ ghost use Rattle.strm_types.specs.Pair.{new_pair, call_refused, queue_refused, A
 ghost use Rattle.strm_types.specs.Journal.{entries_in, reply_in, answer_len};
 ghost use Rattle.strm_types.specs.Refused.{enough, has_room};
 ghost use Rattle.strm_types.specs.Step.{replay, IsLegal};
+ghost use Rattle.strm_types.specs.Queue.{bytes_of};
 ghost use Rattle.strm_types.specs.State.{AreOrdered, messages_in};
-ghost use Rattle.strm_pair.specs.Shows.{Shows, count_at, full_at};
+ghost use Rattle.strm_pair.specs.Shows.{Shows, count_at, full_at, messages_at};
 ghost use Rattle.strm_pair.specs.Pool.{IsPoolOf};
 ghost use Rattle.strm_pair.specs.PairViews.{sizes_over};
 
@@ -131,6 +132,15 @@ impl<B: Blocks + Drop> Pair<B> {
         self.streams.count(&self.store, queue, band)
     }
 
+    /// How many messages stand on a queue, and how many bytes they have, all of them: (0, 0) for a queue that doesn't
+    /// exist. The cost is a step for each block of the messages.
+    pub fn sizes(&self, queue: QueueName) -> (usize, usize)
+        ensures messages { result.0 ≡ length (messages_at queue self.now.state) }
+        ensures bytes { result.1 ≡ bytes_of (messages_at queue self.now.state) }
+    {
+        self.streams.sizes(&self.store, queue)
+    }
+
     /// Whether a band, from 0 to 7, of a queue is full: its count is at or above its high-water mark. A queue that
     /// doesn't exist isn't full.
     pub fn is_full(&self, queue: QueueName, band: Band) -> bool
@@ -178,6 +188,9 @@ impl<B: Blocks + Drop> Pair<B> {
         if !self.streams.enabled.contains(name) {
             return Some(Refusal::Einval);
         }
+        if let Some(refusal) = self.streams.beyond() {
+            return Some(refusal);
+        }
         if !self.has_room(0) {
             return Some(Refusal::JournalFull);
         }
@@ -203,6 +216,7 @@ impl<B: Blocks + Drop> Pair<B> {
         match self.call(caller, event, &mut out) {
             Err(refusal) => Err(refusal),
             Ok(Answer::Done) => Ok(Answer::Done),
+            Ok(Answer::Name(name)) => Ok(Answer::Name(name)),
             Ok(Answer::Count(n)) => Ok(Answer::Count(n)),
             Ok(Answer::Bytes(_)) => Ok(Answer::Bytes(out)),
         }

@@ -3,8 +3,8 @@
 ghost use Rattle.std.specs.Prelude.{ℕ, ◌≡◌, ◌+◌, ◌≤◌, ◌<◌, ◌^◌};
 ghost use Rattle.strm_types.specs.Calls.{request};
 ghost use Rattle.strm_types.specs.Journal.{content_max};
-ghost use Rattle.strm_types.specs.Refused.{refused_at_once, refused_by_state, blocks_asked, unless, or_else};
-ghost use Rattle.strm_types.specs.declared.refusals.Refusal.TheVariants.{Enxio};
+ghost use Rattle.strm_types.specs.Refused.{refused_at_once, refused_by_state, blocks_asked, unless, or_else, in_range, goes_down, at_end, is_known, is_a_band};
+ghost use Rattle.strm_types.specs.declared.refusals.Refusal.TheVariants.{Enxio, Erange};
 ghost use Rattle.strm_types.specs.Names.{is_open};
 ghost use Rattle.strm_types.specs.State.{State, stream};
 
@@ -13,7 +13,7 @@ use crate::flows::is_full;
 use crate::streams::Streams;
 use strm_blocks::Blocks;
 use strm_types::{
-    Band, Caller, Event, Openness, READ_MAX, Refusal, Side, WRITE_BLOCKS, chunk_count,
+    BANDS, Band, CHANGE_BLOCKS, CLOSE_BLOCKS, Caller, Event, ModuleName, Openness, READ_MAX, Refusal, Side, WRITE_BLOCKS, chunk_count,
 };
 
 // A refusal unless a condition holds.
@@ -33,12 +33,33 @@ fn or_else(first: Option<Refusal>, second: Option<Refusal>) -> Option<Refusal>
     }
 }
 
+// Whether a module of this name may be pushed: none is known yet.
+fn is_known(name: Option<ModuleName>) -> bool
+    ensures { result ≡ is_known name }
+{
+    match name {
+        Some(ModuleName::Ldterm | ModuleName::Ptem | ModuleName::Pckt) | None => false,
+    }
+}
+
+// Whether a band, where one is named, is one of those that queues have.
+fn is_a_band(band: Option<Band>) -> bool
+    ensures { result ≡ is_a_band band }
+{
+    match band {
+        Some(band) => usize::from(band.0) < BANDS,
+        None => true,
+    }
+}
+
 /// How many blocks of each kind have to be free for a call.
 pub(crate) fn blocks_asked(event: &Event<&[u8]>) -> usize
     ensures { result ≡ blocks_asked (request event.now) }
 {
     match event {
         Event::Write { bytes } => WRITE_BLOCKS + chunk_count(bytes.len()),
+        Event::Push { .. } | Event::Pop | Event::Flush { .. } => CHANGE_BLOCKS,
+        Event::Shut => CLOSE_BLOCKS,
         _ => 0,
     }
 }
@@ -62,7 +83,7 @@ impl Streams {
     /// The stream of a side.
     pub(crate) fn end(&self, side: Side) -> &End
         ensures end { result.now ≡ end_at side self.now }
-        ensures stream { (s : StoreValue) (t : State ℕ) → stream_in s result.now ≡ stream side (state_in s self.now t) }
+        ensures stream { (s : StoreValue) → stream_in s result.now ≡ stream side (state_in s self.now) }
     {
         match side {
             Side::Master => &self.master,
@@ -72,16 +93,48 @@ impl Streams {
 
     // ENXIO where a side isn't open.
     fn unopened(&self, side: Side) -> Option<Refusal>
-        ensures { (s : StoreValue) (t : State ℕ) →
-            result ≡ unless (is_open (stream side (state_in s self.now t)).opened) Enxio }
+        ensures { (s : StoreValue) →
+            result ≡ unless (is_open (stream side (state_in s self.now)).opened) Enxio }
     {
         unless(self.end(side).opened.is_open(), Refusal::Enxio)
     }
 
+    // ENXIO where a side isn't open, or its other end is gone.
+    fn unreached(&self, side: Side) -> Option<Refusal>
+        ensures { (s : StoreValue) → result ≡ unless (goes_down side (state_in s self.now)) Enxio }
+    {
+        let end = self.end(side);
+        unless(end.opened.is_open() && !end.hung_up, Refusal::Enxio)
+    }
+
+    /// ERANGE where the books of a direction are full.
+    pub(crate) fn beyond(&self) -> Option<Refusal>
+        ensures { (s : StoreValue) → result ≡ unless (in_range (state_in s self.now)) Erange }
+    {
+        unless(
+            self.from_master.has_room() && self.from_slave.has_room(),
+            Refusal::Erange,
+        )
+    }
+
+    // Whether a side's head is at the end of its input, where it is empty.
+    fn is_at_end<B: Blocks>(&self, store: &B, side: Side) -> bool
+        requires { AreHeld (B.value store.now) self.now }
+        ensures { result ≡ at_end side (state_in (B.value store.now) self.now) }
+    {
+        match side {
+            Side::Slave => self.slave.hung_up,
+            Side::Master => {
+                self.master.hung_up
+                    || (self.slave.opened.is_closed() && self.slave.driver.is_empty(store))
+            }
+        }
+    }
+
     /// What a call is refused for before all else: its side, and then its arguments.
     pub fn refused_at_once(&self, caller: Caller, event: &Event<&[u8]>) -> Option<Refusal>
-        ensures { (s : StoreValue) (t : State ℕ) →
-            result ≡ refused_at_once (state_in s self.now t) caller (request event.now) }
+        ensures { (s : StoreValue) →
+            result ≡ refused_at_once (state_in s self.now) caller (request event.now) }
     {
         match event {
             Event::OpenMaster => None,
@@ -90,6 +143,15 @@ impl Streams {
                 unless(matches!(caller.side, Side::Master), Refusal::Einval),
             ),
             Event::OpenSlave => self.unopened(Side::Master),
+            Event::Write { .. } | Event::Pop => or_else(self.unreached(caller.side), self.beyond()),
+            Event::Push { name } => or_else(
+                self.unreached(caller.side),
+                or_else(unless(is_known(*name), Refusal::Einval), self.beyond()),
+            ),
+            Event::Flush { band, .. } => or_else(
+                self.unreached(caller.side),
+                or_else(unless(is_a_band(*band), Refusal::Einval), self.beyond()),
+            ),
             _ => self.unopened(caller.side),
         }
     }
@@ -102,8 +164,7 @@ impl Streams {
         event: &Event<&[u8]>,
     ) -> Option<Refusal>
         requires { AreHeld (B.value store.now) self.now }
-        ensures { (t : State ℕ) →
-            result ≡ refused_by_state (state_in (B.value store.now) self.now t) caller (request event.now) }
+        ensures { result ≡ refused_by_state (state_in (B.value store.now) self.now) caller (request event.now) }
     {
         match event {
             Event::OpenMaster => unless(
@@ -121,10 +182,13 @@ impl Streams {
                 )
             }
             Event::Read { n } => unless(
-                *n == 0 || !self.end(caller.side).head.is_empty(store),
+                *n == 0
+                    || !self.end(caller.side).head.is_empty(store)
+                    || self.is_at_end(store, caller.side),
                 Refusal::Eagain,
             ),
-            Event::Unlock => None,
+            Event::Pop | Event::Look => Some(Refusal::Einval),
+            Event::Unlock | Event::Shut | Event::Push { .. } | Event::Flush { .. } => None,
         }
     }
 }

@@ -13,6 +13,7 @@ ghost use Rattle.strm_blocks.specs.Blocks.{StoreValue, free_m, free_d, empty_sto
 ghost use Rattle.strm_pair.specs.Streams.{IsBlank, IsSide, stream_in};
 ghost use Rattle.strm_pair.specs.PlainCalls.{wrote_plain, read_plain};
 
+use crate::emptying::Chosen;
 use crate::ends::End;
 use crate::passing::{goes_on, serve};
 use crate::reading::read;
@@ -21,16 +22,20 @@ use strm_blocks::Blocks;
 use strm_frame::Enabled;
 use strm_queue::{Flush, HEAD_HIGH, HEAD_LOW, OTHER_HIGH, OTHER_LOW, Queue};
 use strm_types::{
-    Answer, Caller, Event, Openness, Place, QueueName, READ_MAX, ReadBytes, Side, Turn, chunk_count,
+    Answer, Book, Caller, Event, Openness, Place, QueueName, READ_MAX, ReadBytes, Side, Turn, chunk_count,
 };
 
-/// The streams of a pair, whether its slave is locked, and the queues that are enabled.
+/// The streams of a pair, whether its slave is locked, the queues that are enabled, the number that the next ioctl gets,
+/// and what was booked of each direction.
 #[derive(Drop)]
 pub(crate) struct Streams {
     pub master: End,
     pub slave: End,
     pub locked: bool,
     pub enabled: Enabled,
+    pub next_ioctl: u32,
+    pub from_master: Book,
+    pub from_slave: Book,
 }
 
 // A stream that nobody opened, whose queues stand on the lists from a number on: the head's, the driver's, and two that
@@ -42,17 +47,18 @@ fn new_end(first: usize) -> End
 {
     End {
         opened: Openness::Never,
+        hung_up: false,
         head: Queue::new(first, HEAD_HIGH, HEAD_LOW),
         driver: Queue::new(first + 1, OTHER_HIGH, OTHER_LOW),
     }
 }
 
 impl Streams {
-    ghost use Rattle.strm_pair.specs.Pairs.{state_in, LeadsTo, AreHeld, SamePool};
+    ghost use Rattle.strm_pair.specs.Pairs.{state_in, AreHeld, SamePool};
 
     /// The streams of a new pair.
     pub fn new() -> Streams
-        ensures state { (mblks dblks : ℕ) → state_in (empty_store mblks dblks) result opening ≡ opening }
+        ensures state { (mblks dblks : ℕ) → state_in (empty_store mblks dblks) result ≡ opening }
         ensures held { (mblks dblks : ℕ) → AreHeld (empty_store mblks dblks) result }
     {
         Streams {
@@ -60,21 +66,22 @@ impl Streams {
             slave: new_end(4),
             locked: true,
             enabled: Enabled::new(),
+            next_ioctl: 1,
+            from_master: Book::new(),
+            from_slave: Book::new(),
         }
     }
 
     /// Opens the slave: its head is as new, and what waits for it may come.
     pub fn open_slave<B: Blocks>(&mut self, store: &mut B)
         requires { AreHeld (B.value store.old) self.old }
-        ensures state { (t : State ℕ) →
-            state_in (B.value store.new) self.new t ≡ opened_slave (state_in (B.value store.old) self.old t) }
+        ensures state { state_in (B.value store.new) self.new ≡ opened_slave (state_in (B.value store.old) self.old) }
         ensures held { AreHeld (B.value store.new) self.new }
         ensures pool { SamePool (B.value store.old) (B.value store.new) }
     {
         store.audit();
         self.slave.opened = Openness::Open;
-        self.slave.head.flushq(store, Flush::All);
-        self.slave.head = Queue::new(self.slave.head.list, HEAD_HIGH, HEAD_LOW);
+        self.slave.renew_head(store);
         if !self.master.driver.is_empty(store) {
             self.enabled.enable(Side::Master.driver());
         }
@@ -85,17 +92,24 @@ impl Streams {
         requires held { AreHeld (B.value store.old) self.old }
         requires room_m { chunk_count (length bytes.now) ≤ free_m (B.value store.old) }
         requires room_d { chunk_count (length bytes.now) ≤ free_d (B.value store.old) }
-        ensures answer { (t : State ℕ) →
-            Count result ≡ (wrote_plain side bytes.now (state_in (B.value store.old) self.old t)).answer }
-        ensures state { LeadsTo (B.value store.old) (B.value store.new) self.old self.new
-            (λ s. (wrote_plain side bytes.now s).state) }
+        ensures answer { Count result ≡ (wrote_plain side bytes.now (state_in (B.value store.old) self.old)).answer }
+        ensures state { state_in (B.value store.new) self.new
+            ≡ (wrote_plain side bytes.now (state_in (B.value store.old) self.old)).state }
         ensures held { AreHeld (B.value store.new) self.new }
         ensures pool { SamePool (B.value store.old) (B.value store.new) }
     {
         let chunks = chunk_count(bytes.len());
         let down = match side {
-            Side::Master => send(store, &mut self.master.driver, bytes, chunks),
-            Side::Slave => send(store, &mut self.slave.driver, bytes, chunks),
+            Side::Master => {
+                let down = send(store, &mut self.master.driver, bytes, chunks);
+                self.from_master.written += down.taken as u64;
+                down
+            }
+            Side::Slave => {
+                let down = send(store, &mut self.slave.driver, bytes, chunks);
+                self.from_slave.written += down.taken as u64;
+                down
+            }
         };
         if down.enables {
             self.enabled.enable(side.driver());
@@ -107,15 +121,14 @@ impl Streams {
     pub fn read<B: Blocks>(&mut self, store: &mut B, side: Side, n: u32, out: &mut ReadBytes)
         requires held { AreHeld (B.value store.old) self.old }
         requires fresh { out.old.items ≡ [] }
-        ensures answer { (t : State ℕ) →
-            Bytes out.new.items ≡ (read_plain side n (state_in (B.value store.old) self.old t)).answer }
+        ensures answer { Bytes out.new.items ≡ (read_plain side n (state_in (B.value store.old) self.old)).answer }
         ensures most { length out.new.items ≤ min n READ_MAX }
-        ensures state { LeadsTo (B.value store.old) (B.value store.new) self.old self.new
-            (λ s. (read_plain side n s).state) }
+        ensures state { state_in (B.value store.new) self.new
+            ≡ (read_plain side n (state_in (B.value store.old) self.old)).state }
         ensures held { AreHeld (B.value store.new) self.new }
         ensures pool { SamePool (B.value store.old) (B.value store.new) }
     {
-        if n == 0 {
+        if n == 0 || self.end(side).head.is_empty(store) {
             return;
         }
         let wanted = (n as usize).min(READ_MAX);
@@ -139,12 +152,12 @@ impl Streams {
         requires held { AreHeld (B.value store.old) self.old }
         requires room_m { blocks_taken (request event.now) ≤ free_m (B.value store.old) }
         requires room_d { blocks_taken (request event.now) ≤ free_d (B.value store.old) }
-        ensures answer { (t : State ℕ) → reply_in result out.new.items
-            ≡ (called plain caller (request event.now) (state_in (B.value store.old) self.old t)).answer }
+        ensures answer { reply_in result out.new.items
+            ≡ (called plain caller (request event.now) (state_in (B.value store.old) self.old)).answer }
         ensures filled { answer_len result ≡ length out.new.items }
         ensures content { length out.new.items ≤ content_max (request event.now) }
-        ensures state { LeadsTo (B.value store.old) (B.value store.new) self.old self.new
-            (λ s. (called plain caller (request event.now) s).state) }
+        ensures state { state_in (B.value store.new) self.new
+            ≡ (called plain caller (request event.now) (state_in (B.value store.old) self.old)).state }
         ensures held { AreHeld (B.value store.new) self.new }
         ensures pool { SamePool (B.value store.old) (B.value store.new) }
     {
@@ -162,6 +175,15 @@ impl Streams {
                 self.open_slave(store);
                 Answer::Done
             }
+            Event::Shut => {
+                self.shut(store, caller.side);
+                Answer::Done
+            }
+            Event::Flush { what, band } => {
+                self.flush(store, caller.side, *what, Chosen::of_data(*band));
+                Answer::Done
+            }
+            Event::Push { .. } | Event::Pop | Event::Look => Answer::Done,
             Event::Write { bytes } => Answer::Count(self.write(store, caller.side, bytes)),
             Event::Read { n } => {
                 self.read(store, caller.side, *n, out);
@@ -173,9 +195,9 @@ impl Streams {
     // A turn of a side's driver, which is off the list of enabled queues.
     fn turn_driver<B: Blocks>(&mut self, store: &mut B, side: Side) -> Turn
         requires { AreHeld (B.value store.old) self.old }
-        ensures turn { (t : State ℕ) → result ≡ (driver_turned side (state_in (B.value store.old) self.old t)).turn }
-        ensures state { LeadsTo (B.value store.old) (B.value store.new) self.old self.new
-            (λ s. (driver_turned side s).state) }
+        ensures turn { result ≡ (driver_turned side (state_in (B.value store.old) self.old)).turn }
+        ensures state { state_in (B.value store.new) self.new
+            ≡ (driver_turned side (state_in (B.value store.old) self.old)).state }
         ensures held { AreHeld (B.value store.new) self.new }
         ensures pool { SamePool (B.value store.old) (B.value store.new) }
     {
@@ -198,10 +220,9 @@ impl Streams {
     /// A turn of an enabled queue.
     pub fn turn<B: Blocks>(&mut self, store: &mut B, name: QueueName) -> Turn
         requires { AreHeld (B.value store.old) self.old }
-        ensures turn { (t : State ℕ) →
-            result ≡ (turned plain name result (state_in (B.value store.old) self.old t)).turn }
-        ensures state { LeadsTo (B.value store.old) (B.value store.new) self.old self.new
-            (λ s. (turned plain name result s).state) }
+        ensures turn { result ≡ (turned plain name result (state_in (B.value store.old) self.old)).turn }
+        ensures state { state_in (B.value store.new) self.new
+            ≡ (turned plain name result (state_in (B.value store.old) self.old)).state }
         ensures held { AreHeld (B.value store.new) self.new }
         ensures pool { SamePool (B.value store.old) (B.value store.new) }
     {

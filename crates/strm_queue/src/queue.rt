@@ -1,10 +1,10 @@
 //! A queue.
 
-ghost use Rattle.std.specs.Prelude.{◌≡◌, ◌<◌, ◌≤◌, ◌+◌, ◌^◌, ℕ, true, false, List, [], length, MatchOption, Some, None, if◌then◌else◌, slice_set, slice_index_or};
+ghost use Rattle.std.specs.Prelude.{◌≡◌, ◌<◌, ◌≤◌, ◌+◌, ◌^◌, ℕ, true, false, List, [], length, MatchOption, Some, None, if◌then◌else◌, slice_set, slice_index_or, sum_by};
 ghost use Rattle.strm_types.specs.Message.{is_high_priority};
 ghost use Rattle.strm_blocks.specs.Blocks.{IsInHand, in_hand, list_at, placed, dropped, put, put_back, block_at};
 ghost use Rattle.strm_blocks.specs.Outcomes.{Popped, Unpopped, flushed};
-ghost use Rattle.strm_queue.specs.Kept.{AreCounted, count_of, band_of, enables, flow_at, is_full, FewBytes};
+ghost use Rattle.strm_queue.specs.Kept.{AreCounted, bytes_of, count_of, band_of, enables, flow_at, is_full, FewBytes};
 ghost use Rattle.strm_blocks.specs.Blocks.{Block};
 ghost use Rattle.strm_queue.specs.Flows.{count_in, added_to, removed_from, flushed_of, marked_with, relieves, relieved, plain_flows};
 ghost use Rattle.strm_queue.specs.Flushes.{takes_all};
@@ -142,6 +142,17 @@ impl Queue {
     {
         let flow = self.flows[usize::from(band.0)];
         flow.count()
+    }
+
+    /// How many bytes stand on the queue, in all bands.
+    pub fn total(&self) -> usize
+        ensures total { (q : List (List Block)) → AreCounted self.now.flows q → result ≡ sum_by bytes_of q }
+    {
+        let mut total = 0;
+        for band in 0..BANDS {
+            total += self.flows[band].count();
+        }
+        total
     }
 
     /// Whether a band's count is at or above its high-water mark.

@@ -1,11 +1,11 @@
 -- The calls on a pair: what each one does where nothing refuses it.
-use Rattle.std.specs.Prelude.{ℕ, Bool, false, not, min, ◌==◌, if◌then◌else◌, List, []}
+use Rattle.std.specs.Prelude.{ℕ, Bool, false, not, min, ◌==◌, ◌||◌, if◌then◌else◌, List, []}
 use denote.Ref.{Bor}
 use Rattle.strm_types.specs.declared.limits.TheConstants.{READ_MAX}
 use Rattle.strm_types.specs.declared.answers.Answer.{Answer}
-use Rattle.strm_types.specs.declared.answers.Answer.TheVariants.{Done, Count, Bytes}
+use Rattle.strm_types.specs.declared.answers.Answer.TheVariants.{Done, Name, Count, Bytes}
 use Rattle.strm_types.specs.declared.events.Event.{Event}
-use Rattle.strm_types.specs.declared.events.Event.TheVariants.{OpenMaster, Unlock, OpenSlave, Write, Read}
+use Rattle.strm_types.specs.declared.events.Event.TheVariants.{OpenMaster, Unlock, OpenSlave, Shut, Push, Pop, Look, Flush, Write, Read}
 use Rattle.strm_types.specs.declared.events.Caller.{Caller}
 use Rattle.strm_types.specs.declared.names.Side.{Side}
 use Rattle.strm_types.specs.declared.names.Side.TheVariants.{Master}
@@ -13,22 +13,30 @@ use Rattle.strm_types.specs.declared.names.Openness.TheVariants.{Open}
 use Rattle.strm_types.specs.Cells.{Cells, cells_written, bytes_of}
 use Rattle.strm_types.specs.Names.{driver_of, head_of, direction_from, before, enable_if, enable_some}
 use Rattle.strm_types.specs.Queue.{Queue, left_with, relieved, relieves}
-use Rattle.strm_types.specs.State.{State, stream, with_stream, with_driver_queue, with_head_queue, new_head, book, with_book, with_written, map_state}
+use Rattle.strm_types.specs.State.{State, stream, with_stream, with_driver_queue, with_head_queue, new_head, book, with_book, map_state}
+use Rattle.strm_types.specs.Books.{with_written}
 use Rattle.strm_types.specs.Head.{Taken, head_read}
 use Rattle.strm_types.specs.Write.{written}
 use Rattle.strm_types.specs.Turns.{is_none_left}
+use Rattle.strm_types.specs.Emptied.{of_data, flushed_on, closed_at}
 
 -- a call over other things that stand for its bytes
 abbrev pub map_event : {A B : Type 0} → (A → B) → Event A → Event B
 map_event f OpenMaster = OpenMaster
 map_event f Unlock = Unlock
 map_event f OpenSlave = OpenSlave
+map_event f Shut = Shut
+map_event f (Push name) = Push name
+map_event f Pop = Pop
+map_event f Look = Look
+map_event f (Flush what band) = Flush what band
 map_event f (Write bytes) = Write (f bytes)
 map_event f (Read n) = Read n
 
 -- an answer over other things that stand for its bytes
 abbrev pub map_answer : {A B : Type 0} → (A → B) → Answer A → Answer B
 map_answer f Done = Done
+map_answer f (Name name) = Name name
 map_answer f (Count n) = Count n
 map_answer f (Bytes bytes) = Bytes (f bytes)
 
@@ -102,12 +110,12 @@ module _ {C : Type 0} where
   abbrev pub lets_go : Taken C → Queue C → Bool
   lets_go taken q = if is_none_left taken.given then false else relieves (left_with taken.left q)
 
-  -- a read of up to n bytes on a side's stream; none changes nothing
+  -- a read of up to n bytes on a side's stream; a read of none, or of an empty head, changes nothing
   abbrev pub read_at : Cells C → Side → ℕ → State C → Outcome C
   read_at cells side n s =
       let above = stream side s in
       let taken = head_read (min n READ_MAX) above.head.queue.messages in
-      if n == 0 then record { answer = Bytes []; state = s }
+      if n == 0 || is_none_left above.head.queue.messages then record { answer = Bytes []; state = s }
       else record {
         answer = Bytes (bytes_of cells taken.given);
         state = record (with_stream side (with_head_queue (queue_after taken above.head.queue) above) s) {
@@ -115,10 +123,15 @@ module _ {C : Type 0} where
         };
       }
 
-  -- what a call leads to where nothing refuses it
+  -- What a call leads to where nothing refuses it. No module is known yet, so a push, a pop and a look are always refused.
   abbrev pub called : Cells C → Caller → Request → State C → Outcome C
   called cells caller OpenMaster s = done (opened_master s)
   called cells caller Unlock s = done (record s { locked = false })
   called cells caller OpenSlave s = done (opened_slave s)
+  called cells caller Shut s = done (closed_at caller.side s).state
+  called cells caller (Push name) s = done s
+  called cells caller Pop s = done s
+  called cells caller Look s = done s
+  called cells caller (Flush what band) s = done (flushed_on (of_data band) caller.side what s).state
   called cells caller (Write bytes) s = wrote cells caller.side bytes s
   called cells caller (Read n) s = read_at cells caller.side n s

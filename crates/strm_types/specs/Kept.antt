@@ -1,14 +1,17 @@
 -- That no byte is lost or made: what stands on a pair's queues, what a step brings there and what it takes away.
-use Rattle.std.specs.Prelude.{◌≡◌, ℕ, ◌+◌, min, Bool, false, List, [], take}
+use Rattle.std.specs.Prelude.{◌≡◌, ℕ, ◌+◌, min, Bool, false, List, [], ◌∷◌, take}
 use Rattle.strm_types.specs.declared.limits.TheConstants.{READ_MAX}
 use Rattle.strm_types.specs.declared.names.Side.{Side}
-use Rattle.strm_types.specs.declared.events.Event.TheVariants.{OpenMaster, Unlock, OpenSlave, Write, Read}
+use Rattle.strm_types.specs.declared.events.Event.TheVariants.{Shut, Flush, Write, Read}
+use Rattle.strm_types.specs.declared.rules.Rule.TheVariants as rules
 use Rattle.strm_types.specs.declared.entries.Entry.TheVariants.{Called, Turned}
 use Rattle.strm_types.specs.Cells.{Cells, cells_written}
-use Rattle.strm_types.specs.Names.{direction_from, is_open}
+use Rattle.strm_types.specs.Names.{direction_from, direction_of, head_of, is_open}
 use Rattle.strm_types.specs.Queue.{weight}
 use Rattle.strm_types.specs.State.{State, Stream, stream, book}
 use Rattle.strm_types.specs.Head.{head_read}
+use Rattle.strm_types.specs.Deliver.{Fate}
+use Rattle.strm_types.specs.Emptied.{of_data, flushed_on, closed_at}
 use Rattle.strm_types.specs.Write.{written}
 use Rattle.strm_types.specs.Journal.{PlainEntry}
 
@@ -35,17 +38,18 @@ module _ {C : Type 0} where
   -- the cells that an entry brings: what a write takes
   abbrev pub came : Cells C → State C → PlainEntry → List C
   came cells s (Called caller (Write bytes) answer) = cells_taken cells caller.side bytes s
-  came cells s (Called caller (Read n) answer) = []
-  came cells s (Called caller OpenMaster answer) = []
-  came cells s (Called caller Unlock answer) = []
-  came cells s (Called caller OpenSlave answer) = []
+  came cells s (Called caller asked answer) = []
   came cells s (Turned name turn) = []
 
-  -- the cells that an entry takes away: what a read gives
-  abbrev pub gone : Cells C → State C → PlainEntry → List C
-  gone cells s (Called caller (Read n) answer) = (head_read (min n READ_MAX) (stream caller.side s).head.queue.messages).given
-  gone cells s (Called caller (Write bytes) answer) = []
-  gone cells s (Called caller OpenMaster answer) = []
-  gone cells s (Called caller Unlock answer) = []
-  gone cells s (Called caller OpenSlave answer) = []
+  -- what an entry takes away, by its rules: what a read gives, and what a flush or a close takes
+  abbrev pub gone : Cells C → State C → PlainEntry → List (Fate C)
+  gone cells s (Called caller (Read n) answer) =
+      record {
+        direction = direction_of (head_of caller.side);
+        rule = rules.Read;
+        cells = (head_read (min n READ_MAX) (stream caller.side s).head.queue.messages).given;
+      } ∷ []
+  gone cells s (Called caller (Flush what band) answer) = (flushed_on (of_data band) caller.side what s).gone
+  gone cells s (Called caller Shut answer) = (closed_at caller.side s).gone
+  gone cells s (Called caller asked answer) = []
   gone cells s (Turned name turn) = []

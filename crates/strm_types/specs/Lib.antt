@@ -4,6 +4,7 @@ pub mod Cells
 pub mod Message
 pub mod Queue
 pub mod Names
+pub mod Books
 pub mod State
 pub mod Flush
 pub mod Head
@@ -14,6 +15,7 @@ pub mod Modules
 pub mod Places
 pub mod Origins
 pub mod Turns
+pub mod Emptied
 pub mod Calls
 pub mod Refused
 pub mod Journal

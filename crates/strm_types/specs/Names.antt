@@ -46,6 +46,12 @@ is_never Never = true
 is_never Open = false
 is_never Closed = false
 
+-- whether a side was closed
+abbrev pub is_closed : Openness → Bool
+is_closed Closed = true
+is_closed Open = false
+is_closed Never = false
+
 abbrev pub same_side : Side → Side → Bool
 same_side Master Master = true
 same_side Slave Slave = true

@@ -4,7 +4,7 @@ use Rattle.strm_types.specs.declared.spots.Spot.{Spot}
 use Rattle.strm_types.specs.Message.{Message, weight_of}
 use Rattle.strm_types.specs.Deliver.{Parcel, Fate, Took, Carried}
 
-module _ {C S : Type 0} (p : C → Bool) (weigh : S → ℕ) where
+module _ {C : Type 0} (p : C → Bool) where
   -- how many cells that pass a test are on their way
   abbrev pub weight_sent : List (Parcel C) → ℕ
   weight_sent [] = 0
@@ -15,11 +15,12 @@ module _ {C S : Type 0} (p : C → Bool) (weigh : S → ℕ) where
   weight_gone [] = 0
   weight_gone (f ∷ fs) = count_by p f.cells + weight_gone fs
 
+module _ {C S : Type 0} (p : C → Bool) (weigh : S → ℕ) where
   -- a put loses no cell, and makes none
   abbrev pub PutKeeps : (Spot → Message C → S → Took C S) → Type 0
   PutKeeps put = (to : Spot) (m : Message C) (s : S) →
-      weigh (put to m s).state + (weight_sent (put to m s).sent + weight_gone (put to m s).gone) ≡ weigh s + weight_of p m
+      weigh (put to m s).state + (weight_sent p (put to m s).sent + weight_gone p (put to m s).gone) ≡ weigh s + weight_of p m
 
   -- nor does the carrying of a message
   abbrev pub CarryKeeps : (Parcel C → S → Carried C S) → Parcel C → Type 0
-  CarryKeeps carry q = (s : S) → weigh (carry q s).state + weight_gone (carry q s).gone ≡ weigh s + weight_of p q.message
+  CarryKeeps carry q = (s : S) → weigh (carry q s).state + weight_gone p (carry q s).gone ≡ weigh s + weight_of p q.message

@@ -1,18 +1,25 @@
 -- Which refusal a call or a turn meets: the first whose condition holds, in this order. A side that isn't open; an
--- argument; a full journal; too few free blocks; what the state says.
+-- argument; a book that is full; a full journal; too few free blocks; what the state says.
 use Rattle.std.specs.Prelude.{ℕ, Bool, true, false, not, ◌&&◌, ◌||◌, ◌==◌, nat_lt, nat_le, ◌+◌, ◌-◌, List, length, Option, None, Some}
 use Rattle.strm_types.specs.declared.limits.Config.{Config}
 use Rattle.strm_types.specs.declared.events.Caller.{Caller}
 use Rattle.strm_types.specs.declared.names.QueueName.{QueueName}
 use Rattle.strm_types.specs.declared.refusals.Refusal.{Refusal}
-use Rattle.strm_types.specs.declared.refusals.Refusal.TheVariants.{Einval, Eagain, Enxio, Enosr, JournalFull}
-use Rattle.strm_types.specs.Names.{is_master, is_enabled, is_open, is_never}
+use Rattle.strm_types.specs.declared.refusals.Refusal.TheVariants.{Einval, Eagain, Enxio, Enosr, Erange, JournalFull}
+use Rattle.strm_types.specs.declared.kinds.Band.{Band}
+use Rattle.strm_types.specs.declared.names.Side.{Side}
+use Rattle.strm_types.specs.declared.names.Side.TheVariants.{Master, Slave}
+use Rattle.strm_types.specs.declared.names.ModuleName.{ModuleName}
+use Rattle.std.specs.List.{list_any}
+use Rattle.strm_types.specs.Message.{Message, is_held}
+use Rattle.strm_types.specs.Names.{is_master, is_enabled, is_open, is_never, is_closed}
 use Rattle.strm_types.specs.Queue.{is_full}
 use Rattle.strm_types.specs.State.{State, stream}
 use Rattle.strm_types.specs.Write.{chunk_count}
 use Rattle.strm_types.specs.Turns.{is_none_left}
-use Rattle.strm_types.specs.declared.limits.TheConstants.{WRITE_BLOCKS}
-use Rattle.strm_types.specs.declared.events.Event.TheVariants.{OpenMaster, Unlock, OpenSlave, Write, Read}
+use Rattle.strm_types.specs.declared.limits.TheConstants.{BANDS, WRITE_BLOCKS, CHANGE_BLOCKS, CLOSE_BLOCKS}
+use Rattle.strm_types.specs.declared.events.Event.TheVariants.{OpenMaster, Unlock, OpenSlave, Shut, Push, Pop, Look, Flush, Write, Read}
+use Rattle.strm_types.specs.Books as books
 use Rattle.strm_types.specs.Calls.{Request, payload_of}
 use Rattle.strm_types.specs.Journal.{PlainEntry, content_max, room_used}
 
@@ -44,9 +51,14 @@ abbrev pub blocks_taken : Request → ℕ
 blocks_taken (Write bytes) = chunk_count (length bytes)
 blocks_taken _ = 0
 
--- how many blocks of each kind have to be free for a call: a write wants 32 more than it may take
+-- how many blocks of each kind have to be free for a call: a write wants 32 more than it may take, a flush, a push and a
+-- pop want 8, a close 2
 abbrev pub blocks_asked : Request → ℕ
 blocks_asked (Write bytes) = WRITE_BLOCKS + chunk_count (length bytes)
+blocks_asked (Push name) = CHANGE_BLOCKS
+blocks_asked Pop = CHANGE_BLOCKS
+blocks_asked (Flush what band) = CHANGE_BLOCKS
+blocks_asked Shut = CLOSE_BLOCKS
 blocks_asked _ = 0
 
 -- the journal takes one more entry with so many bytes
@@ -54,13 +66,47 @@ abbrev pub has_room : List PlainEntry → Config → ℕ → Bool
 has_room entries limits bytes =
     nat_lt (length entries) limits.journal_events && nat_le (room_used entries + bytes) limits.journal_bytes
 
+-- the name of a module that may be pushed: none is known yet
+abbrev pub is_known : Option ModuleName → Bool
+is_known None = false
+is_known (Some name) = false
+
+-- a band, where one is named, is one of those that queues have
+abbrev pub is_a_band : Option Band → Bool
+is_a_band None = true
+is_a_band (Some band) = nat_lt band.0 BANDS
+
 module _ {C : Type 0} where
-  -- what a call is refused for before all else: its side, and then its arguments
+  -- the stream of a side is open, and the other end isn't gone
+  abbrev pub goes_down : Side → State C → Bool
+  goes_down side s = is_open (stream side s).opened && not (stream side s).head.hung_up
+
+  -- no message of data stands on a queue
+  abbrev pub has_no_data : List (Message C) → Bool
+  has_no_data ms = not (list_any (λ m. is_held m.kind) ms)
+
+  -- The end of input at a side's head, where that is empty: the other end is gone, or the slave was closed and nothing of
+  -- it is on its way.
+  abbrev pub at_end : Side → State C → Bool
+  at_end Slave s = s.slave.head.hung_up
+  at_end Master s = s.master.head.hung_up || (is_closed s.slave.opened && has_no_data s.slave.driver.queue.messages)
+
+  -- more may be written and made in both directions, as a call in one may make bytes in the other
+  abbrev pub in_range : State C → Bool
+  in_range s = books.has_room s.from_master && books.has_room s.from_slave
+
+  -- what a call is refused for before all else: its side, then its arguments, and then the books
   abbrev pub refused_at_once : State C → Caller → Request → Option Refusal
   refused_at_once s caller OpenMaster = None
   refused_at_once s caller Unlock =
       or_else (unless (is_open (stream caller.side s).opened) Enxio) (unless (is_master caller.side) Einval)
   refused_at_once s caller OpenSlave = unless (is_open s.master.opened) Enxio
+  refused_at_once s caller (Write bytes) = or_else (unless (goes_down caller.side s) Enxio) (unless (in_range s) Erange)
+  refused_at_once s caller (Push name) =
+      or_else (unless (goes_down caller.side s) Enxio) (or_else (unless (is_known name) Einval) (unless (in_range s) Erange))
+  refused_at_once s caller Pop = or_else (unless (goes_down caller.side s) Enxio) (unless (in_range s) Erange)
+  refused_at_once s caller (Flush what band) =
+      or_else (unless (goes_down caller.side s) Enxio) (or_else (unless (is_a_band band) Einval) (unless (in_range s) Erange))
   refused_at_once s caller _ = unless (is_open (stream caller.side s).opened) Enxio
 
   -- what a call is refused for after all else: what the state says
@@ -70,7 +116,9 @@ module _ {C : Type 0} where
       or_else (unless (not (is_open s.slave.opened)) Einval) (unless (not s.locked) Eagain)
   refused_by_state s caller (Write bytes) = unless (not (is_full 0 (stream caller.side s).driver.queue)) Eagain
   refused_by_state s caller (Read n) =
-      unless (n == 0 || not (is_none_left (stream caller.side s).head.queue.messages)) Eagain
+      unless (n == 0 || (not (is_none_left (stream caller.side s).head.queue.messages) || at_end caller.side s)) Eagain
+  refused_by_state s caller Pop = Some Einval
+  refused_by_state s caller Look = Some Einval
   refused_by_state s caller _ = None
 
   -- the refusal of a call, if any, where the pool has enough blocks for it or not
@@ -85,5 +133,6 @@ module _ {C : Type 0} where
   abbrev pub turn_refused : State C → List PlainEntry → Config → Bool → QueueName → Option Refusal
   turn_refused s entries limits has_blocks name =
       or_else (unless (is_enabled name s.enabled) Einval)
+      (or_else (unless (in_range s) Erange)
       (or_else (unless (has_room entries limits 0) JournalFull)
-      (unless has_blocks Enosr))
+      (unless has_blocks Enosr)))

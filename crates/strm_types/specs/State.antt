@@ -1,5 +1,5 @@
 -- The plain state of a pair: what every call acts on.
-use Rattle.std.specs.Prelude.{ℕ, ◌+◌, Bool, true, List, [], ◌∷◌, length}
+use Rattle.std.specs.Prelude.{ℕ, ◌+◌, Bool, true, false, List, [], ◌∷◌, length}
 use Rattle.std.specs.List.{AllByRecursion}
 use Rattle.strm_types.specs.declared.names.Side.{Side}
 use Rattle.strm_types.specs.declared.names.Side.TheVariants.{Master, Slave}
@@ -8,11 +8,14 @@ use Rattle.strm_types.specs.declared.names.Dir.{Dir}
 use Rattle.strm_types.specs.declared.names.Dir.TheVariants.{MasterToSlave, SlaveToMaster}
 use Rattle.strm_types.specs.declared.names.Openness.{Openness}
 use Rattle.strm_types.specs.declared.names.Openness.TheVariants.{Never}
+use Rattle.strm_types.specs.declared.books.Book.{Book}
+use Rattle.strm_types.specs.Books.{new_book}
 use Rattle.strm_types.specs.Queue.{Queue, IsOrdered, new_queue, map_queue}
 
--- a stream head: what it has for its readers
+-- a stream head: what it has for its readers, and whether an M_HANGUP came up, as the other end is gone
 pub record Head (C : Type 0) : Type 0 where
   pub queue : Queue C
+  pub hung_up : Bool
 
 -- a driver: what it has for the other side
 pub record Driver (C : Type 0) : Type 0 where
@@ -23,11 +26,6 @@ pub record Stream (C : Type 0) : Type 0 where
   pub opened : Openness
   pub head : Head C
   pub driver : Driver C
-
--- what was booked of a direction so far: how many bytes were written, and how many were made on the way
-pub record Book : Type 0 where
-  pub written : ℕ
-  pub made : ℕ
 
 -- A pair: its two streams, whether the slave is locked, the enabled queues in order of enabling, the number that the next
 -- ioctl gets, and the books of the two directions.
@@ -40,18 +38,10 @@ pub record State (C : Type 0) : Type 0 where
   pub from_master : Book
   pub from_slave : Book
 
--- a book in which nothing stands
-abbrev pub new_book : Book
-new_book = record { written = 0; made = 0 }
-
--- the book with more bytes written
-abbrev pub with_written : ℕ → Book → Book
-with_written count book = record book { written = book.written + count }
-
 module _ {C : Type 0} where
   -- a head as it is made: marks 5120 and 1024
   abbrev pub new_head : Head C
-  new_head = record { queue = new_queue 5120 1024 }
+  new_head = record { queue = new_queue 5120 1024; hung_up = false }
 
   -- a driver as it is made: marks 512 and 128
   abbrev pub new_driver : Driver C
@@ -94,7 +84,7 @@ module _ {C : Type 0} where
   with_book SlaveToMaster new s = record s { from_slave = new }
 
   abbrev pub with_head_queue : Queue C → Stream C → Stream C
-  with_head_queue q t = record t { head = record { queue = q } }
+  with_head_queue q t = record t { head = record { queue = q; hung_up = t.head.hung_up } }
 
   abbrev pub with_driver_queue : Queue C → Stream C → Stream C
   with_driver_queue q t = record t { driver = record { queue = q } }
@@ -113,7 +103,7 @@ messages_in s = length s.master.head.queue.messages + length s.master.driver.que
 
 -- the same state of other cells, as where their origins are forgotten
 abbrev pub map_stream : {C D : Type 0} → (C → D) → Stream C → Stream D
-map_stream f t = record { opened = t.opened; head = record { queue = map_queue f t.head.queue }; driver = record { queue = map_queue f t.driver.queue } }
+map_stream f t = record { opened = t.opened; head = record { queue = map_queue f t.head.queue; hung_up = t.head.hung_up }; driver = record { queue = map_queue f t.driver.queue } }
 
 abbrev pub map_state : {C D : Type 0} → (C → D) → State C → State D
 map_state f s = record {

@@ -10,7 +10,7 @@ use Rattle.strm_types.specs.State.{State}
 use Rattle.strm_types.specs.Turns.{turned}
 use Rattle.strm_types.specs.Calls.{Request, Reply, called}
 use Rattle.strm_types.specs.Journal.{PlainEntry}
-use Rattle.strm_types.specs.Refused.{or_else, refused_at_once, refused_by_state}
+use Rattle.strm_types.specs.Refused.{or_else, in_range, refused_at_once, refused_by_state}
 
 module _ {C : Type 0} (cells : Cells C) where
   -- a call that nothing but the journal's room or the pool could refuse, with this answer, from one state to another
@@ -19,9 +19,10 @@ module _ {C : Type 0} (cells : Cells C) where
     pub answered : (called cells caller asked old).answer ≡ answer
     pub leads : (called cells caller asked old).state ≡ new
 
-  -- a turn of an enabled queue, with this answer, from one state to another
+  -- a turn of an enabled queue while no book is full, with this answer, from one state to another
   pub record IsTurn (old : State C) (name : QueueName) (turn : Turn) (new : State C) : Type 0 where
     pub enabled : is_enabled name old.enabled ≡ true
+    pub in_range : in_range old ≡ true
     pub answered : (turned cells name turn old).turn ≡ turn
     pub leads : (turned cells name turn old).state ≡ new
 

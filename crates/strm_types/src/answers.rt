@@ -1,6 +1,7 @@
 //! What calls and turns answer.
 
 use crate::limits::READ_MAX;
+use crate::names::ModuleName;
 use arrayvec::ArrayVec;
 
 /// The bytes that one read gives.
@@ -12,6 +13,8 @@ pub type ReadBytes = ArrayVec<u8, READ_MAX>;
 pub enum Answer<T> {
     /// The call is done, and there is nothing to tell.
     Done,
+    /// The name of a module.
+    Name(ModuleName),
     /// How many bytes a write took.
     Count(usize),
     /// The bytes that a read gives.

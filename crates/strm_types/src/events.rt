@@ -4,12 +4,22 @@ ghost use Rattle.std.specs.Prelude.{◌≡◌};
 ghost use Rattle.strm_types.specs.Calls.{request, payload_of, map_event};
 ghost use Rattle.std.specs.Prelude.{length};
 
-use crate::names::Side;
+use crate::kinds::Band;
+use crate::names::{ModuleName, Side};
 
 /// Who makes a call: the side whose stream the call is on.
 #[derive(Clone, Copy, Debug, PartialEq, Eq)]
 pub struct Caller {
     pub side: Side,
+}
+
+/// Which queues a flush is for: those of the read side, which bring bytes to the caller (FLUSHR), those of the write side
+/// (FLUSHW), or both (FLUSHRW): `I_FLUSH` of `streamio(7I)`.
+#[derive(Clone, Copy, Debug, PartialEq, Eq)]
+pub enum FlushQueues {
+    Read,
+    Write,
+    Both,
 }
 
 /// A call on a pair, over what stands for its bytes: a caller lends them (`Event<&[u8]>`), a journal's entry has how many
@@ -22,6 +32,20 @@ pub enum Event<T> {
     Unlock,
     /// Opens the slave: `open(2)` of the slave device.
     OpenSlave,
+    /// Closes the caller's stream: `close(2)`. The bytes that wait there for its readers go.
+    Shut,
+    /// Pushes a module on the caller's stream: `I_PUSH` of `streamio(7I)`. None is a name that no module has.
+    Push { name: Option<ModuleName> },
+    /// Takes the module on top off the caller's stream: `I_POP` of `streamio(7I)`.
+    Pop,
+    /// Asks for the name of the module on top: `I_LOOK` of `streamio(7I)`.
+    Look,
+    /// Empties queues of the bytes on them, all or those of one band, from 0 to 7: `I_FLUSH` and `I_FLUSHBAND` of
+    /// `streamio(7I)`.
+    Flush {
+        what: FlushQueues,
+        band: Option<Band>,
+    },
     /// Sends bytes down the caller's stream: `write(2)`.
     Write { bytes: T },
     /// Takes at most `n` bytes from the caller's stream head: `read(2)`. More than 4096 counts as 4096.
@@ -35,7 +59,9 @@ impl<'a> Event<&'a [u8]> {
     {
         match self {
             Event::Write { bytes } => bytes,
-            Event::OpenMaster | Event::Unlock | Event::OpenSlave | Event::Read { .. } => &[],
+            Event::OpenMaster | Event::Unlock | Event::OpenSlave | Event::Shut => &[],
+            Event::Push { .. } | Event::Pop | Event::Look => &[],
+            Event::Flush { .. } | Event::Read { .. } => &[],
         }
     }
 
@@ -47,6 +73,14 @@ impl<'a> Event<&'a [u8]> {
             Event::OpenMaster => Event::OpenMaster,
             Event::Unlock => Event::Unlock,
             Event::OpenSlave => Event::OpenSlave,
+            Event::Shut => Event::Shut,
+            Event::Push { name } => Event::Push { name: *name },
+            Event::Pop => Event::Pop,
+            Event::Look => Event::Look,
+            Event::Flush { what, band } => Event::Flush {
+                what: *what,
+                band: *band,
+            },
             Event::Write { bytes } => Event::Write { bytes: bytes.len() },
             Event::Read { n } => Event::Read { n: *n },
         }

@@ -15,7 +15,7 @@ ghost use Rattle.strm_types.specs.Calls.{Request, called, map_outcome};
 ghost use Rattle.strm_types.specs.Turns.{turned, map_turn_outcome};
 ghost use Rattle.strm_types.specs.declared.spots.Spot.{Spot};
 ghost use Rattle.strm_types.specs.Deliver.{Parcel, Took, Falls, carried};
-ghost use Rattle.strm_types.specs.Places.{PutKeeps, CarryKeeps};
+ghost use Rattle.strm_types.specs.Places.{PutKeeps, CarryKeeps, weight_gone};
 ghost use Rattle.strm_types.specs.Origins.{PutsAgree, CarriesAgree};
 ghost use Rattle.strm_types.specs.Journal.{PlainEntry};
 ghost use Rattle.strm_types.specs.Step.{Step, replay};
@@ -84,7 +84,7 @@ pub fn steps_forget_origins<C>()
 /// is as new, so this wants that a side that isn't open has nothing for its readers, as it is in a new pair and behind each
 /// step. On a queue a put adds what the message has, and a take takes it away.
 pub fn bytes_are_kept<C>()
-    ensures step { (cells : Cells C) (p : C → Bool) (old new : State C) (entry : PlainEntry) → NothingUnread old → Step cells old entry new → state_weight p new + count_by p (gone cells old entry) ≡ state_weight p old + count_by p (came cells old entry) }
+    ensures step { (cells : Cells C) (p : C → Bool) (old new : State C) (entry : PlainEntry) → NothingUnread old → Step cells old entry new → state_weight p new + weight_gone p (gone cells old entry) ≡ state_weight p old + count_by p (came cells old entry) }
     ensures unread { (cells : Cells C) (old new : State C) (entry : PlainEntry) → NothingUnread old → Step cells old entry new → NothingUnread new }
     ensures opening { (s : State C) → s ≡ opening → NothingUnread s }
     ensures put { (p : C → Bool) (m : Message C) (q : List (Message C)) → weight p (put m q) ≡ weight_of p m + weight p q }

@@ -4,6 +4,7 @@
 #![tactic(auto)]
 
 mod answers;
+mod books;
 mod entries;
 mod events;
 mod kinds;
@@ -15,12 +16,13 @@ mod rules;
 mod spots;
 
 pub use answers::{Answer, ReadBytes, Turn};
+pub use books::{BOOK_MAX, Book};
 pub use entries::Entry;
-pub use events::{Caller, Event};
+pub use events::{Caller, Event, FlushQueues};
 pub use kinds::{Band, MsgKind};
 pub use limits::{
-    BANDS, BLOCK_SIZE, Config, HIGH_PRIORITY_RANK, LISTS, MODULES, READ_MAX, TURN_BLOCKS,
-    WRITE_BLOCKS, chunk_count,
+    BANDS, BLOCK_SIZE, CHANGE_BLOCKS, CLOSE_BLOCKS, Config, HIGH_PRIORITY_RANK, LISTS, MODULES,
+    READ_MAX, TURN_BLOCKS, WRITE_BLOCKS, chunk_count,
 };
 pub use names::{Dir, ModuleName, Openness, Place, QueueName, Side, Way, line};
 pub use refusals::{NoMemory, Refusal};

@@ -27,6 +27,12 @@ pub const WRITE_BLOCKS: usize = 32;
 /// How many blocks of each kind have to be free for a turn of a driver.
 pub const TURN_BLOCKS: usize = 8;
 
+/// How many blocks of each kind have to be free for a flush, and for a push or a pop.
+pub const CHANGE_BLOCKS: usize = 8;
+
+/// How many blocks of each kind have to be free for a close.
+pub const CLOSE_BLOCKS: usize = 2;
+
 /// The sizes of a pair. All of it is reserved when the pair is made.
 #[derive(Clone, Copy, Debug, PartialEq, Eq)]
 pub struct Config {

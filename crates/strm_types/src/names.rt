@@ -71,6 +71,13 @@ impl Openness {
     {
         matches!(self, Openness::Open)
     }
+
+    /// Whether the side was closed.
+    pub fn is_closed(self) -> bool
+        ensures { result ≡ names.is_closed self }
+    {
+        matches!(self, Openness::Closed)
+    }
 }
 
 /// A direction of a pair: from the master to the slave, as what is typed goes, or from the slave to the master, as

@@ -1,0 +1,99 @@
+//! Flushes and closes of a side's stream (streamio(7I): I_FLUSH; close(2); STREAMS Programming Guide, "Flush Handling").
+
+use crate::emptying::{Chosen, empty};
+use crate::ends::End;
+use crate::streams::Streams;
+use strm_blocks::Blocks;
+use strm_queue::{Flush, HEAD_HIGH, HEAD_LOW, Queue};
+use strm_types::{FlushQueues, Openness, Side};
+
+impl End {
+    /// Makes the head as new, with nothing on its queue.
+    pub fn renew_head<B: Blocks>(&mut self, store: &mut B) {
+        self.hung_up = false;
+        self.head.flushq(store, Flush::All);
+        self.head = Queue::new(self.head.list, HEAD_HIGH, HEAD_LOW);
+    }
+}
+
+impl Streams {
+    // Takes messages off the queue of a side's head.
+    fn empty_head<B: Blocks>(&mut self, store: &mut B, side: Side, chosen: Chosen) {
+        let goes = match side {
+            Side::Master => empty(store, &mut self.master.head, chosen),
+            Side::Slave => empty(store, &mut self.slave.head, chosen),
+        };
+        if goes {
+            self.enabled.enable_found(side.head().before());
+        }
+    }
+
+    // Takes messages off the queue of a side's driver.
+    fn empty_driver<B: Blocks>(&mut self, store: &mut B, side: Side, chosen: Chosen) {
+        let goes = match side {
+            Side::Master => empty(store, &mut self.master.driver, chosen),
+            Side::Slave => empty(store, &mut self.slave.driver, chosen),
+        };
+        if goes {
+            self.enabled.enable_found(side.driver().before());
+        }
+    }
+
+    // An M_FLUSH for readers reaches a side's head, where that is open.
+    fn reach<B: Blocks>(&mut self, store: &mut B, side: Side, chosen: Chosen) {
+        if self.end(side).opened.is_open() {
+            self.empty_head(store, side, chosen);
+        }
+    }
+
+    // FLUSHW at the driver of a side: its own queue, and then what stands for the readers across.
+    fn flush_write<B: Blocks>(&mut self, store: &mut B, side: Side, chosen: Chosen) {
+        self.empty_driver(store, side, chosen);
+        self.reach(store, side.other(), chosen);
+    }
+
+    // FLUSHR at the driver of a side: the driver's queue across, and then what stands for the side's own readers.
+    fn flush_read<B: Blocks>(&mut self, store: &mut B, side: Side, chosen: Chosen) {
+        self.empty_driver(store, side.other(), chosen);
+        self.reach(store, side, chosen);
+    }
+
+    /// Flushes a side's stream.
+    pub fn flush<B: Blocks>(
+        &mut self,
+        store: &mut B,
+        side: Side,
+        what: FlushQueues,
+        chosen: Chosen,
+    ) {
+        match what {
+            FlushQueues::Read => self.flush_read(store, side, chosen),
+            FlushQueues::Write => self.flush_write(store, side, chosen),
+            FlushQueues::Both => {
+                self.flush_write(store, side, chosen);
+                self.flush_read(store, side, chosen);
+            }
+        }
+    }
+
+    /// Closes a side. What stands for its readers goes, and with the master what both drivers have; the slave's driver
+    /// keeps what it has for the master. The slave is hung up where the master goes.
+    pub fn shut<B: Blocks>(&mut self, store: &mut B, side: Side) {
+        self.empty_head(store, side, Chosen::All);
+        match side {
+            Side::Master => {
+                self.empty_driver(store, Side::Master, Chosen::All);
+                self.empty_driver(store, Side::Slave, Chosen::All);
+                self.master.opened = Openness::Closed;
+                self.master.renew_head(store);
+                if self.slave.opened.is_open() {
+                    self.slave.hung_up = true;
+                }
+            }
+            Side::Slave => {
+                self.slave.opened = Openness::Closed;
+                self.slave.renew_head(store);
+            }
+        }
+    }
+}

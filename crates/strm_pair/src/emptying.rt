@@ -1,0 +1,51 @@
+//! What flushes and closes take off a queue (flushq(9F), flushband(9F)).
+
+ghost use Rattle.std.specs.Prelude.{◌≡◌};
+ghost use Rattle.strm_types.specs.Emptied.{of_data, queue_behind, writer_goes};
+ghost use Rattle.strm_pair.specs.Stored.{queue_in, IsReady, Keeps};
+ghost use Rattle.strm_pair.specs.Choices.{choice_of, IsChoice, IsFlushBand};
+
+use crate::flows::relieve;
+use strm_blocks::Blocks;
+use strm_queue::{Flush, Queue};
+use strm_types::Band;
+
+/// Which messages go: all, those of data, or those of data of one band, from 0 to 7.
+#[derive(Clone, Copy)]
+pub(crate) enum Chosen {
+    All,
+    Data,
+    Of(Band),
+}
+
+impl Chosen {
+    /// What a flush takes: of one band, or of all.
+    pub fn of_data(band: Option<Band>) -> Chosen
+        requires { IsFlushBand band }
+        ensures choice { choice_of result ≡ of_data band }
+        ensures valid { IsChoice result }
+    {
+        match band {
+            Some(band) => Chosen::Of(band),
+            None => Chosen::Data,
+        }
+    }
+}
+
+/// Takes messages off a queue, and says whether that lets a waiting writer go.
+pub(crate) fn empty<B: Blocks>(store: &mut B, queue: &mut Queue, chosen: Chosen) -> bool
+    requires ready { IsReady (B.value store.old) queue.old }
+    requires valid { IsChoice chosen }
+    ensures queue { queue_in (B.value store.new) queue.new
+        ≡ queue_behind (choice_of chosen) (queue_in (B.value store.old) queue.old) }
+    ensures went { result ≡ writer_goes (choice_of chosen) (queue_in (B.value store.old) queue.old) }
+    ensures keeps { Keeps (B.value store.old) (B.value store.new) queue.old queue.new }
+{
+    let before = queue.total();
+    match chosen {
+        Chosen::All => queue.flushq(store, Flush::All),
+        Chosen::Data => queue.flushq(store, Flush::Data),
+        Chosen::Of(band) => queue.flushband(store, band),
+    }
+    queue.total() != before && relieve(queue)
+}

@@ -1,0 +1,129 @@
+-- What flushes and closes take from the queues of a pair, and by which rule it goes (flushq(9F), flushband(9F), streamio(7I):
+-- I_FLUSH; close(2); STREAMS Programming Guide, "Flush Handling").
+use Rattle.std.specs.Prelude.{ℕ, Bool, true, false, not, ◌||◌, ◌==◌, if◌then◌else◌, List, [], ◌∷◌, ◌++◌, filter, Option, None, Some, option_map}
+use Rattle.strm_types.specs.declared.kinds.Band.{Band}
+use Rattle.strm_types.specs.declared.kinds.MsgKind.{MsgKind}
+use Rattle.strm_types.specs.declared.names.Side.{Side}
+use Rattle.strm_types.specs.declared.names.Side.TheVariants.{Master, Slave}
+use Rattle.strm_types.specs.declared.names.Openness.TheVariants.{Closed}
+use Rattle.strm_types.specs.declared.events.FlushQueues.{FlushQueues}
+use Rattle.strm_types.specs.declared.events.FlushQueues.TheVariants.{Read, Write, Both}
+use Rattle.strm_types.specs.declared.rules.Rule.{Rule}
+use Rattle.strm_types.specs.declared.rules.Rule.TheVariants.{Flushed, EndClosed}
+use Rattle.strm_types.specs.Message.{Message, cells_of}
+use Rattle.strm_types.specs.Names.{other, driver_of, head_of, direction_of, before, is_open, enable_some}
+use Rattle.strm_types.specs.Queue.{Queue, bytes_of, relieved, relieves}
+use Rattle.strm_types.specs.State.{State, stream, with_stream, with_head_queue, with_driver_queue, new_head}
+use Rattle.strm_types.specs.Flush.{is_flushed}
+use Rattle.strm_types.specs.Turns.{is_none_left}
+use Rattle.strm_types.specs.Deliver.{Carried}
+
+-- which messages go, by their kind and their band
+abbrev pub Choice : Type 0
+Choice = MsgKind → ℕ → Bool
+
+-- those that a flush takes, of one band or of all: FLUSHDATA
+abbrev pub of_data : Option Band → Choice
+of_data band = is_flushed false (option_map (λ b. b.0) band)
+
+-- all messages: FLUSHALL
+abbrev pub of_all : Choice
+of_all = is_flushed true None
+
+module _ {C : Type 0} where
+  -- what stays of some messages
+  abbrev pub stayed : Choice → List (Message C) → List (Message C)
+  stayed chosen ms = filter (λ m. not (chosen m.kind m.band)) ms
+
+  -- the cells of those that go
+  abbrev pub cells_gone : Choice → List (Message C) → List C
+  cells_gone chosen [] = []
+  cells_gone chosen (m ∷ ms) = (if chosen m.kind m.band then cells_of m else []) ++ cells_gone chosen ms
+
+  -- the queue without those that go: it wants to be read where it is empty now
+  abbrev pub emptied : Choice → Queue C → Queue C
+  emptied chosen q =
+      let rest = stayed chosen q.messages in
+      record q { messages = rest; want_read = q.want_read || is_none_left rest }
+
+  -- whether no byte goes
+  abbrev pub none_goes : Choice → Queue C → Bool
+  none_goes chosen q = bytes_of (stayed chosen q.messages) == bytes_of q.messages
+
+  -- the queue behind that: where bytes went, its waiting writers are let go
+  abbrev pub queue_behind : Choice → Queue C → Queue C
+  queue_behind chosen q = if none_goes chosen q then emptied chosen q else relieved (emptied chosen q)
+
+  -- whether that lets a writer go
+  abbrev pub writer_goes : Choice → Queue C → Bool
+  writer_goes chosen q = if none_goes chosen q then false else relieves (emptied chosen q)
+
+  -- the head's queue of a side is emptied, and the nearest earlier queue with service is enabled where a writer goes
+  abbrev pub head_emptied : Rule → Choice → Side → State C → Carried C (State C)
+  head_emptied rule chosen side s =
+      let above = stream side s in
+      let q = above.head.queue in
+      record {
+        state = record (with_stream side (with_head_queue (queue_behind chosen q) above) s) {
+          enabled = enable_some (writer_goes chosen q) (before (head_of side)) s.enabled;
+        };
+        gone = record { direction = direction_of (head_of side); rule = rule; cells = cells_gone chosen q.messages } ∷ [];
+      }
+
+  -- the driver's queue of a side is emptied
+  abbrev pub driver_emptied : Rule → Choice → Side → State C → Carried C (State C)
+  driver_emptied rule chosen side s =
+      let below = stream side s in
+      let q = below.driver.queue in
+      record {
+        state = record (with_stream side (with_driver_queue (queue_behind chosen q) below) s) {
+          enabled = enable_some (writer_goes chosen q) (before (driver_of side)) s.enabled;
+        };
+        gone = record { direction = direction_of (driver_of side); rule = rule; cells = cells_gone chosen q.messages } ∷ [];
+      }
+
+  -- nothing goes
+  abbrev pub none_gone : State C → Carried C (State C)
+  none_gone s = record { state = s; gone = [] }
+
+  -- one after the other
+  abbrev pub and_then : Carried C (State C) → (State C → Carried C (State C)) → Carried C (State C)
+  and_then t next = let u = next t.state in record { state = u.state; gone = t.gone ++ u.gone }
+
+  -- what a driver sends up a side's stream reaches its head, where that is open
+  abbrev pub reached : Choice → Side → State C → Carried C (State C)
+  reached chosen side s = if is_open (stream side s).opened then head_emptied Flushed chosen side s else none_gone s
+
+  -- FLUSHW at the driver of a side: its own queue, and then what stands for the readers across
+  abbrev pub write_flushed : Choice → Side → State C → Carried C (State C)
+  write_flushed chosen side s = and_then (driver_emptied Flushed chosen side s) (reached chosen (other side))
+
+  -- FLUSHR at the driver of a side: the driver's queue across, and then what stands for the side's own readers
+  abbrev pub read_flushed : Choice → Side → State C → Carried C (State C)
+  read_flushed chosen side s = and_then (driver_emptied Flushed chosen (other side) s) (reached chosen side)
+
+  -- a flush of a side's stream
+  abbrev pub flushed_on : Choice → Side → FlushQueues → State C → Carried C (State C)
+  flushed_on chosen side Read s = read_flushed chosen side s
+  flushed_on chosen side Write s = write_flushed chosen side s
+  flushed_on chosen side Both s = and_then (write_flushed chosen side s) (read_flushed chosen side)
+
+  -- a side that is closed, with a head as new
+  abbrev pub ended : Side → State C → State C
+  ended side s = with_stream side (record (stream side s) { opened = Closed; head = new_head }) s
+
+  -- an M_HANGUP that goes up a side's stream, where that is open
+  abbrev pub hung_up_at : Side → State C → State C
+  hung_up_at side s =
+      let above = stream side s in
+      if is_open above.opened then with_stream side (record above { head = record above.head { hung_up = true } }) s else s
+
+  -- A close of a side. The slave's driver keeps what it has for the master. What both drivers have goes with the master,
+  -- and an open slave is hung up.
+  abbrev pub closed_at : Side → State C → Carried C (State C)
+  closed_at Slave s =
+      let t = head_emptied EndClosed of_all Slave s in
+      record { state = ended Slave t.state; gone = t.gone }
+  closed_at Master s =
+      let t = and_then (and_then (head_emptied EndClosed of_all Master s) (driver_emptied EndClosed of_all Master)) (driver_emptied EndClosed of_all Slave) in
+      record { state = hung_up_at Slave (ended Master t.state); gone = t.gone }
