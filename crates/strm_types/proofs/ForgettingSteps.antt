@@ -20,7 +20,8 @@ use Rattle.strm_types.specs.Cells.{Cells, AreCells, plain, cells_written, bytes_
 use Rattle.strm_types.specs.Names.{other, driver_of, head_of, direction_from, before, is_open, without, enable_if, enable_some}
 use Rattle.strm_types.specs.Message.{Message, size_of, band_of, is_held, map_message}
 use Rattle.strm_types.specs.Queue.{Queue, Flow, count_of, is_full, put_on, relieved, relieved_from, relieves_from, left_with, with_writer_at, map_messages, map_queue}
-use Rattle.strm_types.specs.State.{State, Stream, stream, with_stream, with_driver_queue, with_head_queue, book, with_book, with_written, new_head, map_stream, map_state}
+use Rattle.strm_types.specs.State.{State, Stream, stream, with_stream, with_driver_queue, with_head_queue, book, with_book, new_head, map_stream, map_state}
+use Rattle.strm_types.specs.Books.{with_written}
 use Rattle.strm_types.specs.Write.{Sent, written}
 use Rattle.strm_types.specs.Head.{Taken, head_read}
 use Rattle.strm_types.specs.Turns.{Served, TurnOutcome, map_turn_outcome, is_none_left, held_back, moved_on, is_stopped, driver_serves, goes_on, driver_turned, turned_at, turned}

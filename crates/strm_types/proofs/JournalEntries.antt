@@ -17,11 +17,17 @@ request_in-more : (shape : Event ℕ) (bytes more : List ℕ) → event_len shap
 request_in-more shapes.OpenMaster bytes more le = refl
 request_in-more shapes.Unlock bytes more le = refl
 request_in-more shapes.OpenSlave bytes more le = refl
+request_in-more shapes.Shut bytes more le = refl
+request_in-more (shapes.Push name) bytes more le = refl
+request_in-more shapes.Pop bytes more le = refl
+request_in-more shapes.Look bytes more le = refl
+request_in-more (shapes.Flush what band) bytes more le = refl
 request_in-more (shapes.Write len) bytes more le = ap shapes.Write (take-append-le len bytes more le)
 request_in-more (shapes.Read n) bytes more le = refl
 
 reply_in-more : (shape : Answer ℕ) (bytes more : List ℕ) → answer_len shape ≤ length bytes → reply_in shape (bytes ++ more) ≡ reply_in shape bytes
 reply_in-more told.Done bytes more le = refl
+reply_in-more (told.Name name) bytes more le = refl
 reply_in-more (told.Count n) bytes more le = refl
 reply_in-more (told.Bytes len) bytes more le = ap told.Bytes (take-append-le len bytes more le)
 
@@ -56,11 +62,17 @@ payload-len : (shape : Event ℕ) (bytes : List ℕ) → event_len shape ≤ len
 payload-len shapes.OpenMaster bytes le = refl
 payload-len shapes.Unlock bytes le = refl
 payload-len shapes.OpenSlave bytes le = refl
+payload-len shapes.Shut bytes le = refl
+payload-len (shapes.Push name) bytes le = refl
+payload-len shapes.Pop bytes le = refl
+payload-len shapes.Look bytes le = refl
+payload-len (shapes.Flush what band) bytes le = refl
 payload-len (shapes.Write len) bytes le = length-take-le len bytes le
 payload-len (shapes.Read n) bytes le = refl
 
 content-len : (shape : Answer ℕ) (bytes : List ℕ) → answer_len shape ≤ length bytes → length (content_of (reply_in shape bytes)) ≡ answer_len shape
 content-len told.Done bytes le = refl
+content-len (told.Name name) bytes le = refl
 content-len (told.Count n) bytes le = refl
 content-len (told.Bytes len) bytes le = length-take-le len bytes le
 

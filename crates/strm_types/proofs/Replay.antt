@@ -5,14 +5,14 @@ use Rattle.strm_types.specs.declared.events.Caller.{Caller}
 use Rattle.strm_types.specs.declared.limits.Config.{Config}
 use Rattle.strm_types.specs.declared.names.QueueName.{QueueName}
 use Rattle.strm_types.specs.declared.refusals.Refusal.{Refusal}
-use Rattle.strm_types.specs.declared.refusals.Refusal.TheVariants.{Einval, Enosr, JournalFull}
+use Rattle.strm_types.specs.declared.refusals.Refusal.TheVariants.{Einval, Enosr, Erange, JournalFull}
 use Rattle.strm_types.specs.Names.{is_enabled}
 use Rattle.strm_types.specs.State.{State}
 use Rattle.strm_types.specs.Calls.{Request, payload_of}
 use Rattle.strm_types.specs.declared.entries.Entry.TheVariants.{Called, Turned}
 use Rattle.strm_types.specs.Cells.{Cells}
 use Rattle.strm_types.specs.Journal.{PlainEntry, content_max}
-use Rattle.strm_types.specs.Refused.{or_else, unless, has_room, refused, refused_at_once, refused_by_state, turn_refused}
+use Rattle.strm_types.specs.Refused.{in_range, or_else, unless, has_room, refused, refused_at_once, refused_by_state, turn_refused}
 use Rattle.strm_types.specs.Step.{Step, after, replay, IsLegal}
 
 module _ {C : Type 0} (cells : Cells C) where
@@ -61,10 +61,11 @@ module _ {C : Type 0} where
       let third = or_else-none (unless has_blocks Enosr) _ second.1 in
       (ap (λ r. or_else r (refused_by_state s caller asked)) first.0 ∙ third.1, unless-none _ _ second.0, unless-none _ _ third.0)
 
-  -- a turn that isn't refused: its queue is enabled, and the journal has room
+  -- a turn that isn't refused: its queue is enabled, no book is full, and the journal has room
   pub turn-allowed : (s : State C) (es : List PlainEntry) (limits : Config) (has_blocks : Bool) (name : QueueName) → turn_refused s es limits has_blocks name ≡ None
-      → (is_enabled name s.enabled ≡ true) × (has_room es limits 0 ≡ true)
+      → (is_enabled name s.enabled ≡ true) × (in_range s ≡ true) × (has_room es limits 0 ≡ true)
   turn-allowed s es limits has_blocks name h =
       let first = or_else-none (unless (is_enabled name s.enabled) Einval) _ h in
-      let second = or_else-none (unless (has_room es limits 0) JournalFull) _ first.1 in
-      (unless-none _ _ first.0, unless-none _ _ second.0)
+      let second = or_else-none (unless (in_range s) Erange) _ first.1 in
+      let third = or_else-none (unless (has_room es limits 0) JournalFull) _ second.1 in
+      (unless-none _ _ first.0, unless-none _ _ second.0, unless-none _ _ third.0)
