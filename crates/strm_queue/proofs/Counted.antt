@@ -46,7 +46,7 @@ module _ {A : Type 0} (P : A → Type 0) where
       kept-at x rest false here all = all
 
 -- the sums of two parts are the sum of the whole
-sum-both : {A : Type 0} (f g h : A → ℕ) → ((x : A) → f x + g x ≡ h x) → (xs : List A) → sum_by f xs + sum_by g xs ≡ sum_by h xs
+pub sum-both : {A : Type 0} (f g h : A → ℕ) → ((x : A) → f x + g x ≡ h x) → (xs : List A) → sum_by f xs + sum_by g xs ≡ sum_by h xs
 sum-both f g h is [] = refl
 sum-both f g h is (x ∷ xs) = let here = is x in omega (arith, here, sum-both f g h is xs, sum_by-cons f x xs, sum_by-cons g x xs, sum_by-cons h x xs)
 
