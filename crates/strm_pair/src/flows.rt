@@ -1,14 +1,14 @@
 //! Flow control of a pair's queues: what is full, and who is let go (STREAMS Programming Guide, "Flow Control").
 
-ghost use Rattle.std.specs.Prelude.{◌≡◌, ◌<◌, ◌&&◌, List};
+ghost use Rattle.std.specs.Prelude.{◌≡◌, ◌<◌, ◌+◌, ◌-◌, ◌^◌, ◌&&◌, min, true, length, List};
 ghost use Rattle.strm_types.specs.Message.{is_held};
-ghost use Rattle.strm_types.specs.Queue.{count_of, is_full, relieved, relieves};
+ghost use Rattle.strm_types.specs.Queue.{bytes_of, count_of, is_full, relieved, relieves};
 ghost use Rattle.strm_blocks.specs.Blocks.{Block, StoreValue};
 ghost use Rattle.strm_queue.specs.Kept.{AreCounted};
 ghost use Rattle.strm_queue.specs.Queues.{OnlyCounts};
 ghost use Rattle.strm_pair.specs.Stored.{queue_in, messages_on, IsReady};
 
-use strm_blocks::Blocks;
+use strm_blocks::{Blocks, Peek, Visitor};
 use strm_queue::Queue;
 use strm_types::{Band, MsgKind};
 
@@ -23,12 +23,13 @@ pub(crate) fn count<B: Blocks>(store: &B, queue: &Queue, band: Band) -> usize
 }
 
 // Counts messages.
+#[derive(Drop)]
 struct Counted {
     messages: usize,
 }
 
 impl Visitor for Counted {
-    ghost after = { λ v peek. counted_one_more v };
+    ghost after = { λ v p. record { messages = min (v.messages + 1) (2 ^ 64 - 1) } };
 
     ghost goes_on = { λ v. true };
 
