@@ -5,7 +5,6 @@ use Rattle.strm_types.specs.declared.answers.Answer.TheVariants.{Bytes}
 use Rattle.strm_types.specs.Turns.{is_none_left}
 use Rattle.strm_types.specs.declared.limits.TheConstants.{READ_MAX}
 use Rattle.strm_types.specs.declared.names.Side.{Side}
-use Rattle.strm_types.specs.declared.names.Side.TheVariants.{Master, Slave}
 use Rattle.strm_types.specs.Names.{direction_from}
 use Rattle.strm_types.specs.Cells.{plain}
 use Rattle.strm_types.specs.State.{State, stream, book}

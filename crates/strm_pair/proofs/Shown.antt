@@ -6,7 +6,7 @@ use Rattle.strm_types.specs.declared.limits.Config.{Config}
 use Rattle.strm_types.specs.Message.{rank_of}
 use Rattle.strm_types.specs.Queue.{IsOrdered}
 use Rattle.strm_types.specs.Ranked as ranked
-use Rattle.strm_types.specs.State.{State, AreOrdered, messages_in}
+use Rattle.strm_types.specs.State.{AreOrdered, messages_in}
 use Rattle.strm_blocks.specs.Blocks as blocks
 use Rattle.strm_blocks.specs.Blocks.{Block, StoreValue, IsStore, list_at, empty_store, used, free_m, free_d}
 use Rattle.strm_blocks.proofs.Laws.{free_m-is}

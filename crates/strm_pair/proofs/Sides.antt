@@ -1,19 +1,14 @@
 -- The queues of both sides beside their store.
-use Rattle.std.proofs.Common.{ℕ, zero, suc, ◌≡◌, ◌≤◌, ◌<◌, ◌+◌, true, List, [], ◌∷◌, refl, sym, ap, subst, ◌∙◌, arith}
+use Rattle.std.proofs.Common.{ℕ, zero, suc, ◌≡◌, true, List, [], ◌∷◌, refl}
 use Rattle.std.specs.Prelude.{None, replicate, slice_index_or}
 use Rattle.strm_types.specs.declared.names.Side.{Side}
 use Rattle.strm_types.specs.declared.names.Side.TheVariants.{Master, Slave}
-use Rattle.strm_blocks.specs.Blocks.{Block, StoreValue, IsStore, empty_store, list_at, placed}
+use Rattle.strm_blocks.specs.Blocks.{Block, StoreValue, empty_store}
 use Rattle.strm_blocks.specs.Outcomes.{flushed}
-use Rattle.strm_msg.specs.Messages.{AreMessages}
-use Rattle.strm_queue.specs.Kept.{AreCounted}
-use Rattle.strm_queue.specs.declared.queue.Queue.{Queue}
-use Rattle.strm_pair.specs.declared.ends.End.{End}
 use Rattle.strm_pair.specs.declared.streams.Streams.{Streams}
-use Rattle.strm_pair.specs.Stored.{HoldsData, IsReady, IsDataQueue}
-use Rattle.strm_pair.specs.Streams.{IsBlank, IsSide, AreSides}
+use Rattle.strm_pair.specs.Stored.{IsReady}
+use Rattle.strm_pair.specs.Streams.{IsBlank}
 use Rattle.strm_pair.specs.Pairs.{end_at, AreHeld}
-use Rattle.strm_pair.proofs.Placed.{Landed, landed, ready-same}
 
 -- the driver of a side is ready
 pub driver-ready : (s : StoreValue) (p : Streams) → AreHeld s p → (side : Side) → IsReady s (end_at side p).driver

@@ -1,5 +1,5 @@
 -- How many messages stand on a queue, and how many bytes they have.
-use Rattle.std.proofs.Common.{ℕ, zero, suc, ◌≡◌, ◌≤◌, ◌<◌, ◌+◌, List, [], ◌∷◌, length, map, refl, ap, ◌∙◌, arith}
+use Rattle.std.proofs.Common.{ℕ, ◌≡◌, ◌≤◌, ◌+◌, List, [], ◌∷◌, length, map, refl, arith}
 use Rattle.std.specs.Prelude.{sum_by, min, true, ◌-◌, ◌^◌}
 use Rattle.std.specs.List.{AllByRecursion}
 use Rattle.std.proofs.lemmas.List.{length-map}
@@ -7,7 +7,7 @@ use Rattle.std.proofs.lemmas.List.Sums.{sum_by-cons}
 use Rattle.strm_types.specs.Message.{size_of}
 use Rattle.strm_types.specs.Queue as plain
 use Rattle.strm_blocks.specs.declared.asked.Peek.{Peek}
-use Rattle.strm_blocks.specs.Blocks.{Block, StoreValue, IsStore, list_at, used}
+use Rattle.strm_blocks.specs.Blocks.{Block, StoreValue, IsStore, list_at}
 use Rattle.strm_blocks.specs.Outcomes.{told, peek_of}
 use Rattle.strm_msg.specs.Messages.{message_of, IsChain}
 use Rattle.strm_msg.proofs.Chains.{size-shown}

@@ -1,5 +1,5 @@
 -- Where a list has M_DATA messages alone, it has none that flow control holds back only where it is empty.
-use Rattle.std.proofs.Common.{◌≡◌, true, false, List, [], ◌∷◌, map, refl, sym, ap, ◌∙◌}
+use Rattle.std.proofs.Common.{◌≡◌, true, List, [], ◌∷◌, map, refl, sym, ap, ◌∙◌}
 use Rattle.std.specs.Prelude.{not, ◌||◌}
 use Rattle.std.specs.List.{list_any}
 use Rattle.strm_types.specs.declared.kinds.MsgKind.TheVariants as kinds

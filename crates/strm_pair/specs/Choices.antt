@@ -1,6 +1,5 @@
 -- Which messages a flush or a close takes, as the code says it.
 use Rattle.std.specs.Prelude.{◌<◌, None, Some}
-use Rattle.strm_types.specs.declared.kinds.Band.{Band}
 use Rattle.strm_types.specs.declared.limits.TheConstants.{BANDS}
 use Rattle.strm_types.specs.Emptied.{Choice, of_all, of_data}
 use Rattle.strm_pair.specs.declared.emptying.Chosen.{Chosen}

@@ -111,13 +111,7 @@ impl Streams {
     }
 
     /// Flushes a side's stream.
-    pub fn flush<B: Blocks>(
-        &mut self,
-        store: &mut B,
-        side: Side,
-        what: FlushQueues,
-        chosen: Chosen,
-    )
+    pub fn flush<B: Blocks>(&mut self, store: &mut B, side: Side, what: FlushQueues, chosen: Chosen)
         requires held { AreHeld (B.value store.old) self.old }
         requires valid { IsChoice chosen }
         ensures state { state_in (B.value store.new) self.new

@@ -13,7 +13,8 @@ use crate::flows::is_full;
 use crate::streams::Streams;
 use strm_blocks::Blocks;
 use strm_types::{
-    BANDS, Band, CHANGE_BLOCKS, CLOSE_BLOCKS, Caller, Event, ModuleName, Openness, READ_MAX, Refusal, Side, WRITE_BLOCKS, chunk_count,
+    BANDS, Band, CHANGE_BLOCKS, CLOSE_BLOCKS, Caller, Event, ModuleName, Openness, READ_MAX,
+    Refusal, Side, WRITE_BLOCKS, chunk_count,
 };
 
 /// A refusal unless a condition holds.

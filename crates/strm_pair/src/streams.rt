@@ -22,7 +22,8 @@ use strm_blocks::Blocks;
 use strm_frame::Enabled;
 use strm_queue::{Flush, HEAD_HIGH, HEAD_LOW, OTHER_HIGH, OTHER_LOW, Queue};
 use strm_types::{
-    Answer, Book, Caller, Event, Openness, Place, QueueName, READ_MAX, ReadBytes, Side, Turn, chunk_count,
+    Answer, Book, Caller, Event, Openness, Place, QueueName, READ_MAX, ReadBytes, Side, Turn,
+    chunk_count,
 };
 
 /// The streams of a pair, whether its slave is locked, the queues that are enabled, the number that the next ioctl gets,

@@ -1,5 +1,5 @@
 -- Each flush leaves what it doesn't take.
-use Rattle.std.proofs.Common.{◌≡◌, ◌<◌, sym, ap, subst, ◌∙◌, true, false, length, arith}
+use Rattle.std.proofs.Common.{◌<◌, sym, ap, ◌∙◌, true, false, length, arith}
 use Rattle.std.specs.Prelude.{None, Some}
 use Rattle.strm_types.specs.Emptied.{emptied}
 use Rattle.strm_blocks.specs.declared.asked.FlushWhat.{FlushWhat}
