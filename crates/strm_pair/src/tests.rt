@@ -9,7 +9,8 @@ use std::process::Abort;
 use std::test::Fail;
 use strm_blocks::{Blocks, TableStore};
 use strm_types::{
-    Answer, Band, Caller, Config, Event, FlushQueues, ModuleName, Place, QueueName, ReadBytes, Refusal, Side, Turn, Way,
+    Answer, Band, Caller, Config, Event, FlushQueues, ModuleName, Place, QueueName, ReadBytes,
+    Refusal, Side, Turn, Way,
 };
 
 const MASTER: Caller = Caller { side: Side::Master };
@@ -398,7 +399,13 @@ fn a_closed_master_hangs_the_slave_up(rt: HostRuntime) -> Result<(), Fail> {
 }
 
 const UNKNOWN: [Step<'static>; 6] = [
-    Step::Call(SLAVE, Event::Push { name: Some(ModuleName::Ldterm) }, INVALID),
+    Step::Call(
+        SLAVE,
+        Event::Push {
+            name: Some(ModuleName::Ldterm),
+        },
+        INVALID,
+    ),
     Step::Call(SLAVE, Event::Push { name: None }, INVALID),
     Step::Call(SLAVE, Event::Pop, INVALID),
     Step::Call(SLAVE, Event::Look, INVALID),

@@ -6,7 +6,8 @@ use crate::pair::kept::Kept;
 use std::alloc::{AllocError, Global};
 use std::collections::VecDeque;
 use strm_types::{
-    Answer, Band, Caller, Config, Entry, Event, FlushQueues, Openness, Place, QueueName, Refusal, Side, Turn,
+    Answer, Band, Caller, Config, Entry, Event, FlushQueues, Openness, Place, QueueName, Refusal,
+    Side, Turn,
 };
 
 // A queue: the sizes of its messages, the first one first, and all their bytes in order; its marks, whether it wants
@@ -213,7 +214,10 @@ fn is_wrong(side: Side, event: &Event<&[u8]>) -> bool {
     match event {
         Event::Unlock => side == Side::Slave,
         Event::Push { .. } => true,
-        Event::Flush { band: Some(band), .. } => band.0 > 7,
+        Event::Flush {
+            band: Some(band),
+            ..
+        } => band.0 > 7,
         _ => false,
     }
 }

@@ -9,7 +9,8 @@ use std::process::Abort;
 use std::test::Fail;
 use strm_blocks::Blocks;
 use strm_types::{
-    Band, Caller, Config, Entry, Event, FlushQueues, ModuleName, Place, QueueName, ReadBytes, Refusal, Side, Turn, Way,
+    Band, Caller, Config, Entry, Event, FlushQueues, ModuleName, Place, QueueName, ReadBytes,
+    Refusal, Side, Turn, Way,
 };
 
 // A pair, the model to which its journal has led, what the last read gave, the last random number, and how often what
@@ -123,13 +124,12 @@ fn what_of(x: u64) -> FlushQueues {
     }
 }
 
-// All bands, or some band, which may be none of a queue's; of band 0 and of all bands less often while queues fill.
+// All bands, or some band, which may be none of a queue's; not band 0, where all bytes are, while queues fill.
 fn band_of(x: u64, fills: bool) -> Option<Band> {
     let some = ((x >> 48) % 9) as u8;
     match (x >> 55) % 8 {
-        0 => None,
-        1 => Some(Band(0)),
-        2..=3 if !fills => None,
+        0..=3 if !fills => None,
+        4 if !fills => Some(Band(0)),
         _ => Some(Band(some.saturating_add(u8::from(fills)))),
     }
 }
@@ -263,7 +263,7 @@ impl<B: Blocks + Drop> Walk<B> {
     }
 
     fn opens(&mut self, x: u64) -> Result<bool, AllocError> {
-        let event = match (x >> 45) % 3 {
+        let event = match (x >> 45) % 6 {
             0 => Event::OpenMaster,
             1 => Event::Unlock,
             _ => Event::OpenSlave,
@@ -278,7 +278,7 @@ impl<B: Blocks + Drop> Walk<B> {
             0..=1 => self.calls(side, &Event::Push { name: name_of(x) }),
             2 => self.calls(side, &Event::Pop),
             3 => self.calls(side, &Event::Look),
-            4 if !fills => self.calls(Side::Slave, &Event::Shut),
+            4..=6 if !fills => self.calls(Side::Slave, &Event::Shut),
             _ => {
                 let flush = Event::Flush {
                     what: what_of(x),
