@@ -3,18 +3,9 @@ use Rattle.std.proofs.Common.{ℕ, zero, suc, ◌≡◌, ◌≤◌, ◌+◌, con
 use Rattle.std.specs.Prelude.{sum_by, slice_index_or}
 use Rattle.std.proofs.lemmas.Bool.Decides.{nat_tests}
 use Rattle.std.proofs.lemmas.List.Sums.{sum_by-cons}
-use Rattle.strm_blocks.specs.Blocks.{Block, Held, StoreValue, IsStore, list_at, names_of, references, total, used, free_m, free_d, zeros_below, missing}
+use Rattle.strm_blocks.specs.Blocks.{Block, Held, StoreValue, IsStore, list_at, names_of, references, total, used, free_m, free_d, zeros_below}
 use Rattle.strm_blocks.proofs.Laws.{references-is, used-is, free_m-is}
-
--- a message has a block at least, or it is missing one
-one-long : (q : List (List Block)) → length q ≤ sum_by length q + sum_by missing q
-one-long [] = omega arith
-one-long (c ∷ q) = omega (arith, one-long q, sum_by-cons (λ (x : List Block). length x) c q, sum_by-cons missing c q)
-
-all-long : (lists : List (List (List Block))) → sum_by length lists ≤ sum_by (λ q. sum_by length q) lists + sum_by (λ q. sum_by missing q) lists
-all-long [] = omega arith
-all-long (q ∷ lists) =
-    omega (arith, all-long lists, one-long q, sum_by-cons (λ (x : List (List Block)). length x) q lists, sum_by-cons (λ (x : List (List Block)). sum_by length x) q lists, sum_by-cons (λ (x : List (List Block)). sum_by missing x) q lists)
+use Rattle.strm_queue.proofs.Sizes.{all-long}
 
 -- the sum of a number over eight lists
 sum_from : (List (List Block) → ℕ) → List (List (List Block)) → ℕ → ℕ → ℕ
@@ -84,12 +75,3 @@ bare-free_m s bare = omega (arith, free_m-is s, used-is s, total-bare length s b
 pub bare-free_d : (s : StoreValue) → IsBare s → free_d s ≡ s.dblks
 unfolding free_d
 bare-free_d s bare = all-zero (references s) (λ d. references-is s d ∙ total-bare (names_of d) s bare) s.dblks
-
--- no list has more messages than blocks are in use
-list-long : (lists : List (List (List Block))) (k : ℕ) → length (slice_index_or lists k []) ≤ sum_by length lists
-list-long [] k = omega arith
-list-long (q ∷ lists) zero = omega (arith, sum_by-cons (λ (x : List (List Block)). length x) q lists)
-list-long (q ∷ lists) (suc k) = omega (arith, list-long lists k, sum_by-cons (λ (x : List (List Block)). length x) q lists)
-
-pub list-enough : (s : StoreValue) (k : ℕ) → IsStore s → length (list_at s k) ≤ used s
-list-enough s k is = omega (arith, list-long s.lists k, all-long s.lists, is.filled, used-is s)

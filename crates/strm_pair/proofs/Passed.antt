@@ -10,11 +10,11 @@ use Rattle.strm_queue.specs.Flows.{plain_flows}
 use Rattle.strm_queue.specs.Queues.{OnlyCounts}
 use Rattle.strm_queue.specs.Kept as kept
 use Rattle.strm_queue.specs.Kept.{AreCounted}
-use Rattle.strm_pair.specs.Stored.{queue_in, HoldsData, IsReady, PassedOn}
-use Rattle.strm_pair.proofs.Holding.{first-chain, rest-messages, first-data, rest-data, put-messages, put-data}
-use Rattle.strm_pair.proofs.Placed.{Landed, put-on}
-use Rattle.strm_pair.proofs.Queued.{put-queue}
-use Rattle.strm_pair.proofs.Gotten.{left, off, chain-is, before, behind}
+use Rattle.strm_queue.specs.Stored.{queue_in, HoldsData, IsReady, PassedOn}
+use Rattle.strm_queue.proofs.Holding.{first-chain, rest-messages, first-data, rest-data, put-messages, put-data}
+use Rattle.strm_queue.proofs.Placed.{Landed, put-on}
+use Rattle.strm_queue.proofs.Queued.{put-queue}
+use Rattle.strm_queue.proofs.Gotten.{left, off, chain-is, before, behind}
 
 -- a queue whose list stays is the same plain queue
 pub queue-same : (s t : StoreValue) (q : Queue) → list_at t q.list ≡ list_at s q.list → queue_in t q ≡ queue_in s q

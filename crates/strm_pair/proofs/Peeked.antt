@@ -12,9 +12,9 @@ use Rattle.strm_blocks.specs.declared.asked.Peek.{Peek}
 use Rattle.strm_msg.specs.Bytes.{data_bytes, data_blocks}
 use Rattle.strm_msg.specs.Messages.{message_of, IsChain, AreMessages}
 use Rattle.strm_msg.proofs.Chains.{bytes-sum}
-use Rattle.strm_pair.specs.Stored.{messages_on, HoldsData}
+use Rattle.strm_queue.specs.Stored.{messages_on, HoldsData}
 use Rattle.strm_pair.proofs.DataRead.{size-is}
-use Rattle.strm_pair.proofs.Holding.{first-chain, first-data}
+use Rattle.strm_queue.proofs.Holding.{first-chain, first-data}
 
 -- whether some bytes are seen
 pub body-some : (body : Option ℕ) (n : ℕ) → body ≡ Some n → true ≡ not (option_eq eqb body (Some 0)) → 0 < n

@@ -13,7 +13,7 @@ use Rattle.strm_blocks.proofs.Laws.{free_m-is}
 use Rattle.strm_msg.specs.Messages.{message_of}
 use Rattle.strm_msg.proofs.Chains.{rank-same}
 use Rattle.strm_pair.specs.declared.streams.Streams.{Streams}
-use Rattle.strm_pair.specs.Stored.{messages_on}
+use Rattle.strm_queue.specs.Stored.{messages_on}
 use Rattle.strm_pair.specs.Pairs.{state_in, free_in, AreHeld}
 use Rattle.strm_pair.specs.Pool.{IsPoolOf}
 use Rattle.strm_pair.proofs.FreeBlocks.{IsBare, used-enough, bare-free_m, bare-free_d}

@@ -14,9 +14,9 @@ use Rattle.strm_blocks.specs.declared.asked.Peek.{Peek}
 use Rattle.strm_msg.specs.Messages.{message_of, AreMessages}
 use Rattle.strm_queue.specs.Kept.{AreCounted}
 use Rattle.strm_pair.specs.declared.ends.End.{End}
-use Rattle.strm_pair.specs.Stored.{messages_on, HoldsData}
+use Rattle.strm_queue.specs.Stored.{messages_on, HoldsData}
 use Rattle.strm_pair.specs.Streams.{CanPass, Passes}
-use Rattle.strm_pair.proofs.Chains.{stopped-same, held-band, stopped-held}
+use Rattle.strm_queue.proofs.Chains.{stopped-same, held-band, stopped-held}
 use Rattle.strm_pair.proofs.Peeked.{seen-before, seen-chain}
 
 -- the message is stopped: it stays, and a writer waits for its band

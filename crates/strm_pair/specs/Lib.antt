@@ -1,5 +1,3 @@
-pub mod Stored
-pub mod Choices
 pub mod Reads
 pub mod Streams
 pub mod Journals

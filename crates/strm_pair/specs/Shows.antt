@@ -9,7 +9,7 @@ use Rattle.strm_types.specs.declared.names.QueueName.{QueueName}
 use Rattle.strm_types.specs.Queue.{count_of, is_full}
 use Rattle.strm_types.specs.State.{State, Stream, stream}
 use Rattle.strm_blocks.specs.Blocks.{StoreValue}
-use Rattle.strm_pair.specs.Stored.{messages_on}
+use Rattle.strm_queue.specs.Stored.{messages_on}
 
 -- Each list of the store, read along its chains, is the state's queue: the master's head and driver on the lists 0
 -- and 1, the slave's on 4 and 5. Nothing is in hand.

@@ -4,7 +4,7 @@ use Rattle.strm_types.specs.State.{Stream}
 use Rattle.strm_types.specs.Turns.{Served, driver_serves}
 use Rattle.strm_blocks.specs.Blocks.{StoreValue, list_at}
 use Rattle.strm_pair.specs.declared.ends.End.{End}
-use Rattle.strm_pair.specs.Stored.{queue_in, messages_on, IsReady, IsDataQueue, KeepsBoth}
+use Rattle.strm_queue.specs.Stored.{queue_in, messages_on, IsReady, IsDataQueue, KeepsBoth}
 
 -- the plain stream of a side
 abbrev pub stream_in : StoreValue → End → Stream ℕ

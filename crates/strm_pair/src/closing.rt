@@ -3,14 +3,14 @@
 ghost use Rattle.std.specs.Prelude.{◌≡◌, false};
 ghost use Rattle.strm_types.specs.Queue.{new_queue};
 ghost use Rattle.strm_queue.specs.declared.limits.TheConstants.{HEAD_HIGH, HEAD_LOW};
-ghost use Rattle.strm_pair.specs.Stored.{queue_in, IsReady, Keeps};
+ghost use Rattle.strm_queue.specs.Stored.{queue_in, IsReady, Keeps};
 ghost use Rattle.strm_types.specs.Emptied.{head_behind, driver_behind, reached, write_flushed, read_flushed, flushed_on, closed_at};
-ghost use Rattle.strm_pair.specs.Choices.{choice_of, IsChoice};
+ghost use Rattle.strm_queue.specs.Choices.{choice_of, IsChoice};
 
-use crate::emptying::{Chosen, empty};
 use crate::ends::End;
 use crate::streams::Streams;
 use strm_blocks::Blocks;
+use strm_queue::emptying::{Chosen, empty};
 use strm_queue::{Flush, HEAD_HIGH, HEAD_LOW, Queue};
 use strm_types::{FlushQueues, Openness, Side};
 

@@ -3,9 +3,7 @@
 #![tactic(auto)]
 
 mod closing;
-mod emptying;
 mod ends;
-mod flows;
 mod journal;
 mod looking;
 mod pair;

@@ -4,9 +4,9 @@ ghost use Rattle.std.specs.Prelude.{ℕ, ◌≡◌, ◌<◌, length};
 ghost use Rattle.strm_types.specs.Queue.{bytes_of};
 ghost use Rattle.strm_pair.specs.Shows.{count_at, full_at, messages_at};
 
-use crate::flows::{count, is_full, sizes};
 use crate::streams::Streams;
 use strm_blocks::Blocks;
+use strm_queue::standing::{count, is_full, sizes};
 use strm_types::{BANDS, Band, Place, QueueName, Way};
 
 impl Streams {

@@ -3,14 +3,14 @@
 ghost use Rattle.std.specs.Prelude.{◌≡◌, ◌≢◌, false};
 ghost use Rattle.strm_types.specs.Turns.{goes_on, is_none_left};
 ghost use Rattle.strm_blocks.specs.Blocks.{list_at};
-ghost use Rattle.strm_pair.specs.Stored.{queue_in, IsReady, PassedOn, MovedOn};
+ghost use Rattle.strm_queue.specs.Stored.{queue_in, IsReady, PassedOn, MovedOn};
 ghost use Rattle.strm_pair.specs.Streams.{stream_in, served_in, CanPass, Passes};
 
 use crate::ends::End;
-use crate::flows::{is_stopped, relieve};
 use strm_blocks::Blocks;
 use strm_msg::message_size;
 use strm_queue::Queue;
+use strm_queue::standing::{is_stopped, relieve};
 use strm_types::Turn;
 
 // Takes the first message of a queue to another one, and says how many bytes it has.

@@ -7,14 +7,14 @@ ghost use Rattle.strm_types.specs.Calls.{queue_after, lets_go};
 ghost use Rattle.strm_blocks.specs.Blocks.{IsInHand, in_hand, changed};
 ghost use Rattle.strm_msg.specs.Bytes.{data_bytes};
 ghost use Rattle.strm_msg.specs.Taken.{without_data};
-ghost use Rattle.strm_pair.specs.Stored.{queue_in, messages_on, IsDataQueue, Keeps, SameFlags};
+ghost use Rattle.strm_queue.specs.Stored.{queue_in, messages_on, IsDataQueue, Keeps, SameFlags};
 ghost use Rattle.strm_pair.specs.Reads.{Ends, GoesOn};
 
-use crate::flows::relieve;
 use arrayvec::ArrayVec;
 use strm_blocks::Blocks;
 use strm_msg::{msgdsize, take_data};
 use strm_queue::Queue;
+use strm_queue::standing::relieve;
 
 // Whether a message of so many bytes ends a read of so many: it has none, or more than are wanted.
 fn ends_read(len: usize, wanted: usize) -> bool

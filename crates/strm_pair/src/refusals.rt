@@ -9,9 +9,9 @@ ghost use Rattle.strm_types.specs.Names.{is_open};
 ghost use Rattle.strm_types.specs.State.{stream};
 
 use crate::ends::End;
-use crate::flows::is_full;
 use crate::streams::Streams;
 use strm_blocks::Blocks;
+use strm_queue::standing::is_full;
 use strm_types::{
     BANDS, Band, CHANGE_BLOCKS, CLOSE_BLOCKS, Caller, Event, ModuleName, Openness, READ_MAX,
     Refusal, Side, WRITE_BLOCKS, chunk_count,

@@ -5,12 +5,12 @@ ghost use Rattle.strm_types.specs.Message.{data_message};
 ghost use Rattle.strm_types.specs.Queue.{put_on, put_enables};
 ghost use Rattle.strm_types.specs.Write.{sent, chunks_of};
 ghost use Rattle.strm_blocks.specs.Blocks.{free_m, free_d};
-ghost use Rattle.strm_pair.specs.Stored.{queue_in, IsReady, Keeps};
+ghost use Rattle.strm_queue.specs.Stored.{queue_in, IsReady, Keeps};
 
-use crate::flows::is_full;
 use strm_blocks::Blocks;
 use strm_msg::from_bytes;
 use strm_queue::Queue;
+use strm_queue::standing::is_full;
 use strm_types::{Band, MsgKind};
 
 /// What a queue has taken of a write: how many bytes, and whether it is to be enabled.

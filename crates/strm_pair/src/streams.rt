@@ -13,13 +13,13 @@ ghost use Rattle.strm_blocks.specs.Blocks.{StoreValue, free_m, free_d, empty_sto
 ghost use Rattle.strm_pair.specs.Streams.{IsBlank, IsSide, stream_in};
 ghost use Rattle.strm_pair.specs.PlainCalls.{wrote_plain, read_some, read_plain};
 
-use crate::emptying::Chosen;
 use crate::ends::End;
 use crate::passing::{goes_on, serve};
 use crate::reading::read;
 use crate::sending::send;
 use strm_blocks::Blocks;
 use strm_frame::Enabled;
+use strm_queue::emptying::Chosen;
 use strm_queue::{Flush, HEAD_HIGH, HEAD_LOW, OTHER_HIGH, OTHER_LOW, Queue};
 use strm_types::{
     Answer, Book, Caller, Event, Openness, Place, QueueName, READ_MAX, ReadBytes, Side, Turn,

@@ -5,3 +5,15 @@ pub mod Stored
 pub mod Flushed
 pub mod Serving
 pub mod Marks
+pub mod Chains
+pub mod FlowControl
+pub mod Placed
+pub mod Holding
+pub mod Unheld
+pub mod Gotten
+pub mod Leaving
+pub mod Sizes
+pub mod Kept
+pub mod Queued
+pub mod OneMade
+pub mod Renewed

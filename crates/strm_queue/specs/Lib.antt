@@ -3,3 +3,5 @@ pub mod Flushes
 pub mod Kept
 pub mod Queues
 pub mod Order
+pub mod Stored
+pub mod Choices

@@ -2,12 +2,14 @@
 //! flushq(9F), flushband(9F), canput(9F). A queue is a list of a store with its counts, marks and flags beside it.
 #![tactic(auto)]
 
+pub mod emptying;
 mod flow;
 mod flush;
 mod limits;
 mod order;
 mod queue;
 mod share;
+pub mod standing;
 
 pub use flow::Flow;
 pub use flush::Flush;

@@ -1,7 +1,7 @@
 -- The message that is taken is the one that is put.
 use Rattle.std.proofs.Common.{arith, rules}
 use Rattle.std.proofs.lemmas.Grind.{common_steps}
-use Rattle.strm_pair.proofs.Gotten.{has-list}
+use Rattle.strm_queue.proofs.Gotten.{has-list}
 use Rattle.strm_pair.proofs.Passed.{passed, still-counted, low-first}
 use Rattle.strm_pair.proofs.passing.pass_on.Goals as goal
 

@@ -4,7 +4,7 @@ use Rattle.strm_types.specs.State.{with_head_queue, with_driver_queue}
 use Rattle.strm_types.specs.declared.answers.Turn.TheVariants.{Moved}
 use Rattle.strm_types.specs.Turns.{Served, driver_serves}
 use Rattle.strm_blocks.specs.Blocks.{list_at}
-use Rattle.strm_pair.specs.Stored.{queue_in, messages_on}
+use Rattle.strm_queue.specs.Stored.{queue_in, messages_on}
 use Rattle.strm_pair.specs.Streams.{stream_in}
 use Rattle.strm_pair.proofs.Passed.{queue-same, waits-queue}
 use Rattle.strm_pair.proofs.StreamLemmas.{seen-stops, seen-moves, seen-low, serves-moved, passes-none}

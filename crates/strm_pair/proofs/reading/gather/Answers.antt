@@ -1,7 +1,7 @@
 -- Where nothing more is wanted, nothing more is gathered.
 use Rattle.std.proofs.Common.{◌≡◌, ◌++◌, ℕ, sym, ap, ◌∙◌, arith, append-nil}
 use Rattle.strm_types.specs.Head.{Taken, gathered}
-use Rattle.strm_pair.specs.Stored.{messages_on}
+use Rattle.strm_queue.specs.Stored.{messages_on}
 use Rattle.strm_pair.proofs.DataLemmas.{gathered-none}
 use Rattle.strm_pair.proofs.reading.gather.Goals as goal
 

@@ -1,6 +1,6 @@
 use Rattle.std.proofs.Common.{◌≡◌, ◌≤◌, ◌+◌, ◌++◌, length}
 use Rattle.strm_types.specs.Head.{gathered}
-use Rattle.strm_pair.specs.Stored.{messages_on, Keeps, SameFlags}
+use Rattle.strm_queue.specs.Stored.{messages_on, Keeps, SameFlags}
 use Rattle.strm_pair.proofs.reading.gather.Given as goal
 
 abbrev pub invariant-loop-wanted : goal.invariant-loop-wanted

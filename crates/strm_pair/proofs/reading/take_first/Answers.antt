@@ -6,10 +6,10 @@ use Rattle.strm_types.specs.Message.{size_of}
 use Rattle.strm_blocks.specs.Blocks.{list_at, placed, dropped, put_back, in_hand}
 use Rattle.strm_msg.specs.Bytes.{data_bytes}
 use Rattle.strm_msg.specs.Messages.{message_of, AreMessages}
-use Rattle.strm_pair.specs.Stored.{messages_on}
+use Rattle.strm_queue.specs.Stored.{messages_on}
 use Rattle.strm_pair.proofs.DataRead.{cells-are, size-is, sized, stays-first}
 use Rattle.strm_pair.proofs.TakenFirst.{ends, goes-on}
-use Rattle.strm_pair.proofs.Gotten.{has-list, chain-is, before, behind, trimmed, freed-less, one, kind, back, back-messages, freed-keeps, back-keeps}
+use Rattle.strm_queue.proofs.Gotten.{has-list, chain-is, before, behind, trimmed, freed-less, one, kind, back, back-messages, freed-keeps, back-keeps}
 use Rattle.strm_pair.proofs.reading.take_first.Goals as goal
 
 pub returns-then-ends_read-clause-took : goal.returns-then-ends_read-clause-took

@@ -3,9 +3,9 @@ use Rattle.std.proofs.Common.{◌≡◌, ◌∙◌, [], map, sym, ap, rules}
 use Rattle.strm_types.specs.Message.{size_of}
 use Rattle.strm_types.specs.Head.{gathered, head_read}
 use Rattle.strm_msg.specs.Messages.{message_of}
-use Rattle.strm_pair.specs.Stored.{messages_on}
+use Rattle.strm_queue.specs.Stored.{messages_on}
 use Rattle.strm_pair.proofs.DataLemmas.{head_read-empty, head_read-some}
-use Rattle.strm_pair.proofs.Gotten.{has-list, before, behind, freed, freed-keeps}
+use Rattle.strm_queue.proofs.Gotten.{has-list, before, behind, freed, freed-keeps}
 use Rattle.strm_pair.proofs.Peeked.{body-some, body-none, seen-body, seen-before, seen-same}
 use Rattle.strm_pair.proofs.reading.takes_empty.Goals as goal
 

@@ -4,7 +4,7 @@ use Rattle.std.specs.Prelude.{◌||◌}
 use Rattle.strm_types.specs.Message.{data_message}
 use Rattle.strm_types.specs.Queue.{put_enables}
 use Rattle.strm_types.specs.Write.{Sent}
-use Rattle.strm_pair.specs.Stored.{queue_in}
+use Rattle.strm_queue.specs.Stored.{queue_in}
 use Rattle.strm_pair.proofs.DataLemmas.{sent-more, front-256, back-256}
 use Rattle.strm_pair.proofs.sending.+send.Goals as goal
 

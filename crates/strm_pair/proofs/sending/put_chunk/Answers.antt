@@ -4,10 +4,10 @@ use Rattle.std.proofs.lemmas.Grind.{common_steps}
 use Rattle.strm_types.specs.Queue.{put_enables}
 use Rattle.strm_blocks.specs.Blocks.{in_hand}
 use Rattle.strm_queue.specs.Kept.{AreCounted}
-use Rattle.strm_pair.specs.Stored.{queue_in}
-use Rattle.strm_pair.proofs.Chains.{enables-same}
-use Rattle.strm_pair.proofs.OneMade.{one-made, chunk-one}
-use Rattle.strm_pair.proofs.Queued.{sent-takes_m, sent-takes_d, sent-queue, sent-keeps, low-band, list-within, list-made}
+use Rattle.strm_queue.specs.Stored.{queue_in}
+use Rattle.strm_queue.proofs.Chains.{enables-same}
+use Rattle.strm_queue.proofs.OneMade.{one-made, chunk-one}
+use Rattle.strm_queue.proofs.Queued.{sent-takes_m, sent-takes_d, sent-queue, sent-keeps, low-band, list-within, list-made}
 use Rattle.strm_pair.proofs.sending.put_chunk.Goals as goal
 
 pub unreachable-requires : goal.unreachable-requires

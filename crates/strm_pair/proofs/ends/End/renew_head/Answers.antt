@@ -1,7 +1,7 @@
 -- The list is emptied, and a queue as new stands on it.
 use Rattle.std.proofs.Common.{◌<◌, length, ap, ◌∙◌, arith}
 use Rattle.strm_blocks.specs.Blocks.{list_at}
-use Rattle.strm_pair.proofs.Opened.{fresh-queue, cleared, renewed-keeps}
+use Rattle.strm_queue.proofs.Renewed.{fresh-queue, cleared, renewed-keeps}
 use Rattle.strm_pair.proofs.ends.End.renew_head.Goals as goal
 
 pub returns-clause-queue : goal.returns-clause-queue

@@ -1,7 +1,7 @@
 -- The slave's driver has M_DATA messages alone.
 use Rattle.std.proofs.Common.{sym, ◌∙◌}
 use Rattle.strm_blocks.specs.Blocks.{list_at}
-use Rattle.strm_pair.proofs.Unheld.{unheld}
+use Rattle.strm_queue.proofs.Unheld.{unheld}
 use Rattle.strm_pair.proofs.streams.Streams.is_at_end.Goals as goal
 
 pub returns-then-is_closed : goal.returns-then-is_closed

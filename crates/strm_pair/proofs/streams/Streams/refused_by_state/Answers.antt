@@ -1,6 +1,6 @@
 use Rattle.std.proofs.Common.{subst, sym, rules}
 use Rattle.strm_pair.specs.declared.ends.End.{End}
-use Rattle.strm_pair.specs.Stored.{IsReady}
+use Rattle.strm_queue.specs.Stored.{IsReady}
 use Rattle.strm_pair.proofs.Sides.{driver-ready}
 use Rattle.strm_pair.proofs.streams.Streams.refused_by_state.Goals as goal
 

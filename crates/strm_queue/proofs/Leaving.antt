@@ -15,9 +15,9 @@ use Rattle.strm_queue.specs.declared.queue.Queue.{Queue}
 use Rattle.strm_queue.specs.Flows.{plain_flows}
 use Rattle.strm_queue.specs.Kept.{AreCounted}
 use Rattle.strm_queue.proofs.Counted.{all-kept}
-use Rattle.strm_pair.specs.Stored.{queue_in, messages_on, HoldsData, IsReady, Keeps}
-use Rattle.strm_pair.proofs.Holding.{IsData}
-use Rattle.strm_pair.proofs.Placed.{Landed, landed, keeps-landed}
+use Rattle.strm_queue.specs.Stored.{queue_in, messages_on, HoldsData, IsReady, Keeps}
+use Rattle.strm_queue.proofs.Holding.{IsData}
+use Rattle.strm_queue.proofs.Placed.{Landed, landed, keeps-landed}
 
 -- which messages a flush takes
 abbrev chosen_by : FlushWhat → Choice

@@ -7,7 +7,7 @@ use Rattle.strm_blocks.proofs.Laws.{dropped-held, in_hand-held, total-placed, to
 use Rattle.strm_msg.specs.Messages.{AreMessages}
 use Rattle.strm_queue.specs.declared.queue.Queue.{Queue}
 use Rattle.strm_queue.specs.Kept.{AreCounted}
-use Rattle.strm_pair.specs.Stored.{HoldsData, IsReady, Keeps}
+use Rattle.strm_queue.specs.Stored.{HoldsData, IsReady, Keeps}
 
 -- one list of a store is this one now, and nothing else changed
 pub record Landed (s new : StoreValue) (k : ℕ) (list : List (List Block)) : Type 0 where

@@ -5,7 +5,7 @@ use Rattle.strm_types.proofs.Ranked.{Ordered-put, Ordered-put_back}
 use Rattle.strm_blocks.specs.Blocks.{Block, block_at, rank_of, put, put_back}
 use Rattle.strm_msg.specs.Messages.{IsChain, AreMessages}
 use Rattle.strm_queue.proofs.Counted.{all-put, all-put_back}
-use Rattle.strm_pair.specs.Stored.{HoldsData}
+use Rattle.strm_queue.specs.Stored.{HoldsData}
 
 abbrev pub IsData : List Block → Type 0
 IsData chain = (block_at 0 chain).kind ≡ kinds.Data

@@ -12,8 +12,8 @@ use Rattle.strm_queue.specs.Flows.{plain_flow, plain_flows, count_in}
 use Rattle.strm_queue.specs.Kept as kept
 use Rattle.strm_queue.specs.Kept.{flow_at, AreCounted}
 use Rattle.strm_queue.proofs.Counted.{count-kept}
-use Rattle.strm_pair.specs.Stored.{queue_in, messages_on, IsReady}
-use Rattle.strm_pair.proofs.Chains.{count-same}
+use Rattle.strm_queue.specs.Stored.{queue_in, messages_on, IsReady}
+use Rattle.strm_queue.proofs.Chains.{count-same}
 
 -- the kept count of a band
 pub counts : (s : StoreValue) (q : Queue) → IsReady s q → (band : ℕ) → band < 8 → count_in (flow_at band q.flows) ≡ plain.count_of band (messages_on s q.list)

@@ -3,17 +3,18 @@
 ghost use Rattle.std.specs.Prelude.{◌≡◌, true};
 ghost use Rattle.strm_types.specs.Refused.{is_a_band};
 ghost use Rattle.strm_types.specs.Emptied.{of_data, emptied, queue_behind, writer_goes};
-ghost use Rattle.strm_pair.specs.Stored.{queue_in, IsReady, Keeps};
-ghost use Rattle.strm_pair.specs.Choices.{choice_of, IsChoice};
+ghost use Rattle.strm_queue.specs.Stored.{queue_in, IsReady, Keeps};
+ghost use Rattle.strm_queue.specs.Choices.{choice_of, IsChoice};
 
-use crate::flows::{relieve, total};
+use crate::flush::Flush;
+use crate::queue::Queue;
+use crate::standing::{relieve, total};
 use strm_blocks::Blocks;
-use strm_queue::{Flush, Queue};
 use strm_types::Band;
 
 /// Which messages go: all, those of data, or those of data of one band, from 0 to 7.
 #[derive(Clone, Copy)]
-pub(crate) enum Chosen {
+pub enum Chosen {
     All,
     Data,
     Of(Band),
@@ -50,7 +51,7 @@ fn drop_chosen<B: Blocks>(store: &mut B, queue: &mut Queue, chosen: Chosen)
 }
 
 /// Takes messages off a queue, and says whether that lets a waiting writer go.
-pub(crate) fn empty<B: Blocks>(store: &mut B, queue: &mut Queue, chosen: Chosen) -> bool
+pub fn empty<B: Blocks>(store: &mut B, queue: &mut Queue, chosen: Chosen) -> bool
     requires ready { IsReady (B.value store.old) queue.old }
     requires valid { IsChoice chosen }
     ensures queue { queue_in (B.value store.new) queue.new

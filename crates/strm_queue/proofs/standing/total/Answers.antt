@@ -1,8 +1,8 @@
 -- The bytes of the chains are those of the messages.
 use Rattle.std.proofs.Common.{◌∙◌}
 use Rattle.strm_blocks.specs.Blocks.{list_at}
-use Rattle.strm_pair.proofs.Sizes.{bytes-same}
-use Rattle.strm_pair.proofs.flows.total.Goals as goal
+use Rattle.strm_queue.proofs.Sizes.{bytes-same}
+use Rattle.strm_queue.proofs.standing.total.Goals as goal
 
 pub returns : goal.returns
 returns g c =

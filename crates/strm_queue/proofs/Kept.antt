@@ -2,7 +2,7 @@
 use Rattle.std.proofs.Common.{refl, ◌∙◌}
 use Rattle.strm_blocks.specs.Blocks.{StoreValue}
 use Rattle.strm_queue.specs.declared.queue.Queue.{Queue}
-use Rattle.strm_pair.specs.Stored.{IsReady, Keeps, SameFlags}
+use Rattle.strm_queue.specs.Stored.{IsReady, Keeps, SameFlags}
 
 pub keeps-none : (s : StoreValue) (q : Queue) → IsReady s q → Keeps s s q q
 keeps-none s q ready = record { ready = ready; data_only = λ d. d; list = refl; others = λ k apart. refl; hand = refl; mblks = refl; dblks = refl }

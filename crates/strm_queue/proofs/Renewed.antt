@@ -1,19 +1,23 @@
 -- A queue as new.
-use Rattle.std.proofs.Common.{ℕ, ◌≡◌, ◌<◌, true, false, [], length, refl, sym, ap, subst, ◌∙◌}
+use Rattle.std.proofs.Common.{ℕ, ◌≡◌, ◌<◌, true, false, List, [], ◌∷◌, length, refl, sym, ap, subst, ◌∙◌}
 use Rattle.std.specs.Prelude.{None, replicate}
 use Rattle.strm_types.specs.Queue as plain
-use Rattle.strm_blocks.specs.Blocks.{StoreValue, list_at, placed}
+use Rattle.strm_blocks.specs.Blocks.{Block, StoreValue, list_at, placed}
 use Rattle.strm_blocks.specs.Outcomes.{flushed}
 use Rattle.strm_queue.specs.declared.queue.Queue.{Queue}
 use Rattle.strm_queue.specs.Flows.{plain_flows}
 use Rattle.strm_queue.specs.Kept.{AreCounted}
-use Rattle.strm_pair.specs.Stored.{queue_in, Keeps}
-use Rattle.strm_pair.proofs.Placed.{Landed, landed, keeps-landed}
-use Rattle.strm_pair.proofs.Sides.{all-flushed}
+use Rattle.strm_queue.specs.Stored.{queue_in, Keeps}
+use Rattle.strm_queue.proofs.Placed.{Landed, landed, keeps-landed}
 
 -- a queue as new, on an empty list
 pub fresh-queue : (s : StoreValue) (q : Queue) (high low : ℕ) → list_at s q.list ≡ [] → plain_flows q.flows ≡ replicate 8 (record { high = high; low = low; want_write = false }) → q.want_read ≡ true → q.no_enable ≡ false → queue_in s q ≡ plain.new_queue high low
 fresh-queue s q high low empty flows want_read no_enable = rw (empty, flows, want_read, no_enable) refl
+
+-- a flush of all leaves nothing
+all-flushed : (q : List (List Block)) → flushed (record { all = true; band = None }) q ≡ []
+all-flushed [] = refl
+all-flushed (chain ∷ q) = all-flushed q
 
 -- the store whose list was emptied
 pub cleared : (s new : StoreValue) (k : ℕ) → k < length s.lists → new ≡ placed s k (flushed (record { all = true; band = None }) (list_at s k)) → Landed s new k []

@@ -1,8 +1,8 @@
 -- The kept flag is that of the messages on the list.
 use Rattle.std.proofs.Common.{◌∙◌, rules}
 use Rattle.strm_blocks.specs.Blocks.{list_at}
-use Rattle.strm_pair.proofs.FlowControl.{full-same}
-use Rattle.strm_pair.proofs.flows.is_full.Goals as goal
+use Rattle.strm_queue.proofs.FlowControl.{full-same}
+use Rattle.strm_queue.proofs.standing.is_full.Goals as goal
 
 pub returns : goal.returns
 returns g c =

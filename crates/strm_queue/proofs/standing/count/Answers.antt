@@ -1,8 +1,8 @@
 -- The kept count is that of the messages on the list.
 use Rattle.std.proofs.Common.{◌∙◌}
 use Rattle.strm_blocks.specs.Blocks.{list_at}
-use Rattle.strm_pair.proofs.Chains.{count-same}
-use Rattle.strm_pair.proofs.flows.count.Goals as goal
+use Rattle.strm_queue.proofs.Chains.{count-same}
+use Rattle.strm_queue.proofs.standing.count.Goals as goal
 
 pub returns : goal.returns
 returns g c =

@@ -1,4 +1,5 @@
-//! Flow control of a pair's queues: what is full, and who is let go (STREAMS Programming Guide, "Flow Control").
+//! A queue beside its store, as the plain messages that stand there: what is counted and full, and who is let go (STREAMS
+//! Programming Guide, "Flow Control").
 
 ghost use Rattle.std.specs.Prelude.{◌≡◌, ◌<◌, ◌+◌, ◌-◌, ◌^◌, ◌&&◌, min, true, length, List};
 ghost use Rattle.strm_types.specs.Message.{is_held};
@@ -6,14 +7,14 @@ ghost use Rattle.strm_types.specs.Queue.{bytes_of, count_of, is_full, relieved, 
 ghost use Rattle.strm_blocks.specs.Blocks.{Block, StoreValue};
 ghost use Rattle.strm_queue.specs.Kept.{AreCounted};
 ghost use Rattle.strm_queue.specs.Queues.{OnlyCounts};
-ghost use Rattle.strm_pair.specs.Stored.{queue_in, messages_on, IsReady};
+ghost use Rattle.strm_queue.specs.Stored.{queue_in, messages_on, IsReady};
 
+use crate::queue::Queue;
 use strm_blocks::{Blocks, Peek, Visitor};
-use strm_queue::Queue;
 use strm_types::{Band, MsgKind};
 
 /// How many bytes count in a band of a queue.
-pub(crate) fn count<B: Blocks>(store: &B, queue: &Queue, band: Band) -> usize
+pub fn count<B: Blocks>(store: &B, queue: &Queue, band: Band) -> usize
     requires ready { IsReady (B.value store.now) queue.now }
     requires band { band.0 < 8 }
     ensures { result ≡ count_of band.0 (messages_on (B.value store.now) queue.now.list) }
@@ -24,11 +25,11 @@ pub(crate) fn count<B: Blocks>(store: &B, queue: &Queue, band: Band) -> usize
 
 // Counts messages.
 #[derive(Drop)]
-struct Counted {
+struct MessageCount {
     messages: usize,
 }
 
-impl Visitor for Counted {
+impl Visitor for MessageCount {
     ghost after = { λ v p. record { messages = min (v.messages + 1) (2 ^ 64 - 1) } };
 
     ghost goes_on = { λ v. true };
@@ -40,7 +41,7 @@ impl Visitor for Counted {
 }
 
 /// How many bytes stand on a queue.
-pub(crate) fn total<B: Blocks>(store: &B, queue: &Queue) -> usize
+pub fn total<B: Blocks>(store: &B, queue: &Queue) -> usize
     requires { IsReady (B.value store.now) queue.now }
     ensures { result ≡ bytes_of (messages_on (B.value store.now) queue.now.list) }
 {
@@ -49,19 +50,19 @@ pub(crate) fn total<B: Blocks>(store: &B, queue: &Queue) -> usize
 }
 
 /// How many messages stand on a queue, and how many bytes they have. The cost is a step for each block of them.
-pub(crate) fn sizes<B: Blocks>(store: &B, queue: &Queue) -> (usize, usize)
+pub fn sizes<B: Blocks>(store: &B, queue: &Queue) -> (usize, usize)
     requires ready { IsReady (B.value store.now) queue.now }
     ensures messages { result.0 ≡ length (messages_on (B.value store.now) queue.now.list) }
     ensures bytes { result.1 ≡ bytes_of (messages_on (B.value store.now) queue.now.list) }
 {
     store.audit();
-    let mut counted = Counted { messages: 0 };
+    let mut counted = MessageCount { messages: 0 };
     store.visit(queue.list, &mut counted);
     (counted.messages, total(store, queue))
 }
 
 /// Whether a band of a queue is full: its count is at or above its high-water mark.
-pub(crate) fn is_full<B: Blocks>(store: &B, queue: &Queue, band: Band) -> bool
+pub fn is_full<B: Blocks>(store: &B, queue: &Queue, band: Band) -> bool
     requires ready { IsReady (B.value store.now) queue.now }
     requires band { band.0 < 8 }
     ensures { result ≡ is_full band.0 (queue_in (B.value store.now) queue.now) }
@@ -71,7 +72,7 @@ pub(crate) fn is_full<B: Blocks>(store: &B, queue: &Queue, band: Band) -> bool
 }
 
 /// Whether flow control stops a message of this kind and band at a queue.
-pub(crate) fn is_stopped<B: Blocks>(store: &B, queue: &Queue, kind: MsgKind, band: Band) -> bool
+pub fn is_stopped<B: Blocks>(store: &B, queue: &Queue, kind: MsgKind, band: Band) -> bool
     requires ready { IsReady (B.value store.now) queue.now }
     requires band { band.0 < 8 }
     ensures { result ≡ (is_held kind && is_full band.0 (queue_in (B.value store.now) queue.now)) }
@@ -80,7 +81,7 @@ pub(crate) fn is_stopped<B: Blocks>(store: &B, queue: &Queue, kind: MsgKind, ban
 }
 
 /// Lets waiting writers go where the count has come down to the low-water mark, and says whether one was.
-pub(crate) fn relieve(queue: &mut Queue) -> bool
+pub fn relieve(queue: &mut Queue) -> bool
     ensures queue { (s : StoreValue) → IsReady s queue.old → queue_in s queue.new ≡ relieved (queue_in s queue.old) }
     ensures went { (s : StoreValue) → IsReady s queue.old → result ≡ relieves (queue_in s queue.old) }
     ensures counted { (q : List (List Block)) → AreCounted queue.old.flows q → AreCounted queue.new.flows q }

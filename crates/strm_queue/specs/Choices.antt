@@ -2,8 +2,8 @@
 use Rattle.std.specs.Prelude.{◌<◌, None, Some}
 use Rattle.strm_types.specs.declared.limits.TheConstants.{BANDS}
 use Rattle.strm_types.specs.Emptied.{Choice, of_all, of_data}
-use Rattle.strm_pair.specs.declared.emptying.Chosen.{Chosen}
-use Rattle.strm_pair.specs.declared.emptying.Chosen.TheVariants.{All, Data, Of}
+use Rattle.strm_queue.specs.declared.emptying.Chosen.{Chosen}
+use Rattle.strm_queue.specs.declared.emptying.Chosen.TheVariants.{All, Data, Of}
 
 abbrev pub choice_of : Chosen → Choice
 choice_of All = of_all

@@ -3,11 +3,11 @@ use Rattle.std.proofs.Common.{◌<◌, sym, ap, ◌∙◌, true, false, length, 
 use Rattle.std.specs.Prelude.{None, Some}
 use Rattle.strm_types.specs.Emptied.{emptied}
 use Rattle.strm_blocks.specs.declared.asked.FlushWhat.{FlushWhat}
-use Rattle.strm_pair.specs.declared.emptying.Chosen.{Chosen}
-use Rattle.strm_pair.specs.Choices.{choice_of}
-use Rattle.strm_pair.specs.Stored.{queue_in}
-use Rattle.strm_pair.proofs.Leaving.{emptied-queue, emptied-keeps}
-use Rattle.strm_pair.proofs.emptying.drop_chosen.Goals as goal
+use Rattle.strm_queue.specs.declared.emptying.Chosen.{Chosen}
+use Rattle.strm_queue.specs.Choices.{choice_of}
+use Rattle.strm_queue.specs.Stored.{queue_in}
+use Rattle.strm_queue.proofs.Leaving.{emptied-queue, emptied-keeps}
+use Rattle.strm_queue.proofs.emptying.drop_chosen.Goals as goal
 
 abbrev all : FlushWhat
 all = record { all = true; band = None }

@@ -12,11 +12,11 @@ use Rattle.strm_queue.specs.Flows.{plain_flows}
 use Rattle.strm_queue.specs.Queues.{OnlyCounts}
 use Rattle.strm_queue.specs.Kept as kept
 use Rattle.strm_queue.specs.Kept.{AreCounted}
-use Rattle.strm_pair.specs.Stored.{messages_on, queue_in, IsReady, Keeps}
-use Rattle.strm_pair.proofs.Chains.{band-same}
-use Rattle.strm_pair.proofs.Holding.{put-messages, put-data}
-use Rattle.strm_pair.proofs.Placed.{Landed, put-is, put-on, keeps-landed, same-free_m, same-free_d}
-use Rattle.strm_pair.proofs.OneMade.{OneMade}
+use Rattle.strm_queue.specs.Stored.{messages_on, queue_in, IsReady, Keeps}
+use Rattle.strm_queue.proofs.Chains.{band-same}
+use Rattle.strm_queue.proofs.Holding.{put-messages, put-data}
+use Rattle.strm_queue.proofs.Placed.{Landed, put-is, put-on, keeps-landed, same-free_m, same-free_d}
+use Rattle.strm_queue.proofs.OneMade.{OneMade}
 
 -- the plain queue is that of the messages, the flows and the flags
 pub queue-by : (s new : StoreValue) (q q' : Queue) (messages : List (Message ℕ)) → q'.list ≡ q.list → messages_on new q.list ≡ messages → plain_flows q'.flows ≡ plain_flows q.flows → q'.want_read ≡ q.want_read → q'.no_enable ≡ q.no_enable

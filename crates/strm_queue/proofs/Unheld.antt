@@ -9,7 +9,7 @@ use Rattle.strm_types.specs.Turns.{is_none_left}
 use Rattle.strm_blocks.specs.Blocks.{Block}
 use Rattle.strm_msg.specs.Messages.{message_of}
 use Rattle.strm_msg.proofs.Chains.{kind-is}
-use Rattle.strm_pair.specs.Stored.{HoldsData}
+use Rattle.strm_queue.specs.Stored.{HoldsData}
 
 data-held : is_held kinds.Data ≡ true
 unfolding is_held

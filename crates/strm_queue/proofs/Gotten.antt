@@ -11,9 +11,9 @@ use Rattle.strm_msg.specs.Messages.{message_of, IsChain, AreMessages}
 use Rattle.strm_msg.proofs.Chains.{chain-without, kind-without, rest-without, put_back-chains}
 use Rattle.strm_queue.specs.declared.queue.Queue.{Queue}
 use Rattle.strm_queue.specs.Kept.{AreCounted}
-use Rattle.strm_pair.specs.Stored.{messages_on, HoldsData, IsReady, IsDataQueue, Keeps}
-use Rattle.strm_pair.proofs.Holding.{put_back-messages, put_back-data, first-chain, rest-messages, first-data, rest-data}
-use Rattle.strm_pair.proofs.Placed.{Landed, landed, landed-again, keeps-landed, put-back-on, changed-held}
+use Rattle.strm_queue.specs.Stored.{messages_on, HoldsData, IsReady, IsDataQueue, Keeps}
+use Rattle.strm_queue.proofs.Holding.{put_back-messages, put_back-data, first-chain, rest-messages, first-data, rest-data}
+use Rattle.strm_queue.proofs.Placed.{Landed, landed, landed-again, keeps-landed, put-back-on, changed-held}
 
 -- a store has the list of each queue
 pub has-list : (s : StoreValue) (q : Queue) → IsStore s → q.list < length s.lists

@@ -2,10 +2,10 @@
 use Rattle.std.proofs.Common.{◌≡◌, refl, ◌∙◌, arith}
 use Rattle.strm_blocks.specs.Blocks.{list_at}
 use Rattle.strm_queue.specs.Flows.{plain_flows}
-use Rattle.strm_pair.specs.Stored.{messages_on}
+use Rattle.strm_queue.specs.Stored.{messages_on}
 use Rattle.strm_types.specs.Queue as plain
-use Rattle.strm_pair.proofs.FlowControl.{counts-from, relieved-each, relieves-each}
-use Rattle.strm_pair.proofs.flows.relieve.Goals as goal
+use Rattle.strm_queue.proofs.FlowControl.{counts-from, relieved-each, relieves-each}
+use Rattle.strm_queue.proofs.standing.relieve.Goals as goal
 
 pub returns-clause-queue : goal.returns-clause-queue
 returns-clause-queue c = λ s ready.
