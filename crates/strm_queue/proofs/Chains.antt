@@ -1,5 +1,5 @@
 -- The numbers that a queue keeps of chains are those of the messages that the chains stand for.
-use Rattle.std.proofs.Common.{ℕ, ◌≡◌, true, false, Bool, cond, List, [], ◌∷◌, map, refl, sym, ap, ◌∙◌, arith}
+use Rattle.std.proofs.Common.{ℕ, ◌≡◌, ◌<◌, true, false, Bool, cond, List, [], ◌∷◌, map, refl, sym, ap, ◌∙◌, arith}
 use Rattle.std.specs.Prelude.{if◌then◌else◌, ◌==◌, ◌&&◌, ◌||◌, not, nat_lt}
 use Rattle.std.specs.List.{AllByRecursion}
 use Rattle.std.proofs.lemmas.List.Sums.{sum_by-cons}
@@ -57,3 +57,11 @@ stopped-same chain q =
 pub stopped-held : (v w : Bool) → true ≡ (v && w) → v ≡ true
 stopped-held true w is = refl
 stopped-held false w is = absurd (cc)
+
+-- a message counts in a band below 8
+chain-low-at : (high : Bool) (band : ℕ) → band < 8 → cond high 0 band < 8
+chain-low-at true band low = omega arith
+chain-low-at false band low = low
+
+pub chain-low : (chain : List Block) → IsChain chain → kept.band_of chain < 8
+chain-low chain one = chain-low-at (is_high_priority (block_at 0 chain).kind) (block_at 0 chain).band one.low

@@ -1,12 +1,14 @@
 -- What a flush leaves of a queue.
-use Rattle.std.proofs.Common.{ℕ, ◌≡◌, ◌<◌, Bool, true, false, not, cond, List, [], ◌∷◌, length, map, refl, sym, ap, subst, ◌∙◌}
-use Rattle.std.specs.Prelude.{◌||◌, option_map}
+use Rattle.std.proofs.Common.{ℕ, ◌≡◌, ◌≤◌, ◌<◌, Bool, true, false, not, cond, List, [], ◌∷◌, length, map, refl, sym, ap, subst, ◌∙◌, arith}
+use Rattle.std.specs.Prelude.{◌||◌, option_map, sum_by}
+use Rattle.std.proofs.lemmas.List.Sums.{sum_by-cons}
 use Rattle.strm_types.specs.Flush.{is_flushed}
 use Rattle.strm_types.specs.Message.{Message}
 use Rattle.strm_types.specs.Turns.{is_none_left}
 use Rattle.strm_types.specs.Emptied.{Choice, stayed, emptied}
 use Rattle.strm_blocks.specs.declared.asked.FlushWhat.{FlushWhat}
-use Rattle.strm_blocks.specs.Blocks.{Block, StoreValue, block_at, list_at, placed, rank_of}
+use Rattle.strm_blocks.specs.Blocks.{Block, StoreValue, block_at, list_at, placed, rank_of, names_of, total}
+use Rattle.strm_blocks.proofs.Laws.{total-placed, used-is, references-is, free_m-is, free_d-more}
 use Rattle.strm_blocks.specs.Outcomes.{flushed, flushes}
 use Rattle.strm_blocks.proofs.Orders.{Ordered-filter}
 use Rattle.strm_msg.specs.Messages.{message_of, IsChain, AreMessages}
@@ -15,7 +17,7 @@ use Rattle.strm_queue.specs.declared.queue.Queue.{Queue}
 use Rattle.strm_queue.specs.Flows.{plain_flows}
 use Rattle.strm_queue.specs.Kept.{AreCounted}
 use Rattle.strm_queue.proofs.Counted.{all-kept}
-use Rattle.strm_queue.specs.Stored.{queue_in, messages_on, HoldsData, IsReady, Keeps}
+use Rattle.strm_queue.specs.Stored.{queue_in, messages_on, HoldsData, IsReady, Keeps, FreesBlocks}
 use Rattle.strm_queue.proofs.Holding.{IsData}
 use Rattle.strm_queue.proofs.Placed.{Landed, landed, keeps-landed}
 
@@ -68,3 +70,23 @@ module _ (s new : StoreValue) (q q' : Queue) (what : FlushWhat) (within : q.list
   pub emptied-keeps : IsReady s q → q'.list ≡ q.list → AreCounted q'.flows (list_at new q'.list) → Keeps s new q q'
   emptied-keeps ready list counted =
       keeps-landed s new q q' (flushed what (list_at s q.list)) there (messages-stay what (list_at s q.list) ready.messages) (data-stays what (list_at s q.list)) list counted
+
+-- a sum over what stays is no greater
+stays-less : (what : FlushWhat) (f : List Block → ℕ) (q : List (List Block)) → sum_by f (flushed what q) ≤ sum_by f q
+stays-less what f [] = omega arith
+stays-less what f (chain ∷ q) = at (flushes what chain) (stays-less what f q)
+  where
+    at : (b : Bool) → sum_by f (flushed what q) ≤ sum_by f q → sum_by f (cond (not b) (chain ∷ flushed what q) (flushed what q)) ≤ sum_by f (chain ∷ q)
+    at true ih = omega (arith, ih, sum_by-cons f chain q)
+    at false ih = omega (arith, ih, sum_by-cons f chain q, sum_by-cons f chain (flushed what q))
+
+pub frees : (s new : StoreValue) (k : ℕ) (what : FlushWhat) → k < length s.lists → new ≡ placed s k (flushed what (list_at s k)) → FreesBlocks s new
+frees s new k what within is = subst (λ v. FreesBlocks s v) (sym is) (record {
+  mblks = omega (arith, free_m-is s, free_m-is less, used-is s, used-is less, fewer length);
+  dblks = free_d-more s less refl (λ d. omega (arith, references-is s d, references-is less d, fewer (names_of d)));
+})
+  where
+    less : StoreValue
+    less = placed s k (flushed what (list_at s k))
+    fewer : (f : List Block → ℕ) → total f (placed s k (flushed what (list_at s k))) ≤ total f s
+    fewer f = omega (arith, total-placed f s k (flushed what (list_at s k)) within, stays-less what f (list_at s k))

@@ -17,3 +17,4 @@ pub mod Kept
 pub mod Queued
 pub mod OneMade
 pub mod Renewed
+pub mod Joined

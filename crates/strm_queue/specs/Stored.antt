@@ -1,11 +1,11 @@
 -- What a store and the queues beside it stand for, and what holds of a queue and its list.
-use Rattle.std.specs.Prelude.{ℕ, false, ◌≡◌, ◌≢◌, List, ◌∷◌, map}
+use Rattle.std.specs.Prelude.{ℕ, false, ◌≡◌, ◌≢◌, ◌≤◌, List, ◌∷◌, map}
 use Rattle.std.specs.List.{AllByRecursion}
 use Rattle.strm_types.specs.declared.kinds.MsgKind.TheVariants as kinds
 use Rattle.strm_types.specs.Message.{Message, size_of}
 use Rattle.strm_types.specs.Queue as plain
 use Rattle.strm_types.specs.Turns.{moved_on}
-use Rattle.strm_blocks.specs.Blocks.{Block, StoreValue, block_at, list_at}
+use Rattle.strm_blocks.specs.Blocks.{Block, StoreValue, block_at, list_at, free_m, free_d}
 use Rattle.strm_msg.specs.Messages.{message_of, AreMessages}
 use Rattle.strm_queue.specs.declared.queue.Queue.{Queue}
 use Rattle.strm_queue.specs.Flows.{plain_flows}
@@ -49,6 +49,20 @@ pub record Keeps (old new : StoreValue) (q q' : Queue) : Type 0 where
   pub hand : new.hand ≡ old.hand
   pub mblks : new.mblks ≡ old.mblks
   pub dblks : new.dblks ≡ old.dblks
+
+-- One queue of a store may have changed, and no other one, nor what is in hand. The queue is ready.
+pub record Changes (old new : StoreValue) (q q' : Queue) : Type 0 where
+  pub ready : IsReady new q'
+  pub list : q'.list ≡ q.list
+  pub others : (k : ℕ) → k ≢ q.list → list_at new k ≡ list_at old k
+  pub hand : new.hand ≡ old.hand
+  pub mblks : new.mblks ≡ old.mblks
+  pub dblks : new.dblks ≡ old.dblks
+
+-- no fewer blocks are free
+pub record FreesBlocks (old new : StoreValue) : Type 0 where
+  pub mblks : free_m old ≤ free_m new
+  pub dblks : free_d old ≤ free_d new
 
 -- the marks and the flags stay, but want-read may be cleared
 pub record SameFlags (old new : Queue) : Type 0 where

@@ -3,7 +3,7 @@
 ghost use Rattle.std.specs.Prelude.{◌≡◌, true};
 ghost use Rattle.strm_types.specs.Refused.{is_a_band};
 ghost use Rattle.strm_types.specs.Emptied.{of_data, emptied, queue_behind, writer_goes};
-ghost use Rattle.strm_queue.specs.Stored.{queue_in, IsReady, Keeps};
+ghost use Rattle.strm_queue.specs.Stored.{queue_in, IsReady, Keeps, FreesBlocks};
 ghost use Rattle.strm_queue.specs.Choices.{choice_of, IsChoice};
 
 use crate::flush::Flush;
@@ -41,6 +41,7 @@ fn drop_chosen<B: Blocks>(store: &mut B, queue: &mut Queue, chosen: Chosen)
     ensures queue { queue_in (B.value store.new) queue.new
         ≡ emptied (choice_of chosen) (queue_in (B.value store.old) queue.old) }
     ensures keeps { Keeps (B.value store.old) (B.value store.new) queue.old queue.new }
+    ensures frees { FreesBlocks (B.value store.old) (B.value store.new) }
 {
     store.audit();
     match chosen {
@@ -58,6 +59,7 @@ pub fn empty<B: Blocks>(store: &mut B, queue: &mut Queue, chosen: Chosen) -> boo
         ≡ queue_behind (choice_of chosen) (queue_in (B.value store.old) queue.old) }
     ensures went { result ≡ writer_goes (choice_of chosen) (queue_in (B.value store.old) queue.old) }
     ensures keeps { Keeps (B.value store.old) (B.value store.new) queue.old queue.new }
+    ensures frees { FreesBlocks (B.value store.old) (B.value store.new) }
 {
     let before = total(store, queue);
     drop_chosen(store, queue, chosen);

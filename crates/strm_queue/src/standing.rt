@@ -3,11 +3,12 @@
 
 ghost use Rattle.std.specs.Prelude.{◌≡◌, ◌<◌, ◌+◌, ◌-◌, ◌^◌, ◌&&◌, min, true, length, List};
 ghost use Rattle.strm_types.specs.Message.{is_held};
-ghost use Rattle.strm_types.specs.Queue.{bytes_of, count_of, is_full, relieved, relieves};
-ghost use Rattle.strm_blocks.specs.Blocks.{Block, StoreValue};
+ghost use Rattle.strm_types.specs.Queue.{put_on, put_enables, bytes_of, count_of, is_full, relieved, relieves};
+ghost use Rattle.strm_blocks.specs.Blocks.{Block, StoreValue, IsInHand, in_hand, dropped};
+ghost use Rattle.strm_msg.specs.Messages.{message_of, IsChain};
 ghost use Rattle.strm_queue.specs.Kept.{AreCounted};
 ghost use Rattle.strm_queue.specs.Queues.{OnlyCounts};
-ghost use Rattle.strm_queue.specs.Stored.{queue_in, messages_on, IsReady};
+ghost use Rattle.strm_queue.specs.Stored.{queue_in, messages_on, IsReady, Changes, FreesBlocks};
 
 use crate::queue::Queue;
 use strm_blocks::{Blocks, Peek, Visitor};
@@ -88,4 +89,20 @@ pub fn relieve(queue: &mut Queue) -> bool
     ensures others { OnlyCounts queue.old queue.new }
 {
     queue.back_enable()
+}
+
+/// Puts a message in hand on a queue, and says whether that enables a queue with a service procedure: `putq(9F)`.
+pub fn enqueue<B: Blocks>(store: &mut B, queue: &mut Queue, message: B::Mp) -> bool
+    requires ready { IsReady (B.value store.old) queue.old }
+    requires in_hand { IsInHand (B.value store.old) (B.name message) }
+    requires chain { IsChain (in_hand (B.value store.old) (B.name message)) }
+    ensures queue { queue_in (B.value store.new) queue.new
+        ≡ put_on (message_of (in_hand (B.value store.old) (B.name message))) (queue_in (B.value store.old) queue.old) }
+    ensures enables { result
+        ≡ put_enables (message_of (in_hand (B.value store.old) (B.name message))) (queue_in (B.value store.old) queue.old) }
+    ensures changes { Changes (dropped (B.value store.old) (B.name message)) (B.value store.new) queue.old queue.new }
+    ensures frees { FreesBlocks (B.value store.old) (B.value store.new) }
+{
+    store.audit();
+    queue.putq(store, message)
 }

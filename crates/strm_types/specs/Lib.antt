@@ -16,6 +16,8 @@ pub mod Places
 pub mod Origins
 pub mod Turns
 pub mod Emptied
+pub mod Flushing
+pub mod Drivers
 pub mod Calls
 pub mod Refused
 pub mod Journal

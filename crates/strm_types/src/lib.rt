@@ -7,6 +7,7 @@ mod answers;
 mod books;
 mod entries;
 mod events;
+mod flushing;
 mod kinds;
 pub mod laws;
 mod limits;
@@ -19,6 +20,7 @@ pub use answers::{Answer, ReadBytes, Turn};
 pub use books::{BOOK_MAX, Book};
 pub use entries::Entry;
 pub use events::{Caller, Event, FlushQueues};
+pub use flushing::FlushAsked;
 pub use kinds::{Band, MsgKind};
 pub use limits::{
     BANDS, BLOCK_SIZE, CHANGE_BLOCKS, CLOSE_BLOCKS, Config, HIGH_PRIORITY_RANK, LISTS, MODULES,
@@ -27,4 +29,4 @@ pub use limits::{
 pub use names::{Dir, ModuleName, Openness, Place, QueueName, Side, Way, line};
 pub use refusals::{NoMemory, Refusal};
 pub use rules::{Fates, RULES, Rule};
-pub use spots::{Note, Spot};
+pub use spots::{Across, Note, Spot};

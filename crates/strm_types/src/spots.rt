@@ -47,6 +47,15 @@ impl Spot {
     }
 }
 
+/// What a driver is told of the other side: whether its stream is open, how many modules stand there, so that its lowest place
+/// above its driver has that number, and whether the master is closed, so that nothing crosses any more.
+#[derive(Clone, Copy, Debug, PartialEq, Eq)]
+pub struct Across {
+    pub is_open: bool,
+    pub bottom: usize,
+    pub ended: bool,
+}
+
 /// What a put does to the enabled list beside sending: a queue of the module's own is enabled, or has room again, so that
 /// the nearest earlier queue with service is. `Up` is its read queue, `Down` its write queue.
 #[derive(Clone, Copy, Debug, PartialEq, Eq)]

@@ -6,7 +6,7 @@ use Rattle.strm_blocks.specs.declared.asked.FlushWhat.{FlushWhat}
 use Rattle.strm_queue.specs.declared.emptying.Chosen.{Chosen}
 use Rattle.strm_queue.specs.Choices.{choice_of}
 use Rattle.strm_queue.specs.Stored.{queue_in}
-use Rattle.strm_queue.proofs.Leaving.{emptied-queue, emptied-keeps}
+use Rattle.strm_queue.proofs.Leaving.{emptied-queue, emptied-keeps, frees}
 use Rattle.strm_queue.proofs.emptying.drop_chosen.Goals as goal
 
 abbrev all : FlushWhat
@@ -65,3 +65,24 @@ returns-in-Of-clause-keeps g c =
     let e = c.flushband.ensures in
     let within : q.list < length s.lists = let low = q.on_list in omega (arith, low, c.audit.ensures.eight) in
     emptied-keeps s (g.B.Blocks.value c.flushband.new.store) q c.flushband.new.self (record { all = false; band = Some c.in-Of.band }) within e.flushed c.requires.ready e.list e.counted
+
+pub returns-in-All-clause-frees : goal.returns-in-All-clause-frees
+returns-in-All-clause-frees g c =
+    let s = g.B.Blocks.value c.args.store.now in
+    let q = c.args.queue.now in
+    let within : q.list < length s.lists = let low = q.on_list in omega (arith, low, c.audit.ensures.eight) in
+    frees s (g.B.Blocks.value c.flushq.new.store) q.list all within c.flushq.ensures.flushed
+
+pub returns-in-Data-clause-frees : goal.returns-in-Data-clause-frees
+returns-in-Data-clause-frees g c =
+    let s = g.B.Blocks.value c.args.store.now in
+    let q = c.args.queue.now in
+    let within : q.list < length s.lists = let low = q.on_list in omega (arith, low, c.audit.ensures.eight) in
+    frees s (g.B.Blocks.value c.flushq-in-Data.new.store) q.list data_alone within c.flushq-in-Data.ensures.flushed
+
+pub returns-in-Of-clause-frees : goal.returns-in-Of-clause-frees
+returns-in-Of-clause-frees g c =
+    let s = g.B.Blocks.value c.args.store.now in
+    let q = c.args.queue.now in
+    let within : q.list < length s.lists = let low = q.on_list in omega (arith, low, c.audit.ensures.eight) in
+    frees s (g.B.Blocks.value c.flushband.new.store) q.list (record { all = false; band = Some c.in-Of.band }) within c.flushband.ensures.flushed

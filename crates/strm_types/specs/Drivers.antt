@@ -1,0 +1,98 @@
+-- What a pseudoterminal's driver does with a message that is put at it, the master's as the slave's (ptm(7D), pts(7D); STREAMS
+-- Programming Guide, "Flush Handling"). A driver has a write queue. What it has there goes up the other side's stream in turns
+-- of its service procedure.
+use Rattle.std.specs.Prelude.{ℕ, suc, ◌+◌, Bool, true, false, not, ◌&&◌, ◌||◌, ◌==◌, nat_lt, if◌then◌else◌, List, [], ◌∷◌, ◌++◌, length, take, None}
+use Rattle.strm_types.specs.declared.flushing.FlushAsked.{FlushAsked}
+use Rattle.strm_types.specs.declared.kinds.MsgKind.{MsgKind}
+use Rattle.strm_types.specs.declared.kinds.MsgKind.TheVariants.{Data, Proto, Pcproto, Stop, Start, Iocack, Iocnak, Ioctl, Flush}
+use Rattle.strm_types.specs.declared.names.Side.{Side}
+use Rattle.strm_types.specs.declared.names.Way.{Way}
+use Rattle.strm_types.specs.declared.names.Way.TheVariants.{Up, Down}
+use Rattle.strm_types.specs.declared.rules.Rule.TheVariants.{Flushed, EndClosed}
+use Rattle.strm_types.specs.declared.spots.Across.{Across}
+use Rattle.strm_types.specs.declared.spots.Note.{Note}
+use Rattle.strm_types.specs.declared.spots.Note.TheVariants.{Enable, Room}
+use Rattle.strm_types.specs.declared.spots.Spot.{Spot}
+use Rattle.strm_types.specs.Deliver.{Acted, Parcel, Fate}
+use Rattle.strm_types.specs.Emptied.{of_data, cells_gone, queue_behind, writer_goes}
+use Rattle.strm_types.specs.Flushing.{asked_by, read_flush, flush_message}
+use Rattle.strm_types.specs.Message.{Message, cells_of}
+use Rattle.strm_types.specs.Names.{other, direction_from}
+use Rattle.strm_types.specs.Queue.{Queue, put_on, put_enables}
+
+-- the kinds that cross from one side to the other by the driver's queue
+unfoldable pub crosses : MsgKind → Bool
+crosses Data = true
+crosses Proto = true
+crosses Pcproto = true
+crosses Stop = true
+crosses Start = true
+crosses Iocack = true
+crosses Iocnak = true
+crosses _ = false
+
+-- the place above the other side's driver, on the way up, and that driver itself
+abbrev pub bottom_across : Side → Across → Spot
+bottom_across side across = record { side = other side; at = across.bottom; way = Up }
+
+abbrev pub driver_across : Side → Across → Spot
+driver_across side across = record { side = other side; at = suc across.bottom; way = Up }
+
+module _ {C : Type 0} where
+  -- the message is freed
+  abbrev pub freed : Queue C → Acted C (Queue C)
+  freed q = record { state = q; notes = []; sent = []; gone = [] }
+
+  -- the message is put on the queue; once the master is closed nothing crosses any more, and its bytes go
+  abbrev pub taken_in : Side → Across → Message C → Queue C → Acted C (Queue C)
+  taken_in side across m q =
+      if across.ended then record (freed q) { gone = record { direction = direction_from side; rule = EndClosed; cells = cells_of m } ∷ [] }
+      else record (freed (put_on m q)) { notes = if put_enables m q then Enable Down ∷ [] else [] }
+
+  -- the driver's own queue is flushed
+  abbrev pub own_flushed : Side → FlushAsked → Queue C → Acted C (Queue C)
+  own_flushed side asked q =
+      let chosen = of_data asked.band in
+      record {
+        state = queue_behind chosen q;
+        notes = if writer_goes chosen q then Room Down ∷ [] else [];
+        sent = [];
+        gone = record { direction = direction_from side; rule = Flushed; cells = cells_gone chosen q.messages } ∷ [];
+      }
+
+  -- an M_FLUSH with FLUSHR alone to a spot, where a condition holds
+  abbrev pub reader_flush : Bool → FlushAsked → Spot → List (Parcel C)
+  reader_flush goes asked to = if goes then record { to = to; message = flush_message (read_flush asked.band) } ∷ [] else []
+
+  -- An M_FLUSH that comes down. FLUSHW: the own queue, and then the readers across, if that side is open. FLUSHR: the driver
+  -- across, which flushes its queue and sends it on to this side's readers.
+  abbrev pub flush_down : Side → Across → FlushAsked → Queue C → Acted C (Queue C)
+  flush_down side across asked q =
+      record (if asked.for_write then own_flushed side asked q else freed q) {
+        sent = reader_flush (asked.for_write && across.is_open) asked (bottom_across side across)
+            ++ reader_flush asked.for_read asked (driver_across side across);
+      }
+
+  -- an M_FLUSH that the other driver has sent across
+  abbrev pub flush_across : Side → Across → FlushAsked → Queue C → Acted C (Queue C)
+  flush_across side across asked q =
+      if asked.for_read
+      then record (own_flushed side asked q) { sent = reader_flush across.is_open asked (bottom_across side across) }
+      else freed q
+
+  -- a message that comes down
+  abbrev pub put_down : Side → Across → MsgKind → Message C → Queue C → Acted C (Queue C)
+  put_down side across Flush m q = flush_down side across (asked_by m.plain) q
+  put_down side across kind m q = if crosses kind then taken_in side across m q else freed q
+
+  -- a message that comes across: an M_FLUSH, as nothing else does
+  abbrev pub put_across : Side → Across → MsgKind → Message C → Queue C → Acted C (Queue C)
+  put_across side across Flush m q = flush_across side across (asked_by m.plain) q
+  put_across side across kind m q = freed q
+
+  abbrev pub driver_put : Side → Across → Spot → Message C → Queue C → Acted C (Queue C)
+  driver_put side across here m q = by here.way
+    where
+      by : Way → Acted C (Queue C)
+      by Down = put_down side across m.kind m q
+      by Up = put_across side across m.kind m q

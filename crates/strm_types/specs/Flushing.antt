@@ -1,0 +1,35 @@
+-- What an M_FLUSH asks for (STREAMS Programming Guide, "Flush Handling"; sys/stream.h: FLUSHR, FLUSHW, FLUSHBAND).
+use Rattle.std.specs.Prelude.{ℕ, Bool, false, ◌==◌, ◌/◌, ◌%◌, nat_lt, if◌then◌else◌, List, [], ◌∷◌, Option, None, Some}
+use Rattle.strm_types.specs.declared.flushing.FlushAsked.{FlushAsked}
+use Rattle.strm_types.specs.declared.kinds.Band.{Band}
+use Rattle.strm_types.specs.declared.kinds.MsgKind.TheVariants.{Flush}
+use Rattle.strm_types.specs.declared.limits.TheConstants.{BANDS}
+use Rattle.strm_types.specs.Message.{Message}
+
+-- whether a flag of a worth is set
+abbrev pub has_flag : ℕ → ℕ → Bool
+has_flag worth flags = flags / worth % 2 == 1
+
+abbrev pub nothing_asked : FlushAsked
+nothing_asked = record { for_read = false; for_write = false; band = None }
+
+-- with a band, which has to be one that queues have
+abbrev pub asked_of_band : FlushAsked → List ℕ → FlushAsked
+asked_of_band all [] = nothing_asked
+asked_of_band all (band ∷ bytes) = if nat_lt band BANDS then record all { band = Some (record { 0 = band }) } else nothing_asked
+
+-- FLUSHR is 1, FLUSHW is 2; with FLUSHBAND, which is 4, the next byte is a band
+abbrev pub asked_by : List ℕ → FlushAsked
+asked_by [] = nothing_asked
+asked_by (flags ∷ bytes) =
+    let all : FlushAsked = record { for_read = has_flag 1 flags; for_write = has_flag 2 flags; band = None } in
+    if has_flag 4 flags then asked_of_band all bytes else all
+
+-- the bytes of an M_FLUSH with FLUSHR alone, of a band or of all
+abbrev pub read_flush : Option Band → List ℕ
+read_flush None = 1 ∷ []
+read_flush (Some band) = 5 ∷ band.0 ∷ []
+
+-- an M_FLUSH of these bytes
+abbrev pub flush_message : {C : Type 0} → List ℕ → Message C
+flush_message bytes = record { kind = Flush; band = 0; control = None; body = None; plain = bytes }
