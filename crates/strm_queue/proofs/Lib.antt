@@ -18,3 +18,4 @@ pub mod Queued
 pub mod OneMade
 pub mod Renewed
 pub mod Joined
+pub mod Going

@@ -19,6 +19,10 @@ band_of chain = counted_band (block_at 0 chain).kind (block_at 0 chain).band
 abbrev pub is_data : List Block → Bool
 is_data chain = is_data_kind (block_at 0 chain).kind
 
+-- the bytes of a message of data
+abbrev pub data_bytes_of : List Block → ℕ
+data_bytes_of chain = if is_data chain then bytes_of chain else 0
+
 -- what a message adds to a band's bytes of data, and to its other bytes
 abbrev pub data_share : ℕ → List Block → ℕ
 data_share band chain = if band_of chain == band && is_data chain then bytes_of chain else 0

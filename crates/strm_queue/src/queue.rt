@@ -4,12 +4,14 @@ ghost use Rattle.std.specs.Prelude.{◌≡◌, ◌<◌, ◌≤◌, ◌+◌, ◌^
 ghost use Rattle.strm_types.specs.Message.{is_high_priority};
 ghost use Rattle.strm_blocks.specs.Blocks.{IsInHand, in_hand, list_at, placed, dropped, put, put_back, block_at};
 ghost use Rattle.strm_blocks.specs.Outcomes.{Popped, Unpopped, flushed};
-ghost use Rattle.strm_queue.specs.Kept.{AreCounted, bytes_of, count_of, band_of, enables, flow_at, is_full, FewBytes};
+ghost use Rattle.strm_queue.specs.Kept.{AreCounted, bytes_of, data_bytes_of, data_share, count_of, band_of, enables, flow_at, is_full, FewBytes};
 ghost use Rattle.strm_blocks.specs.Blocks.{Block};
 ghost use Rattle.strm_queue.specs.Flows.{count_in, added_to, removed_from, flushed_of, marked_with, relieves, relieved, plain_flows};
 ghost use Rattle.strm_queue.specs.Flushes.{takes_all};
 ghost use Rattle.strm_types.specs.Queue.{with_writer_at};
 ghost use Rattle.strm_types.specs.Turns.{is_none_left};
+ghost use Rattle.strm_types.specs.Refused.{is_a_band};
+ghost use Rattle.strm_types.specs.declared.kinds.Band.{Band};
 ghost use Rattle.std.specs.Prelude.{replicate};
 ghost use Rattle.std.specs.List.{list_any};
 
@@ -151,6 +153,22 @@ impl Queue {
         let mut total = 0;
         for band in 0..BANDS {
             total += self.flows[band].count();
+        }
+        total
+    }
+
+    /// How many bytes of data stand on the queue, in messages of data of one band or of all: what a flush takes.
+    pub fn data_bytes(&self, band: Option<Band>) -> usize
+        requires { is_a_band band ≡ true }
+        ensures all { (q : List (List Block)) → AreCounted self.now.flows q → band ≡ None → result ≡ sum_by data_bytes_of q }
+        ensures one { (q : List (List Block)) (b : Band) → AreCounted self.now.flows q → band ≡ Some b → result ≡ sum_by (data_share b.0) q }
+    {
+        if let Some(band) = band {
+            return self.flows[usize::from(band.0)].data_bytes;
+        }
+        let mut total = 0;
+        for band in 0..BANDS {
+            total += self.flows[band].data_bytes;
         }
         total
     }

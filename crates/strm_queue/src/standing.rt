@@ -3,6 +3,8 @@
 
 ghost use Rattle.std.specs.Prelude.{◌≡◌, ◌<◌, ◌+◌, ◌-◌, ◌^◌, ◌&&◌, min, true, length, List};
 ghost use Rattle.strm_types.specs.Message.{is_held};
+ghost use Rattle.strm_types.specs.Emptied.{cells_gone, of_data};
+ghost use Rattle.strm_types.specs.Refused.{is_a_band};
 ghost use Rattle.strm_types.specs.Queue.{put_on, put_enables, bytes_of, count_of, is_full, relieved, relieves};
 ghost use Rattle.strm_blocks.specs.Blocks.{Block, StoreValue, IsInHand, in_hand, dropped};
 ghost use Rattle.strm_msg.specs.Messages.{message_of, IsChain};
@@ -48,6 +50,16 @@ pub fn total<B: Blocks>(store: &B, queue: &Queue) -> usize
 {
     let _ = store;
     queue.total()
+}
+
+/// How many bytes a flush takes off a queue, of one band or of all: those of M_DATA, M_PROTO and M_PCPROTO.
+pub fn data_bytes<B: Blocks>(store: &B, queue: &Queue, band: Option<Band>) -> usize
+    requires ready { IsReady (B.value store.now) queue.now }
+    requires band { is_a_band band ≡ true }
+    ensures { result ≡ length (cells_gone (of_data band) (messages_on (B.value store.now) queue.now.list)) }
+{
+    let _ = store;
+    queue.data_bytes(band)
 }
 
 /// How many messages stand on a queue, and how many bytes they have. The cost is a step for each block of them.
