@@ -5,7 +5,7 @@ use Rattle.std.specs.Fmt.{decimal}
 use Rattle.strm_types.specs.Message.{data_message, is_held, rank_of, band_of, size_of, cells_of, is_high_priority}
 use Rattle.strm_types.specs.Write.{chunk_count}
 use Rattle.strm_run.specs.Script.{Open, digit_of}
-use Rattle.strm_run.specs.ScriptReading.{number_from, number_in, text_from, text_in, side_in, place_in, way_in, queue_in, open_in, named_in, write_in, read_in, turn_in, run_in, command_in, reading}
+use Rattle.strm_run.specs.ScriptReading.{number_from, number_in, text_from, text_in, side_in, place_in, way_in, queue_in, open_in, named_in, write_in, read_in, turn_in, run_in, sided_call_in, push_in, flush_in, show_in, stream_in, command_in, reading}
 use Rattle.strm_run.specs.ScriptAnswers.{line_text}
 use Rattle.strm_run.specs.ScriptRun.{Enough, TooFew, Told, script_limits, call_of, turn_of, by_call, by_turn, turns_of, by_run, by_open, answered, told_from}
 
@@ -32,11 +32,11 @@ usual-pair = refl
 
 -- lines count from 1, silent ones too, and nothing is said behind a malformed one
 pub malformed-line-ends-a-script : told_from 1 [] None (codes "# a" ∷ [] ∷ codes "unlock" ∷ codes "bad" ∷ codes "open" ∷ []) ≡ ended (codes "err ENXIO" ∷ []) 4
-unfolding told_from reading command_in open_in named_in write_in read_in turn_in run_in answered line_text
+unfolding told_from reading command_in open_in named_in write_in read_in turn_in run_in stream_in sided_call_in push_in flush_in show_in answered line_text
 malformed-line-ends-a-script = refl
 
 pub first-line-is-line-one : told_from 1 [] None (codes "bad" ∷ []) ≡ ended [] 1
-unfolding told_from reading command_in open_in named_in write_in read_in turn_in run_in line_text
+unfolding told_from reading command_in open_in named_in write_in read_in turn_in run_in stream_in sided_call_in push_in flush_in show_in line_text
 first-line-is-line-one = refl
 
 -- commands before a pair is there, pairs with no blocks and with too many, and a second pair

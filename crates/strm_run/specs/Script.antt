@@ -93,7 +93,7 @@ pub record IsName (name : List ℕ) : Type 0 where
 
 -- a name that no module has
 pub record IsUnknown (name : List ℕ) : Type 0 where
-  pub name : IsName name
+  pub is_name : IsName name
   pub other : (known : ModuleName) → name ≢ module_name known
 
 -- the value of a hexadecimal digit, in either case

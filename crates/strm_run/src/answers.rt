@@ -165,10 +165,10 @@ fn name(refusal: Refusal) -> &'static str
 }
 
 /// The name of a module.
-fn module_name(module: ModuleName) -> &'static str
-    ensures { result.now ≡ module_name module }
+fn module_name(known: ModuleName) -> &'static str
+    ensures { result.now ≡ module_name known }
 {
-    match module {
+    match known {
         ModuleName::Ldterm => "ldterm",
         ModuleName::Ptem => "ptem",
         ModuleName::Pckt => "pckt",

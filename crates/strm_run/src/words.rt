@@ -2,6 +2,7 @@
 
 ghost use Rattle.std.specs.Prelude.{◌≡◌, option_map};
 ghost use Rattle.std.specs.Option.{option_copied};
+ghost use Rattle.std.specs.List.{list_all};
 ghost use Rattle.strm_run.specs.Script.{is_letter};
 ghost use Rattle.strm_run.specs.ScriptReading.{and_then, after, side_in, place_in, way_in, queue_in};
 ghost use Rattle.strm_run.specs.ScriptReading.{side_alone, module_in, is_name, flush_queues_in, band_in};
@@ -102,6 +103,13 @@ fn is_letter(byte: u8) -> bool
     byte >= b'a' && byte <= b'z'
 }
 
+/// Whether each byte of a text is a letter.
+fn are_letters(text: &[u8]) -> bool
+    ensures { result ≡ list_all is_letter text.now }
+{
+    text.iter().all(|byte| is_letter(*byte))
+}
+
 /// Whether a text may be the name of a module: 1 to 8 letters from a to z.
 #[tactic(auto, unfolding(crate::specs::ScriptReading::is_name))]
 pub fn is_name(text: &[u8]) -> bool
@@ -110,7 +118,7 @@ pub fn is_name(text: &[u8]) -> bool
     if text.is_empty() || text.len() > 8 {
         return false;
     }
-    text.iter().all(|byte| is_letter(*byte))
+    are_letters(text)
 }
 
 /// Which queues a flush is for, `r`, `w` or `rw`, at the front, and what follows it.
