@@ -84,3 +84,12 @@ bare-free_m s bare = omega (arith, free_m-is s, used-is s, total-bare length s b
 pub bare-free_d : (s : StoreValue) → IsBare s → free_d s ≡ s.dblks
 unfolding free_d
 bare-free_d s bare = all-zero (references s) (λ d. references-is s d ∙ total-bare (names_of d) s bare) s.dblks
+
+-- no list has more messages than blocks are in use
+list-long : (lists : List (List (List Block))) (k : ℕ) → length (slice_index_or lists k []) ≤ sum_by length lists
+list-long [] k = omega arith
+list-long (q ∷ lists) zero = omega (arith, sum_by-cons (λ (x : List (List Block)). length x) q lists)
+list-long (q ∷ lists) (suc k) = omega (arith, list-long lists k, sum_by-cons (λ (x : List (List Block)). length x) q lists)
+
+pub list-enough : (s : StoreValue) (k : ℕ) → IsStore s → length (list_at s k) ≤ used s
+list-enough s k is = omega (arith, list-long s.lists k, all-long s.lists, is.filled, used-is s)

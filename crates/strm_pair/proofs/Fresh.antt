@@ -16,13 +16,13 @@ use Rattle.strm_pair.proofs.Steps.{led-nowhere}
 
 -- streams as new, beside a store with nothing in it
 pub record AreFresh (mblks dblks : ℕ) (p : Streams) : Type 0 where
-  pub state : state_in (empty_store mblks dblks) p opening ≡ opening
+  pub state : state_in (empty_store mblks dblks) p ≡ opening
   pub held : AreHeld (empty_store mblks dblks) p
 
 pub fresh-kept : (s : StoreValue) (p : Streams) (j : Journal) (limits : Config) → s ≡ empty_store limits.mblks limits.dblks → AreFresh limits.mblks limits.dblks p
     → journal_of j ≡ [] → j.most_entries ≡ limits.journal_events → j.most_bytes ≡ limits.journal_bytes → IsKept s p j limits
 fresh-kept s p j limits blank fresh empty events bytes = record {
-  replayed = ap (λ t. state_in s p t) (led-nowhere j empty) ∙ ap (λ v. state_in v p opening) blank ∙ fresh.state ∙ sym (led-nowhere j empty);
+  replayed = ap (λ v. state_in v p) blank ∙ fresh.state ∙ sym (led-nowhere j empty);
   legal = subst (λ js. IsLegal plain opening js) (sym empty) tt;
   held = subst (λ v. AreHeld v p) (sym blank) fresh.held;
   mblks = ap (λ (v : StoreValue). v.mblks) blank;
@@ -34,7 +34,7 @@ fresh-kept s p j limits blank fresh empty events bytes = record {
 pub fresh-shown : (s : StoreValue) (p : Streams) (j : Journal) (limits : Config) → s ≡ empty_store limits.mblks limits.dblks → AreFresh limits.mblks limits.dblks p → journal_of j ≡ [] → pair_of s p j limits ≡ new_pair limits
 fresh-shown s p j limits blank fresh empty =
     ap (λ v. pair_of v p j limits) blank
-    ∙ rw (led-nowhere j empty, fresh.state, empty, free-empty limits.mblks limits.dblks) refl
+    ∙ rw (fresh.state, empty, free-empty limits.mblks limits.dblks) refl
 
 -- a store that holds nothing, as it stands with its numbers of blocks, all of which are free
 pub vacant : (s : StoreValue) → s.lists ≡ replicate 8 [] → s.hand ≡ [] → s ≡ empty_store s.mblks s.dblks

@@ -7,7 +7,7 @@ use Rattle.strm_msg.specs.Messages.{IsChain, AreMessages}
 use Rattle.strm_queue.proofs.Counted.{all-put, all-put_back}
 use Rattle.strm_pair.specs.Stored.{HoldsData}
 
-abbrev IsData : List Block → Type 0
+abbrev pub IsData : List Block → Type 0
 IsData chain = (block_at 0 chain).kind ≡ kinds.Data
 
 module _ (chain : List Block) (q : List (List Block)) where

@@ -6,6 +6,9 @@ pub mod Queued
 pub mod TakenFirst
 pub mod Gotten
 pub mod Holding
+pub mod Unheld
+pub mod Sizes
+pub mod Leaving
 pub mod Kept
 pub mod Peeked
 pub mod Passed

@@ -6,7 +6,7 @@ use Rattle.strm_types.specs.declared.limits.Config.{Config}
 use Rattle.strm_types.specs.Message.{rank_of}
 use Rattle.strm_types.specs.Queue.{IsOrdered}
 use Rattle.strm_types.specs.Ranked as ranked
-use Rattle.strm_types.specs.State.{State, AreOrdered, messages_in}
+use Rattle.strm_types.specs.State.{AreOrdered, messages_in}
 use Rattle.strm_blocks.specs.Blocks as blocks
 use Rattle.strm_blocks.specs.Blocks.{Block, StoreValue, IsStore, list_at, empty_store, used, free_m, free_d}
 use Rattle.strm_blocks.proofs.Laws.{free_m-is}
@@ -28,8 +28,8 @@ ordered-map [] o = tt
 ordered-map (chain ∷ q) o = (ranks-map chain q o.0, ordered-map q o.1)
 
 -- each queue is in order
-pub ordered : (s : StoreValue) (p : Streams) (t : State ℕ) → AreHeld s p → AreOrdered (state_in s p t)
-ordered s p t held = (
+pub ordered : (s : StoreValue) (p : Streams) → AreHeld s p → AreOrdered (state_in s p)
+ordered s p held = (
   ordered-map (list_at s p.master.head.list) held.master.head.ready.messages.ordered,
   (
     ordered-map (list_at s p.master.driver.list) held.master.driver.ready.messages.ordered,
@@ -44,8 +44,8 @@ ordered s p t held = (
 long : (s : StoreValue) (k n : ℕ) → k ≡ n → length (messages_on s k) ≡ length (list_at s n)
 long s k n is = length-map (list_at s k) message_of ∙ ap (λ j. length (list_at s j)) is
 
-in-use : (s : StoreValue) (p : Streams) (t : State ℕ) → IsStore s → AreHeld s p → messages_in (state_in s p t) ≤ used s
-in-use s p t is held =
+in-use : (s : StoreValue) (p : Streams) → IsStore s → AreHeld s p → messages_in (state_in s p) ≤ used s
+in-use s p is held =
     omega (
       arith,
       used-enough s is,
@@ -59,8 +59,8 @@ no-chain : (q : List (List Block)) → length q ≡ 0 → q ≡ []
 no-chain [] none = refl
 no-chain (c ∷ q) none = absurd (omega arith)
 
-bare : (s : StoreValue) (p : Streams) (t : State ℕ) → IsStore s → AreHeld s p → messages_in (state_in s p t) ≡ 0 → IsBare s
-bare s p t is held none =
+bare : (s : StoreValue) (p : Streams) → IsStore s → AreHeld s p → messages_in (state_in s p) ≡ 0 → IsBare s
+bare s p is held none =
     let a = long s p.master.head.list 0 held.master.head_list in
     let b = long s p.master.driver.list 1 held.master.driver_list in
     let c = long s p.slave.head.list 4 held.slave.head_list in
@@ -78,11 +78,11 @@ bare s p t is held none =
       at_7 = held.slave.spare_down;
     }
 
-pub free-shown : (s : StoreValue) (p : Streams) (t : State ℕ) (limits : Config) → IsStore s → AreHeld s p → s.mblks ≡ limits.mblks → s.dblks ≡ limits.dblks → IsPoolOf (messages_in (state_in s p t)) limits (free_in s)
-free-shown s p t limits is held mblks dblks = record {
-  in_use = omega (arith, free_m-is s, in-use s p t is held, is.enough, mblks);
+pub free-shown : (s : StoreValue) (p : Streams) (limits : Config) → IsStore s → AreHeld s p → s.mblks ≡ limits.mblks → s.dblks ≡ limits.dblks → IsPoolOf (messages_in (state_in s p)) limits (free_in s)
+free-shown s p limits is held mblks dblks = record {
+  in_use = omega (arith, free_m-is s, in-use s p is held, is.enough, mblks);
   all_free = λ none.
-      let empty = bare s p t is held none in
+      let empty = bare s p is held none in
       rw (bare-free_m s empty, bare-free_d s empty, mblks, dblks) refl;
 }
 

@@ -17,30 +17,22 @@ pub led-nowhere : (j : Journal) → journal_of j ≡ [] → led_to j ≡ opening
 led-nowhere j empty = ap (λ js. replay plain opening js) empty
 
 -- where the journal has gained an entry, it leads to the state behind the entry
-pub led-on : (s : StoreValue) (p : Streams) (j k : Journal) (limits : Config) (entry : PlainEntry) → IsKept s p j limits → journal_of k ≡ journal_of j ++ entry ∷ [] → led_to k ≡ after plain (state_in s p (led_to j)) entry
+pub led-on : (s : StoreValue) (p : Streams) (j k : Journal) (limits : Config) (entry : PlainEntry) → IsKept s p j limits → journal_of k ≡ journal_of j ++ entry ∷ [] → led_to k ≡ after plain (state_in s p) entry
 led-on s p j k limits entry kept added =
     ap (λ js. replay plain opening js) added ∙ replay-append plain opening (journal_of j) (entry ∷ []) ∙ ap (λ t. after plain t entry) (sym kept.replayed)
 
--- what the blocks stand for is that state, where they changed as the entry says
-pub shown-on : (s new : StoreValue) (p q : Streams) (j k : Journal) (limits : Config) (entry : PlainEntry) → IsKept s p j limits → journal_of k ≡ journal_of j ++ entry ∷ []
-    → state_in new q (after plain (state_in s p (led_to j)) entry) ≡ after plain (state_in s p (led_to j)) entry → state_in new q (led_to k) ≡ after plain (state_in s p (led_to j)) entry
-shown-on s new p q j k limits entry kept added stands =
-    ap (λ t. state_in new q t) (led-on s p j k limits entry kept added) ∙ stands
-
 -- a step to the state behind an entry is one to what the blocks stand for
-pub step-shown : (s new : StoreValue) (p q : Streams) (j k : Journal) (limits : Config) (entry : PlainEntry) → IsKept s p j limits → journal_of k ≡ journal_of j ++ entry ∷ []
-    → state_in new q (after plain (state_in s p (led_to j)) entry) ≡ after plain (state_in s p (led_to j)) entry
-    → Step plain (state_in s p (led_to j)) entry (after plain (state_in s p (led_to j)) entry) → Step plain (state_in s p (led_to j)) entry (state_in new q (led_to k))
-step-shown s new p q j k limits entry kept added stands step =
-    subst (λ t. Step plain (state_in s p (led_to j)) entry t) (sym (shown-on s new p q j k limits entry kept added stands)) step
+pub step-shown : (s new : StoreValue) (p q : Streams) (entry : PlainEntry) → state_in new q ≡ after plain (state_in s p) entry
+    → Step plain (state_in s p) entry (after plain (state_in s p) entry) → Step plain (state_in s p) entry (state_in new q)
+step-shown s new p q entry stands step = subst (λ t. Step plain (state_in s p) entry t) (sym stands) step
 
 pub kept-step : (s new : StoreValue) (p q : Streams) (j k : Journal) (limits : Config) (entry : PlainEntry) → IsKept s p j limits
-    → Step plain (state_in s p (led_to j)) entry (after plain (state_in s p (led_to j)) entry)
-    → state_in new q (after plain (state_in s p (led_to j)) entry) ≡ after plain (state_in s p (led_to j)) entry → AreHeld new q → SamePool s new
+    → Step plain (state_in s p) entry (after plain (state_in s p) entry)
+    → state_in new q ≡ after plain (state_in s p) entry → AreHeld new q → SamePool s new
     → journal_of k ≡ journal_of j ++ entry ∷ [] → k.most_entries ≡ j.most_entries → k.most_bytes ≡ j.most_bytes → IsKept new q k limits
 kept-step s new p q j k limits entry kept step stands held pool added events bytes = record {
-  replayed = shown-on s new p q j k limits entry kept added stands ∙ sym (led-on s p j k limits entry kept added);
-  legal = subst (λ js. IsLegal plain opening js) (sym added) (kept-legal plain opening (state_in s p (led_to j)) (after plain (state_in s p (led_to j)) entry) (journal_of j) entry kept.replayed step kept.legal);
+  replayed = stands ∙ sym (led-on s p j k limits entry kept added);
+  legal = subst (λ js. IsLegal plain opening js) (sym added) (kept-legal plain opening (state_in s p) (after plain (state_in s p) entry) (journal_of j) entry kept.replayed step kept.legal);
   held = held;
   mblks = pool.mblks ∙ kept.mblks;
   dblks = pool.dblks ∙ kept.dblks;

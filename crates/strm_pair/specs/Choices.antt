@@ -1,6 +1,5 @@
 -- Which messages a flush or a close takes, as the code says it.
-use Rattle.std.specs.Prelude.{◌<◌, Option, None, Some}
-use Rattle.strm_types.specs.declared.kinds.Band.{Band}
+use Rattle.std.specs.Prelude.{◌<◌, None, Some}
 use Rattle.strm_types.specs.declared.limits.TheConstants.{BANDS}
 use Rattle.strm_types.specs.Emptied.{Choice, of_all, of_data}
 use Rattle.strm_pair.specs.declared.emptying.Chosen.{Chosen}
@@ -15,7 +14,3 @@ choice_of (Of band) = of_data (Some band)
 abbrev pub IsChoice : Chosen → Type 0
 IsChoice (Of band) = band.0 < BANDS
 IsChoice _ = Unit {0}
-
-abbrev pub IsFlushBand : Option Band → Type 0
-IsFlushBand None = Unit {0}
-IsFlushBand (Some band) = band.0 < BANDS

@@ -1,5 +1,12 @@
 //! Flushes and closes of a side's stream (streamio(7I): I_FLUSH; close(2); STREAMS Programming Guide, "Flush Handling").
 
+ghost use Rattle.std.specs.Prelude.{◌≡◌, false};
+ghost use Rattle.strm_types.specs.Queue.{new_queue};
+ghost use Rattle.strm_queue.specs.declared.limits.TheConstants.{HEAD_HIGH, HEAD_LOW};
+ghost use Rattle.strm_pair.specs.Stored.{queue_in, IsReady, Keeps};
+ghost use Rattle.strm_types.specs.Emptied.{head_behind, driver_behind, reached, write_flushed, read_flushed, flushed_on, closed_at};
+ghost use Rattle.strm_pair.specs.Choices.{choice_of, IsChoice};
+
 use crate::emptying::{Chosen, empty};
 use crate::ends::End;
 use crate::streams::Streams;
@@ -9,7 +16,15 @@ use strm_types::{FlushQueues, Openness, Side};
 
 impl End {
     /// Makes the head as new, with nothing on its queue.
-    pub fn renew_head<B: Blocks>(&mut self, store: &mut B) {
+    pub fn renew_head<B: Blocks>(&mut self, store: &mut B)
+        requires { IsReady (B.value store.old) self.old.head }
+        ensures queue { queue_in (B.value store.new) self.new.head ≡ new_queue HEAD_HIGH HEAD_LOW }
+        ensures hung_up { self.new.hung_up ≡ false }
+        ensures opened { self.new.opened ≡ self.old.opened }
+        ensures driver { self.new.driver ≡ self.old.driver }
+        ensures keeps { Keeps (B.value store.old) (B.value store.new) self.old.head self.new.head }
+    {
+        store.audit();
         self.hung_up = false;
         self.head.flushq(store, Flush::All);
         self.head = Queue::new(self.head.list, HEAD_HIGH, HEAD_LOW);
@@ -17,8 +32,17 @@ impl End {
 }
 
 impl Streams {
+    ghost use Rattle.strm_pair.specs.Pairs.{state_in, AreHeld, SamePool};
+
     // Takes messages off the queue of a side's head.
-    fn empty_head<B: Blocks>(&mut self, store: &mut B, side: Side, chosen: Chosen) {
+    fn empty_head<B: Blocks>(&mut self, store: &mut B, side: Side, chosen: Chosen)
+        requires held { AreHeld (B.value store.old) self.old }
+        requires valid { IsChoice chosen }
+        ensures state { state_in (B.value store.new) self.new
+            ≡ head_behind (choice_of chosen) side (state_in (B.value store.old) self.old) }
+        ensures held { AreHeld (B.value store.new) self.new }
+        ensures pool { SamePool (B.value store.old) (B.value store.new) }
+    {
         let goes = match side {
             Side::Master => empty(store, &mut self.master.head, chosen),
             Side::Slave => empty(store, &mut self.slave.head, chosen),
@@ -29,7 +53,14 @@ impl Streams {
     }
 
     // Takes messages off the queue of a side's driver.
-    fn empty_driver<B: Blocks>(&mut self, store: &mut B, side: Side, chosen: Chosen) {
+    fn empty_driver<B: Blocks>(&mut self, store: &mut B, side: Side, chosen: Chosen)
+        requires held { AreHeld (B.value store.old) self.old }
+        requires valid { IsChoice chosen }
+        ensures state { state_in (B.value store.new) self.new
+            ≡ driver_behind (choice_of chosen) side (state_in (B.value store.old) self.old) }
+        ensures held { AreHeld (B.value store.new) self.new }
+        ensures pool { SamePool (B.value store.old) (B.value store.new) }
+    {
         let goes = match side {
             Side::Master => empty(store, &mut self.master.driver, chosen),
             Side::Slave => empty(store, &mut self.slave.driver, chosen),
@@ -40,32 +71,54 @@ impl Streams {
     }
 
     // An M_FLUSH for readers reaches a side's head, where that is open.
-    fn reach<B: Blocks>(&mut self, store: &mut B, side: Side, chosen: Chosen) {
+    fn reach<B: Blocks>(&mut self, store: &mut B, side: Side, chosen: Chosen)
+        requires held { AreHeld (B.value store.old) self.old }
+        requires valid { IsChoice chosen }
+        ensures state { state_in (B.value store.new) self.new
+            ≡ (reached (choice_of chosen) side (state_in (B.value store.old) self.old)).state }
+        ensures held { AreHeld (B.value store.new) self.new }
+        ensures pool { SamePool (B.value store.old) (B.value store.new) }
+    {
         if self.end(side).opened.is_open() {
             self.empty_head(store, side, chosen);
         }
     }
 
     // FLUSHW at the driver of a side: its own queue, and then what stands for the readers across.
-    fn flush_write<B: Blocks>(&mut self, store: &mut B, side: Side, chosen: Chosen) {
+    fn flush_write<B: Blocks>(&mut self, store: &mut B, side: Side, chosen: Chosen)
+        requires held { AreHeld (B.value store.old) self.old }
+        requires valid { IsChoice chosen }
+        ensures state { state_in (B.value store.new) self.new
+            ≡ (write_flushed (choice_of chosen) side (state_in (B.value store.old) self.old)).state }
+        ensures held { AreHeld (B.value store.new) self.new }
+        ensures pool { SamePool (B.value store.old) (B.value store.new) }
+    {
         self.empty_driver(store, side, chosen);
         self.reach(store, side.other(), chosen);
     }
 
     // FLUSHR at the driver of a side: the driver's queue across, and then what stands for the side's own readers.
-    fn flush_read<B: Blocks>(&mut self, store: &mut B, side: Side, chosen: Chosen) {
+    fn flush_read<B: Blocks>(&mut self, store: &mut B, side: Side, chosen: Chosen)
+        requires held { AreHeld (B.value store.old) self.old }
+        requires valid { IsChoice chosen }
+        ensures state { state_in (B.value store.new) self.new
+            ≡ (read_flushed (choice_of chosen) side (state_in (B.value store.old) self.old)).state }
+        ensures held { AreHeld (B.value store.new) self.new }
+        ensures pool { SamePool (B.value store.old) (B.value store.new) }
+    {
         self.empty_driver(store, side.other(), chosen);
         self.reach(store, side, chosen);
     }
 
     /// Flushes a side's stream.
-    pub fn flush<B: Blocks>(
-        &mut self,
-        store: &mut B,
-        side: Side,
-        what: FlushQueues,
-        chosen: Chosen,
-    ) {
+    pub fn flush<B: Blocks>(&mut self, store: &mut B, side: Side, what: FlushQueues, chosen: Chosen)
+        requires held { AreHeld (B.value store.old) self.old }
+        requires valid { IsChoice chosen }
+        ensures state { state_in (B.value store.new) self.new
+            ≡ (flushed_on (choice_of chosen) side what (state_in (B.value store.old) self.old)).state }
+        ensures held { AreHeld (B.value store.new) self.new }
+        ensures pool { SamePool (B.value store.old) (B.value store.new) }
+    {
         match what {
             FlushQueues::Read => self.flush_read(store, side, chosen),
             FlushQueues::Write => self.flush_write(store, side, chosen),
@@ -78,7 +131,13 @@ impl Streams {
 
     /// Closes a side. What stands for its readers goes, and with the master what both drivers have; the slave's driver
     /// keeps what it has for the master. The slave is hung up where the master goes.
-    pub fn shut<B: Blocks>(&mut self, store: &mut B, side: Side) {
+    pub fn shut<B: Blocks>(&mut self, store: &mut B, side: Side)
+        requires held { AreHeld (B.value store.old) self.old }
+        ensures state { state_in (B.value store.new) self.new
+            ≡ (closed_at side (state_in (B.value store.old) self.old)).state }
+        ensures held { AreHeld (B.value store.new) self.new }
+        ensures pool { SamePool (B.value store.old) (B.value store.new) }
+    {
         self.empty_head(store, side, Chosen::All);
         match side {
             Side::Master => {

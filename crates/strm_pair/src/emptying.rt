@@ -1,11 +1,12 @@
 //! What flushes and closes take off a queue (flushq(9F), flushband(9F)).
 
-ghost use Rattle.std.specs.Prelude.{◌≡◌};
-ghost use Rattle.strm_types.specs.Emptied.{of_data, queue_behind, writer_goes};
+ghost use Rattle.std.specs.Prelude.{◌≡◌, true};
+ghost use Rattle.strm_types.specs.Refused.{is_a_band};
+ghost use Rattle.strm_types.specs.Emptied.{of_data, emptied, queue_behind, writer_goes};
 ghost use Rattle.strm_pair.specs.Stored.{queue_in, IsReady, Keeps};
-ghost use Rattle.strm_pair.specs.Choices.{choice_of, IsChoice, IsFlushBand};
+ghost use Rattle.strm_pair.specs.Choices.{choice_of, IsChoice};
 
-use crate::flows::relieve;
+use crate::flows::{relieve, total};
 use strm_blocks::Blocks;
 use strm_queue::{Flush, Queue};
 use strm_types::Band;
@@ -21,7 +22,7 @@ pub(crate) enum Chosen {
 impl Chosen {
     /// What a flush takes: of one band, or of all.
     pub fn of_data(band: Option<Band>) -> Chosen
-        requires { IsFlushBand band }
+        requires { is_a_band band ≡ true }
         ensures choice { choice_of result ≡ of_data band }
         ensures valid { IsChoice result }
     {
@@ -29,6 +30,22 @@ impl Chosen {
             Some(band) => Chosen::Of(band),
             None => Chosen::Data,
         }
+    }
+}
+
+// Takes messages off a queue, which wants to be read where that leaves it empty.
+fn drop_chosen<B: Blocks>(store: &mut B, queue: &mut Queue, chosen: Chosen)
+    requires ready { IsReady (B.value store.old) queue.old }
+    requires valid { IsChoice chosen }
+    ensures queue { queue_in (B.value store.new) queue.new
+        ≡ emptied (choice_of chosen) (queue_in (B.value store.old) queue.old) }
+    ensures keeps { Keeps (B.value store.old) (B.value store.new) queue.old queue.new }
+{
+    store.audit();
+    match chosen {
+        Chosen::All => queue.flushq(store, Flush::All),
+        Chosen::Data => queue.flushq(store, Flush::Data),
+        Chosen::Of(band) => queue.flushband(store, band),
     }
 }
 
@@ -41,11 +58,10 @@ pub(crate) fn empty<B: Blocks>(store: &mut B, queue: &mut Queue, chosen: Chosen)
     ensures went { result ≡ writer_goes (choice_of chosen) (queue_in (B.value store.old) queue.old) }
     ensures keeps { Keeps (B.value store.old) (B.value store.new) queue.old queue.new }
 {
-    let before = queue.total();
-    match chosen {
-        Chosen::All => queue.flushq(store, Flush::All),
-        Chosen::Data => queue.flushq(store, Flush::Data),
-        Chosen::Of(band) => queue.flushband(store, band),
+    let before = total(store, queue);
+    drop_chosen(store, queue, chosen);
+    if total(store, queue) == before {
+        return false;
     }
-    queue.total() != before && relieve(queue)
+    relieve(queue)
 }

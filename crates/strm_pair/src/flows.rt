@@ -39,6 +39,15 @@ impl Visitor for Counted {
     }
 }
 
+/// How many bytes stand on a queue.
+pub(crate) fn total<B: Blocks>(store: &B, queue: &Queue) -> usize
+    requires { IsReady (B.value store.now) queue.now }
+    ensures { result ≡ bytes_of (messages_on (B.value store.now) queue.now.list) }
+{
+    let _ = store;
+    queue.total()
+}
+
 /// How many messages stand on a queue, and how many bytes they have. The cost is a step for each block of them.
 pub(crate) fn sizes<B: Blocks>(store: &B, queue: &Queue) -> (usize, usize)
     requires ready { IsReady (B.value store.now) queue.now }
@@ -48,7 +57,7 @@ pub(crate) fn sizes<B: Blocks>(store: &B, queue: &Queue) -> (usize, usize)
     store.audit();
     let mut counted = Counted { messages: 0 };
     store.visit(queue.list, &mut counted);
-    (counted.messages, queue.total())
+    (counted.messages, total(store, queue))
 }
 
 /// Whether a band of a queue is full: its count is at or above its high-water mark.

@@ -2,7 +2,6 @@
 
 ghost use Rattle.std.specs.Prelude.{ℕ, ◌≡◌, ◌<◌, length};
 ghost use Rattle.strm_types.specs.Queue.{bytes_of};
-ghost use Rattle.strm_types.specs.State.{State};
 ghost use Rattle.strm_pair.specs.Shows.{count_at, full_at, messages_at};
 
 use crate::flows::{count, is_full, sizes};

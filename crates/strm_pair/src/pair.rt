@@ -15,7 +15,7 @@ ghost use Rattle.strm_pair.specs.Pool.{IsPoolOf};
 ghost use Rattle.strm_pair.specs.PairViews.{sizes_over};
 
 use crate::journal::Journal;
-use crate::refusals::{blocks_asked, content_most};
+use crate::refusals::{blocks_asked, content_most, or_else, unless};
 use crate::streams::Streams;
 use arrayvec::ArrayVec;
 use std::alloc::Global;
@@ -185,19 +185,16 @@ impl<B: Blocks + Drop> Pair<B> {
     fn turn_refusal(&self, name: QueueName) -> Option<Refusal>
         ensures { result ≡ queue_refused self.now name }
     {
-        if !self.streams.enabled.contains(name) {
-            return Some(Refusal::Einval);
-        }
-        if let Some(refusal) = self.streams.beyond() {
-            return Some(refusal);
-        }
-        if !self.has_room(0) {
-            return Some(Refusal::JournalFull);
-        }
-        if !self.has_blocks(TURN_BLOCKS) {
-            return Some(Refusal::Enosr);
-        }
-        None
+        or_else(
+            unless(self.streams.enabled.contains(name), Refusal::Einval),
+            or_else(
+                self.streams.beyond(),
+                or_else(
+                    unless(self.has_room(0), Refusal::JournalFull),
+                    unless(self.has_blocks(TURN_BLOCKS), Refusal::Enosr),
+                ),
+            ),
+        )
     }
 
     /// Makes a call, and tells it as [`Pair::call`] does, with the bytes of a read in the answer. An answer has room

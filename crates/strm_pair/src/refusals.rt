@@ -6,25 +6,26 @@ ghost use Rattle.strm_types.specs.Journal.{content_max};
 ghost use Rattle.strm_types.specs.Refused.{refused_at_once, refused_by_state, blocks_asked, unless, or_else, in_range, goes_down, at_end, is_known, is_a_band};
 ghost use Rattle.strm_types.specs.declared.refusals.Refusal.TheVariants.{Enxio, Erange};
 ghost use Rattle.strm_types.specs.Names.{is_open};
-ghost use Rattle.strm_types.specs.State.{State, stream};
+ghost use Rattle.strm_types.specs.State.{stream};
 
 use crate::ends::End;
 use crate::flows::is_full;
 use crate::streams::Streams;
 use strm_blocks::Blocks;
 use strm_types::{
-    BANDS, Band, CHANGE_BLOCKS, CLOSE_BLOCKS, Caller, Event, ModuleName, Openness, READ_MAX, Refusal, Side, WRITE_BLOCKS, chunk_count,
+    BANDS, Band, CHANGE_BLOCKS, CLOSE_BLOCKS, Caller, Event, ModuleName, Openness, READ_MAX,
+    Refusal, Side, WRITE_BLOCKS, chunk_count,
 };
 
-// A refusal unless a condition holds.
-fn unless(condition: bool, refusal: Refusal) -> Option<Refusal>
+/// A refusal unless a condition holds.
+pub(crate) fn unless(condition: bool, refusal: Refusal) -> Option<Refusal>
     ensures { result ≡ unless condition refusal }
 {
     if condition { None } else { Some(refusal) }
 }
 
-// The first refusal, else the second.
-fn or_else(first: Option<Refusal>, second: Option<Refusal>) -> Option<Refusal>
+/// The first refusal, else the second.
+pub(crate) fn or_else(first: Option<Refusal>, second: Option<Refusal>) -> Option<Refusal>
     ensures { result ≡ or_else first second }
 {
     match first {
@@ -143,7 +144,8 @@ impl Streams {
                 unless(matches!(caller.side, Side::Master), Refusal::Einval),
             ),
             Event::OpenSlave => self.unopened(Side::Master),
-            Event::Write { .. } | Event::Pop => or_else(self.unreached(caller.side), self.beyond()),
+            Event::Write { .. } => or_else(self.unreached(caller.side), self.beyond()),
+            Event::Pop => or_else(self.unreached(caller.side), self.beyond()),
             Event::Push { name } => or_else(
                 self.unreached(caller.side),
                 or_else(unless(is_known(*name), Refusal::Einval), self.beyond()),

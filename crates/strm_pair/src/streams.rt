@@ -1,17 +1,17 @@
 //! Both streams of a pair, and what calls and turns do to them, on the store in which their messages stand.
 
-ghost use Rattle.std.specs.Prelude.{ℕ, ◌≡◌, ◌+◌, ◌≤◌, [], length, min};
+ghost use Rattle.std.specs.Prelude.{ℕ, ◌≡◌, ◌+◌, ◌≤◌, ◌<◌, true, [], length, min, None};
 ghost use Rattle.strm_types.specs.Cells.{plain};
-ghost use Rattle.strm_types.specs.State.{State, opening, new_stream};
+ghost use Rattle.strm_types.specs.State.{opening, new_stream};
 ghost use Rattle.strm_types.specs.declared.answers.Answer.TheVariants.{Count, Bytes};
 ghost use Rattle.strm_types.specs.Calls.{called, request, opened_slave};
 ghost use Rattle.strm_types.specs.Turns.{turned, driver_turned};
-ghost use Rattle.strm_types.specs.Refused.{blocks_taken};
+ghost use Rattle.strm_types.specs.Refused.{blocks_taken, in_range, refused_at_once};
 ghost use Rattle.strm_types.specs.Write.{chunk_count};
 ghost use Rattle.strm_types.specs.Journal.{reply_in, answer_len, content_max};
 ghost use Rattle.strm_blocks.specs.Blocks.{StoreValue, free_m, free_d, empty_store};
 ghost use Rattle.strm_pair.specs.Streams.{IsBlank, IsSide, stream_in};
-ghost use Rattle.strm_pair.specs.PlainCalls.{wrote_plain, read_plain};
+ghost use Rattle.strm_pair.specs.PlainCalls.{wrote_plain, read_some, read_plain};
 
 use crate::emptying::Chosen;
 use crate::ends::End;
@@ -22,7 +22,8 @@ use strm_blocks::Blocks;
 use strm_frame::Enabled;
 use strm_queue::{Flush, HEAD_HIGH, HEAD_LOW, OTHER_HIGH, OTHER_LOW, Queue};
 use strm_types::{
-    Answer, Book, Caller, Event, Openness, Place, QueueName, READ_MAX, ReadBytes, Side, Turn, chunk_count,
+    Answer, Book, Caller, Event, Openness, Place, QueueName, READ_MAX, ReadBytes, Side, Turn,
+    chunk_count,
 };
 
 /// The streams of a pair, whether its slave is locked, the queues that are enabled, the number that the next ioctl gets,
@@ -90,6 +91,7 @@ impl Streams {
     /// Writes bytes down a side's stream, and answers how many were taken.
     pub fn write<B: Blocks>(&mut self, store: &mut B, side: Side, bytes: &[u8]) -> usize
         requires held { AreHeld (B.value store.old) self.old }
+        requires in_range { in_range (state_in (B.value store.old) self.old) ≡ true }
         requires room_m { chunk_count (length bytes.now) ≤ free_m (B.value store.old) }
         requires room_d { chunk_count (length bytes.now) ≤ free_d (B.value store.old) }
         ensures answer { Count result ≡ (wrote_plain side bytes.now (state_in (B.value store.old) self.old)).answer }
@@ -117,7 +119,29 @@ impl Streams {
         down.taken
     }
 
-    /// Reads up to `n` bytes from a side's head into `out`.
+    // Reads up to `n` bytes, which are some, from a side's head into `out`.
+    fn read_some<B: Blocks>(&mut self, store: &mut B, side: Side, n: u32, out: &mut ReadBytes)
+        requires held { AreHeld (B.value store.old) self.old }
+        requires some { 0 < n }
+        requires fresh { out.old.items ≡ [] }
+        ensures answer { Bytes out.new.items ≡ (read_some side n (state_in (B.value store.old) self.old)).answer }
+        ensures most { length out.new.items ≤ min n READ_MAX }
+        ensures state { state_in (B.value store.new) self.new
+            ≡ (read_some side n (state_in (B.value store.old) self.old)).state }
+        ensures held { AreHeld (B.value store.new) self.new }
+        ensures pool { SamePool (B.value store.old) (B.value store.new) }
+    {
+        let wanted = (n as usize).min(READ_MAX);
+        let goes = match side {
+            Side::Master => read(store, &mut self.master.head, wanted, out),
+            Side::Slave => read(store, &mut self.slave.head, wanted, out),
+        };
+        if goes {
+            self.enabled.enable_found(side.head().before());
+        }
+    }
+
+    /// Reads up to `n` bytes from a side's head into `out`: nothing where it is empty.
     pub fn read<B: Blocks>(&mut self, store: &mut B, side: Side, n: u32, out: &mut ReadBytes)
         requires held { AreHeld (B.value store.old) self.old }
         requires fresh { out.old.items ≡ [] }
@@ -128,16 +152,8 @@ impl Streams {
         ensures held { AreHeld (B.value store.new) self.new }
         ensures pool { SamePool (B.value store.old) (B.value store.new) }
     {
-        if n == 0 || self.end(side).head.is_empty(store) {
-            return;
-        }
-        let wanted = (n as usize).min(READ_MAX);
-        let goes = match side {
-            Side::Master => read(store, &mut self.master.head, wanted, out),
-            Side::Slave => read(store, &mut self.slave.head, wanted, out),
-        };
-        if goes {
-            self.enabled.enable_found(side.head().before());
+        if n > 0 && !self.end(side).head.is_empty(store) {
+            self.read_some(store, side, n, out);
         }
     }
 
@@ -150,6 +166,7 @@ impl Streams {
         out: &mut ReadBytes,
     ) -> Answer<usize>
         requires held { AreHeld (B.value store.old) self.old }
+        requires allowed { refused_at_once (state_in (B.value store.old) self.old) caller (request event.now) ≡ None }
         requires room_m { blocks_taken (request event.now) ≤ free_m (B.value store.old) }
         requires room_d { blocks_taken (request event.now) ≤ free_d (B.value store.old) }
         ensures answer { reply_in result out.new.items

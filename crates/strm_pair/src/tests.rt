@@ -9,7 +9,8 @@ use std::process::Abort;
 use std::test::Fail;
 use strm_blocks::{Blocks, TableStore};
 use strm_types::{
-    Answer, Band, Caller, Config, Event, Place, QueueName, ReadBytes, Refusal, Side, Turn, Way,
+    Answer, Band, Caller, Config, Event, FlushQueues, ModuleName, Place, QueueName, ReadBytes,
+    Refusal, Side, Turn, Way,
 };
 
 const MASTER: Caller = Caller { side: Side::Master };
@@ -65,6 +66,8 @@ enum Step<'a> {
     Free(usize, usize),
     // So many bytes count in band 0 of a queue, and it is full or isn't.
     Counts(QueueName, usize, bool),
+    // So many messages with so many bytes stand on a queue.
+    Sizes(QueueName, usize, usize),
     // The first message on the list of the master's driver has so many bytes, or there is none.
     Stored(Option<usize>),
     // The journal has so many entries, and these bytes.
@@ -127,6 +130,7 @@ fn shows<B: Blocks + Drop>(pair: &Pair<B>, step: &Step<'_>) -> bool {
         Step::Enabled(count, first) => enables(pair, *count, *first),
         Step::Free(mblks, dblks) => pair.free_blocks() == (*mblks, *dblks),
         Step::Counts(queue, bytes, full) => counts(pair, *queue, *bytes, *full),
+        Step::Sizes(queue, messages, bytes) => pair.sizes(*queue) == (*messages, *bytes),
         Step::Stored(body) => stored(pair) == *body,
         Step::Entered(count, bytes) => has_entered(pair, *count, bytes),
         _ => false,
@@ -324,4 +328,92 @@ const WITH_AN_EMPTY_WRITE: [Step<'static>; 9] = [
 #[test]
 fn an_empty_write_reads_as_nothing(rt: HostRuntime) -> Result<(), Fail> {
     Ok(run(&rt, rt.alloc(), SIZES, &OPENING, &WITH_AN_EMPTY_WRITE)?)
+}
+
+const ALL_WRITES: Event<&'static [u8]> = Event::Flush {
+    what: FlushQueues::Write,
+    band: None,
+};
+
+const LAST_BAND: Event<&'static [u8]> = Event::Flush {
+    what: FlushQueues::Write,
+    band: Some(Band(7)),
+};
+
+const NO_BAND: Event<&'static [u8]> = Event::Flush {
+    what: FlushQueues::Write,
+    band: Some(Band(8)),
+};
+
+const FLUSHING: [Step<'static>; 9] = [
+    Step::Call(MASTER, Event::Write { bytes: b"abc" }, Ok(Answer::Count(3))),
+    Step::Sizes(MASTER_DRIVER, 1, 3),
+    Step::Call(MASTER, LAST_BAND, DONE),
+    Step::Sizes(MASTER_DRIVER, 1, 3),
+    Step::Call(MASTER, ALL_WRITES, DONE),
+    Step::Sizes(MASTER_DRIVER, 0, 0),
+    Step::Turn(MASTER_DRIVER, Ok(Turn::Idle)),
+    Step::Call(SLAVE, Event::Read { n: 1 }, AGAIN),
+    Step::Entered(7, b"abc"),
+];
+
+#[test]
+fn a_flush_takes_what_was_written(rt: HostRuntime) -> Result<(), Fail> {
+    Ok(run(&rt, rt.alloc(), SIZES, &OPENING, &FLUSHING)?)
+}
+
+const CLOSING_THE_SLAVE: [Step<'static>; 9] = [
+    Step::Call(MASTER, Event::Write { bytes: b"abc" }, Ok(Answer::Count(3))),
+    Step::Turn(MASTER_DRIVER, Ok(Turn::Moved(3))),
+    Step::Call(SLAVE, Event::Shut, DONE),
+    Step::Read(MASTER, 9, b""),
+    Step::Call(MASTER, Event::Write { bytes: b"d" }, Ok(Answer::Count(1))),
+    Step::Turn(MASTER_DRIVER, Ok(Turn::Blocked)),
+    Step::Call(MASTER, Event::OpenSlave, DONE),
+    Step::Turn(MASTER_DRIVER, Ok(Turn::Moved(1))),
+    Step::Read(SLAVE, 9, b"d"),
+];
+
+#[test]
+fn a_closed_slave_ends_the_masters_input(rt: HostRuntime) -> Result<(), Fail> {
+    Ok(run(&rt, rt.alloc(), SIZES, &OPENING, &CLOSING_THE_SLAVE)?)
+}
+
+const CLOSING_THE_MASTER: [Step<'static>; 11] = [
+    Step::Call(SLAVE, Event::Write { bytes: b"abc" }, Ok(Answer::Count(3))),
+    Step::Call(MASTER, Event::Shut, DONE),
+    Step::Free(256, 256),
+    Step::Call(SLAVE, Event::Write { bytes: b"d" }, NOT_OPEN),
+    Step::Call(SLAVE, ALL_WRITES, NOT_OPEN),
+    Step::Call(SLAVE, Event::Pop, NOT_OPEN),
+    Step::Read(SLAVE, 9, b""),
+    Step::Call(MASTER, Event::Read { n: 9 }, NOT_OPEN),
+    Step::Call(MASTER, Event::OpenMaster, INVALID),
+    Step::Call(SLAVE, Event::Shut, DONE),
+    Step::Call(SLAVE, Event::OpenSlave, NOT_OPEN),
+];
+
+#[test]
+fn a_closed_master_hangs_the_slave_up(rt: HostRuntime) -> Result<(), Fail> {
+    Ok(run(&rt, rt.alloc(), SIZES, &OPENING, &CLOSING_THE_MASTER)?)
+}
+
+const UNKNOWN: [Step<'static>; 6] = [
+    Step::Call(
+        SLAVE,
+        Event::Push {
+            name: Some(ModuleName::Ldterm),
+        },
+        INVALID,
+    ),
+    Step::Call(SLAVE, Event::Push { name: None }, INVALID),
+    Step::Call(SLAVE, Event::Pop, INVALID),
+    Step::Call(SLAVE, Event::Look, INVALID),
+    Step::Call(SLAVE, NO_BAND, INVALID),
+    Step::Entered(3, b""),
+];
+
+#[test]
+fn no_module_and_no_eighth_band_is_known(rt: HostRuntime) -> Result<(), Fail> {
+    Ok(run(&rt, rt.alloc(), SIZES, &OPENING, &UNKNOWN)?)
 }

@@ -1,12 +1,12 @@
 -- The counts of the bands add up to the bytes of all messages.
-use Rattle.std.proofs.Common.{ℕ, zero, suc, ◌≡◌, ◌≤◌, ◌<◌, ◌+◌, ◌*◌, Bool, true, false, List, [], ◌∷◌, refl, sym, ap, ◌∙◌, arith}
+use Rattle.std.proofs.Common.{ℕ, zero, suc, ◌≡◌, ◌≤◌, ◌+◌, ◌*◌, Bool, true, false, List, [], ◌∷◌, refl, sym, ◌∙◌, arith}
 use Rattle.std.specs.Prelude.{sum_by, nat_lt, ◌==◌, if◌then◌else◌}
 use Rattle.std.proofs.lemmas.Bool.Decides.{nat_tests}
 use Rattle.std.proofs.lemmas.List.Sums.{sum_by-cons}
 use Rattle.strm_blocks.specs.Blocks.{Block}
 use Rattle.strm_queue.specs.declared.flow.Flow.{Flow}
 use Rattle.strm_queue.specs.Flows.{count_in}
-use Rattle.strm_queue.specs.Kept.{bytes_of, band_of, count_of, flow_at, AllBands, AreCounted, FewBytes}
+use Rattle.strm_queue.specs.Kept.{bytes_of, band_of, flow_at, AllBands, AreCounted, FewBytes}
 use Rattle.strm_queue.proofs.Counted.{count-kept, sum-both}
 
 -- the counts of the bands below one

@@ -1,10 +1,11 @@
 -- Forgetting the origins of cells commutes with what is done to them.
 use Rattle.std.proofs.Common.{ℕ, zero, suc, ◌≡◌, ◌+◌, ◌-◌, Bool, true, false, cond, List, [], ◌∷◌, ◌++◌, length, map, take, drop, refl, sym, ap, ◌∙◌, arith}
-use Rattle.std.specs.Prelude.{if◌then◌else◌, ◌==◌, ◌||◌, nat_le, nat_lt, Option, None, Some, option_map}
+use Rattle.std.specs.Prelude.{if◌then◌else◌, ◌==◌, ◌&&◌, ◌||◌, nat_le, nat_lt, Option, None, Some, option_map}
 use Rattle.std.proofs.lemmas.List.{take-map, drop-map, length-map, map-append}
 use Rattle.std.proofs.lemmas.List.Sums.{sum_by-cons}
 use Rattle.strm_types.specs.Message.{Message, part, rank_of, band_of, cells_of, size_of, data_message, map_message}
-use Rattle.strm_types.specs.Queue.{Queue, put, put_back, put_on, put_enables, count_of, is_full, flow_of, map_messages, map_queue}
+use Rattle.strm_types.specs.Queue.{Queue, Flow, put, put_back, put_on, put_enables, count_of, is_full, flow_of, relieved, relieved_from, relieves_from, map_messages, map_queue}
+use Rattle.strm_types.specs.Turns.{is_none_left}
 use Rattle.strm_types.specs.Write.{Sent, sent, written, chunks_of, chunk_count}
 use Rattle.strm_types.specs.Head.{Taken, rest_of, gathered, head_read}
 use Rattle.strm_types.proofs.Ranked.{put-map, put_back-map}
@@ -18,11 +19,19 @@ module _ {C D : Type 0} (f : C → D) where
   unfolding band_of map_message
   band-forgets m = refl
 
+  pub kind-forgets : (m : Message C) → (map_message f m).kind ≡ m.kind
+  unfolding map_message
+  kind-forgets m = refl
+
+  pub named_band-forgets : (m : Message C) → (map_message f m).band ≡ m.band
+  unfolding map_message
+  named_band-forgets m = refl
+
   part-forgets : (o : Option (List C)) → part (option_map (map f) o) ≡ map f (part o)
   part-forgets None = refl
   part-forgets (Some cells) = refl
 
-  cells-forget : (m : Message C) → cells_of (map_message f m) ≡ map f (cells_of m)
+  pub cells-forget : (m : Message C) → cells_of (map_message f m) ≡ map f (cells_of m)
   unfolding cells_of map_message
   cells-forget m = rw (part-forgets m.control, part-forgets m.body) (sym (map-append f (part m.control) (part m.body)))
 
@@ -56,6 +65,26 @@ module _ {C D : Type 0} (f : C → D) where
 
   pub full-forgets : (band : ℕ) (q : Queue C) → is_full band (map_queue f q) ≡ is_full band q
   full-forgets band q = ap (λ n. nat_le (flow_of band q).high n) (count-forgets band q.messages)
+
+  pub none-forgets : {A B : Type 0} (g : A → B) (xs : List A) → is_none_left (map g xs) ≡ is_none_left xs
+  none-forgets g [] = refl
+  none-forgets g (x ∷ xs) = refl
+
+  relieved_from-forgets : (band : ℕ) (messages : List (Message C)) (flows : List Flow) → relieved_from band (map_messages f messages) flows ≡ relieved_from band messages flows
+  relieved_from-forgets band messages [] = refl
+  relieved_from-forgets band messages (flow ∷ flows) =
+      ap (λ (n : ℕ). (if flow.want_write && nat_le n flow.low then record flow { want_write = false } else flow) ∷ relieved_from (suc band) (map_messages f messages) flows) (count-forgets band messages)
+      ∙ ap (λ (rest : List Flow). (if flow.want_write && nat_le (count_of band messages) flow.low then record flow { want_write = false } else flow) ∷ rest) (relieved_from-forgets (suc band) messages flows)
+
+  pub relieves_from-forgets : (band : ℕ) (messages : List (Message C)) (flows : List Flow) → relieves_from band (map_messages f messages) flows ≡ relieves_from band messages flows
+  relieves_from-forgets band messages [] = refl
+  relieves_from-forgets band messages (flow ∷ flows) =
+      ap (λ (n : ℕ). (flow.want_write && nat_le n flow.low) || relieves_from (suc band) (map_messages f messages) flows) (count-forgets band messages)
+      ∙ ap (λ (rest : Bool). (flow.want_write && nat_le (count_of band messages) flow.low) || rest) (relieves_from-forgets (suc band) messages flows)
+
+  pub relieved-forgets : (q : Queue C) → map_queue f (relieved q) ≡ relieved (map_queue f q)
+  relieved-forgets q =
+      ap (λ (flows : List Flow). record { messages = map_messages f q.messages; flows = flows; want_read = q.want_read; no_enable = q.no_enable }) (sym (relieved_from-forgets 0 q.messages q.flows))
 
   -- what a write sends, of other cells
   abbrev pub map_sent : Sent C → Sent D

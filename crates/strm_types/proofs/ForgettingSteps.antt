@@ -1,13 +1,13 @@
 -- Forgetting the origins of cells commutes with whole calls, whole turns and the replay of a journal.
-use Rattle.std.proofs.Common.{ℕ, suc, ◌≡◌, Bool, true, false, cond, List, [], ◌∷◌, map, refl, sym, ap, ◌∙◌}
-use Rattle.std.specs.Prelude.{min, ◌==◌, ◌&&◌, ◌||◌, not, nat_le, if◌then◌else◌}
+use Rattle.std.proofs.Common.{ℕ, ◌≡◌, Bool, true, false, cond, List, [], ◌∷◌, map, refl, sym, ap, ◌∙◌}
+use Rattle.std.specs.Prelude.{min, ◌==◌, ◌&&◌, ◌||◌, not}
 use Rattle.strm_types.specs.declared.limits.TheConstants.{READ_MAX}
 use Rattle.strm_types.specs.declared.answers.Answer.TheVariants.{Done, Count, Bytes}
 use Rattle.strm_types.specs.declared.answers.Turn.{Turn}
 use Rattle.strm_types.specs.declared.answers.Turn.TheVariants.{Moved, Blocked, Idle}
 use Rattle.strm_types.specs.declared.entries.Entry.TheVariants.{Called, Turned}
 use Rattle.strm_types.specs.declared.events.Caller.{Caller}
-use Rattle.strm_types.specs.declared.events.Event.TheVariants.{OpenMaster, Unlock, OpenSlave, Write, Read}
+use Rattle.strm_types.specs.declared.events.Event.TheVariants.{OpenMaster, Unlock, OpenSlave, Shut, Push, Pop, Look, Flush, Write, Read}
 use Rattle.strm_types.specs.declared.names.Side.{Side}
 use Rattle.strm_types.specs.declared.names.Side.TheVariants.{Master, Slave}
 use Rattle.strm_types.specs.declared.names.Dir.{Dir}
@@ -19,16 +19,19 @@ use Rattle.strm_types.specs.declared.names.QueueName.{QueueName}
 use Rattle.strm_types.specs.Cells.{Cells, AreCells, plain, cells_written, bytes_of}
 use Rattle.strm_types.specs.Names.{other, driver_of, head_of, direction_from, before, is_open, without, enable_if, enable_some}
 use Rattle.strm_types.specs.Message.{Message, size_of, band_of, is_held, map_message}
-use Rattle.strm_types.specs.Queue.{Queue, Flow, count_of, is_full, put_on, relieved, relieved_from, relieves_from, left_with, with_writer_at, map_messages, map_queue}
+use Rattle.strm_types.specs.Queue.{Queue, Flow, is_full, put_on, relieved, left_with, with_writer_at, map_messages, map_queue}
 use Rattle.strm_types.specs.State.{State, Stream, stream, with_stream, with_driver_queue, with_head_queue, book, with_book, new_head, map_stream, map_state}
 use Rattle.strm_types.specs.Books.{with_written}
 use Rattle.strm_types.specs.Write.{Sent, written}
 use Rattle.strm_types.specs.Head.{Taken, head_read}
 use Rattle.strm_types.specs.Turns.{Served, TurnOutcome, map_turn_outcome, is_none_left, held_back, moved_on, is_stopped, driver_serves, goes_on, driver_turned, turned_at, turned}
-use Rattle.strm_types.specs.Calls.{Outcome, Request, Reply, map_outcome, queue_after, lets_go, wrote, called}
+use Rattle.strm_types.specs.Calls.{Outcome, Request, Reply, map_outcome, done, queue_after, lets_go, wrote, called}
 use Rattle.strm_types.specs.Journal.{PlainEntry}
 use Rattle.strm_types.specs.Step.{after, replay}
-use Rattle.strm_types.proofs.Forgetting.{map_sent, map_taken, band-forgets, size-forgets, count-forgets, full-forgets, put-forgets, written-forgets, head_read-forgets}
+use Rattle.strm_types.specs.Deliver.{Carried}
+use Rattle.strm_types.specs.Emptied.{of_data}
+use Rattle.strm_types.proofs.Forgetting.{map_sent, map_taken, kind-forgets, band-forgets, size-forgets, full-forgets, put-forgets, none-forgets, relieved-forgets, relieves_from-forgets, written-forgets, head_read-forgets}
+use Rattle.strm_types.proofs.EmptiedForgets.{flushed_on-forgets, closed_at-forgets}
 use Rattle.strm_types.proofs.PlainCells.{written-plain, bytes-plain, written-bytes}
 
 -- what a write makes of what was sent
@@ -73,34 +76,10 @@ turned_by side more served s = record {
 }
 
 module _ {C D : Type 0} (f : C → D) where
-  none-forgets : {A B : Type 0} (g : A → B) (xs : List A) → is_none_left (map g xs) ≡ is_none_left xs
-  none-forgets g [] = refl
-  none-forgets g (x ∷ xs) = refl
-
-  relieved_from-forgets : (band : ℕ) (messages : List (Message C)) (flows : List Flow) → relieved_from band (map_messages f messages) flows ≡ relieved_from band messages flows
-  relieved_from-forgets band messages [] = refl
-  relieved_from-forgets band messages (flow ∷ flows) =
-      ap (λ (n : ℕ). (if flow.want_write && nat_le n flow.low then record flow { want_write = false } else flow) ∷ relieved_from (suc band) (map_messages f messages) flows) (count-forgets f band messages)
-      ∙ ap (λ (rest : List Flow). (if flow.want_write && nat_le (count_of band messages) flow.low then record flow { want_write = false } else flow) ∷ rest) (relieved_from-forgets (suc band) messages flows)
-
-  relieves_from-forgets : (band : ℕ) (messages : List (Message C)) (flows : List Flow) → relieves_from band (map_messages f messages) flows ≡ relieves_from band messages flows
-  relieves_from-forgets band messages [] = refl
-  relieves_from-forgets band messages (flow ∷ flows) =
-      ap (λ (n : ℕ). (flow.want_write && nat_le n flow.low) || relieves_from (suc band) (map_messages f messages) flows) (count-forgets f band messages)
-      ∙ ap (λ (rest : Bool). (flow.want_write && nat_le (count_of band messages) flow.low) || rest) (relieves_from-forgets (suc band) messages flows)
-
-  relieved-forgets : (q : Queue C) → map_queue f (relieved q) ≡ relieved (map_queue f q)
-  relieved-forgets q =
-      ap (λ (flows : List Flow). record { messages = map_messages f q.messages; flows = flows; want_read = q.want_read; no_enable = q.no_enable }) (sym (relieved_from-forgets 0 q.messages q.flows))
-
   -- a write
   sent_on-forgets : (side : Side) (s : State C) (down : Sent C) → sent_on side (map_state f s) (map_sent f down) ≡ map_outcome f (sent_on side s down)
   sent_on-forgets Master s down = refl
   sent_on-forgets Slave s down = refl
-
-  stream-forgets : (side : Side) (s : State C) → stream side (map_state f s) ≡ map_stream f (stream side s)
-  stream-forgets Master s = refl
-  stream-forgets Slave s = refl
 
   -- a read
   taken_from-forgets : (side : Side) (s : State C) (answer : Reply) (q : Queue C) (lets : Bool) → taken_from side (map_state f s) answer (map_queue f q) lets ≡ map_outcome f (taken_from side s answer q lets)
@@ -114,36 +93,32 @@ module _ {C D : Type 0} (f : C → D) where
     where
       chosen : (given : List C) → queue_after (record { given = map f given; left = map_messages f taken.left }) (map_queue f q) ≡ map_queue f (queue_after (record { given = given; left = taken.left }) q)
       chosen [] = refl
-      chosen (x ∷ given) = sym (relieved-forgets (left_with taken.left q))
+      chosen (x ∷ given) = sym (relieved-forgets f (left_with taken.left q))
 
   lets_go-forgets : (taken : Taken C) (q : Queue C) → lets_go (map_taken f taken) (map_queue f q) ≡ lets_go taken q
   lets_go-forgets taken q = chosen taken.given
     where
       chosen : (given : List C) → lets_go (record { given = map f given; left = map_messages f taken.left }) (map_queue f q) ≡ lets_go (record { given = given; left = taken.left }) q
       chosen [] = refl
-      chosen (x ∷ given) = relieves_from-forgets 0 taken.left q.flows
+      chosen (x ∷ given) = relieves_from-forgets f 0 taken.left q.flows
 
   -- a turn
   flows-forget : (m : Message C) (q : Queue C) → with_writer_at (band_of (map_message f m)) q.flows ≡ with_writer_at (band_of m) q.flows
   flows-forget m q = ap (λ (band : ℕ). with_writer_at band q.flows) (band-forgets f m)
 
-  kind-forgets : (m : Message C) → (map_message f m).kind ≡ m.kind
-  unfolding map_message
-  kind-forgets m = refl
-
   stopped-forgets : (m : Message C) (q : Queue C) → is_stopped (map_message f m) (map_queue f q) ≡ is_stopped m q
   stopped-forgets m q =
-      ap (λ (kind : MsgKind). is_held kind && is_full (band_of (map_message f m)) (map_queue f q)) (kind-forgets m)
+      ap (λ (kind : MsgKind). is_held kind && is_full (band_of (map_message f m)) (map_queue f q)) (kind-forgets f m)
       ∙ ap (λ (band : ℕ). is_held m.kind && is_full band (map_queue f q)) (band-forgets f m)
       ∙ ap (λ (full : Bool). is_held m.kind && full) (full-forgets f (band_of m) q)
 
   moved_with-forgets : (none zero : Bool) (rest : List (Message C)) (q : Queue C) → moved_with none zero (map_messages f rest) (map_queue f q) ≡ map_queue f (moved_with none zero rest q)
   moved_with-forgets none true rest q = refl
-  moved_with-forgets none false rest q = sym (relieved-forgets (record q { messages = rest; want_read = none }))
+  moved_with-forgets none false rest q = sym (relieved-forgets f (record q { messages = rest; want_read = none }))
 
   moved_on-forgets : (size : ℕ) (rest : List (Message C)) (q : Queue C) → moved_on size (map_messages f rest) (map_queue f q) ≡ map_queue f (moved_on size rest q)
   moved_on-forgets size rest q =
-      ap (λ (none : Bool). moved_with none (size == 0) (map_messages f rest) (map_queue f q)) (none-forgets (map_message f) rest)
+      ap (λ (none : Bool). moved_with none (size == 0) (map_messages f rest) (map_queue f q)) (none-forgets f (map_message f) rest)
       ∙ moved_with-forgets (is_none_left rest) (size == 0) rest q
 
   put_on-forgets : (m : Message C) (q : Queue C) → put_on (map_message f m) (map_queue f q) ≡ map_queue f (put_on m q)
@@ -176,7 +151,7 @@ module _ {C D : Type 0} (f : C → D) where
   turned_by-forgets Slave more served s = refl
 
   goes_on-forgets : (turn : Turn) (q : Queue C) → goes_on turn (map_queue f q) ≡ goes_on turn q
-  goes_on-forgets (Moved n) q = ap (λ (none : Bool). not none) (none-forgets (map_message f) q.messages)
+  goes_on-forgets (Moved n) q = ap (λ (none : Bool). not none) (none-forgets f (map_message f) q.messages)
   goes_on-forgets Blocked q = refl
   goes_on-forgets Idle q = refl
 
@@ -244,8 +219,22 @@ module _ {C : Type 0} (cells : Cells C) (are : AreCells cells) where
     where
       opened-with : Bool → Outcome ℕ
       opened-with none = record { answer = Done; state = map_state cells.byte (record s { slave = record s.slave { opened = Open; head = new_head }; enabled = enable_if (not none) (driver_of Master) s.enabled }) }
+  call-forgets caller Shut s = ap (λ (t : Carried ℕ (State ℕ)). done t.state) (closed_at-forgets cells.byte caller.side s)
+  call-forgets caller (Push name) s = refl
+  call-forgets caller Pop s = refl
+  call-forgets caller Look s = refl
+  call-forgets caller (Flush what band) s = ap (λ (t : Carried ℕ (State ℕ)). done t.state) (flushed_on-forgets cells.byte (of_data band) caller.side what s)
   call-forgets caller (Write bytes) s = write-forgets caller.side bytes s
-  call-forgets caller (Read n) s = read-some caller.side n s (n == 0)
+  call-forgets caller (Read n) s =
+      ap (λ (none : Bool). read_with none) (none-is caller.side s)
+      ∙ read-some caller.side n s (n == 0 || is_none_left (stream caller.side s).head.queue.messages)
+    where
+      read_with : Bool → Outcome ℕ
+      read_with none = cond (n == 0 || none) (record { answer = Bytes []; state = map_state cells.byte s }) (let taken = head_read (min n READ_MAX) (stream caller.side (map_state cells.byte s)).head.queue.messages in taken_from caller.side (map_state cells.byte s) (Bytes (bytes_of plain taken.given)) (queue_after taken (stream caller.side (map_state cells.byte s)).head.queue) (lets_go taken (stream caller.side (map_state cells.byte s)).head.queue))
+
+      none-is : (side : Side) (s : State C) → is_none_left (stream side (map_state cells.byte s)).head.queue.messages ≡ is_none_left (stream side s).head.queue.messages
+      none-is Master s = none-forgets {D = ℕ} cells.byte (map_message cells.byte) s.master.head.queue.messages
+      none-is Slave s = none-forgets {D = ℕ} cells.byte (map_message cells.byte) s.slave.head.queue.messages
 
   pub turn-forgets : (name : QueueName) (turn : Turn) (s : State C) → turned plain name turn (map_state cells.byte s) ≡ map_turn_outcome cells.byte (turned cells name turn s)
   turn-forgets name turn s = at name.place (record s { enabled = without name s.enabled })

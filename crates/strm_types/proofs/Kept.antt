@@ -1,13 +1,13 @@
 -- No step of a pair loses or makes a byte.
 use Rattle.std.proofs.Common.{ℕ, ◌≡◌, ◌+◌, Bool, true, false, cond, List, [], ◌∷◌, refl, sym, ap, subst, ◌∙◌, arith}
-use Rattle.std.specs.Prelude.{min, ◌==◌, not, None, count_by}
+use Rattle.std.specs.Prelude.{min, ◌==◌, ◌||◌, not, None, count_by}
 use Rattle.std.proofs.lemmas.Bool.Decides.{nat_tests}
 use Rattle.strm_types.specs.declared.limits.TheConstants.{READ_MAX}
 use Rattle.strm_types.specs.declared.answers.Answer.TheVariants.{Bytes}
 use Rattle.strm_types.specs.declared.answers.Turn.{Turn}
 use Rattle.strm_types.specs.declared.entries.Entry.TheVariants.{Called, Turned}
 use Rattle.strm_types.specs.declared.events.Caller.{Caller}
-use Rattle.strm_types.specs.declared.events.Event.TheVariants.{OpenMaster, Unlock, OpenSlave, Write, Read}
+use Rattle.strm_types.specs.declared.events.Event.TheVariants.{OpenMaster, Unlock, OpenSlave, Shut, Push, Pop, Look, Flush, Write, Read}
 use Rattle.strm_types.specs.declared.names.Side.{Side}
 use Rattle.strm_types.specs.declared.names.Side.TheVariants.{Master, Slave}
 use Rattle.strm_types.specs.declared.names.Place.{Place}
@@ -25,8 +25,11 @@ use Rattle.strm_types.specs.Calls.{Outcome, Request, Reply, queue_after, lets_go
 use Rattle.strm_types.specs.Journal.{PlainEntry}
 use Rattle.strm_types.specs.Refused.{or_else, unless, refused_at_once, refused_by_state}
 use Rattle.strm_types.specs.Step.{Step}
+use Rattle.strm_types.specs.Places.{weight_gone}
+use Rattle.strm_types.specs.Emptied.{of_data}
 use Rattle.strm_types.specs.Kept.{stream_weight, state_weight, NothingUnread, cells_taken, came, gone}
 use Rattle.strm_types.proofs.Weights.{weight-put, weight-take, weight-written, weight-read}
+use Rattle.strm_types.proofs.EmptiedKeeps.{flushed_on-keeps, flushed_on-unread, closed_at-keeps, closed_at-unread}
 use Rattle.strm_types.proofs.Replay.{unless-none, or_else-none}
 use Rattle.strm_types.proofs.ForgettingSteps.{taken_from, served_as}
 
@@ -35,14 +38,11 @@ closed-of false is = refl
 closed-of true is = absurd (cc)
 
 module _ {C : Type 0} where
-  nothing-given : (n k : ℕ) (q : List (Message C)) → (n == 0) ≡ true → k ≡ min n READ_MAX → (head_read k q).given ≡ []
-  nothing-given n k q zero is =
+  nothing-given : (n k : ℕ) (q : List (Message C)) → (n == 0 || is_none_left q) ≡ true → k ≡ min n READ_MAX → (head_read k q).given ≡ []
+  nothing-given n k [] stops is = refl
+  nothing-given n k (m ∷ q) stops is =
       let none : k ≡ 0 = (let here : n ≡ 0 = grind (arith, nat_tests) in omega arith) in
-      ap (λ (most : ℕ). (head_read most q).given) none ∙ of-none q
-    where
-      of-none : (q : List (Message C)) → (head_read 0 q).given ≡ []
-      of-none [] = refl
-      of-none (m ∷ q) = refl
+      ap (λ (most : ℕ). (head_read most (m ∷ q)).given) none
 
   left-after : (taken : Taken C) (q : Queue C) (b : Bool) → (cond b (left_with taken.left q) (relieved (left_with taken.left q))).messages ≡ taken.left
   left-after taken q true = refl
@@ -68,7 +68,7 @@ module _ {C : Type 0} where
     taken-keeps Master s answer taken lets is = omega (arith, is, ap (λ (q : List (Message C)). weight p q) (left-after taken s.master.head.queue (is_none_left taken.given)))
     taken-keeps Slave s answer taken lets is = omega (arith, is, ap (λ (q : List (Message C)). weight p q) (left-after taken s.slave.head.queue (is_none_left taken.given)))
 
-    read-keeps : (cells : Cells C) (side : Side) (n : ℕ) (s : State C) (zero : Bool) → (n == 0) ≡ zero
+    read-keeps : (cells : Cells C) (side : Side) (n : ℕ) (s : State C) (zero : Bool) → (n == 0 || is_none_left (stream side s).head.queue.messages) ≡ zero
         → state_weight p (cond {A = Outcome C} zero (record { answer = Bytes []; state = s }) (let taken = head_read (min n READ_MAX) (stream side s).head.queue.messages in taken_from side s (Bytes (bytes_of cells taken.given)) (queue_after taken (stream side s).head.queue) (lets_go taken (stream side s).head.queue))).state
         + count_by p (head_read (min n READ_MAX) (stream side s).head.queue.messages).given ≡ state_weight p s
     read-keeps cells side n s true is =
@@ -79,16 +79,21 @@ module _ {C : Type 0} where
         taken-keeps side s (Bytes (bytes_of cells taken.given)) taken (lets_go taken (stream side s).head.queue) (weight-read p (min n READ_MAX) (stream side s).head.queue.messages)
 
     call-keeps : (cells : Cells C) (caller : Caller) (asked : Request) (answer : Reply) (s : State C) → NothingUnread s → or_else (refused_at_once s caller asked) (refused_by_state s caller asked) ≡ None
-        → state_weight p (called cells caller asked s).state + count_by p (gone cells s (Called caller asked answer)) ≡ state_weight p s + count_by p (came cells s (Called caller asked answer))
+        → state_weight p (called cells caller asked s).state + weight_gone p (gone cells s (Called caller asked answer)) ≡ state_weight p s + count_by p (came cells s (Called caller asked answer))
     call-keeps cells caller OpenMaster answer s unread allowed = refl
     call-keeps cells caller Unlock answer s unread allowed = refl
+    call-keeps cells caller Shut answer s unread allowed = omega (arith, closed_at-keeps p caller.side s)
+    call-keeps cells caller (Push name) answer s unread allowed = refl
+    call-keeps cells caller Pop answer s unread allowed = refl
+    call-keeps cells caller Look answer s unread allowed = refl
+    call-keeps cells caller (Flush what band) answer s unread allowed = omega (arith, flushed_on-keeps p (of_data band) caller.side what s)
     call-keeps cells caller OpenSlave answer s unread allowed =
         let by_state = or_else-none _ _ (or_else-none (unless (is_open s.master.opened) Enxio) _ allowed).1 in
         let closed = closed-of (is_open s.slave.opened) (unless-none (not (is_open s.slave.opened)) Einval by_state.0) in
         let nothing = ap (λ (q : List (Message C)). weight p q) (unread.slave closed) in
         omega (arith, nothing)
     call-keeps cells caller (Write bytes) answer s unread allowed = omega (arith, write-keeps cells caller.side bytes s)
-    call-keeps cells caller (Read n) answer s unread allowed = omega (arith, read-keeps cells caller.side n s (n == 0) refl)
+    call-keeps cells caller (Read n) answer s unread allowed = omega (arith, read-keeps cells caller.side n s (n == 0 || is_none_left (stream caller.side s).head.queue.messages) refl)
 
     served-keeps : (opened stopped : Bool) (size : ℕ) (taken given : Queue C) (waiting : List Flow) (from to : Stream C) → weight p taken.messages + weight p given.messages ≡ weight p from.driver.queue.messages + weight p to.head.queue.messages
         → stream_weight p (served_as opened stopped size taken given waiting from to).from + stream_weight p (served_as opened stopped size taken given waiting from to).to ≡ stream_weight p from + stream_weight p to
@@ -117,9 +122,9 @@ module _ {C : Type 0} where
         at Ldterm s = refl
 
     -- what stands on the queues after a step, and what it took away, is what stood there before, and what it brought
-    pub step-keeps : (cells : Cells C) (old new : State C) (entry : PlainEntry) → NothingUnread old → Step cells old entry new → state_weight p new + count_by p (gone cells old entry) ≡ state_weight p old + count_by p (came cells old entry)
+    pub step-keeps : (cells : Cells C) (old new : State C) (entry : PlainEntry) → NothingUnread old → Step cells old entry new → state_weight p new + weight_gone p (gone cells old entry) ≡ state_weight p old + count_by p (came cells old entry)
     step-keeps cells old new (Called caller asked answer) unread step =
-        ap (λ (s : State C). state_weight p s + count_by p (gone cells old (Called caller asked answer))) (sym step.leads) ∙ call-keeps cells caller asked answer old unread step.allowed
+        ap (λ (s : State C). state_weight p s + weight_gone p (gone cells old (Called caller asked answer))) (sym step.leads) ∙ call-keeps cells caller asked answer old unread step.allowed
     step-keeps cells old new (Turned name turn) unread step =
         ap (λ (s : State C). state_weight p s + 0) (sym step.leads) ∙ ap (λ (n : ℕ). n + 0) (turn-keeps cells name turn old)
 
@@ -146,9 +151,14 @@ module _ {C : Type 0} where
   call-unread cells caller OpenMaster s unread allowed = record { master = λ closed. absurd (cc); slave = unread.slave }
   call-unread cells caller Unlock s unread allowed = record { master = unread.master; slave = unread.slave }
   call-unread cells caller OpenSlave s unread allowed = record { master = unread.master; slave = λ closed. refl }
+  call-unread cells caller Shut s unread allowed = closed_at-unread caller.side s unread
+  call-unread cells caller (Push name) s unread allowed = unread
+  call-unread cells caller Pop s unread allowed = unread
+  call-unread cells caller Look s unread allowed = unread
+  call-unread cells caller (Flush what band) s unread allowed = flushed_on-unread (of_data band) caller.side what s unread
   call-unread cells caller (Write bytes) s unread allowed = write-unread cells caller.side bytes s unread
   call-unread cells caller (Read n) s unread allowed =
-      read-unread cells caller.side n s (n == 0) unread (unless-none (is_open (stream caller.side s).opened) Enxio (or_else-none (unless (is_open (stream caller.side s).opened) Enxio) _ allowed).0)
+      read-unread cells caller.side n s (n == 0 || is_none_left (stream caller.side s).head.queue.messages) unread (unless-none (is_open (stream caller.side s).opened) Enxio (or_else-none (unless (is_open (stream caller.side s).opened) Enxio) _ allowed).0)
 
   -- a stream whose readers have nothing where it isn't open
   abbrev quiet : Stream C → Type 0

@@ -18,7 +18,8 @@ use Rattle.strm_types.specs.declared.refusals.Refusal.TheVariants.{Einval, Eagai
 use Rattle.strm_types.specs.Message.{Message, data_message, band_of, size_of, cells_of, is_high_priority}
 use Rattle.strm_types.specs.Names.{driver_of}
 use Rattle.strm_types.specs.Queue.{new_queue}
-use Rattle.strm_types.specs.State.{State, opening, new_book, new_head, new_driver}
+use Rattle.strm_types.specs.Books.{new_book}
+use Rattle.strm_types.specs.State.{State, opening, new_head, new_driver}
 use Rattle.strm_types.specs.Write.{chunk_count}
 use Rattle.strm_types.specs.Calls.{Request, payload_of, content_of}
 use Rattle.strm_types.specs.Journal.{PlainEntry, content_max, room_of, room_used, entry_len, entries_in}
@@ -119,7 +120,7 @@ state master slave locked = record {
   };
   slave = record {
     opened = slave;
-    head = record { queue = record (new_queue 5120 1024) { messages = ordinary [] ∷ [] } };
+    head = record { queue = record (new_queue 5120 1024) { messages = ordinary [] ∷ [] }; hung_up = false };
     driver = new_driver;
   };
   locked = locked;

@@ -17,7 +17,8 @@ use Rattle.strm_types.specs.Cells.{Tagged, Written, plain, tagged, cells_written
 use Rattle.strm_types.specs.Message.{Message, data_message, is_held, rank_of, band_of, size_of, cells_of, is_high_priority}
 use Rattle.strm_types.specs.Names.{driver_of, head_of}
 use Rattle.strm_types.specs.Queue.{Queue, Flow}
-use Rattle.strm_types.specs.State.{State, Stream, opening, new_book, new_stream, messages_in}
+use Rattle.strm_types.specs.Books.{new_book}
+use Rattle.strm_types.specs.State.{State, Stream, opening, new_stream, messages_in}
 use Rattle.strm_types.specs.Write.{chunk_count}
 use Rattle.strm_types.specs.Turns.{Served, TurnOutcome, driver_serves, turned, whole_turn}
 use Rattle.strm_types.specs.Calls.{content_of, called}
@@ -31,7 +32,7 @@ abbrev busy : List (Message ℕ) → List Flow → Queue ℕ
 busy messages flows = record { messages = messages; flows = flows; want_read = false; no_enable = false }
 
 abbrev end : Openness → Queue ℕ → Queue ℕ → Stream ℕ
-end opened head driver = record { opened = opened; head = record { queue = head }; driver = record { queue = driver } }
+end opened head driver = record { opened = opened; head = record { queue = head; hung_up = false }; driver = record { queue = driver } }
 
 -- a pair of these two streams, of which these queues are enabled
 abbrev pair : Stream ℕ → Stream ℕ → List QueueName → State ℕ

@@ -25,7 +25,7 @@ module _ {C : Type 0} (p : C → Bool) where
   unfolding weight_of data_message cells_of
   weight-data cells = refl
 
-  count-join : (xs ys : List C) → count_by p (xs ++ ys) ≡ count_by p xs + count_by p ys
+  pub count-join : (xs ys : List C) → count_by p (xs ++ ys) ≡ count_by p xs + count_by p ys
   count-join = sum_by-append (λ x. cond (p x) 1 0)
 
   -- the cells that a chunk and the chunks behind it take are the first ones
@@ -55,7 +55,7 @@ module _ {C : Type 0} (p : C → Bool) where
   unfolding weight_of cells_of
   weight-rest n m = sym (count-join (take n (cells_of m)) (drop n (cells_of m))) ∙ ap (λ xs. count_by p xs) (take-append-drop n (cells_of m))
 
-  weight-whole : (m : Message C) → count_by p (cells_of m) ≡ weight_of p m
+  pub weight-whole : (m : Message C) → count_by p (cells_of m) ≡ weight_of p m
   unfolding weight_of
   weight-whole m = refl
 

@@ -1,6 +1,6 @@
 -- What flushes and closes take from the queues of a pair, and by which rule it goes (flushq(9F), flushband(9F), streamio(7I):
 -- I_FLUSH; close(2); STREAMS Programming Guide, "Flush Handling").
-use Rattle.std.specs.Prelude.{ℕ, Bool, true, false, not, ◌||◌, ◌==◌, if◌then◌else◌, List, [], ◌∷◌, ◌++◌, filter, Option, None, Some, option_map}
+use Rattle.std.specs.Prelude.{ℕ, Bool, true, false, not, ◌||◌, ◌==◌, if◌then◌else◌, List, [], ◌∷◌, ◌++◌, filter, Option, None, option_map}
 use Rattle.strm_types.specs.declared.kinds.Band.{Band}
 use Rattle.strm_types.specs.declared.kinds.MsgKind.{MsgKind}
 use Rattle.strm_types.specs.declared.names.Side.{Side}
@@ -59,28 +59,34 @@ module _ {C : Type 0} where
   writer_goes chosen q = if none_goes chosen q then false else relieves (emptied chosen q)
 
   -- the head's queue of a side is emptied, and the nearest earlier queue with service is enabled where a writer goes
-  abbrev pub head_emptied : Rule → Choice → Side → State C → Carried C (State C)
-  head_emptied rule chosen side s =
+  abbrev pub head_behind : Choice → Side → State C → State C
+  head_behind chosen side s =
       let above = stream side s in
       let q = above.head.queue in
-      record {
-        state = record (with_stream side (with_head_queue (queue_behind chosen q) above) s) {
-          enabled = enable_some (writer_goes chosen q) (before (head_of side)) s.enabled;
-        };
-        gone = record { direction = direction_of (head_of side); rule = rule; cells = cells_gone chosen q.messages } ∷ [];
+      record (with_stream side (with_head_queue (queue_behind chosen q) above) s) {
+        enabled = enable_some (writer_goes chosen q) (before (head_of side)) s.enabled;
       }
 
+  abbrev pub head_emptied : Rule → Choice → Side → State C → Carried C (State C)
+  head_emptied rule chosen side s = record {
+    state = head_behind chosen side s;
+    gone = record { direction = direction_of (head_of side); rule = rule; cells = cells_gone chosen (stream side s).head.queue.messages } ∷ [];
+  }
+
   -- the driver's queue of a side is emptied
-  abbrev pub driver_emptied : Rule → Choice → Side → State C → Carried C (State C)
-  driver_emptied rule chosen side s =
+  abbrev pub driver_behind : Choice → Side → State C → State C
+  driver_behind chosen side s =
       let below = stream side s in
       let q = below.driver.queue in
-      record {
-        state = record (with_stream side (with_driver_queue (queue_behind chosen q) below) s) {
-          enabled = enable_some (writer_goes chosen q) (before (driver_of side)) s.enabled;
-        };
-        gone = record { direction = direction_of (driver_of side); rule = rule; cells = cells_gone chosen q.messages } ∷ [];
+      record (with_stream side (with_driver_queue (queue_behind chosen q) below) s) {
+        enabled = enable_some (writer_goes chosen q) (before (driver_of side)) s.enabled;
       }
+
+  abbrev pub driver_emptied : Rule → Choice → Side → State C → Carried C (State C)
+  driver_emptied rule chosen side s = record {
+    state = driver_behind chosen side s;
+    gone = record { direction = direction_of (driver_of side); rule = rule; cells = cells_gone chosen (stream side s).driver.queue.messages } ∷ [];
+  }
 
   -- nothing goes
   abbrev pub none_gone : State C → Carried C (State C)

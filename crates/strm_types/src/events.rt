@@ -35,7 +35,9 @@ pub enum Event<T> {
     /// Closes the caller's stream: `close(2)`. The bytes that wait there for its readers go.
     Shut,
     /// Pushes a module on the caller's stream: `I_PUSH` of `streamio(7I)`. None is a name that no module has.
-    Push { name: Option<ModuleName> },
+    Push {
+        name: Option<ModuleName>,
+    },
     /// Takes the module on top off the caller's stream: `I_POP` of `streamio(7I)`.
     Pop,
     /// Asks for the name of the module on top: `I_LOOK` of `streamio(7I)`.
@@ -47,9 +49,13 @@ pub enum Event<T> {
         band: Option<Band>,
     },
     /// Sends bytes down the caller's stream: `write(2)`.
-    Write { bytes: T },
+    Write {
+        bytes: T,
+    },
     /// Takes at most `n` bytes from the caller's stream head: `read(2)`. More than 4096 counts as 4096.
-    Read { n: u32 },
+    Read {
+        n: u32,
+    },
 }
 
 impl<'a> Event<&'a [u8]> {

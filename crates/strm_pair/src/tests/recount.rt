@@ -5,7 +5,10 @@ use crate::Recorded;
 use crate::pair::kept::Kept;
 use std::alloc::{AllocError, Global};
 use std::collections::VecDeque;
-use strm_types::{Answer, Caller, Config, Entry, Event, Place, QueueName, Refusal, Side, Turn};
+use strm_types::{
+    Answer, Band, Caller, Config, Entry, Event, FlushQueues, Openness, Place, QueueName, Refusal,
+    Side, Turn,
+};
 
 // A queue: the sizes of its messages, the first one first, and all their bytes in order; its marks, whether it wants
 // to be read, and whether a writer waits.
@@ -57,6 +60,18 @@ impl PlainQueue {
         let goes = self.want_write && self.bytes.len() <= self.low;
         self.want_write = self.want_write && !goes;
         goes
+    }
+
+    // Takes all messages off, or none, where none is of the band that is flushed, and says whether a writer goes with
+    // their bytes.
+    fn empties(&mut self, takes: bool) -> bool {
+        let goes = takes && !self.bytes.is_empty();
+        if takes {
+            self.sizes.clear();
+            self.bytes.clear();
+        }
+        self.want_read = self.want_read || self.sizes.is_empty();
+        goes && self.relieve()
     }
 
     fn put(&mut self, message: &[u8]) -> Result<(), AllocError> {
@@ -123,7 +138,8 @@ impl PlainQueue {
 // One side's stream.
 #[derive(Drop)]
 struct PlainEnd {
-    is_open: bool,
+    opened: Openness,
+    hung_up: bool,
     head: PlainQueue,
     driver: PlainQueue,
 }
@@ -131,10 +147,22 @@ struct PlainEnd {
 impl PlainEnd {
     fn new(alloc: Global) -> PlainEnd {
         PlainEnd {
-            is_open: false,
+            opened: Openness::Never,
+            hung_up: false,
             head: PlainQueue::new(alloc, 5120, 1024),
             driver: PlainQueue::new(alloc, 512, 128),
         }
+    }
+
+    fn is_open(&self) -> bool {
+        self.opened == Openness::Open
+    }
+
+    // The end is opened or closed, with a head as it was made.
+    fn becomes(&mut self, opened: Openness) {
+        self.opened = opened;
+        self.hung_up = false;
+        self.head.renew();
     }
 
     fn messages(&self) -> usize {
@@ -158,9 +186,40 @@ fn entry_len(entry: &Entry<usize>) -> usize {
     }
 }
 
+// Whether a flush takes messages of band 0, of which all are: of that band, or of all.
+fn takes_zero(band: Option<Band>) -> bool {
+    match band {
+        Some(band) => band.0 == 0,
+        None => true,
+    }
+}
+
 // How many messages a write makes.
 fn messages_of(bytes: &[u8]) -> usize {
     bytes.len().div_ceil(256).max(1)
+}
+
+// How many blocks of each kind have to be free for a call.
+fn blocks_wanted(event: &Event<&[u8]>) -> usize {
+    match event {
+        Event::Write { bytes } => messages_of(bytes).saturating_add(32),
+        Event::Push { .. } | Event::Pop | Event::Flush { .. } => 8,
+        Event::Shut => 2,
+        _ => 0,
+    }
+}
+
+// Whether a call of a side has an argument that is wrong, whatever the state.
+fn is_wrong(side: Side, event: &Event<&[u8]>) -> bool {
+    match event {
+        Event::Unlock => side == Side::Slave,
+        Event::Push { .. } => true,
+        Event::Flush {
+            band: Some(band),
+            ..
+        } => band.0 > 7,
+        _ => false,
+    }
 }
 
 // A turn of a driver's queue, across from a stream.
@@ -169,9 +228,9 @@ fn serve(from: &mut PlainQueue, to: &mut PlainEnd) -> Result<Turn, AllocError> {
         from.want_read = true;
         return Ok(Turn::Idle);
     };
-    if !to.is_open || to.head.is_full() {
+    if !to.is_open() || to.head.is_full() {
         from.want_read = false;
-        to.head.want_write = to.head.want_write || to.is_open;
+        to.head.want_write = to.head.want_write || to.is_open();
         return Ok(Turn::Blocked);
     }
     from.pass(size, &mut to.head)?;
@@ -266,23 +325,27 @@ impl PlainPair {
         answer: Answer<usize>,
         bytes: &[u8],
     ) -> Result<bool, AllocError> {
-        let wanted = match event {
-            Event::OpenMaster => {
-                self.master.is_open = true;
-                Answer::Done
+        match event {
+            Event::Write { .. } => Ok(answer == Answer::Count(self.write(side, bytes)?)),
+            Event::Read { n } => self.reads(side, n as usize, answer, bytes),
+            _ => {
+                self.changes(side, event)?;
+                Ok(answer == Answer::Done)
             }
-            Event::Unlock => {
-                self.locked = false;
-                Answer::Done
-            }
-            Event::OpenSlave => {
-                self.open_slave()?;
-                Answer::Done
-            }
-            Event::Write { .. } => Answer::Count(self.write(side, bytes)?),
-            Event::Read { n } => return self.reads(side, n as usize, answer, bytes),
-        };
-        Ok(answer == wanted)
+        }
+    }
+
+    // A call that has nothing to tell.
+    fn changes(&mut self, side: Side, event: Event<usize>) -> Result<(), AllocError> {
+        match event {
+            Event::OpenMaster => self.master.opened = Openness::Open,
+            Event::Unlock => self.locked = false,
+            Event::OpenSlave => self.open_slave()?,
+            Event::Shut => self.shut(side)?,
+            Event::Flush { what, band } => self.flush(side, what, takes_zero(band))?,
+            _ => (),
+        }
+        Ok(())
     }
 
     fn end(&self, side: Side) -> &PlainEnd {
@@ -308,12 +371,49 @@ impl PlainPair {
     }
 
     fn open_slave(&mut self) -> Result<(), AllocError> {
-        self.slave.is_open = true;
-        self.slave.head.renew();
+        self.slave.becomes(Openness::Open);
         if self.master.driver.sizes.is_empty() {
             return Ok(());
         }
         self.enable_driver(Side::Master)
+    }
+
+    // Empties a side's head; its writer is the driver across.
+    fn empty_head(&mut self, side: Side, takes: bool) -> Result<(), AllocError> {
+        if self.end_mut(side).head.empties(takes) {
+            self.enable_driver(side.other())?;
+        }
+        Ok(())
+    }
+
+    // What is on its way to a side goes, and then what stands for its readers, where that side is open.
+    fn flush_toward(&mut self, side: Side, takes: bool) -> Result<(), AllocError> {
+        let _ = self.end_mut(side.other()).driver.empties(takes);
+        if self.end(side).is_open() {
+            self.empty_head(side, takes)?;
+        }
+        Ok(())
+    }
+
+    fn flush(&mut self, side: Side, what: FlushQueues, takes: bool) -> Result<(), AllocError> {
+        if what != FlushQueues::Read {
+            self.flush_toward(side.other(), takes)?;
+        }
+        if what != FlushQueues::Write {
+            self.flush_toward(side, takes)?;
+        }
+        Ok(())
+    }
+
+    fn shut(&mut self, side: Side) -> Result<(), AllocError> {
+        self.empty_head(side, true)?;
+        self.end_mut(side).becomes(Openness::Closed);
+        if side == Side::Master {
+            let _ = self.master.driver.empties(true);
+            let _ = self.slave.driver.empties(true);
+            self.slave.hung_up = self.slave.hung_up || self.slave.is_open();
+        }
+        Ok(())
     }
 
     fn write(&mut self, side: Side, bytes: &[u8]) -> Result<usize, AllocError> {
@@ -335,10 +435,10 @@ impl PlainPair {
         bytes: &[u8],
     ) -> Result<bool, AllocError> {
         let told = answer == Answer::Bytes(bytes.len());
-        if n == 0 {
+        let head = &mut self.end_mut(side).head;
+        if n == 0 || head.sizes.is_empty() {
             return Ok(told && bytes.is_empty());
         }
-        let head = &mut self.end_mut(side).head;
         let given = head.gives(n.min(4096), bytes);
         if !bytes.is_empty() && head.relieve() {
             self.enable_driver(side.other())?;
@@ -389,41 +489,53 @@ impl PlainPair {
 
     /// What a call is refused for, if anything.
     pub fn refusal(&self, caller: Caller, event: &Event<&[u8]>) -> Option<Refusal> {
-        let (bytes, blocks) = match event {
-            Event::Write { bytes } => (bytes.len(), messages_of(bytes).saturating_add(32)),
-            Event::Read { n } => ((*n as usize).min(4096), 0),
-            Event::OpenMaster | Event::Unlock | Event::OpenSlave => (0, 0),
+        let bytes = match event {
+            Event::Write { bytes } => bytes.len(),
+            Event::Read { n } => (*n as usize).min(4096),
+            _ => 0,
         };
         if !self.may_be_asked(caller.side, event) {
             Some(Refusal::Enxio)
-        } else if matches!(event, Event::Unlock) && caller.side == Side::Slave {
+        } else if is_wrong(caller.side, event) {
             Some(Refusal::Einval)
         } else if !self.has_room(bytes) {
             Some(Refusal::JournalFull)
-        } else if !self.has_blocks(blocks) {
+        } else if !self.has_blocks(blocks_wanted(event)) {
             Some(Refusal::Enosr)
         } else {
             self.refused_by_state(caller.side, event)
         }
     }
 
-    // Whether the stream that a call needs is open.
+    // Whether the stream that a call needs is open, and not hung up where the call goes down.
     fn may_be_asked(&self, side: Side, event: &Event<&[u8]>) -> bool {
+        let end = self.end(side);
         match event {
             Event::OpenMaster => true,
-            Event::OpenSlave => self.master.is_open,
-            Event::Unlock | Event::Write { .. } | Event::Read { .. } => self.end(side).is_open,
+            Event::OpenSlave => self.master.is_open(),
+            Event::Unlock | Event::Shut | Event::Look | Event::Read { .. } => end.is_open(),
+            _ => end.is_open() && !end.hung_up,
         }
+    }
+
+    // Whether no more can come to a side whose head is empty.
+    fn is_at_end(&self, side: Side) -> bool {
+        let is_left = side == Side::Master
+            && self.slave.opened == Openness::Closed
+            && self.slave.driver.sizes.is_empty();
+        is_left || self.end(side).hung_up
     }
 
     fn refused_by_state(&self, side: Side, event: &Event<&[u8]>) -> Option<Refusal> {
         let end = self.end(side);
+        let waits = end.head.sizes.is_empty() && !self.is_at_end(side);
         match event {
-            Event::OpenMaster if self.master.is_open => Some(Refusal::Einval),
-            Event::OpenSlave if self.slave.is_open => Some(Refusal::Einval),
+            Event::OpenMaster if self.master.opened != Openness::Never => Some(Refusal::Einval),
+            Event::OpenSlave if self.slave.is_open() => Some(Refusal::Einval),
             Event::OpenSlave if self.locked => Some(Refusal::Eagain),
+            Event::Pop | Event::Look => Some(Refusal::Einval),
             Event::Write { .. } if end.driver.is_full() => Some(Refusal::Eagain),
-            Event::Read { n } if *n > 0 && end.head.sizes.is_empty() => Some(Refusal::Eagain),
+            Event::Read { n } if *n > 0 && waits => Some(Refusal::Eagain),
             _ => None,
         }
     }

@@ -9,7 +9,8 @@ use std::process::Abort;
 use std::test::Fail;
 use strm_blocks::Blocks;
 use strm_types::{
-    Caller, Config, Entry, Event, Place, QueueName, ReadBytes, Refusal, Side, Turn, Way,
+    Band, Caller, Config, Entry, Event, FlushQueues, ModuleName, Place, QueueName, ReadBytes,
+    Refusal, Side, Turn, Way,
 };
 
 // A pair, the model to which its journal has led, what the last read gave, the last random number, and how often what
@@ -23,7 +24,8 @@ struct Walk<B: Blocks + Drop> {
     met: Met,
 }
 
-// How many calls and turns were refused for each reason, and how many turns were blocked.
+// How many calls and turns were refused for each reason, how many turns were blocked, and how many flushes and closes
+// there were.
 #[derive(Clone, Copy)]
 struct Met {
     invalid: u32,
@@ -32,6 +34,8 @@ struct Met {
     no_blocks: u32,
     no_journal: u32,
     blocked: u32,
+    flushed: u32,
+    closed: u32,
 }
 
 const NOTHING_MET: Met = Met {
@@ -41,6 +45,8 @@ const NOTHING_MET: Met = Met {
     no_blocks: 0,
     no_journal: 0,
     blocked: 0,
+    flushed: 0,
+    closed: 0,
 };
 
 impl Met {
@@ -61,8 +67,18 @@ impl Met {
             && self.again > 100
             && self.no_blocks > 20
             && self.blocked > 5
+            && self.flushed > 50
+            && self.closed > 5
             && self.not_open > 0
             && self.no_journal == 0
+    }
+
+    fn note_call(&mut self, event: &Event<&[u8]>) {
+        match event {
+            Event::Flush { .. } => self.flushed = self.flushed.saturating_add(1),
+            Event::Shut => self.closed = self.closed.saturating_add(1),
+            _ => (),
+        }
     }
 
     fn note_turn(&mut self, turn: Turn) {
@@ -96,6 +112,35 @@ fn queue_of(x: u64) -> QueueName {
         side: side_of(x),
         place,
         way,
+    }
+}
+
+// Some queues that a flush may be for.
+fn what_of(x: u64) -> FlushQueues {
+    match (x >> 45) % 3 {
+        0 => FlushQueues::Read,
+        1 => FlushQueues::Write,
+        _ => FlushQueues::Both,
+    }
+}
+
+// All bands, or some band, which may be none of a queue's; not band 0, where all bytes are, while queues fill.
+fn band_of(x: u64, fills: bool) -> Option<Band> {
+    let some = ((x >> 48) % 9) as u8;
+    match (x >> 55) % 8 {
+        0..=3 if !fills => None,
+        4 if !fills => Some(Band(0)),
+        _ => Some(Band(some.saturating_add(u8::from(fills)))),
+    }
+}
+
+// Some module, or a name that none has.
+fn name_of(x: u64) -> Option<ModuleName> {
+    match (x >> 45) % 4 {
+        0 => Some(ModuleName::Ldterm),
+        1 => Some(ModuleName::Ptem),
+        2 => Some(ModuleName::Pckt),
+        _ => None,
     }
 }
 
@@ -174,6 +219,7 @@ impl<B: Blocks + Drop> Walk<B> {
         match self.pair.call(caller, event, &mut self.out) {
             Err(met) => Ok(self.is_refused(wanted, met)),
             Ok(answer) => {
+                self.met.note_call(event);
                 let event_told = event.shape();
                 let told = Entry::Called {
                     caller,
@@ -217,12 +263,30 @@ impl<B: Blocks + Drop> Walk<B> {
     }
 
     fn opens(&mut self, x: u64) -> Result<bool, AllocError> {
-        let event = match (x >> 45) % 3 {
+        let event = match (x >> 45) % 6 {
             0 => Event::OpenMaster,
             1 => Event::Unlock,
             _ => Event::OpenSlave,
         };
         self.calls(side_of(x), &event)
+    }
+
+    // A flush, a call of modules, or a close of the slave.
+    fn changes(&mut self, x: u64, fills: bool) -> Result<bool, AllocError> {
+        let side = side_of(x);
+        match (x >> 51) % 16 {
+            0..=1 => self.calls(side, &Event::Push { name: name_of(x) }),
+            2 => self.calls(side, &Event::Pop),
+            3 => self.calls(side, &Event::Look),
+            4..=6 if !fills => self.calls(Side::Slave, &Event::Shut),
+            _ => {
+                let flush = Event::Flush {
+                    what: what_of(x),
+                    band: band_of(x, fills),
+                };
+                self.calls(side, &flush)
+            }
+        }
     }
 
     fn turns_first(&mut self) -> Result<bool, AllocError> {
@@ -237,7 +301,8 @@ impl<B: Blocks + Drop> Walk<B> {
         let x = self.next_random();
         match (x >> 33) % 16 {
             0 => self.opens(x),
-            1 => self.turns(queue_of(x)),
+            1 if (x >> 60) % 2 == 0 => self.turns(queue_of(x)),
+            1 => self.changes(x, fills),
             2..=3 => self.writes(x),
             4 => self.reads(x, fills),
             5..=7 if fills => self.writes(x),
@@ -264,7 +329,7 @@ impl<B: Blocks + Drop> Walk<B> {
         Ok(right && self.agrees())
     }
 
-    // So many steps, a replay of the whole journal by a new model, and so many steps more.
+    // So many steps, a replay of the whole journal by a new model, a close of the master, and so many steps more.
     fn goes_on(
         &mut self,
         rt: &impl Abort,
@@ -275,6 +340,8 @@ impl<B: Blocks + Drop> Walk<B> {
         self.goes(rt, steps)?;
         self.model = fresh;
         let right = self.replays_all()?;
+        assert!(rt; right);
+        let right = self.calls(Side::Master, &Event::Shut)?;
         assert!(rt; right);
         self.goes(rt, more)
     }

@@ -10,7 +10,7 @@ use Rattle.strm_types.specs.Refused.{enough, blocks_asked}
 use Rattle.strm_types.specs.Pair.{PairState, AddsEntry, call_refused}
 use Rattle.strm_types.proofs.Replay.{call-allowed}
 use Rattle.strm_pair.specs.Pairs.{state_in, journal_of, free_in}
-use Rattle.strm_pair.specs.PairViews.{pair_of, led_to}
+use Rattle.strm_pair.specs.PairViews.{pair_of}
 use Rattle.strm_pair.proofs.Steps.{kept-step, step-shown}
 use Rattle.strm_pair.proofs.pair.Pair.call.Goals as goal
 
@@ -21,17 +21,17 @@ invariant_of-self g c =
     let new = g.B.Blocks.value c.carry_out-answer.new.store in
     let asked = request c.args.event.now in
     let out = c.carry_out-answer.new.out.items in
-    let old = state_in s p.streams (led_to p.journal) in
+    let old = state_in s p.streams in
     let entry : PlainEntry = Called c.args.caller asked (reply_in c.carry_out-answer.result out) in
     let allowed : call_refused (pair_of s p.streams p.journal p.limits) c.args.caller asked ≡ None = ap (λ (v : PairState). call_refused v c.args.caller asked) c.self.view_is ∙ sym c.refusal.ensures ∙ c.in_default.is in
     let added : journal_of c.add_call.new.self ≡ journal_of p.journal ++ entry ∷ [] = c.add_call.ensures.added ∙ ap (λ b. journal_of p.journal ++ Called c.args.caller asked (reply_in c.carry_out-answer.result b) ∷ []) c.as_slice.ensures.value in
     kept-step s new p.streams c.carry_out-answer.new.self p.journal c.add_call.new.self p.limits entry c.self.invariant
     (record {
       allowed = (call-allowed old (journal_of p.journal) p.limits (enough (blocks_asked asked) (free_in s)) c.args.caller asked allowed).0;
-      answered = sym (c.carry_out-answer.ensures.answer (led_to p.journal));
+      answered = sym c.carry_out-answer.ensures.answer;
       leads = refl;
     })
-    (c.carry_out-answer.ensures.state (led_to p.journal)) c.carry_out-answer.ensures.held c.carry_out-answer.ensures.pool added c.add_call.ensures.most_entries c.add_call.ensures.most_bytes
+    c.carry_out-answer.ensures.state c.carry_out-answer.ensures.held c.carry_out-answer.ensures.pool added c.add_call.ensures.most_entries c.add_call.ensures.most_bytes
 
 pub returns-clause-adds : goal.returns-clause-adds
 returns-clause-adds g c =
@@ -42,19 +42,19 @@ returns-clause-adds g c =
     let k = c.add_call.new.self in
     let asked = request c.args.event.now in
     let out = c.carry_out-answer.new.out.items in
-    let old = state_in s p.streams (led_to p.journal) in
+    let old = state_in s p.streams in
     let entry : PlainEntry = Called c.args.caller asked (reply_in c.carry_out-answer.result out) in
     let allowed : call_refused (pair_of s p.streams p.journal p.limits) c.args.caller asked ≡ None = ap (λ (v : PairState). call_refused v c.args.caller asked) c.self.view_is ∙ sym c.refusal.ensures ∙ c.in_default.is in
     let added : journal_of k ≡ journal_of p.journal ++ entry ∷ [] = c.add_call.ensures.added ∙ ap (λ b. journal_of p.journal ++ Called c.args.caller asked (reply_in c.carry_out-answer.result b) ∷ []) c.as_slice.ensures.value in
     let taken : IsCall plain old c.args.caller asked (reply_in c.carry_out-answer.result out) (after plain old entry) = record {
       allowed = (call-allowed old (journal_of p.journal) p.limits (enough (blocks_asked asked) (free_in s)) c.args.caller asked allowed).0;
-      answered = sym (c.carry_out-answer.ensures.answer (led_to p.journal));
+      answered = sym c.carry_out-answer.ensures.answer;
       leads = refl;
     } in
     subst (λ (v : PairState). AddsEntry v (pair_of new q k p.limits) entry) c.self.view_is
     (record {
       journal = added;
-      step = step-shown s new p.streams q p.journal k p.limits entry c.self.invariant added (c.carry_out-answer.ensures.state (led_to p.journal)) taken;
+      step = step-shown s new p.streams q entry c.carry_out-answer.ensures.state taken;
       base = refl;
       limits = refl;
     })
@@ -75,7 +75,7 @@ pub carry_out-answer-requires-clause-room_m : goal.carry_out-answer-requires-cla
 carry_out-answer-requires-clause-room_m g c = search rules steps 300000
 
 pub carry_out-answer-requires-clause-room_d : goal.carry_out-answer-requires-clause-room_d
-carry_out-answer-requires-clause-room_d g c = search rules steps 300000
+carry_out-answer-requires-clause-room_d g c = search rules steps 1000000
 
 pub as_slice-requires : goal.as_slice-requires
 as_slice-requires g c = search rules steps 30000

@@ -1,7 +1,5 @@
 -- A pair over a store with nothing in it is as new.
 use Rattle.std.proofs.Common.{◌≡◌, ◌∙◌, ap, sym, rules}
-use Rattle.strm_types.specs.declared.limits.Config.{Config}
-use Rattle.strm_types.specs.Pair.{new_pair}
 use Rattle.strm_types.specs.Refused.{Free}
 use Rattle.strm_blocks.specs.Blocks.{empty_store}
 use Rattle.strm_pair.specs.PairViews.{sizes_over}

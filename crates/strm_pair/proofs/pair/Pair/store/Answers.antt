@@ -1,5 +1,5 @@
 -- The queues of the state are those that the store's lists show.
-use Rattle.std.proofs.Common.{ℕ, ◌≡◌, ap, sym, subst}
+use Rattle.std.proofs.Common.{ap, sym, subst}
 use Rattle.strm_types.specs.Pair.{PairState}
 use Rattle.strm_pair.specs.Stored.{messages_on}
 use Rattle.strm_pair.specs.Shows.{Shows}

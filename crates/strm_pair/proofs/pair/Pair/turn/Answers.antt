@@ -10,7 +10,7 @@ use Rattle.strm_types.specs.Refused.{enough}
 use Rattle.strm_types.specs.Pair.{PairState, AddsEntry, queue_refused}
 use Rattle.strm_types.proofs.Replay.{turn-allowed}
 use Rattle.strm_pair.specs.Pairs.{state_in, journal_of, free_in}
-use Rattle.strm_pair.specs.PairViews.{pair_of, led_to}
+use Rattle.strm_pair.specs.PairViews.{pair_of}
 use Rattle.strm_pair.proofs.Steps.{kept-step, step-shown}
 use Rattle.strm_pair.proofs.pair.Pair.turn.Goals as goal
 
@@ -19,16 +19,17 @@ invariant_of-self g c =
     let p = c.self.inside in
     let s = g.B.Blocks.value p.store in
     let new = g.B.Blocks.value c.turn-turn.new.store in
-    let old = state_in s p.streams (led_to p.journal) in
+    let old = state_in s p.streams in
     let entry : PlainEntry = Turned c.args.name c.turn-turn.result in
     let allowed : queue_refused (pair_of s p.streams p.journal p.limits) c.args.name ≡ None = ap (λ (v : PairState). queue_refused v c.args.name) c.self.view_is ∙ sym c.turn_refusal.ensures ∙ c.in_default.is in
     kept-step s new p.streams c.turn-turn.new.self p.journal c.add_turn.new.self p.limits entry c.self.invariant
     (record {
       enabled = (turn-allowed old (journal_of p.journal) p.limits (enough TURN_BLOCKS (free_in s)) c.args.name allowed).0;
-      answered = sym (c.turn-turn.ensures.turn (led_to p.journal));
+      in_range = (turn-allowed old (journal_of p.journal) p.limits (enough TURN_BLOCKS (free_in s)) c.args.name allowed).1;
+      answered = sym c.turn-turn.ensures.turn;
       leads = refl;
     })
-    (c.turn-turn.ensures.state (led_to p.journal)) c.turn-turn.ensures.held c.turn-turn.ensures.pool c.add_turn.ensures.added c.add_turn.ensures.most_entries c.add_turn.ensures.most_bytes
+    c.turn-turn.ensures.state c.turn-turn.ensures.held c.turn-turn.ensures.pool c.add_turn.ensures.added c.add_turn.ensures.most_entries c.add_turn.ensures.most_bytes
 
 pub returns-clause-adds : goal.returns-clause-adds
 returns-clause-adds g c =
@@ -37,18 +38,19 @@ returns-clause-adds g c =
     let new = g.B.Blocks.value c.turn-turn.new.store in
     let q = c.turn-turn.new.self in
     let k = c.add_turn.new.self in
-    let old = state_in s p.streams (led_to p.journal) in
+    let old = state_in s p.streams in
     let entry : PlainEntry = Turned c.args.name c.turn-turn.result in
     let allowed : queue_refused (pair_of s p.streams p.journal p.limits) c.args.name ≡ None = ap (λ (v : PairState). queue_refused v c.args.name) c.self.view_is ∙ sym c.turn_refusal.ensures ∙ c.in_default.is in
     let taken : IsTurn plain old c.args.name c.turn-turn.result (after plain old entry) = record {
       enabled = (turn-allowed old (journal_of p.journal) p.limits (enough TURN_BLOCKS (free_in s)) c.args.name allowed).0;
-      answered = sym (c.turn-turn.ensures.turn (led_to p.journal));
+      in_range = (turn-allowed old (journal_of p.journal) p.limits (enough TURN_BLOCKS (free_in s)) c.args.name allowed).1;
+      answered = sym c.turn-turn.ensures.turn;
       leads = refl;
     } in
     subst (λ (v : PairState). AddsEntry v (pair_of new q k p.limits) entry) c.self.view_is
     (record {
       journal = c.add_turn.ensures.added;
-      step = step-shown s new p.streams q p.journal k p.limits entry c.self.invariant c.add_turn.ensures.added (c.turn-turn.ensures.state (led_to p.journal)) taken;
+      step = step-shown s new p.streams q entry c.turn-turn.ensures.state taken;
       base = refl;
       limits = refl;
     })

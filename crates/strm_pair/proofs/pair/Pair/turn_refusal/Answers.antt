@@ -1,15 +1,13 @@
--- The first reason that holds is the one that is told.
-use Rattle.std.proofs.Common.{rules}
+-- Each reason is the one of the plain pair.
+use Rattle.std.proofs.Common.{refl, ap, ◌∙◌}
+use Rattle.strm_types.specs.declared.refusals.Refusal.TheVariants.{Erange}
+use Rattle.strm_types.specs.Names.{is_enabled}
+use Rattle.strm_types.specs.Pair.{PairState}
+use Rattle.strm_types.specs.Refused.{in_range, unless}
 use Rattle.strm_pair.proofs.pair.Pair.turn_refusal.Goals as goal
 
-pub returns-then-not-contains : goal.returns-then-not-contains
-returns-then-not-contains g c = search rules steps 100000
-
-pub returns-then-not-has_room : goal.returns-then-not-has_room
-returns-then-not-has_room g c = search rules steps 100000
-
-pub returns-then-not-has_blocks : goal.returns-then-not-has_blocks
-returns-then-not-has_blocks g c = search rules steps 100000
-
 pub returns : goal.returns
-returns g c = search rules steps 100000
+returns g c =
+    let contains = c.contains.ensures ∙ ap (λ (v : PairState). is_enabled c.args.name v.state.enabled) c.self.view_is in
+    let beyond = c.beyond.ensures (g.B.Blocks.value c.self.inside.store) ∙ ap (λ (v : PairState). unless (in_range v.state) Erange) c.self.view_is in
+    rw (c.or_else-3.ensures, c.or_else-2.ensures, c.or_else.ensures, c.unless.ensures, c.unless-2.ensures, c.unless-3.ensures, contains, beyond, c.has_room.ensures, c.has_blocks.ensures) refl

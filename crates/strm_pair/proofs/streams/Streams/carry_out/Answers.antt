@@ -2,28 +2,40 @@
 use Rattle.std.proofs.Common.{ℕ, ◌≡◌, ◌∙◌, sym, ap, subst, take}
 use Rattle.std.proofs.Math.Seq.{take-length}
 use Rattle.strm_types.specs.declared.answers.Answer.TheVariants.{Bytes}
-use Rattle.strm_types.specs.Calls.{Outcome}
+use Rattle.std.specs.Prelude.{true, Option, None}
+use Rattle.strm_types.specs.declared.kinds.Band.{Band}
+use Rattle.strm_types.specs.declared.events.Caller.{Caller}
+use Rattle.strm_types.specs.declared.events.Event.TheVariants.{Flush}
+use Rattle.strm_types.specs.declared.events.FlushQueues.{FlushQueues}
+use Rattle.strm_types.specs.Calls.{Outcome, request}
+use Rattle.strm_types.specs.State.{State}
+use Rattle.strm_types.specs.Refused.{refused_at_once, is_a_band}
+use Rattle.strm_types.proofs.Replay.{unless-none, or_else-none}
 use Rattle.strm_pair.specs.Pairs.{state_in}
 use Rattle.strm_pair.proofs.PlainWrites.{wrote-is, read-is}
 use Rattle.strm_pair.proofs.streams.Streams.carry_out.Goals as goal
 
-pub returns-in-OpenSlave-clause-state : goal.returns-in-OpenSlave-clause-state
-returns-in-OpenSlave-clause-state g c = λ t. rw c.in-OpenSlave.is (c.open_slave.ensures.state t)
-
 pub returns-in-Write-clause-answer : goal.returns-in-Write-clause-answer
-returns-in-Write-clause-answer g c = λ t.
-    let old = state_in (g.B.Blocks.value c.args.store.now) c.args.self.now t in
-    rw c.in-Write.is (c.write.ensures.answer t ∙ ap (λ (o : Outcome ℕ). o.answer) (sym (wrote-is c.args.caller.side c.in-Write.bytes.now old)))
+returns-in-Write-clause-answer g c =
+    let old = state_in (g.B.Blocks.value c.args.store.now) c.args.self.now in
+    rw c.in-Write.is (c.write.ensures.answer ∙ ap (λ (o : Outcome ℕ). o.answer) (sym (wrote-is c.args.caller.side c.in-Write.bytes.now old)))
 
 pub returns-in-Write-clause-state : goal.returns-in-Write-clause-state
-returns-in-Write-clause-state g c = λ t.
-    let old = state_in (g.B.Blocks.value c.args.store.now) c.args.self.now t in
-    let new = g.B.Blocks.value c.write.new.store in
-    rw c.in-Write.is (subst (λ (o : Outcome ℕ). state_in new c.write.new.self o.state ≡ o.state) (sym (wrote-is c.args.caller.side c.in-Write.bytes.now old)) (c.write.ensures.state t))
+returns-in-Write-clause-state g c =
+    let old = state_in (g.B.Blocks.value c.args.store.now) c.args.self.now in
+    rw c.in-Write.is (c.write.ensures.state ∙ ap (λ (o : Outcome ℕ). o.state) (sym (wrote-is c.args.caller.side c.in-Write.bytes.now old)))
 
 pub returns-in-Read-clause-answer : goal.returns-in-Read-clause-answer
-returns-in-Read-clause-answer g c = λ t.
-    let old = state_in (g.B.Blocks.value c.args.store.now) c.args.self.now t in
+returns-in-Read-clause-answer g c =
+    let old = state_in (g.B.Blocks.value c.args.store.now) c.args.self.now in
     let out = c.read.new.out.items in
     let whole : take c.len.result out ≡ out = ap (λ n. take n out) c.len.ensures.value ∙ take-length out in
-    rw c.in-Read.is (ap Bytes whole ∙ c.read.ensures.answer t ∙ ap (λ (o : Outcome ℕ). o.answer) (sym (read-is c.args.caller.side c.in-Read.n old)))
+    rw c.in-Read.is (ap Bytes whole ∙ c.read.ensures.answer ∙ ap (λ (o : Outcome ℕ). o.answer) (sym (read-is c.args.caller.side c.in-Read.n old)))
+
+flush-band : (s : State ℕ) (caller : Caller) (what : FlushQueues) (band : Option Band) → refused_at_once s caller (Flush what band) ≡ None → is_a_band band ≡ true
+flush-band s caller what band allowed = unless-none _ _ (or_else-none _ _ (or_else-none _ _ allowed).1).0
+
+pub of_data-requires : goal.of_data-requires
+of_data-requires g c =
+    let s = state_in (g.B.Blocks.value c.args.store.now) c.args.self.now in
+    flush-band s c.args.caller c.in-Flush.what c.in-Flush.band (subst (λ asked. refused_at_once s c.args.caller (request asked) ≡ None) c.in-Flush.is c.requires.allowed)

@@ -1,8 +1,15 @@
-use Rattle.std.proofs.Common.{rules}
+use Rattle.std.proofs.Common.{refl}
 use Rattle.strm_pair.proofs.streams.Streams.refused_at_once.Goals as goal
 
-pub returns-after-matches : goal.returns-after-matches
-returns-after-matches c = search rules steps 300000
-
 pub returns-in-OpenSlave : goal.returns-in-OpenSlave
-returns-in-OpenSlave c = λ s t. rw c.in-OpenSlave.is (c.unopened-in-OpenSlave.ensures s t)
+returns-in-OpenSlave c = λ s. rw c.in-OpenSlave.is (c.unopened-in-OpenSlave.ensures s)
+
+pub returns-in-Flush : goal.returns-in-Flush
+returns-in-Flush c = λ s.
+    rw (c.in-Flush.is, c.or_else-in-Flush-2.ensures, c.or_else-in-Flush.ensures, c.unreached-in-Flush.ensures s, c.beyond-in-Flush.ensures s, c.unless-in-Flush.ensures, c.is_a_band.ensures) refl
+
+pub returns-in-Write : goal.returns-in-Write
+returns-in-Write c = λ s. rw (c.in-Write.is, c.or_else-in-Write.ensures, c.unreached.ensures s, c.beyond.ensures s) refl
+
+pub returns-in-Pop : goal.returns-in-Pop
+returns-in-Pop c = λ s. rw (c.in-Pop.is, c.or_else-in-Pop.ensures, c.unreached-in-Pop.ensures s, c.beyond-in-Pop.ensures s) refl

@@ -18,9 +18,6 @@ returns-in-OpenSlave g c = search rules steps 300000
 pub returns-in-Write : goal.returns-in-Write
 returns-in-Write g c = search rules steps 300000
 
-pub returns-after-n-eq0 : goal.returns-after-n-eq0
-returns-after-n-eq0 g c = search rules steps 300000
-
 pub is_full-requires-clause-band : goal.is_full-requires-clause-band
 is_full-requires-clause-band g c = search rules steps 100000
 

@@ -1,0 +1,161 @@
+-- Flushes and closes lose no byte: what they take from the queues is what they say has gone.
+use Rattle.std.proofs.Common.{ℕ, ◌≡◌, ◌+◌, Bool, true, false, cond, List, [], ◌∷◌, ◌++◌, refl, ap, ◌∙◌, arith}
+use Rattle.std.specs.Prelude.{not, count_by}
+use Rattle.strm_types.specs.declared.names.Side.{Side}
+use Rattle.strm_types.specs.declared.names.Side.TheVariants.{Master, Slave}
+use Rattle.strm_types.specs.declared.events.FlushQueues.{FlushQueues}
+use Rattle.strm_types.specs.declared.events.FlushQueues.TheVariants.{Read, Write, Both}
+use Rattle.strm_types.specs.declared.rules.Rule.{Rule}
+use Rattle.strm_types.specs.declared.rules.Rule.TheVariants.{Flushed, EndClosed}
+use Rattle.strm_types.specs.Deliver.{Carried}
+use Rattle.strm_types.specs.Emptied.{Choice, of_all, stayed, cells_gone, emptied, none_goes, queue_behind, head_emptied, driver_emptied, none_gone, and_then, reached, write_flushed, read_flushed, flushed_on, ended, hung_up_at, closed_at}
+use Rattle.strm_types.specs.Kept.{state_weight, NothingUnread}
+use Rattle.strm_types.specs.Message.{Message, cells_of}
+use Rattle.strm_types.specs.Names.{other, is_open}
+use Rattle.strm_types.specs.Places.{weight_gone}
+use Rattle.strm_types.specs.Queue.{Queue, weight, relieved}
+use Rattle.strm_types.specs.State.{State, stream}
+use Rattle.strm_types.proofs.DeliveryKeeps.{gone-append}
+use Rattle.strm_types.proofs.Weights.{weight-take, count-join, weight-whole}
+
+module _ {C : Type 0} where
+  -- over one queue
+  behind-is : (chosen : Choice) (q : Queue C) → (queue_behind chosen q).messages ≡ stayed chosen q.messages
+  behind-is chosen q = at (none_goes chosen q)
+    where
+      at : (none : Bool) → (cond none (emptied chosen q) (relieved (emptied chosen q))).messages ≡ stayed chosen q.messages
+      at true = refl
+      at false = refl
+
+  none-stays : (ms : List (Message C)) → stayed of_all ms ≡ []
+  none-stays [] = refl
+  none-stays (m ∷ ms) = none-stays ms
+
+  module _ (p : C → Bool) where
+    stayed-keeps : (chosen : Choice) (ms : List (Message C)) → weight p (stayed chosen ms) + count_by p (cells_gone chosen ms) ≡ weight p ms
+    stayed-keeps chosen [] = refl
+    stayed-keeps chosen (m ∷ ms) = at (chosen m.kind m.band) (stayed-keeps chosen ms)
+      where
+        at : (goes : Bool) → weight p (stayed chosen ms) + count_by p (cells_gone chosen ms) ≡ weight p ms → weight p (cond (not goes) (m ∷ stayed chosen ms) (stayed chosen ms)) + count_by p (cond goes (cells_of m) [] ++ cells_gone chosen ms) ≡ weight p (m ∷ ms)
+        at true ih = omega (arith, ih, weight-take p m ms, weight-whole p m, count-join p (cells_of m) (cells_gone chosen ms))
+        at false ih = omega (arith, ih, weight-take p m ms, weight-take p m (stayed chosen ms))
+
+    behind-keeps : (chosen : Choice) (q : Queue C) → weight p (queue_behind chosen q).messages + count_by p (cells_gone chosen q.messages) ≡ weight p q.messages
+    behind-keeps chosen q = ap (λ (ms : List (Message C)). weight p ms + count_by p (cells_gone chosen q.messages)) (behind-is chosen q) ∙ stayed-keeps chosen q.messages
+
+    -- all that stands there, and all that has gone
+    abbrev total : Carried C (State C) → ℕ
+    total t = state_weight p t.state + weight_gone p t.gone
+
+    -- over a side's head and its driver
+    head_emptied-keeps : (rule : Rule) (chosen : Choice) (side : Side) (s : State C) → total (head_emptied rule chosen side s) ≡ state_weight p s
+    head_emptied-keeps rule chosen Master s = omega (arith, behind-keeps chosen s.master.head.queue)
+    head_emptied-keeps rule chosen Slave s = omega (arith, behind-keeps chosen s.slave.head.queue)
+
+    driver_emptied-keeps : (rule : Rule) (chosen : Choice) (side : Side) (s : State C) → total (driver_emptied rule chosen side s) ≡ state_weight p s
+    driver_emptied-keeps rule chosen Master s = omega (arith, behind-keeps chosen s.master.driver.queue)
+    driver_emptied-keeps rule chosen Slave s = omega (arith, behind-keeps chosen s.slave.driver.queue)
+
+    -- one after the other
+    and_then-keeps : (n : ℕ) (t : Carried C (State C)) (next : State C → Carried C (State C)) → total t ≡ n → ((s : State C) → total (next s) ≡ state_weight p s) → total (and_then t next) ≡ n
+    and_then-keeps n t next is keeps = omega (arith, is, keeps t.state, gone-append p t.gone (next t.state).gone)
+
+    reached-keeps : (chosen : Choice) (side : Side) (s : State C) → total (reached chosen side s) ≡ state_weight p s
+    reached-keeps chosen side s = at (is_open (stream side s).opened)
+      where
+        at : (opened : Bool) → total (cond opened (head_emptied Flushed chosen side s) (none_gone s)) ≡ state_weight p s
+        at true = head_emptied-keeps Flushed chosen side s
+        at false = omega arith
+
+    write_flushed-keeps : (chosen : Choice) (side : Side) (s : State C) → total (write_flushed chosen side s) ≡ state_weight p s
+    write_flushed-keeps chosen side s =
+        and_then-keeps (state_weight p s) (driver_emptied Flushed chosen side s) (reached chosen (other side)) (driver_emptied-keeps Flushed chosen side s) (reached-keeps chosen (other side))
+
+    read_flushed-keeps : (chosen : Choice) (side : Side) (s : State C) → total (read_flushed chosen side s) ≡ state_weight p s
+    read_flushed-keeps chosen side s =
+        and_then-keeps (state_weight p s) (driver_emptied Flushed chosen (other side) s) (reached chosen side) (driver_emptied-keeps Flushed chosen (other side) s) (reached-keeps chosen side)
+
+    -- a flush
+    pub flushed_on-keeps : (chosen : Choice) (side : Side) (what : FlushQueues) (s : State C) → total (flushed_on chosen side what s) ≡ state_weight p s
+    flushed_on-keeps chosen side Read s = read_flushed-keeps chosen side s
+    flushed_on-keeps chosen side Write s = write_flushed-keeps chosen side s
+    flushed_on-keeps chosen side Both s =
+        and_then-keeps (state_weight p s) (write_flushed chosen side s) (read_flushed chosen side) (write_flushed-keeps chosen side s) (read_flushed-keeps chosen side)
+
+    -- a close: what stands on the head has gone before that is as new
+    behind-all : (q : Queue C) → weight p (queue_behind of_all q).messages ≡ 0
+    behind-all q = ap (λ (ms : List (Message C)). weight p ms) (behind-is of_all q ∙ none-stays q.messages)
+
+    hung_up-keeps : (side : Side) (s : State C) → state_weight p (hung_up_at side s) ≡ state_weight p s
+    hung_up-keeps Master s = at (is_open s.master.opened)
+      where
+        at : (opened : Bool) → state_weight p (cond opened (record s { master = record s.master { head = record s.master.head { hung_up = true } } }) s) ≡ state_weight p s
+        at true = refl
+        at false = refl
+    hung_up-keeps Slave s = at (is_open s.slave.opened)
+      where
+        at : (opened : Bool) → state_weight p (cond opened (record s { slave = record s.slave { head = record s.slave.head { hung_up = true } } }) s) ≡ state_weight p s
+        at true = refl
+        at false = refl
+
+    pub closed_at-keeps : (side : Side) (s : State C) → total (closed_at side s) ≡ state_weight p s
+    closed_at-keeps Slave s = omega (arith, head_emptied-keeps EndClosed of_all Slave s, behind-all s.slave.head.queue)
+    closed_at-keeps Master s =
+        let heads = head_emptied EndClosed of_all Master s in
+        let one = and_then heads (driver_emptied EndClosed of_all Master) in
+        let all = and_then one (driver_emptied EndClosed of_all Slave) in
+        let one_keeps = and_then-keeps (state_weight p s) heads (driver_emptied EndClosed of_all Master) (head_emptied-keeps EndClosed of_all Master s) (driver_emptied-keeps EndClosed of_all Master) in
+        let all_keep = and_then-keeps (state_weight p s) one (driver_emptied EndClosed of_all Slave) one_keeps (driver_emptied-keeps EndClosed of_all Slave) in
+        let hung = hung_up-keeps Slave (ended Master all.state) in
+        omega (arith, hung, all_keep, behind-all s.master.head.queue)
+
+  -- a side that isn't open has nothing for its readers: so it stays
+  behind-none : (chosen : Choice) (q : Queue C) → q.messages ≡ [] → (queue_behind chosen q).messages ≡ []
+  behind-none chosen q none = behind-is chosen q ∙ ap (λ (ms : List (Message C)). stayed chosen ms) none
+
+  head_emptied-unread : (rule : Rule) (chosen : Choice) (side : Side) (s : State C) → NothingUnread s → NothingUnread (head_emptied rule chosen side s).state
+  head_emptied-unread rule chosen Master s unread = record { master = λ closed. behind-none chosen s.master.head.queue (unread.master closed); slave = unread.slave }
+  head_emptied-unread rule chosen Slave s unread = record { master = unread.master; slave = λ closed. behind-none chosen s.slave.head.queue (unread.slave closed) }
+
+  driver_emptied-unread : (rule : Rule) (chosen : Choice) (side : Side) (s : State C) → NothingUnread s → NothingUnread (driver_emptied rule chosen side s).state
+  driver_emptied-unread rule chosen Master s unread = record { master = unread.master; slave = unread.slave }
+  driver_emptied-unread rule chosen Slave s unread = record { master = unread.master; slave = unread.slave }
+
+  reached-unread : (chosen : Choice) (side : Side) (s : State C) → NothingUnread s → NothingUnread (reached chosen side s).state
+  reached-unread chosen side s unread = at (is_open (stream side s).opened)
+    where
+      at : (opened : Bool) → NothingUnread (cond opened (head_emptied Flushed chosen side s) (none_gone s)).state
+      at true = head_emptied-unread Flushed chosen side s unread
+      at false = unread
+
+  write_flushed-unread : (chosen : Choice) (side : Side) (s : State C) → NothingUnread s → NothingUnread (write_flushed chosen side s).state
+  write_flushed-unread chosen side s unread = reached-unread chosen (other side) (driver_emptied Flushed chosen side s).state (driver_emptied-unread Flushed chosen side s unread)
+
+  read_flushed-unread : (chosen : Choice) (side : Side) (s : State C) → NothingUnread s → NothingUnread (read_flushed chosen side s).state
+  read_flushed-unread chosen side s unread = reached-unread chosen side (driver_emptied Flushed chosen (other side) s).state (driver_emptied-unread Flushed chosen (other side) s unread)
+
+  pub flushed_on-unread : (chosen : Choice) (side : Side) (what : FlushQueues) (s : State C) → NothingUnread s → NothingUnread (flushed_on chosen side what s).state
+  flushed_on-unread chosen side Read s unread = read_flushed-unread chosen side s unread
+  flushed_on-unread chosen side Write s unread = write_flushed-unread chosen side s unread
+  flushed_on-unread chosen side Both s unread = read_flushed-unread chosen side (write_flushed chosen side s).state (write_flushed-unread chosen side s unread)
+
+  hung_up-unread : (s : State C) → NothingUnread s → NothingUnread (hung_up_at Slave s)
+  hung_up-unread s unread = at (is_open s.slave.opened)
+    where
+      at : (opened : Bool) → NothingUnread (cond opened (record s { slave = record s.slave { head = record s.slave.head { hung_up = true } } }) s)
+      at true = record { master = unread.master; slave = unread.slave }
+      at false = unread
+
+  ended-unread : (side : Side) (s : State C) → NothingUnread s → NothingUnread (ended side s)
+  ended-unread Master s unread = record { master = λ closed. refl; slave = unread.slave }
+  ended-unread Slave s unread = record { master = unread.master; slave = λ closed. refl }
+
+  pub closed_at-unread : (side : Side) (s : State C) → NothingUnread s → NothingUnread (closed_at side s).state
+  closed_at-unread Slave s unread = ended-unread Slave (head_emptied EndClosed of_all Slave s).state (head_emptied-unread EndClosed of_all Slave s unread)
+  closed_at-unread Master s unread =
+      let heads = (head_emptied EndClosed of_all Master s).state in
+      let one = (driver_emptied EndClosed of_all Master heads).state in
+      let all = (driver_emptied EndClosed of_all Slave one).state in
+      let heads_unread = head_emptied-unread EndClosed of_all Master s unread in
+      let one_unread = driver_emptied-unread EndClosed of_all Master heads heads_unread in
+      hung_up-unread (ended Master all) (ended-unread Master all (driver_emptied-unread EndClosed of_all Slave one one_unread))
