@@ -1,5 +1,5 @@
 -- Each command is read where it is spelled, and only there.
-use Rattle.std.proofs.Common.{◌≡◌, ◌≢◌, ℕ, ◌≤◌, true, false, cond, List, [], ◌∷◌, ◌++◌, length, Option, None, Some, option_map, refl, sym, ap, ◌∙◌, inl, inr, ◌⊎◌, append_assoc, append-nil, codes, subst, ltb}
+use Rattle.std.proofs.Common.{◌≡◌, ◌≢◌, ℕ, ◌≤◌, true, false, List, [], ◌∷◌, ◌++◌, length, Option, None, Some, option_map, refl, sym, ap, ◌∙◌, inl, inr, ◌⊎◌, append_assoc, append-nil, codes, subst, ltb}
 use Rattle.std.proofs.lemmas.Bool.{cond-true, cond-false, le-ltb, lt-ltb, ltb-true, leb-true, le-leb, and_parts, cases_Bool}
 use Rattle.strm_types.specs.declared.names.Side.{Side}
 use Rattle.strm_types.specs.declared.names.Side.TheVariants.{Master, Slave}
@@ -16,7 +16,7 @@ use Rattle.strm_types.specs.declared.events.Event.TheVariants.{OpenMaster, Unloc
 use Rattle.strm_types.specs.declared.events.Event.TheVariants as calls
 use Rattle.std.specs.List.{AllByRecursion, list_all}
 use Rattle.strm_run.specs.Script.{Command, Open, Call, Flush, Turn, Run, Show, side_name, place_name, way_name, queue_name, module_name, flush_name, is_letter, is_silent, with_side, IsName, IsNumber, IsFlush, IsSpelled}
-use Rattle.strm_run.specs.ScriptReading.{Silent, Malformed, Spoken, spoken, reading, either_of, and_then, after, at_end, whole, Front, before, number_in, text_in, side_in, place_in, way_in, queue_in, placed_in, sided_in, behind_side, side_alone, module_in, is_name, flush_queues_in, band_in, flushed_in, open_in, named_in, write_in, read_in, turn_in, run_in, sided_call_in, push_in, flush_in, show_in, stream_in, command_in}
+use Rattle.strm_run.specs.ScriptReading.{Silent, Malformed, Spoken, spoken, reading, either_of, and_then, after, at_end, whole, Front, before, number_in, text_in, side_in, place_in, way_in, queue_in, placed_in, sided_in, behind_side, side_alone, module_in, is_name, flush_queues_in, band_in, pushed_in, flushed_in, open_in, named_in, write_in, read_in, turn_in, run_in, sided_call_in, push_in, flush_in, show_in, stream_in, command_in}
 use Rattle.strm_run.proofs.Grammar.{and_then-found, option_map-found, after-found, number-found, number-only, text-found, text-only}
 
 -- the one or the other found it
@@ -273,9 +273,8 @@ pushed side name line (Some known) e is h = h ∙ ap (λ k. with_side (codes "pu
 push-found : (line : List ℕ) (command : Command) → push_in line ≡ Some command → IsSpelled command line
 unfolding push_in
 push-found line command h =
-    let inside = λ (side : Side) (rest : List ℕ). cond (is_name rest) (Some (Call side (Push (module_in rest)))) None in
-    let rest = and_then-found (behind_side inside) (after (codes "push ") line) command h in
-    let side = behind-found inside rest.value command rest.second in
+    let rest = and_then-found (behind_side pushed_in) (after (codes "push ") line) command h in
+    let side = behind-found pushed_in rest.value command rest.second in
     let spelled = after-found (codes "push ") line rest.value rest.first
     ∙ ap (λ k. codes "push " ++ k) (side.2 ∙ sym (append_assoc (side_name side.0) (codes " ") side.1)) in
     elim (cases_Bool (is_name side.1)) [

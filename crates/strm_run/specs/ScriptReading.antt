@@ -209,9 +209,12 @@ sided_call_in line =
     (either_of (option_map (λ side. Call side Pop) (and_then side_alone (after (codes "pop ") line)))
     (option_map (λ side. Call side Look) (and_then side_alone (after (codes "look ") line))))
 
+-- a push of what a name stands for, where it is one
+abbrev pub pushed_in : Side → List ℕ → Option Command
+pushed_in side name = if is_name name then Some (Call side (Push (module_in name))) else None
+
 unfoldable pub push_in : List ℕ → Option Command
-push_in line =
-    and_then (behind_side (λ side rest. if is_name rest then Some (Call side (Push (module_in rest))) else None)) (after (codes "push ") line)
+push_in line = and_then (behind_side pushed_in) (after (codes "push ") line)
 
 -- a flush of these queues of a side, where a band or nothing follows
 abbrev pub flushed_in : Side → Front FlushQueues → Option Command

@@ -3,7 +3,8 @@
 ghost use Rattle.std.specs.Prelude.{◌≡◌, false, Some, None, IfOk, OnErr, option_map};
 ghost use Rattle.strm_types.specs.Calls.{request};
 ghost use Rattle.strm_run.specs.ScriptAnswers as script;
-ghost use Rattle.strm_run.specs.ScriptRun.{by_call, by_flush, by_turn, by_run, by_open, answered, script_limits, is_enosr, size_at};
+ghost use Rattle.strm_run.specs.ScriptRun.{by_call, by_flush, by_turn, by_run, by_open, answered};
+ghost use Rattle.strm_run.specs.ScriptRun.{script_limits, is_enosr, size_at};
 ghost use Rattle.strm_types.specs.Names.{head_of, driver_of};
 ghost use Rattle.strm_run.specs.Commands.{command_of};
 ghost use Rattle.strm_run.specs.Plain.{plain};
