@@ -7,6 +7,7 @@ use Rattle.strm_types.specs.declared.names.QueueName.{QueueName}
 use Rattle.strm_types.specs.declared.refusals.Refusal.{Refusal}
 use Rattle.strm_types.specs.declared.limits.TheConstants.{TURN_BLOCKS}
 use Rattle.strm_types.specs.declared.names.Side.{Side}
+use Rattle.strm_types.specs.declared.events.FlushQueues.{FlushQueues}
 use Rattle.strm_types.specs.declared.names.Place.{Place}
 use Rattle.strm_types.specs.declared.names.Place.TheVariants.{Head, Ldterm, Driver}
 use Rattle.strm_types.specs.declared.entries.Entry.TheVariants.{Called, Turned}
@@ -22,7 +23,7 @@ use Rattle.strm_types.specs.Refused.{Free, enough, blocks_asked}
 use Rattle.strm_types.specs.Pair.{PairState, call_refused, queue_refused, AddsEntry}
 use Rattle.strm_run.specs.ScriptAnswers.{Ran, reply_line, turn_line}
 use Rattle.strm_run.specs.ScriptRun as script
-use Rattle.strm_run.specs.ScriptRun.{Supply, Enough, TooFew, is_enough, PlainPair, Happened, call_refusal, turn_refusal, call_happens, turn_happens, call_of, turn_of, is_short, is_enosr, Turns, no_turns, counted, turns_of, by_call, by_turn, by_run, by_open, unanswered, new_plain, next_of, rest_of}
+use Rattle.strm_run.specs.ScriptRun.{Supply, Enough, TooFew, is_enough, PlainPair, Happened, call_refusal, turn_refusal, call_happens, turn_happens, call_of, turn_of, is_short, is_enosr, Turns, no_turns, counted, turns_of, by_call, by_flush, by_turn, by_run, by_open, unanswered, new_plain, next_of, rest_of}
 use Rattle.std.proofs.lemmas.Bool.{le-leb, lt-leb}
 use Rattle.std.proofs.lemmas.Bool.Decides.{nat_tests}
 use Rattle.strm_types.specs.declared.events.Event.TheVariants as calls
@@ -61,6 +62,7 @@ pub record TurnHappens (old new : PairState) (name : QueueName) (r : Result Turn
 -- an answer whose bytes are all that stand apart
 whole-reply : (answer : Answer ℕ) (bytes : List ℕ) → answer_len answer ≡ length bytes → reply_in answer bytes ≡ map_answer (λ _. bytes) answer
 whole-reply answers.Done bytes filled = refl
+whole-reply (answers.Name known) bytes filled = refl
 whole-reply (answers.Count n) bytes filled = refl
 whole-reply (answers.Bytes len) bytes filled = ap answers.Bytes (ap (λ n. take n bytes) filled ∙ take-length bytes)
 
@@ -302,6 +304,12 @@ leads_unanswered bytes command refusal pair found e same = record {
   leads = λ account. same account ∙ ap (λ x. answered_as x bytes pair account) (sym e);
 }
 
+-- a look at a pair, which no call makes
+pub leads_looked : (bytes : List ℕ) (command : List Supply → script.Answered) (old : PlainPair) (found : Answered)
+    → ((account : List Supply) → command account ≡ record { line = line_of bytes found.line; pair = Some old; account = account; is_short = found.short })
+    → LeadsTo command found bytes (Some old)
+leads_looked bytes command old found same = record { events = []; leads = same }
+
 -- the same command
 pub leads_same : (bytes : List ℕ) (command said : List Supply → script.Answered) (pair : Option PlainPair) (found : Answered)
     → ((account : List Supply) → command account ≡ said account) → LeadsTo said found bytes pair → LeadsTo command found bytes pair
@@ -313,6 +321,17 @@ leads_same bytes command said pair found same h = record {
 and_none : (b : Bool) → (b && false) ≡ false
 and_none true = refl
 and_none false = refl
+
+-- a flush, by its band
+pub flush_refused : (side : Side) (what : FlushQueues) (band : ℕ) (account : List Supply) (p : PlainPair) → 255 < band
+    → by_flush side what (Some band) account p ≡ unanswered Einval (Some p) account
+unfolding by_flush
+flush_refused side what band account p h = rw (lt-leb band 255 h) refl
+
+pub flush_made : (side : Side) (what : FlushQueues) (band : ℕ) (account : List Supply) (p : PlainPair) → band ≤ 255
+    → by_flush side what (Some band) account p ≡ by_call (record { side = side }) (calls.Flush what (Some (record { 0 = band }))) account p
+unfolding by_flush
+flush_made side what band account p h = rw (le-leb band 255 h) refl
 
 -- an `open`, by its number of blocks
 pub open_refused : (blocks : ℕ) (account : List Supply) → (blocks ≡ 0) ⊎ (4096 < blocks) → by_open blocks account ≡ unanswered Einval None account

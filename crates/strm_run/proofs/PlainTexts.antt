@@ -7,15 +7,17 @@ use Rattle.strm_types.specs.declared.names.QueueName.{QueueName}
 use Rattle.strm_types.specs.declared.refusals.Refusal.{Refusal}
 use Rattle.strm_types.specs.declared.refusals.Refusal.TheVariants.{Einval, Enosr}
 use Rattle.strm_types.specs.declared.names.Side.TheVariants.{Master}
+use Rattle.strm_types.specs.declared.names.Side.{Side}
+use Rattle.strm_types.specs.declared.events.FlushQueues.{FlushQueues}
 use Rattle.strm_types.specs.Names.{is_enabled}
 use Rattle.strm_types.specs.declared.events.Event.TheVariants as calls
 use Rattle.strm_types.specs.Calls.{Request, Reply}
 use Rattle.strm_types.specs.Refused.{or_else, unless, refused, refused_at_once, refused_by_state, blocks_asked}
-use Rattle.strm_run.specs.Script.{Command, Open, Call, Turn as TurnOf, Run}
+use Rattle.strm_run.specs.Script.{Command, Open, Call, Flush, Turn as TurnOf, Run, Show}
 use Rattle.strm_run.specs.ScriptReading.{Reading, Silent, Malformed, Spoken, reading}
 use Rattle.strm_run.specs.ScriptAnswers.{printed_line, reply_line, turn_line, Ran, Wrong}
 use Rattle.strm_run.specs.ScriptRun as script
-use Rattle.strm_run.specs.ScriptRun.{Supply, Enough, TooFew, next_of, rest_of, PlainPair, Happened, call_refusal, turn_refusal, call_happens, turn_happens, call_of, turn_of, is_short, is_enosr, turns_of, by_call, by_turn, by_run, by_open, answered, told_from, told_after, first_of, line_if, Told, new_plain}
+use Rattle.strm_run.specs.ScriptRun.{Supply, Enough, TooFew, next_of, rest_of, PlainPair, Happened, call_refusal, turn_refusal, call_happens, turn_happens, call_of, turn_of, is_short, is_enosr, turns_of, by_call, by_flush, by_show, by_turn, by_run, by_open, answered, told_from, told_after, first_of, line_if, Told, new_plain}
 use Rattle.strm_run.proofs.Supplies.{is_want, call_happens-short, turn_happens-short, answered-enough}
 use Rattle.strm_run.proofs.Events.{turns_none, turns_err, turns_ok, turns_zero}
 
@@ -25,6 +27,12 @@ unfolding is_want
 same_refusal (Some r) b c d h = refl
 same_refusal None (Some r) c d h = refl
 same_refusal None None c d h = absurd (false≢true (sym h))
+
+-- nor where one more comes before
+same_refusal_behind : (a b c d e : Option Refusal) → is_want (or_else a (or_else b (or_else c (Some Enosr)))) ≡ false
+    → or_else a (or_else b (or_else c d)) ≡ or_else a (or_else b (or_else c e))
+same_refusal_behind (Some r) b c d e h = refl
+same_refusal_behind None b c d e h = same_refusal b c d e h
 
 refused-same : (b : Bool) (p : PlainPair) (caller : Caller) (asked : Request) → is_want (refused p.state p.journal p.limits b caller asked) ≡ false
     → refused p.state p.journal p.limits b caller asked ≡ refused p.state p.journal p.limits true caller asked
@@ -46,7 +54,7 @@ unfolding turn_of
 turn-same Enough p name h = refl
 turn-same TooFew p name h =
     ap (λ o. turn_happens o p name)
-    (same_refusal (unless (is_enabled name p.state.enabled) Einval) _ (Some Enosr) None
+    (same_refusal_behind (unless (is_enabled name p.state.enabled) Einval) _ _ (Some Enosr) None
     (sym (turn_happens-short (turn_refusal TooFew p name) p name) ∙ h))
 
 -- turns that end alike
@@ -108,13 +116,25 @@ open-same blocks account h = elim (cases_Bool (nat_le 1 blocks && nat_le blocks 
   | inr e ↦ rw (e) (record { line = refl; pair = refl })
 ]
 
+flush-same : (side : Side) (what : FlushQueues) (band : ℕ) (account : List Supply) (p : PlainPair)
+    → (by_flush side what (Some band) account p).is_short ≡ false
+    → SameAnswer (by_flush side what (Some band) account p) (by_flush side what (Some band) [] p)
+unfolding by_flush by_call
+flush-same side what band account p h = elim (cases_Bool (nat_le band 255)) [
+  | inl e ↦ rw (e) (call_answer Enough p (record { side = side }) (calls.Flush what (Some (record { 0 = band }))) account (rw (e) at h))
+  | inr e ↦ rw (e) (record { line = refl; pair = refl })
+]
+
 answered-same : (command : Command) (account : List Supply) (pair : Option PlainPair) → (answered command account pair).is_short ≡ false
     → SameAnswer (answered command account pair) (answered command [] pair)
-unfolding answered by_call by_turn by_run
+unfolding answered by_call by_flush by_show by_turn by_run
 answered-same (Open blocks) account None h = open-same (unwrap_or blocks 256) account h
 answered-same (Open blocks) account (Some p) h = record { line = refl; pair = refl }
 answered-same (Call side asked) account None h = record { line = refl; pair = refl }
 answered-same (Call side asked) account (Some p) h = call_answer Enough p (record { side = side }) asked account h
+answered-same (Flush side what band) account None h = record { line = refl; pair = refl }
+answered-same (Flush side what None) account (Some p) h = call_answer Enough p (record { side = side }) (calls.Flush what None) account h
+answered-same (Flush side what (Some band)) account (Some p) h = flush-same side what band account p h
 answered-same (TurnOf name) account None h = record { line = refl; pair = refl }
 answered-same (TurnOf name) account (Some p) h =
     let same = turn-same (next_of account) p name h in
@@ -123,6 +143,8 @@ answered-same (Run n) account None h = record { line = refl; pair = refl }
 answered-same (Run n) account (Some p) h =
     let same = turns-same n account p h in
     record { line = ap Ran same.count; pair = ap Some same.pair }
+answered-same (Show side) account None h = record { line = refl; pair = refl }
+answered-same (Show side) account (Some p) h = record { line = refl; pair = refl }
 
 -- a line with a command, and the same line where the events get their blocks
 told_spoken : (n : ℕ) (account : List Supply) (pair : Option PlainPair) (line : List ℕ) (lines : List (List ℕ)) (command : Command) → reading line ≡ Spoken command

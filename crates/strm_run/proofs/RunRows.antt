@@ -2,17 +2,27 @@
 use Rattle.std.proofs.Common.{ℕ, ◌≡◌, List, [], ◌∷◌, ◌++◌, map, refl}
 use Rattle.std.specs.Prelude.{codes, Option, None, Some}
 use Rattle.std.specs.Fmt.{decimal}
+use Rattle.std.specs.List.{concat}
 use Rattle.strm_types.specs.Message.{data_message, is_held, rank_of, band_of, size_of, cells_of, is_high_priority}
+use Rattle.strm_types.specs.Flush.{is_data_kind}
 use Rattle.strm_types.specs.Write.{chunk_count}
 use Rattle.strm_run.specs.Script.{Open, digit_of}
-use Rattle.strm_run.specs.ScriptReading.{number_from, number_in, text_from, text_in, side_in, place_in, way_in, queue_in, open_in, named_in, write_in, read_in, turn_in, run_in, command_in, reading}
+use Rattle.strm_run.specs.ScriptReading.{number_from, number_in, text_from, text_in, side_in, place_in, way_in, queue_in, side_alone, module_in, is_name, flush_queues_in, band_in, open_in, named_in, write_in, read_in, turn_in, run_in, sided_call_in, push_in, flush_in, show_in, stream_in, command_in, reading}
 use Rattle.strm_run.specs.ScriptAnswers.{line_text}
-use Rattle.strm_run.specs.ScriptRun.{Enough, TooFew, Told, script_limits, call_of, turn_of, by_call, by_turn, turns_of, by_run, by_open, answered, told_from}
+use Rattle.strm_run.specs.ScriptRun.{Enough, TooFew, Told, script_limits, call_of, turn_of, by_call, by_flush, by_show, by_turn, turns_of, by_run, by_open, answered, told_from}
 
 -- lines of text, each with LF behind it, and what comes behind them
 abbrev text : List (List ℕ) → List ℕ → List ℕ
 text [] last = last
 text (line ∷ lines) last = (line ++ 10 ∷ []) ++ text lines last
+
+-- the messages and the bytes of a queue
+abbrev size : List ℕ → ℕ → ℕ → List ℕ
+size name messages bytes = name ++ (decimal messages ++ (codes " " ++ decimal bytes))
+
+-- what stands on the queues of a side's stream: the head's messages and bytes, and the driver's
+abbrev stands : List ℕ → ℕ → ℕ → ℕ → ℕ → List ℕ
+stands shown a b c d = shown ++ concat (size (codes " head.r ") a b ∷ size (codes " drv.w ") c d ∷ [])
 
 -- a script that goes to its end, with this short line
 abbrev wrote : List (List ℕ) → Option ℕ → Told
@@ -32,11 +42,11 @@ usual-pair = refl
 
 -- lines count from 1, silent ones too, and nothing is said behind a malformed one
 pub malformed-line-ends-a-script : told_from 1 [] None (codes "# a" ∷ [] ∷ codes "unlock" ∷ codes "bad" ∷ codes "open" ∷ []) ≡ ended (codes "err ENXIO" ∷ []) 4
-unfolding told_from reading command_in open_in named_in write_in read_in turn_in run_in answered line_text
+unfolding told_from reading command_in open_in named_in write_in read_in turn_in run_in stream_in sided_call_in push_in flush_in show_in answered line_text
 malformed-line-ends-a-script = refl
 
 pub first-line-is-line-one : told_from 1 [] None (codes "bad" ∷ []) ≡ ended [] 1
-unfolding told_from reading command_in open_in named_in write_in read_in turn_in run_in line_text
+unfolding told_from reading command_in open_in named_in write_in read_in turn_in run_in stream_in sided_call_in push_in flush_in show_in line_text
 first-line-is-line-one = refl
 
 -- commands before a pair is there, pairs with no blocks and with too many, and a second pair
@@ -69,3 +79,33 @@ short-lines-of-turns = refl
 pub turns-before-a-short-one-count : told_from 1 (Enough ∷ Enough ∷ Enough ∷ Enough ∷ Enough ∷ Enough ∷ TooFew ∷ TooFew ∷ []) None (codes "open" ∷ codes "unlock" ∷ codes "slave" ∷ codes "write m \"a\"" ∷ codes "write s \"b\"" ∷ codes "run 9" ∷ codes "turn s.drv.w" ∷ codes "turn s.drv.w" ∷ codes "read m 1" ∷ []) ≡ wrote (codes "ok" ∷ codes "ok" ∷ codes "ok" ∷ (codes "ok " ++ decimal 1) ∷ (codes "ok " ++ decimal 1) ∷ (codes "ran " ++ decimal 1) ∷ codes "err ENOSR" ∷ (codes "ok " ++ decimal 1) ∷ (codes "data " ++ decimal 1 ++ codes " " ++ codes "\"b\"") ∷ []) (Some 6)
 unfolding told_from reading command_in open_in named_in write_in read_in turn_in run_in number_in number_from digit_of text_in text_from side_in place_in way_in queue_in answered by_open by_call call_of by_run turns_of by_turn turn_of line_text chunk_count data_message rank_of band_of size_of cells_of is_high_priority is_held
 turns-before-a-short-one-count = refl
+
+-- commands on a stream before a pair is there
+pub streams-want-a-pair : told_from 1 [] None (codes "close m" ∷ codes "push m ldterm" ∷ codes "pop m" ∷ codes "look s" ∷ codes "flush m r" ∷ codes "flush m r 256" ∷ codes "show m" ∷ []) ≡ wrote (codes "err ENXIO" ∷ codes "err ENXIO" ∷ codes "err ENXIO" ∷ codes "err ENXIO" ∷ codes "err ENXIO" ∷ codes "err ENXIO" ∷ codes "err ENXIO" ∷ []) None
+unfolding told_from reading command_in open_in named_in write_in read_in turn_in run_in stream_in sided_call_in push_in flush_in show_in side_alone module_in is_name flush_queues_in band_in number_in number_from digit_of text_in text_from side_in place_in way_in queue_in answered by_open by_call by_flush by_show call_of by_run turns_of by_turn turn_of line_text chunk_count data_message rank_of band_of size_of cells_of is_high_priority is_held
+streams-want-a-pair = refl
+
+-- a band above 255 is refused before the call is made, and so on a stream that isn't open; what stands is told of that too
+pub bands-and-sizes-of-a-closed-stream : told_from 1 [] None (codes "open" ∷ codes "flush s r 256" ∷ codes "flush s r 255" ∷ codes "flush m r 4294967295" ∷ codes "flush m r 8" ∷ codes "flush m r 7" ∷ codes "show s" ∷ []) ≡ wrote (codes "ok" ∷ codes "err EINVAL" ∷ codes "err ENXIO" ∷ codes "err EINVAL" ∷ codes "err EINVAL" ∷ codes "ok" ∷ stands (codes "show s") 0 0 0 0 ∷ []) None
+unfolding told_from reading command_in open_in named_in write_in read_in turn_in run_in stream_in sided_call_in push_in flush_in show_in side_alone module_in is_name flush_queues_in band_in number_in number_from digit_of text_in text_from side_in place_in way_in queue_in answered by_open by_call by_flush by_show call_of by_run turns_of by_turn turn_of line_text chunk_count data_message rank_of band_of size_of cells_of is_high_priority is_held
+bands-and-sizes-of-a-closed-stream = refl
+
+-- what a side's queues have before a turn and behind it, each its messages and then its bytes
+pub sizes-are-told : told_from 1 [] None (codes "open" ∷ codes "unlock" ∷ codes "slave" ∷ codes "write m \"ab\"" ∷ codes "write m \"c\"" ∷ codes "show m" ∷ codes "show s" ∷ codes "run 9" ∷ codes "show m" ∷ codes "show s" ∷ []) ≡ wrote (codes "ok" ∷ codes "ok" ∷ codes "ok" ∷ (codes "ok " ++ decimal 2) ∷ (codes "ok " ++ decimal 1) ∷ stands (codes "show m") 0 0 2 3 ∷ stands (codes "show s") 0 0 0 0 ∷ (codes "ran " ++ decimal 2) ∷ stands (codes "show m") 0 0 0 0 ∷ stands (codes "show s") 2 3 0 0 ∷ []) None
+unfolding told_from reading command_in open_in named_in write_in read_in turn_in run_in stream_in sided_call_in push_in flush_in show_in side_alone module_in is_name flush_queues_in band_in number_in number_from digit_of text_in text_from side_in place_in way_in queue_in answered by_open by_call by_flush by_show call_of by_run turns_of by_turn turn_of line_text chunk_count data_message rank_of band_of size_of cells_of is_high_priority is_held
+sizes-are-told = refl
+
+-- a flush takes what is on its way, and another queue's isn't touched
+pub flush-takes-bytes : told_from 1 [] None (codes "open" ∷ codes "unlock" ∷ codes "slave" ∷ codes "write m \"ab\"" ∷ codes "write s \"c\"" ∷ codes "flush m w" ∷ codes "show m" ∷ codes "show s" ∷ []) ≡ wrote (codes "ok" ∷ codes "ok" ∷ codes "ok" ∷ (codes "ok " ++ decimal 2) ∷ (codes "ok " ++ decimal 1) ∷ codes "ok" ∷ stands (codes "show m") 0 0 0 0 ∷ stands (codes "show s") 0 0 1 1 ∷ []) None
+unfolding told_from reading command_in open_in named_in write_in read_in turn_in run_in stream_in sided_call_in push_in flush_in show_in side_alone module_in is_name flush_queues_in band_in number_in number_from digit_of text_in text_from side_in place_in way_in queue_in answered by_open by_call by_flush by_show call_of by_run turns_of by_turn turn_of line_text chunk_count data_message rank_of band_of size_of cells_of is_high_priority is_held is_data_kind
+flush-takes-bytes = refl
+
+-- no module is known yet
+pub no-module-is-known : told_from 1 [] None (codes "open" ∷ codes "look m" ∷ codes "pop m" ∷ codes "push m ldterm" ∷ codes "push m foo" ∷ []) ≡ wrote (codes "ok" ∷ codes "err EINVAL" ∷ codes "err EINVAL" ∷ codes "err EINVAL" ∷ codes "err EINVAL" ∷ []) None
+unfolding told_from reading command_in open_in named_in write_in read_in turn_in run_in stream_in sided_call_in push_in flush_in show_in side_alone module_in is_name flush_queues_in band_in number_in number_from digit_of text_in text_from side_in place_in way_in queue_in answered by_open by_call by_flush by_show call_of by_run turns_of by_turn turn_of line_text chunk_count data_message rank_of band_of size_of cells_of is_high_priority is_held
+no-module-is-known = refl
+
+-- an account: a look asks for no blocks, and a close that gets too few is refused
+pub account-of-closes : told_from 1 (TooFew ∷ TooFew ∷ TooFew ∷ []) None (codes "open" ∷ codes "show m" ∷ codes "close m" ∷ []) ≡ wrote (codes "ok" ∷ stands (codes "show m") 0 0 0 0 ∷ codes "err ENOSR" ∷ []) (Some 3)
+unfolding told_from reading command_in open_in named_in write_in read_in turn_in run_in stream_in sided_call_in push_in flush_in show_in side_alone module_in is_name flush_queues_in band_in number_in number_from digit_of text_in text_from side_in place_in way_in queue_in answered by_open by_call by_flush by_show call_of by_run turns_of by_turn turn_of line_text chunk_count data_message rank_of band_of size_of cells_of is_high_priority is_held
+account-of-closes = refl

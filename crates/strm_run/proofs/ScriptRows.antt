@@ -1,8 +1,9 @@
 -- What the definitions of scripts compute, for lines, answers and short scripts.
 use Rattle.std.proofs.Common.{◌≡◌, [], ◌∷◌, ◌++◌, map, refl, replicate}
-use Rattle.std.specs.Prelude.{codes, None, Some, Ok, Err}
+use Rattle.std.specs.Prelude.{codes, true, false, None, Some, Ok, Err}
 use Rattle.std.specs.Fmt.{decimal}
-use Rattle.strm_types.specs.declared.answers.Answer.TheVariants.{Done, Count, Bytes}
+use Rattle.std.specs.List.{concat}
+use Rattle.strm_types.specs.declared.answers.Answer.TheVariants.{Done, Name, Count, Bytes}
 use Rattle.strm_types.specs.declared.answers.Turn.TheVariants.{Moved, Blocked, Idle}
 use Rattle.strm_types.specs.declared.names.Side.TheVariants.{Master, Slave}
 use Rattle.strm_types.specs.declared.names.Way.{Way}
@@ -10,10 +11,13 @@ use Rattle.strm_types.specs.declared.names.Way.TheVariants.{Up, Down}
 use Rattle.strm_types.specs.declared.names.Place.{Place}
 use Rattle.strm_types.specs.declared.names.Place.TheVariants.{Head, Ldterm, Driver}
 use Rattle.strm_types.specs.declared.refusals.Refusal.TheVariants.{Einval, Eagain, Enxio, Ebadmsg, Enosr, Erange, JournalFull, NoMinor, NoMemory, StillShared}
-use Rattle.strm_types.specs.declared.events.Event.TheVariants.{Unlock, OpenSlave, Write, Read}
-use Rattle.strm_run.specs.Script.{Open, Call, Turn, Run, queue_name, digit_of, hex_of, escaped, lines_of}
-use Rattle.strm_run.specs.ScriptReading.{Reading, Silent, Malformed, Spoken, number_from, number_in, text_from, text_in, side_in, place_in, way_in, queue_in, open_in, named_in, write_in, read_in, turn_in, run_in, command_in, reading}
-use Rattle.strm_run.specs.ScriptAnswers.{Plain, Number, Text, Held, Empty, Ran, Refused, Wrong, printed, printed_line, line_text, reply_line, turn_line}
+use Rattle.strm_types.specs.declared.names.ModuleName.TheVariants as modules
+use Rattle.strm_types.specs.declared.events.FlushQueues.TheVariants as queues
+use Rattle.strm_types.specs.declared.events.Event.TheVariants.{Unlock, OpenSlave, Shut, Push, Pop, Look, Write, Read}
+use Rattle.strm_types.specs.Names.{head_of, driver_of}
+use Rattle.strm_run.specs.Script.{Open, Call, Flush, Turn, Run, Show, queue_name, digit_of, hex_of, escaped, lines_of}
+use Rattle.strm_run.specs.ScriptReading.{Reading, Silent, Malformed, Spoken, number_from, number_in, text_from, text_in, side_in, place_in, way_in, queue_in, side_alone, module_in, is_name, flush_queues_in, band_in, open_in, named_in, write_in, read_in, turn_in, run_in, sided_call_in, push_in, flush_in, show_in, stream_in, command_in, reading}
+use Rattle.strm_run.specs.ScriptAnswers.{Plain, Named, Number, Text, Held, Empty, Ran, Sizes, Refused, Wrong, printed, printed_line, line_text, reply_line, turn_line}
 
 -- the lines of a script: LF ends each, and the last may lack it
 
@@ -38,8 +42,22 @@ pub names-of-queues : map queue_name (record { side = Master; place = Driver; wa
 names-of-queues = refl
 
 pub malformed-lines : map reading (codes "open " ∷ codes "open 1 " ∷ codes " open" ∷ codes "opens" ∷ codes "unlock " ∷ codes "slaves" ∷ codes "write m ab" ∷ codes "write m \"ab" ∷ codes "write m \"ab\" " ∷ codes "write x \"\"" ∷ codes "read m" ∷ codes "read m 1x" ∷ codes "turn m.drv" ∷ codes "turn m.drv.x" ∷ codes "run" ∷ codes "run -1" ∷ []) ≡ replicate 16 Malformed
-unfolding reading command_in open_in named_in write_in read_in turn_in run_in number_in number_from digit_of text_in text_from side_in place_in way_in queue_in escaped hex_of
+unfolding reading command_in open_in named_in write_in read_in turn_in run_in stream_in sided_call_in push_in flush_in show_in number_in number_from digit_of text_in text_from side_in place_in way_in queue_in escaped hex_of
 malformed-lines = refl
+
+-- commands on a stream: a name of a module, a name of none, the queues of a flush with and without a band
+pub commands-on-streams-are-spelled : map reading (codes "close m" ∷ codes "close s" ∷ codes "pop m" ∷ codes "look s" ∷ codes "push s ldterm" ∷ codes "push m ptem" ∷ codes "push m pckt" ∷ codes "push s foo" ∷ codes "push s ldter" ∷ codes "push s ldterma" ∷ codes "flush m r" ∷ codes "flush s w" ∷ codes "flush m rw" ∷ codes "flush m rw 0" ∷ codes "flush s r 256" ∷ codes "flush s w 07" ∷ codes "show m" ∷ codes "show s" ∷ []) ≡ Spoken (Call Master Shut) ∷ Spoken (Call Slave Shut) ∷ Spoken (Call Master Pop) ∷ Spoken (Call Slave Look) ∷ Spoken (Call Slave (Push (Some modules.Ldterm))) ∷ Spoken (Call Master (Push (Some modules.Ptem))) ∷ Spoken (Call Master (Push (Some modules.Pckt))) ∷ Spoken (Call Slave (Push None)) ∷ Spoken (Call Slave (Push None)) ∷ Spoken (Call Slave (Push None)) ∷ Spoken (Flush Master queues.Read None) ∷ Spoken (Flush Slave queues.Write None) ∷ Spoken (Flush Master queues.Both None) ∷ Spoken (Flush Master queues.Both (Some 0)) ∷ Spoken (Flush Slave queues.Read (Some 256)) ∷ Spoken (Flush Slave queues.Write (Some 7)) ∷ Spoken (Show Master) ∷ Spoken (Show Slave) ∷ []
+unfolding reading command_in open_in named_in write_in read_in turn_in run_in stream_in sided_call_in push_in flush_in show_in side_alone module_in is_name flush_queues_in band_in number_in number_from digit_of side_in
+commands-on-streams-are-spelled = refl
+
+pub malformed-commands-on-streams : map reading (codes "close" ∷ codes "close " ∷ codes "close x" ∷ codes "close m " ∷ codes "closem" ∷ codes "push s" ∷ codes "push s " ∷ codes "push s Foo" ∷ codes "push s ld-term" ∷ codes "push s abcdefghi" ∷ codes "push s foo 1" ∷ codes "push x foo" ∷ codes "pop" ∷ codes "pop m 1" ∷ codes "look m x" ∷ codes "flush m" ∷ codes "flush m " ∷ codes "flush m q" ∷ codes "flush m wr" ∷ codes "flush m r " ∷ codes "flush m r x" ∷ codes "flush m r -1" ∷ codes "flush m r 4294967296" ∷ codes "flush m  r" ∷ codes "flush m rw1" ∷ codes "show" ∷ codes "show m 1" ∷ codes "show m.head.r" ∷ []) ≡ replicate 28 Malformed
+unfolding reading command_in open_in named_in write_in read_in turn_in run_in stream_in sided_call_in push_in flush_in show_in side_alone module_in is_name flush_queues_in band_in number_in number_from digit_of side_in
+malformed-commands-on-streams = refl
+
+-- a name has 1 to 8 letters from a to z
+pub names-are-spelled : map is_name (codes "a" ∷ codes "z" ∷ codes "abcdefgh" ∷ codes "abcdefghi" ∷ [] ∷ codes "`" ∷ codes "{" ∷ codes "A" ∷ codes "a1" ∷ []) ≡ true ∷ true ∷ true ∷ false ∷ false ∷ false ∷ false ∷ false ∷ false ∷ []
+unfolding is_name
+names-are-spelled = refl
 
 -- an empty line and a comment ask for nothing; a line of 4096 bytes may, a longer one is malformed
 pub silent-lines : map reading ([] ∷ codes "# open" ∷ codes "#" ∷ (35 ∷ replicate 4095 32) ∷ (35 ∷ replicate 4096 32) ∷ []) ≡ Silent ∷ Silent ∷ Silent ∷ Silent ∷ Malformed ∷ []
@@ -70,6 +88,15 @@ pub lines-of-answers : map line_text (Plain ∷ Number 12 ∷ Text (97 ∷ 10 �
 unfolding line_text
 lines-of-answers = refl
 
+pub lines-of-names : map (λ known. line_text (Named known)) (modules.Ldterm ∷ modules.Ptem ∷ modules.Pckt ∷ []) ≡ codes "name ldterm" ∷ codes "name ptem" ∷ codes "name pckt" ∷ []
+unfolding line_text
+lines-of-names = refl
+
+-- the queues of a stream, each with its messages and then its bytes
+pub lines-of-sizes : line_text (Sizes Slave (record { name = head_of Slave; messages = 1; bytes = 23 } ∷ record { name = record { side = Slave; place = Ldterm; way = Down }; messages = 4; bytes = 5 } ∷ record { name = driver_of Slave; messages = 6; bytes = 7 } ∷ [])) ≡ concat (codes "show s" ∷ (codes " head.r " ++ (decimal 1 ++ (codes " " ++ decimal 23))) ∷ (codes " ldterm.w " ++ (decimal 4 ++ (codes " " ++ decimal 5))) ∷ (codes " drv.w " ++ (decimal 6 ++ (codes " " ++ decimal 7))) ∷ [])
+unfolding line_text
+lines-of-sizes = refl
+
 pub lines-of-refusals : map (λ refusal. line_text (Refused refusal)) (Einval ∷ Eagain ∷ Enxio ∷ Ebadmsg ∷ Enosr ∷ Erange ∷ JournalFull ∷ NoMinor ∷ NoMemory ∷ StillShared ∷ []) ≡ codes "err EINVAL" ∷ codes "err EAGAIN" ∷ codes "err ENXIO" ∷ codes "err EBADMSG" ∷ codes "err ENOSR" ∷ codes "err ERANGE" ∷ codes "err JournalFull" ∷ codes "err NoMinor" ∷ codes "err NoMemory" ∷ codes "err StillShared" ∷ []
 unfolding line_text
 lines-of-refusals = refl
@@ -78,7 +105,7 @@ pub line-ends-with-lf : printed_line Held ≡ codes "blocked" ++ 10 ∷ []
 unfolding line_text
 line-ends-with-lf = refl
 
-pub lines-of-replies : map reply_line (Ok Done ∷ Ok (Count 3) ∷ Ok (Bytes (97 ∷ [])) ∷ Err Eagain ∷ []) ≡ Plain ∷ Number 3 ∷ Text (97 ∷ []) ∷ Refused Eagain ∷ []
+pub lines-of-replies : map reply_line (Ok Done ∷ Ok (Name modules.Ptem) ∷ Ok (Count 3) ∷ Ok (Bytes (97 ∷ [])) ∷ Err Eagain ∷ []) ≡ Plain ∷ Named modules.Ptem ∷ Number 3 ∷ Text (97 ∷ []) ∷ Refused Eagain ∷ []
 lines-of-replies = refl
 
 pub lines-of-turns : map turn_line (Ok (Moved 3) ∷ Ok Blocked ∷ Ok Idle ∷ Err Einval ∷ []) ≡ Number 3 ∷ Held ∷ Empty ∷ Refused Einval ∷ []

@@ -1,11 +1,14 @@
 -- Which lines spell which command: spellings of each command, and lines that are none.
-use Rattle.std.proofs.Common.{ℕ, List, [], ◌∷◌, refl, lit<, lit≤, arith}
+use Rattle.std.proofs.Common.{ℕ, ◌≢◌, List, [], ◌∷◌, refl, lit<, lit≤, arith}
 use Rattle.std.specs.Prelude.{codes, None, Some}
 use Rattle.strm_types.specs.declared.names.Side.TheVariants.{Master, Slave}
 use Rattle.strm_types.specs.declared.names.Way.TheVariants.{Up}
 use Rattle.strm_types.specs.declared.names.Place.TheVariants.{Ldterm}
-use Rattle.strm_types.specs.declared.events.Event.TheVariants.{Unlock, OpenSlave, Write, Read}
-use Rattle.strm_run.specs.Script.{Open, Call, Turn, Run, IsNumber, Itself, Named, Coded, IsSpelled, digit_of, hex_of, escaped}
+use Rattle.strm_types.specs.declared.names.ModuleName.{ModuleName}
+use Rattle.strm_types.specs.declared.names.ModuleName.TheVariants as modules
+use Rattle.strm_types.specs.declared.events.FlushQueues.TheVariants as queues
+use Rattle.strm_types.specs.declared.events.Event.TheVariants.{Unlock, OpenSlave, Shut, Push, Pop, Look, Write, Read}
+use Rattle.strm_run.specs.Script.{Open, Call, Flush, Turn, Run, Show, module_name, IsName, IsUnknown, IsNumber, Itself, Named, Coded, IsSpelled, digit_of, hex_of, escaped}
 
 twelve : IsNumber (codes "12") 12
 unfolding digit_of
@@ -31,6 +34,52 @@ run-is-spelled = (codes "12", twelve, refl)
 
 pub turn-is-spelled : IsSpelled (Turn (record { side = Slave; place = Ldterm; way = Up })) (codes "turn s.ldterm.r")
 turn-is-spelled = refl
+
+pub close-is-spelled : IsSpelled (Call Slave Shut) (codes "close s")
+close-is-spelled = refl
+
+pub pop-is-spelled : IsSpelled (Call Master Pop) (codes "pop m")
+pop-is-spelled = refl
+
+pub look-is-spelled : IsSpelled (Call Slave Look) (codes "look s")
+look-is-spelled = refl
+
+pub show-is-spelled : IsSpelled (Show Master) (codes "show m")
+show-is-spelled = refl
+
+-- a push by the name of a module, and by a name that none has
+pub push-is-spelled : IsSpelled (Call Slave (Push (Some modules.Ptem))) (codes "push s ptem")
+push-is-spelled = refl
+
+not-foo : (known : ModuleName) → codes "foo" ≢ module_name known
+not-foo modules.Ldterm h = cc
+not-foo modules.Ptem h = cc
+not-foo modules.Pckt h = cc
+
+foo : IsUnknown (codes "foo")
+foo = record { is_name = record { some = lit< tt; most = lit≤ tt; letters = (refl, (refl, (refl, tt))) }; other = not-foo }
+
+pub push-of-no-module-is-spelled : IsSpelled (Call Slave (Push None)) (codes "push s foo")
+push-of-no-module-is-spelled = (codes "foo", foo, refl)
+
+pub name-of-a-module-is-known : IsUnknown (codes "ptem") → ⊥
+name-of-a-module-is-known is = is.other modules.Ptem refl
+
+pub nine-letters-are-no-name : IsName (codes "abcdefghi") → ⊥
+nine-letters-are-no-name is = let most = is.most in omega arith
+
+pub no-letters-are-no-name : IsName [] → ⊥
+no-letters-are-no-name is = let some = is.some in omega arith
+
+pub capital-is-no-name : IsName (codes "Foo") → ⊥
+capital-is-no-name is = let letter = is.letters.0 in cc
+
+-- a flush of all bands, and of one
+pub flush-is-spelled : IsSpelled (Flush Master queues.Both None) (codes "flush m rw")
+flush-is-spelled = refl
+
+pub flush-of-a-band-is-spelled : IsSpelled (Flush Slave queues.Read (Some 12)) (codes "flush s r 12")
+flush-of-a-band-is-spelled = (codes "12", twelve, refl)
 
 -- a byte as it is, one by its name, one by its number
 pub write-is-spelled : IsSpelled (Call Master (Write (97 ∷ 10 ∷ 255 ∷ []))) (codes "write m \"a\\n\\xfF\"")

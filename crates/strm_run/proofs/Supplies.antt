@@ -5,15 +5,17 @@ use Rattle.strm_types.specs.declared.answers.Turn.{Turn}
 use Rattle.strm_types.specs.declared.events.Caller.{Caller}
 use Rattle.strm_types.specs.declared.names.QueueName.{QueueName}
 use Rattle.strm_types.specs.declared.refusals.Refusal.{Refusal}
-use Rattle.strm_types.specs.declared.refusals.Refusal.TheVariants.{Einval, Eagain, Enxio, JournalFull}
+use Rattle.strm_types.specs.declared.refusals.Refusal.TheVariants.{Einval, Eagain, Enxio, Erange, JournalFull}
+use Rattle.strm_types.specs.declared.names.Side.{Side}
+use Rattle.strm_types.specs.declared.events.FlushQueues.{FlushQueues}
 use Rattle.strm_types.specs.State.{State}
 use Rattle.strm_types.specs.declared.events.Event.TheVariants as calls
 use Rattle.strm_types.specs.Calls.{Request}
 use Rattle.strm_types.specs.Refused.{or_else, unless, refused_at_once, refused_by_state}
-use Rattle.strm_run.specs.Script.{Command, Open, Call, Turn as TurnOf, Run}
+use Rattle.strm_run.specs.Script.{Command, Open, Call, Flush, Turn as TurnOf, Run, Show}
 use Rattle.strm_run.specs.ScriptReading.{Reading, Silent, Malformed, Spoken, reading}
 use Rattle.strm_run.specs.ScriptRun as script
-use Rattle.strm_run.specs.ScriptRun.{Supply, Enough, TooFew, PlainPair, Happened, call_refusal, turn_refusal, call_happens, turn_happens, call_of, turn_of, is_short, is_enosr, turns_of, no_turns, counted, by_call, by_turn, by_run, by_open, answered, told_from, new_plain}
+use Rattle.strm_run.specs.ScriptRun.{Supply, Enough, TooFew, PlainPair, Happened, call_refusal, turn_refusal, call_happens, turn_happens, call_of, turn_of, is_short, is_enosr, turns_of, no_turns, counted, by_call, by_flush, by_show, by_turn, by_run, by_open, answered, told_from, new_plain}
 use Rattle.strm_run.proofs.Events.{turns_none, turns_err, turns_ok, turns_zero}
 
 -- a refusal is for want of blocks
@@ -38,13 +40,25 @@ at_once-want : (s : State ℕ) (caller : Caller) (asked : Request) → is_want (
 at_once-want s caller calls.OpenMaster = none-want
 at_once-want s caller calls.Unlock = or_else-want _ _ (unless-want _ Enxio refl) (unless-want _ Einval refl)
 at_once-want s caller calls.OpenSlave = unless-want _ Enxio refl
-at_once-want s caller (calls.Write cells) = unless-want _ Enxio refl
+at_once-want s caller calls.Shut = unless-want _ Enxio refl
+at_once-want s caller (calls.Push name) =
+    or_else-want _ _ (unless-want _ Enxio refl) (or_else-want _ _ (unless-want _ Einval refl) (unless-want _ Erange refl))
+at_once-want s caller calls.Pop = or_else-want _ _ (unless-want _ Enxio refl) (unless-want _ Erange refl)
+at_once-want s caller calls.Look = unless-want _ Enxio refl
+at_once-want s caller (calls.Flush what band) =
+    or_else-want _ _ (unless-want _ Enxio refl) (or_else-want _ _ (unless-want _ Einval refl) (unless-want _ Erange refl))
+at_once-want s caller (calls.Write cells) = or_else-want _ _ (unless-want _ Enxio refl) (unless-want _ Erange refl)
 at_once-want s caller (calls.Read n) = unless-want _ Enxio refl
 
 by_state-want : (s : State ℕ) (caller : Caller) (asked : Request) → is_want (refused_by_state s caller asked) ≡ false
 by_state-want s caller calls.OpenMaster = unless-want _ Einval refl
 by_state-want s caller calls.Unlock = none-want
 by_state-want s caller calls.OpenSlave = or_else-want _ _ (unless-want _ Einval refl) (unless-want _ Eagain refl)
+by_state-want s caller calls.Shut = none-want
+by_state-want s caller (calls.Push name) = none-want
+by_state-want s caller calls.Pop = unless-want false Einval refl
+by_state-want s caller calls.Look = unless-want false Einval refl
+by_state-want s caller (calls.Flush what band) = none-want
 by_state-want s caller (calls.Write cells) = unless-want _ Eagain refl
 by_state-want s caller (calls.Read n) = unless-want _ Eagain refl
 
@@ -69,7 +83,8 @@ pub turn-enough : (p : PlainPair) (name : QueueName) → is_short (turn_of Enoug
 unfolding turn_of
 turn-enough p name =
     turn_happens-short (turn_refusal Enough p name) p name
-    ∙ or_else-want _ _ (unless-want _ Einval refl) (or_else-want _ _ (unless-want _ JournalFull refl) none-want)
+    ∙ or_else-want _ _ (unless-want _ Einval refl)
+    (or_else-want _ _ (unless-want _ Erange refl) (or_else-want _ _ (unless-want _ JournalFull refl) none-want))
 
 -- turns that get their blocks
 pub record AllEnough (short : Bool) (account : List Supply) : Type 0 where
@@ -117,17 +132,31 @@ open-enough blocks = elim (cases_Bool (nat_le 1 blocks && nat_le blocks 4096)) [
   | inr e ↦ rw (e) (record { not_short = refl; none_left = refl })
 ]
 
+-- a flush of one band
+flush-enough : (side : Side) (what : FlushQueues) (band : ℕ) (p : PlainPair)
+    → AllEnough (by_flush side what (Some band) [] p).is_short (by_flush side what (Some band) [] p).account
+unfolding by_flush by_call
+flush-enough side what band p = elim (cases_Bool (nat_le band 255)) [
+  | inl e ↦ rw (e) (record { not_short = call-enough p _ (calls.Flush what (Some (record { 0 = band }))); none_left = refl })
+  | inr e ↦ rw (e) (record { not_short = refl; none_left = refl })
+]
+
 -- a command whose events get their blocks
 pub answered-enough : (command : Command) (pair : Option PlainPair) → AllEnough (answered command [] pair).is_short (answered command [] pair).account
-unfolding answered by_call by_turn by_run by_open
+unfolding answered by_call by_flush by_show by_turn by_run by_open
 answered-enough (Open blocks) None = open-enough (unwrap_or blocks 256)
 answered-enough (Open blocks) (Some p) = record { not_short = refl; none_left = refl }
 answered-enough (Call side asked) None = record { not_short = refl; none_left = refl }
 answered-enough (Call side asked) (Some p) = record { not_short = call-enough p _ asked; none_left = refl }
+answered-enough (Flush side what band) None = record { not_short = refl; none_left = refl }
+answered-enough (Flush side what None) (Some p) = record { not_short = call-enough p _ (calls.Flush what None); none_left = refl }
+answered-enough (Flush side what (Some band)) (Some p) = flush-enough side what band p
 answered-enough (TurnOf name) None = record { not_short = refl; none_left = refl }
 answered-enough (TurnOf name) (Some p) = record { not_short = turn-enough p name; none_left = refl }
 answered-enough (Run n) None = record { not_short = refl; none_left = refl }
 answered-enough (Run n) (Some p) = turns-enough n p
+answered-enough (Show side) None = record { not_short = refl; none_left = refl }
+answered-enough (Show side) (Some p) = record { not_short = refl; none_left = refl }
 
 -- a script whose events get their blocks has no short line
 told-line : (n : ℕ) (pair : Option PlainPair) (line : List ℕ) (lines : List (List ℕ)) (r : Reading) → reading line ≡ r

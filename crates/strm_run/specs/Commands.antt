@@ -4,15 +4,17 @@ use Rattle.strm_types.specs.Calls.{map_event}
 use Rattle.strm_run.specs.Script as script
 use Rattle.strm_run.specs.ScriptReading as readings
 use Rattle.strm_run.specs.declared.commands.Command.{Command}
-use Rattle.strm_run.specs.declared.commands.Command.TheVariants.{Open, Call, Turn, Run}
+use Rattle.strm_run.specs.declared.commands.Command.TheVariants.{Open, Call, Flush, Turn, Run, Show}
 use Rattle.strm_run.specs.declared.commands.Reading.{Reading}
 use Rattle.strm_run.specs.declared.commands.Reading.TheVariants.{Silent, Malformed, Spoken}
 
 abbrev pub command_of : Command → script.Command
 command_of (Open blocks) = script.Open blocks
 command_of (Call side event) = script.Call side (map_event (λ bytes. bytes.items) event)
+command_of (Flush side what band) = script.Flush side what band
 command_of (Turn name) = script.Turn name
 command_of (Run turns) = script.Run turns
+command_of (Show side) = script.Show side
 
 abbrev pub commands_of : Option Command → Option script.Command
 commands_of found = option_map command_of found

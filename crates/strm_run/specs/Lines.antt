@@ -1,14 +1,15 @@
 -- The answer lines of the code, as the definitions of script text have them.
-use Rattle.std.specs.Prelude.{ℕ, List, Ok}
+use Rattle.std.specs.Prelude.{ℕ, List, [], ◌∷◌, Ok}
 use Rattle.strm_types.specs.Calls.{map_answer}
 use Rattle.strm_run.specs.ScriptAnswers as script
 use Rattle.strm_run.specs.declared.answers.Line.{Line}
-use Rattle.strm_run.specs.declared.answers.Line.TheVariants.{Done, Turned, Ran, Refused, Wrong}
+use Rattle.strm_run.specs.declared.answers.Line.TheVariants.{Done, Turned, Ran, Sizes, Refused, Wrong}
 
 -- an answer line, with the bytes that stand apart from it
 abbrev pub line_of : List ℕ → Line → script.Line
 line_of bytes (Done answer) = script.reply_line (Ok (map_answer (λ _. bytes) answer))
 line_of bytes (Turned turn) = script.turn_line (Ok turn)
 line_of bytes (Ran n) = script.Ran n
+line_of bytes (Sizes side head driver) = script.Sizes side (head ∷ driver ∷ [])
 line_of bytes (Refused refusal) = script.Refused refusal
 line_of bytes (Wrong n) = script.Wrong n

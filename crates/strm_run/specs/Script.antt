@@ -1,5 +1,6 @@
 -- The commands of a script, and how each is spelled: one command a line, words parted by one space.
 use Rattle.std.specs.Prelude.{◌≡◌, ◌≢◌, ℕ, ◌≤◌, ◌<◌, ◌+◌, ◌-◌, ◌*◌, nat_le, ◌==◌, ◌&&◌, Bool, true, if◌then◌else◌, List, [], ◌∷◌, ◌++◌, length, codes, Option, None, Some}
+use Rattle.std.specs.List.{AllByRecursion}
 use Rattle.strm_types.specs.declared.names.Side.{Side}
 use Rattle.strm_types.specs.declared.names.Side.TheVariants.{Master, Slave}
 use Rattle.strm_types.specs.declared.names.Way.{Way}
@@ -7,15 +8,22 @@ use Rattle.strm_types.specs.declared.names.Way.TheVariants.{Up, Down}
 use Rattle.strm_types.specs.declared.names.Place.{Place}
 use Rattle.strm_types.specs.declared.names.Place.TheVariants.{Head, Ldterm, Driver}
 use Rattle.strm_types.specs.declared.names.QueueName.{QueueName}
-use Rattle.strm_types.specs.declared.events.Event.TheVariants.{OpenMaster, Unlock, OpenSlave, Write, Read}
+use Rattle.strm_types.specs.declared.names.ModuleName.{ModuleName}
+use Rattle.strm_types.specs.declared.names.ModuleName.TheVariants as modules
+use Rattle.strm_types.specs.declared.events.FlushQueues.{FlushQueues}
+use Rattle.strm_types.specs.declared.events.FlushQueues.TheVariants as queues
+use Rattle.strm_types.specs.declared.events.Event.TheVariants.{OpenMaster, Unlock, OpenSlave, Shut, Push, Pop, Look, Write, Read}
+use Rattle.strm_types.specs.declared.events.Event.TheVariants as calls
 use Rattle.strm_types.specs.Calls.{Request}
 
 -- a command
 pub data Command : Type 0 where
   Open : Option ℕ → Command  -- with so many blocks of each kind, or as many as is usual
   Call : Side → Request → Command  -- on a side's stream
+  Flush : Side → FlushQueues → Option ℕ → Command  -- of all bands or of one, whose number may be none that a band has
   Turn : QueueName → Command
   Run : ℕ → Command  -- so many turns at most
+  Show : Side → Command  -- what stands on the queues of a side's stream
 
 -- the most bytes of a line, without its LF
 abbrev pub line_max : ℕ
@@ -38,9 +46,24 @@ abbrev pub way_name : Way → List ℕ
 way_name Up = codes "r"
 way_name Down = codes "w"
 
--- the name of a queue, as `m.drv.w`
+-- the name of a queue without its side, as `drv.w`, and with it, as `m.drv.w`
+abbrev pub queue_in_stream : QueueName → List ℕ
+queue_in_stream name = place_name name.place ++ (codes "." ++ way_name name.way)
+
 abbrev pub queue_name : QueueName → List ℕ
-queue_name name = side_name name.side ++ (codes "." ++ (place_name name.place ++ (codes "." ++ way_name name.way)))
+queue_name name = side_name name.side ++ (codes "." ++ queue_in_stream name)
+
+-- the name of a module
+abbrev pub module_name : ModuleName → List ℕ
+module_name modules.Ldterm = codes "ldterm"
+module_name modules.Ptem = codes "ptem"
+module_name modules.Pckt = codes "pckt"
+
+-- which queues a flush is for
+abbrev pub flush_name : FlushQueues → List ℕ
+flush_name queues.Read = codes "r"
+flush_name queues.Write = codes "w"
+flush_name queues.Both = codes "rw"
 
 -- the value of a decimal digit
 unfoldable pub digit_of : ℕ → Option ℕ
@@ -57,6 +80,21 @@ pub record IsNumber (digits : List ℕ) (n : ℕ) : Type 0 where
   pub most : length digits ≤ 10
   pub value : HasValue 0 digits n
   pub fits : n ≤ number_max
+
+-- a letter from a to z
+abbrev pub is_letter : ℕ → Bool
+is_letter b = nat_le 97 b && nat_le b 122
+
+-- what may be the name of a module: 1 to 8 letters
+pub record IsName (name : List ℕ) : Type 0 where
+  pub some : 0 < length name
+  pub most : length name ≤ 8
+  pub letters : AllByRecursion (λ b. is_letter b ≡ true) name
+
+-- a name that no module has
+pub record IsUnknown (name : List ℕ) : Type 0 where
+  pub is_name : IsName name
+  pub other : (known : ModuleName) → name ≢ module_name known
 
 -- the value of a hexadecimal digit, in either case
 unfoldable pub hex_of : ℕ → Option ℕ
@@ -94,21 +132,43 @@ IsWithNumber word n line = (digits : List ℕ) × IsNumber digits n × (line ≡
 abbrev pub IsWithText : List ℕ → List ℕ → List ℕ → Type 0
 IsWithText word text line = (spelled : List ℕ) × IsText spelled text × (line ≡ word ++ (codes "\"" ++ (spelled ++ codes "\"")))
 
--- how a call on a side's stream is spelled; what opens the master is `open`, which also makes the pair
+-- a word, and behind it a side and a space
+abbrev pub with_side : List ℕ → Side → List ℕ
+with_side word side = word ++ (side_name side ++ codes " ")
+
+-- a flush of all bands, or of one
+abbrev pub IsFlush : Side → FlushQueues → Option ℕ → List ℕ → Type 0
+IsFlush side what None line = line ≡ with_side (codes "flush ") side ++ flush_name what
+IsFlush side what (Some n) line = IsWithNumber (with_side (codes "flush ") side ++ (flush_name what ++ codes " ")) n line
+
+-- a push of a module, or of a name that no module has
+abbrev pub IsPush : Side → Option ModuleName → List ℕ → Type 0
+IsPush side (Some known) line = line ≡ with_side (codes "push ") side ++ module_name known
+IsPush side None line = (name : List ℕ) × IsUnknown name × (line ≡ with_side (codes "push ") side ++ name)
+
+-- How a call on a side's stream is spelled. What opens the master is `open`, which also makes the pair; a flush is a
+-- command of its own.
 abbrev pub IsCall : Side → Request → List ℕ → Type 0
 IsCall side OpenMaster line = ⊥
 IsCall side Unlock line = (side ≡ Master) × (line ≡ codes "unlock")
 IsCall side OpenSlave line = (side ≡ Slave) × (line ≡ codes "slave")
-IsCall side (Write text) line = IsWithText (codes "write " ++ (side_name side ++ codes " ")) text line
-IsCall side (Read n) line = IsWithNumber (codes "read " ++ (side_name side ++ codes " ")) n line
+IsCall side Shut line = line ≡ codes "close " ++ side_name side
+IsCall side (Push name) line = IsPush side name line
+IsCall side Pop line = line ≡ codes "pop " ++ side_name side
+IsCall side Look line = line ≡ codes "look " ++ side_name side
+IsCall side (calls.Flush what band) line = ⊥
+IsCall side (Write text) line = IsWithText (with_side (codes "write ") side) text line
+IsCall side (Read n) line = IsWithNumber (with_side (codes "read ") side) n line
 
 -- how a command is spelled
 abbrev pub IsSpelled : Command → List ℕ → Type 0
 IsSpelled (Open None) line = line ≡ codes "open"
 IsSpelled (Open (Some n)) line = IsWithNumber (codes "open ") n line
 IsSpelled (Call side asked) line = IsCall side asked line
+IsSpelled (Flush side what band) line = IsFlush side what band line
 IsSpelled (Turn name) line = line ≡ codes "turn " ++ queue_name name
 IsSpelled (Run n) line = IsWithNumber (codes "run ") n line
+IsSpelled (Show side) line = line ≡ codes "show " ++ side_name side
 
 -- a line that asks for nothing: an empty one, and a comment
 abbrev pub is_silent : List ℕ → Bool

@@ -6,17 +6,23 @@ use Rattle.strm_types.specs.declared.answers.Turn.{Turn}
 use Rattle.strm_types.specs.declared.answers.Turn.TheVariants.{Moved, Blocked, Idle}
 use Rattle.strm_types.specs.declared.refusals.Refusal.{Refusal}
 use Rattle.strm_types.specs.declared.refusals.Refusal.TheVariants.{Einval, Eagain, Enxio, Ebadmsg, Enosr, Erange, JournalFull, NoMinor, NoMemory, StillShared}
-use Rattle.strm_types.specs.declared.answers.Answer.TheVariants.{Done, Count, Bytes}
+use Rattle.strm_types.specs.declared.answers.Answer.TheVariants.{Done, Name, Count, Bytes}
+use Rattle.strm_types.specs.declared.names.ModuleName.{ModuleName}
+use Rattle.strm_types.specs.declared.names.Side.{Side}
 use Rattle.strm_types.specs.Calls.{Reply}
+use Rattle.strm_run.specs.Script.{side_name, queue_in_stream, module_name}
+use Rattle.strm_run.specs.declared.answers.QueueSize.{QueueSize}
 
 -- an answer line, without its LF
 pub data Line : Type 0 where
   Plain : Line
+  Named : ModuleName → Line
   Number : ℕ → Line
   Text : List ℕ → Line
   Held : Line
   Empty : Line
   Ran : ℕ → Line
+  Sizes : Side → List QueueSize → Line  -- of the queues of a side's stream, from the head down
   Refused : Refusal → Line
   Wrong : ℕ → Line
 
@@ -57,14 +63,20 @@ refusal_name NoMinor = codes "NoMinor"
 refusal_name NoMemory = codes "NoMemory"
 refusal_name StillShared = codes "StillShared"
 
+-- how much stands on a queue: its name without the side, how many messages, and how many bytes they have
+abbrev pub size_text : QueueSize → List ℕ
+size_text size = queue_in_stream size.name ++ (codes " " ++ (decimal size.messages ++ (codes " " ++ decimal size.bytes)))
+
 -- the text of an answer line
 unfoldable pub line_text : Line → List ℕ
 line_text Plain = codes "ok"
+line_text (Named known) = codes "name " ++ module_name known
 line_text (Number n) = codes "ok " ++ decimal n
 line_text (Text bytes) = codes "data " ++ decimal (length bytes) ++ codes " " ++ quoted bytes
 line_text Held = codes "blocked"
 line_text Empty = codes "idle"
 line_text (Ran n) = codes "ran " ++ decimal n
+line_text (Sizes side sizes) = codes "show " ++ side_name side ++ flat_map (λ size. codes " " ++ size_text size) sizes
 line_text (Refused refusal) = codes "err " ++ refusal_name refusal
 line_text (Wrong n) = codes "err line " ++ decimal n
 
@@ -75,6 +87,7 @@ printed_line line = line_text line ++ 10 ∷ []
 -- what a call is answered by
 abbrev pub reply_line : Result (Reply) Refusal → Line
 reply_line (Ok Done) = Plain
+reply_line (Ok (Name known)) = Named known
 reply_line (Ok (Count n)) = Number n
 reply_line (Ok (Bytes bytes)) = Text bytes
 reply_line (Err refusal) = Refused refusal

@@ -1,7 +1,7 @@
 -- What a line of a script says, computed. `IsSpelled` says the same without an order of reading; that the two agree is
 -- the contract of public functions of the crate that reads scripts.
 use Rattle.std.specs.Prelude.{ℕ, ◌+◌, ◌*◌, nat_lt, nat_le, ◌==◌, ◌&&◌, ◌||◌, Bool, true, false, if◌then◌else◌, List, [], ◌∷◌, ◌++◌, length, codes, Option, None, Some, option_map}
-use Rattle.std.specs.List.{position_or_len}
+use Rattle.std.specs.List.{position_or_len, list_all}
 use Rattle.strm_types.specs.declared.names.Side.{Side}
 use Rattle.strm_types.specs.declared.names.Side.TheVariants.{Master, Slave}
 use Rattle.strm_types.specs.declared.names.Way.{Way}
@@ -9,8 +9,12 @@ use Rattle.strm_types.specs.declared.names.Way.TheVariants.{Up, Down}
 use Rattle.strm_types.specs.declared.names.Place.{Place}
 use Rattle.strm_types.specs.declared.names.Place.TheVariants.{Head, Ldterm, Driver}
 use Rattle.strm_types.specs.declared.names.QueueName.{QueueName}
-use Rattle.strm_types.specs.declared.events.Event.TheVariants.{Unlock, OpenSlave, Write, Read}
-use Rattle.strm_run.specs.Script.{Command, Open, Call, Turn, Run, line_max, number_max, digit_of, hex_of, escaped, is_silent}
+use Rattle.strm_types.specs.declared.names.ModuleName.{ModuleName}
+use Rattle.strm_types.specs.declared.names.ModuleName.TheVariants as modules
+use Rattle.strm_types.specs.declared.events.FlushQueues.{FlushQueues}
+use Rattle.strm_types.specs.declared.events.FlushQueues.TheVariants as queues
+use Rattle.strm_types.specs.declared.events.Event.TheVariants.{Unlock, OpenSlave, Shut, Push, Pop, Look, Write, Read}
+use Rattle.strm_run.specs.Script.{Command, Open, Call, Flush, Turn, Run, Show, line_max, number_max, digit_of, is_letter, hex_of, escaped, is_silent}
 
 -- what a line says
 pub data Reading : Type 0 where
@@ -142,6 +146,32 @@ sided_in side line =
 unfoldable pub queue_in : List ℕ → Option QueueName
 queue_in line = and_then (λ side. sided_in side.value side.rest) (side_in line)
 
+-- a side, where nothing follows
+unfoldable pub side_alone : List ℕ → Option Side
+side_alone line = and_then (λ side. at_end side.value side.rest) (side_in line)
+
+-- the module whose name a text is
+unfoldable pub module_in : List ℕ → Option ModuleName
+module_in line =
+    either_of (whole (codes "ldterm") modules.Ldterm line)
+    (either_of (whole (codes "ptem") modules.Ptem line)
+    (whole (codes "pckt") modules.Pckt line))
+
+-- whether a text may be the name of a module
+unfoldable pub is_name : List ℕ → Bool
+is_name line = nat_lt 0 (length line) && (nat_le (length line) 8 && list_all is_letter line)
+
+-- which queues a flush is for, at the front
+unfoldable pub flush_queues_in : List ℕ → Option (Front FlushQueues)
+flush_queues_in line =
+    either_of (before (codes "rw") queues.Both line)
+    (either_of (before (codes "r") queues.Read line)
+    (before (codes "w") queues.Write line))
+
+-- the band of a flush: none, or a number behind a space
+unfoldable pub band_in : List ℕ → Option (Option ℕ)
+band_in line = either_of (at_end None line) (option_map (λ n. Some n) (and_then number_in (after (codes " ") line)))
+
 -- each command where the line spells it
 unfoldable pub open_in : List ℕ → Option Command
 open_in line =
@@ -172,6 +202,39 @@ turn_in line = and_then (λ rest. option_map (λ name. Turn name) (queue_in rest
 unfoldable pub run_in : List ℕ → Option Command
 run_in line = and_then (λ rest. option_map (λ n. Run n) (number_in rest)) (after (codes "run ") line)
 
+-- a call that is spelled by its name and a side
+unfoldable pub sided_call_in : List ℕ → Option Command
+sided_call_in line =
+    either_of (option_map (λ side. Call side Shut) (and_then side_alone (after (codes "close ") line)))
+    (either_of (option_map (λ side. Call side Pop) (and_then side_alone (after (codes "pop ") line)))
+    (option_map (λ side. Call side Look) (and_then side_alone (after (codes "look ") line))))
+
+-- a push of what a name stands for, where it is one
+abbrev pub pushed_in : Side → List ℕ → Option Command
+pushed_in side name = if is_name name then Some (Call side (Push (module_in name))) else None
+
+unfoldable pub push_in : List ℕ → Option Command
+push_in line = and_then (behind_side pushed_in) (after (codes "push ") line)
+
+-- a flush of these queues of a side, where a band or nothing follows
+abbrev pub flushed_in : Side → Front FlushQueues → Option Command
+flushed_in side what = option_map (λ band. Flush side what.value band) (band_in what.rest)
+
+unfoldable pub flush_in : List ℕ → Option Command
+flush_in line =
+    and_then (behind_side (λ side rest. and_then (flushed_in side) (flush_queues_in rest))) (after (codes "flush ") line)
+
+unfoldable pub show_in : List ℕ → Option Command
+show_in line = option_map (λ side. Show side) (and_then side_alone (after (codes "show ") line))
+
+-- what a side's stream is asked for as a whole
+unfoldable pub stream_in : List ℕ → Option Command
+stream_in line =
+    either_of (sided_call_in line)
+    (either_of (push_in line)
+    (either_of (flush_in line)
+    (show_in line)))
+
 -- the command that a line spells
 unfoldable pub command_in : List ℕ → Option Command
 command_in line =
@@ -180,7 +243,8 @@ command_in line =
     (either_of (write_in line)
     (either_of (read_in line)
     (either_of (turn_in line)
-    (run_in line)))))
+    (either_of (run_in line)
+    (stream_in line))))))
 
 -- the command, if the line is well formed
 abbrev pub spoken : Option Command → Reading

@@ -1,5 +1,5 @@
 -- What a script writes: its answers, in the order of its lines.
-use Rattle.std.specs.Prelude.{ℕ, zero, suc, nat_le, ◌&&◌, ◌||◌, ◌==◌, Bool, true, false, if◌then◌else◌, List, [], ◌∷◌, ◌++◌, Option, None, Some, Result, Ok, Err, unwrap_or, slice_get}
+use Rattle.std.specs.Prelude.{ℕ, zero, suc, nat_le, ◌&&◌, ◌||◌, ◌==◌, Bool, true, false, if◌then◌else◌, List, [], ◌∷◌, ◌++◌, length, map, Option, None, Some, Result, Ok, Err, unwrap_or, slice_get}
 use Rattle.strm_types.specs.declared.limits.Config.{Config}
 use Rattle.strm_types.specs.declared.answers.Turn.{Turn}
 use Rattle.strm_types.specs.declared.events.Caller.{Caller}
@@ -8,6 +8,11 @@ use Rattle.strm_types.specs.declared.names.QueueName.{QueueName}
 use Rattle.strm_types.specs.declared.refusals.Refusal.{Refusal}
 use Rattle.strm_types.specs.declared.refusals.Refusal.TheVariants.{Einval, Enxio, Enosr}
 use Rattle.strm_types.specs.State.{State, opening}
+use Rattle.strm_types.specs.Names.{head_of, driver_of}
+use Rattle.strm_types.specs.Queue.{bytes_of}
+use Rattle.strm_types.specs.declared.names.Side.{Side}
+use Rattle.strm_types.specs.declared.events.FlushQueues.{FlushQueues}
+use Rattle.strm_pair.specs.Shows.{messages_at}
 use Rattle.strm_types.specs.declared.entries.Entry.TheVariants.{Called, Turned}
 use Rattle.strm_types.specs.declared.events.Event.TheVariants as calls
 use Rattle.strm_types.specs.Cells.{plain}
@@ -15,9 +20,10 @@ use Rattle.strm_types.specs.Turns.{turned, whole_turn}
 use Rattle.strm_types.specs.Calls.{Request, Reply, called}
 use Rattle.strm_types.specs.Journal.{PlainEntry}
 use Rattle.strm_types.specs.Refused.{refused, turn_refused, blocks_asked}
-use Rattle.strm_run.specs.Script.{Command, Open, Call, Turn as TurnOf, Run, lines_of}
+use Rattle.strm_run.specs.Script.{Command, Open, Call, Flush, Turn as TurnOf, Run, Show, lines_of}
 use Rattle.strm_run.specs.ScriptReading.{Silent, Malformed, Spoken, reading}
-use Rattle.strm_run.specs.ScriptAnswers.{Line, Refused, Wrong, Ran, printed_line, reply_line, turn_line}
+use Rattle.strm_run.specs.ScriptAnswers.{Line, Sizes, Refused, Wrong, Ran, printed_line, reply_line, turn_line}
+use Rattle.strm_run.specs.declared.answers.QueueSize.{QueueSize}
 
 -- What the pool of blocks had for an event. An account says it of each call and each turn of a script, in their order;
 -- behind its end the pool has enough.
@@ -124,6 +130,31 @@ by_call caller asked account p =
       is_short = is_short happened.answer;
     }
 
+-- a flush by a command; a band above 255 is refused before any call
+unfoldable pub by_flush : Side → FlushQueues → Option ℕ → List Supply → PlainPair → Answered
+by_flush side what None account p = by_call (record { side = side }) (calls.Flush what None) account p
+by_flush side what (Some band) account p =
+    if nat_le band 255
+    then by_call (record { side = side }) (calls.Flush what (Some (record { 0 = band }))) account p
+    else unanswered Einval (Some p) account
+
+-- the queues of a side's stream, from the head down
+abbrev pub queues_down : Side → List QueueName
+queues_down side = head_of side ∷ driver_of side ∷ []
+
+-- how many messages stand on a queue, and how many bytes they have
+abbrev pub size_at : State ℕ → QueueName → QueueSize
+size_at s name = record { name = name; messages = length (messages_at name s); bytes = bytes_of (messages_at name s) }
+
+-- a look at what stands on a side's queues, which is no event
+unfoldable pub by_show : Side → List Supply → PlainPair → Answered
+by_show side account p = record {
+  line = Sizes side (map (size_at p.state) (queues_down side));
+  pair = Some p;
+  account = account;
+  is_short = false;
+}
+
 -- a turn by a command
 unfoldable pub by_turn : QueueName → List Supply → PlainPair → Answered
 by_turn name account p =
@@ -186,8 +217,10 @@ unfoldable pub answered : Command → List Supply → Option PlainPair → Answe
 answered (Open blocks) account None = by_open (unwrap_or blocks usual_blocks) account
 answered (Open blocks) account (Some p) = unanswered Einval (Some p) account
 answered (Call side asked) account pair = with_pair (by_call (record { side = side }) asked) account pair
+answered (Flush side what band) account pair = with_pair (by_flush side what band) account pair
 answered (TurnOf name) account pair = with_pair (by_turn name) account pair
 answered (Run n) account pair = with_pair (by_run n) account pair
+answered (Show side) account pair = with_pair (by_show side) account pair
 
 -- What lines lead to: the text, the first line in which an event got ENOSR, and the first malformed line, at which the
 -- script ends.

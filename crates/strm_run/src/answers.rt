@@ -2,11 +2,20 @@
 
 ghost use Rattle.std.specs.Prelude.{◌≡◌, ◌<◌, Some, take};
 ghost use Rattle.std.specs.List.{position_from, position_or_len};
-ghost use Rattle.strm_run.specs.ScriptAnswers.{hex_digit, is_escaped, printed, quoted, line_text, refusal_name};
+ghost use Rattle.strm_run.specs.Script.{side_name, place_name, way_name, module_name};
+ghost use Rattle.strm_run.specs.ScriptAnswers.{hex_digit, is_escaped, printed, quoted, size_text, line_text, refusal_name};
 ghost use Rattle.strm_run.specs.Lines.{line_of};
 
 use std::fmt;
-use strm_types::{Answer, Refusal, Turn};
+use strm_types::{Answer, ModuleName, Place, QueueName, Refusal, Side, Turn, Way};
+
+/// How much stands on a queue: how many messages, and how many bytes they have.
+#[derive(Clone, Copy)]
+pub struct QueueSize {
+    pub name: QueueName,
+    pub messages: usize,
+    pub bytes: usize,
+}
 
 /// An answer line, without its LF. The bytes that a call gave stand apart.
 #[derive(Clone, Copy)]
@@ -17,6 +26,12 @@ pub enum Line {
     Turned(Turn),
     /// So many turns were taken.
     Ran(u32),
+    /// So much stands on the queues of a side's stream.
+    Sizes {
+        side: Side,
+        head: QueueSize,
+        driver: QueueSize,
+    },
     /// The command was refused.
     Refused(Refusal),
     /// The line of this number is malformed.
@@ -149,6 +164,60 @@ fn name(refusal: Refusal) -> &'static str
     }
 }
 
+/// The name of a module.
+fn module_name(known: ModuleName) -> &'static str
+    ensures { result.now ≡ module_name known }
+{
+    match known {
+        ModuleName::Ldterm => "ldterm",
+        ModuleName::Ptem => "ptem",
+        ModuleName::Pckt => "pckt",
+    }
+}
+
+/// The name of a side.
+fn side_name(side: Side) -> &'static str
+    ensures { result.now ≡ side_name side }
+{
+    match side {
+        Side::Master => "m",
+        Side::Slave => "s",
+    }
+}
+
+/// The name of what a queue belongs to.
+fn place_name(place: Place) -> &'static str
+    ensures { result.now ≡ place_name place }
+{
+    match place {
+        Place::Head => "head",
+        Place::Ldterm => "ldterm",
+        Place::Driver => "drv",
+    }
+}
+
+/// The name of a way.
+fn way_name(way: Way) -> &'static str
+    ensures { result.now ≡ way_name way }
+{
+    match way {
+        Way::Up => "r",
+        Way::Down => "w",
+    }
+}
+
+impl fmt::Display for QueueSize {
+    ghost output = { λ size. Some (size_text size) };
+
+    fn fmt<W: fmt::Write>(&self, f: &mut fmt::Formatter<W>) -> fmt::Result {
+        let place = place_name(self.name.place);
+        let way = way_name(self.name.way);
+        let messages = self.messages;
+        let bytes = self.bytes;
+        write!(f, "{place}.{way} {messages} {bytes}")
+    }
+}
+
 impl fmt::Display for Shown<'_> {
     ghost output = { λ shown. Some (line_text (line_of shown.bytes.now shown.line.now)) };
 
@@ -156,6 +225,10 @@ impl fmt::Display for Shown<'_> {
     fn fmt<W: fmt::Write>(&self, f: &mut fmt::Formatter<W>) -> fmt::Result {
         match self.line {
             Line::Done(Answer::Done) => write!(f, "ok"),
+            Line::Done(Answer::Name(module)) => {
+                let module = module_name(*module);
+                write!(f, "name {module}")
+            }
             Line::Done(Answer::Count(n)) => write!(f, "ok {n}"),
             Line::Done(Answer::Bytes(_)) => {
                 let count = self.bytes.len();
@@ -166,6 +239,10 @@ impl fmt::Display for Shown<'_> {
             Line::Turned(Turn::Blocked) => write!(f, "blocked"),
             Line::Turned(Turn::Idle) => write!(f, "idle"),
             Line::Ran(turns) => write!(f, "ran {turns}"),
+            Line::Sizes { side, head, driver } => {
+                let side = side_name(*side);
+                write!(f, "show {side} {head} {driver}")
+            }
             Line::Refused(refusal) => {
                 let name = name(*refusal);
                 write!(f, "err {name}")

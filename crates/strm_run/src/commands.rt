@@ -3,19 +3,38 @@
 ghost use Rattle.std.specs.Prelude.{◌≡◌};
 ghost use Rattle.strm_types.specs.Calls.{request, map_event};
 
-use strm_types::{Event, QueueName, Side};
+use strm_types::{Event, FlushQueues, QueueName, Side};
 
 /// A command, as a line of a script gives it.
 #[derive(Drop)]
 pub enum Command {
     /// Makes the pair and opens its master, with so many blocks of each kind.
-    Open { blocks: Option<u32> },
+    Open {
+        blocks: Option<u32>,
+    },
     /// Makes a call on a side's stream.
-    Call { side: Side, event: Event<Vec<u8>> },
+    Call {
+        side: Side,
+        event: Event<Vec<u8>>,
+    },
+    /// Flushes a side's stream, all bands or one. The number may be none that a band has.
+    Flush {
+        side: Side,
+        what: FlushQueues,
+        band: Option<u32>,
+    },
     /// Gives a queue its turn.
-    Turn { name: QueueName },
+    Turn {
+        name: QueueName,
+    },
     /// Gives the first enabled queue its turn, at most so many times.
-    Run { turns: u32 },
+    Run {
+        turns: u32,
+    },
+    /// Tells what stands on the queues of a side's stream.
+    Show {
+        side: Side,
+    },
 }
 
 /// A call over its bytes where they stand.
@@ -26,6 +45,14 @@ pub fn lent(event: &Event<Vec<u8>>) -> Event<&[u8]>
         Event::OpenMaster => Event::OpenMaster,
         Event::Unlock => Event::Unlock,
         Event::OpenSlave => Event::OpenSlave,
+        Event::Shut => Event::Shut,
+        Event::Push { name } => Event::Push { name: *name },
+        Event::Pop => Event::Pop,
+        Event::Look => Event::Look,
+        Event::Flush { what, band } => Event::Flush {
+            what: *what,
+            band: *band,
+        },
         Event::Write { bytes } => Event::Write {
             bytes: bytes.as_slice(),
         },

@@ -4,13 +4,14 @@ ghost use Rattle.std.specs.Prelude.{◌≡◌, ◌≤◌, IfOk, length};
 ghost use Rattle.strm_run.specs.Script as script;
 ghost use Rattle.strm_run.specs.Script.{IsSpelled};
 ghost use Rattle.strm_run.specs.ScriptReading.{open_in, named_in, write_in, read_in, turn_in, run_in};
+ghost use Rattle.strm_run.specs.ScriptReading.{sided_call_in, push_in, flush_in, show_in, stream_in};
 ghost use Rattle.strm_run.specs.ScriptReading.{command_in, reading, Spoken};
 ghost use Rattle.strm_run.specs.Commands.{commands_of, reading_of};
 
 use crate::commands::{Command, Reading};
 use crate::numbers::number;
 use crate::texts::text;
-use crate::words::{after, queue, side};
+use crate::words::{after, band, flush_queues, is_name, module, queue, side, side_behind};
 use std::alloc::{AllocError, Global};
 use strm_types::{Event, Side};
 
@@ -98,6 +99,75 @@ fn run(line: &[u8]) -> Option<Command>
     Some(Command::Run { turns })
 }
 
+/// A call that is spelled by its name and a side: `close X`, `pop X`, `look X`.
+#[tactic(auto, unfolding(crate::specs::ScriptReading::sided_call_in))]
+fn sided_call(line: &[u8]) -> Option<Command>
+    ensures { commands_of result ≡ sided_call_in line.now }
+{
+    if let Some(side) = side_behind(line, b"close ") {
+        let event = Event::Shut;
+        return Some(Command::Call { side, event });
+    }
+    if let Some(side) = side_behind(line, b"pop ") {
+        let event = Event::Pop;
+        return Some(Command::Call { side, event });
+    }
+    let side = side_behind(line, b"look ")?;
+    let event = Event::Look;
+    Some(Command::Call { side, event })
+}
+
+/// `push X NAME`.
+#[tactic(auto, unfolding(crate::specs::ScriptReading::push_in))]
+fn push(line: &[u8]) -> Option<Command>
+    ensures { commands_of result ≡ push_in line.now }
+{
+    let (side, rest) = side(after(line, b"push ")?)?;
+    let name = after(rest, b" ")?;
+    if !is_name(name) {
+        return None;
+    }
+    let event = Event::Push { name: module(name) };
+    Some(Command::Call { side, event })
+}
+
+/// `flush X QUEUES`, or `flush X QUEUES BAND`.
+#[tactic(auto, unfolding(crate::specs::ScriptReading::flush_in))]
+fn flush(line: &[u8]) -> Option<Command>
+    ensures { commands_of result ≡ flush_in line.now }
+{
+    let (side, rest) = side(after(line, b"flush ")?)?;
+    let (what, rest) = flush_queues(after(rest, b" ")?)?;
+    let band = band(rest)?;
+    Some(Command::Flush { side, what, band })
+}
+
+/// `show X`.
+#[tactic(auto, unfolding(crate::specs::ScriptReading::show_in))]
+fn show(line: &[u8]) -> Option<Command>
+    ensures { commands_of result ≡ show_in line.now }
+{
+    let side = side_behind(line, b"show ")?;
+    Some(Command::Show { side })
+}
+
+/// What a side's stream is asked for as a whole.
+#[tactic(auto, unfolding(crate::specs::ScriptReading::stream_in))]
+fn of_stream(line: &[u8]) -> Option<Command>
+    ensures { commands_of result ≡ stream_in line.now }
+{
+    if let Some(command) = sided_call(line) {
+        return Some(command);
+    }
+    if let Some(command) = push(line) {
+        return Some(command);
+    }
+    if let Some(command) = flush(line) {
+        return Some(command);
+    }
+    show(line)
+}
+
 /// The command that a line spells.
 #[tactic(auto, unfolding(crate::specs::ScriptReading::command_in))]
 fn command(alloc: Global, line: &[u8]) -> Result<Option<Command>, AllocError>
@@ -118,7 +188,10 @@ fn command(alloc: Global, line: &[u8]) -> Result<Option<Command>, AllocError>
     if let Some(command) = turn(line) {
         return Ok(Some(command));
     }
-    Ok(run(line))
+    if let Some(command) = run(line) {
+        return Ok(Some(command));
+    }
+    Ok(of_stream(line))
 }
 
 /// What a line says, by its length, its first byte and its command.

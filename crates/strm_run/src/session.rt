@@ -3,23 +3,28 @@
 ghost use Rattle.std.specs.Prelude.{◌≡◌, false, Some, None, IfOk, OnErr, option_map};
 ghost use Rattle.strm_types.specs.Calls.{request};
 ghost use Rattle.strm_run.specs.ScriptAnswers as script;
-ghost use Rattle.strm_run.specs.ScriptRun.{by_call, by_turn, by_run, by_open, answered, script_limits, is_enosr};
+ghost use Rattle.strm_run.specs.ScriptRun.{by_call, by_flush, by_turn, by_run, by_open, answered};
+ghost use Rattle.strm_run.specs.ScriptRun.{script_limits, is_enosr, size_at};
+ghost use Rattle.strm_types.specs.Names.{head_of, driver_of};
 ghost use Rattle.strm_run.specs.Commands.{command_of};
 ghost use Rattle.strm_run.specs.Plain.{plain};
 ghost use Rattle.strm_run.specs.Outcomes.{LeadsTo, Leads};
 
-use crate::answers::Line;
+use crate::answers::{Line, QueueSize};
 use crate::commands::{Command, lent};
 use std::alloc::{AllocError, Global};
 use strm_blocks::TableStore;
 use strm_pair::Pair;
-use strm_types::{Caller, Config, Event, QueueName, ReadBytes, Refusal, Side};
+use strm_types::{Band, Caller, Config, Event, FlushQueues, QueueName, ReadBytes, Refusal, Side};
 
 /// How many blocks of each kind a pair gets where a script names no number.
 const USUAL_BLOCKS: u32 = 256;
 
 /// The most blocks of each kind that a script can ask for.
 const BLOCKS_MAX: u32 = 4096;
+
+/// The largest number of a band that a call can name.
+const BAND_MAX: u32 = 255;
 
 /// How many entries the journal of a script's pair holds.
 const JOURNAL_EVENTS: usize = 8192;
@@ -78,6 +83,58 @@ fn call(
     }
 }
 
+/// A flush by a command. A band above 255 is refused before any call.
+fn flush(
+    pair: &mut Pair<TableStore>,
+    side: Side,
+    what: FlushQueues,
+    band: Option<u32>,
+    out: &mut ReadBytes,
+) -> Answered
+    ensures { LeadsTo (λ account. by_flush side what band account (plain pair.old))
+        result out.new.items (Some (plain pair.new)) }
+{
+    let band = match band {
+        None => None,
+        Some(number) => {
+            if number > BAND_MAX {
+                return refused(Refusal::Einval);
+            }
+            Some(Band(number as u8))
+        }
+    };
+    call(pair, side, &Event::Flush { what, band }, out)
+}
+
+/// How much stands on a queue.
+fn size(pair: &Pair<TableStore>, name: QueueName) -> QueueSize
+    ensures { result ≡ size_at pair.now.state name }
+{
+    let (messages, bytes) = pair.sizes(name);
+    QueueSize {
+        name,
+        messages,
+        bytes,
+    }
+}
+
+/// A look at what stands on a side's queues.
+fn show(pair: &Pair<TableStore>, side: Side) -> Answered
+    ensures { result ≡ record {
+      line = Line.Sizes side (size_at pair.now.state (head_of side)) (size_at pair.now.state (driver_of side));
+      short = false;
+    } }
+{
+    Answered {
+        line: Line::Sizes {
+            side,
+            head: size(pair, side.head()),
+            driver: size(pair, side.driver()),
+        },
+        short: false,
+    }
+}
+
 /// A turn by a command.
 fn turn(pair: &mut Pair<TableStore>, name: QueueName) -> Answered
     ensures { Leads (by_turn name) result pair.old pair.new }
@@ -126,8 +183,10 @@ fn on_pair(pair: &mut Pair<TableStore>, command: &Command, out: &mut ReadBytes) 
     match command {
         Command::Open { blocks: _ } => refused(Refusal::Einval),
         Command::Call { side, event } => call(pair, *side, &lent(event), out),
+        Command::Flush { side, what, band } => flush(pair, *side, *what, *band, out),
         Command::Turn { name } => turn(pair, *name),
         Command::Run { turns } => run(pair, *turns),
+        Command::Show { side } => show(pair, *side),
     }
 }
 

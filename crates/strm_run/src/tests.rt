@@ -102,6 +102,7 @@ fn each_scene_answers_as_it_says(rt: HostRuntime) -> Result<(), Fail> {
     plays_scenes(&rt, rt.alloc(), &scripts::OPENING)?;
     plays_scenes(&rt, rt.alloc(), &scripts::WRITING_AND_READING)?;
     plays_scenes(&rt, rt.alloc(), &scripts::TURNS)?;
+    plays_scenes(&rt, rt.alloc(), &scripts::STREAMS)?;
     plays_scenes(&rt, rt.alloc(), &scripts::LINES_AND_TEXTS)
 }
 
@@ -124,6 +125,44 @@ const LAST_LINES: [(&[u8], &[u8], ScriptEnd); 2] = [
 fn a_last_line_may_lack_its_end(rt: HostRuntime) {
     for case in &LAST_LINES {
         plays(&rt, rt.alloc(), "no LF", case.0, case.1, case.2);
+    }
+}
+
+// Lines about a stream that are malformed.
+const MALFORMED_LINES: [&[u8]; 20] = [
+    b"close",
+    b"close x",
+    b"close m ",
+    b"push s",
+    b"push s ",
+    b"push s Foo",
+    b"push s ld-term",
+    b"push s abcdefghi",
+    b"push s foo 1",
+    b"pop m 1",
+    b"look",
+    b"flush m",
+    b"flush m q",
+    b"flush m wr",
+    b"flush m r ",
+    b"flush m r x",
+    b"flush m r 4294967296",
+    b"flush m rw1",
+    b"show",
+    b"show m.head.r",
+];
+
+#[test]
+fn what_spells_no_command_is_malformed(rt: HostRuntime) {
+    for line in &MALFORMED_LINES {
+        plays(
+            &rt,
+            rt.alloc(),
+            "malformed",
+            line,
+            b"err line 1\n",
+            MALFORMED,
+        );
     }
 }
 

@@ -2,10 +2,14 @@
 
 ghost use Rattle.std.specs.Prelude.{◌≡◌, option_map};
 ghost use Rattle.std.specs.Option.{option_copied};
-ghost use Rattle.strm_run.specs.ScriptReading.{after, side_in, place_in, way_in, queue_in};
+ghost use Rattle.std.specs.List.{list_all};
+ghost use Rattle.strm_run.specs.Script.{is_letter};
+ghost use Rattle.strm_run.specs.ScriptReading.{and_then, after, side_in, place_in, way_in, queue_in};
+ghost use Rattle.strm_run.specs.ScriptReading.{side_alone, module_in, is_name, flush_queues_in, band_in};
 ghost use Rattle.strm_run.specs.Views.{front_of};
 
-use strm_types::{Place, QueueName, Side, Way};
+use crate::numbers::number;
+use strm_types::{FlushQueues, ModuleName, Place, QueueName, Side, Way};
 
 /// What follows a word at the front of a text.
 pub fn after<'a>(text: &'a [u8], word: &[u8]) -> Option<&'a [u8]>
@@ -68,4 +72,80 @@ pub fn queue(text: &[u8]) -> Option<QueueName>
     let rest = after(rest, b".")?;
     let way = way(rest)?;
     Some(QueueName { side, place, way })
+}
+
+/// A side behind a word, where the text is no more.
+#[tactic(auto, unfolding(crate::specs::ScriptReading::side_alone))]
+pub fn side_behind(text: &[u8], word: &[u8]) -> Option<Side>
+    ensures { result ≡ and_then side_alone (after word.now text.now) }
+{
+    let (side, rest) = side(after(text, word)?)?;
+    if rest.is_empty() { Some(side) } else { None }
+}
+
+/// The module whose name a text is.
+#[tactic(auto, unfolding(crate::specs::ScriptReading::module_in))]
+pub fn module(text: &[u8]) -> Option<ModuleName>
+    ensures { result ≡ module_in text.now }
+{
+    match text {
+        b"ldterm" => Some(ModuleName::Ldterm),
+        b"ptem" => Some(ModuleName::Ptem),
+        b"pckt" => Some(ModuleName::Pckt),
+        _ => None,
+    }
+}
+
+/// Whether a byte is a letter from a to z.
+fn is_letter(byte: u8) -> bool
+    ensures { result ≡ is_letter byte }
+{
+    byte >= b'a' && byte <= b'z'
+}
+
+/// Whether each byte of a text is a letter.
+fn are_letters(text: &[u8]) -> bool
+    ensures { result ≡ list_all is_letter text.now }
+{
+    text.iter().all(|byte| is_letter(*byte))
+}
+
+/// Whether a text may be the name of a module: 1 to 8 letters from a to z.
+#[tactic(auto, unfolding(crate::specs::ScriptReading::is_name))]
+pub fn is_name(text: &[u8]) -> bool
+    ensures { result ≡ is_name text.now }
+{
+    if text.is_empty() || text.len() > 8 {
+        return false;
+    }
+    are_letters(text)
+}
+
+/// Which queues a flush is for, `r`, `w` or `rw`, at the front, and what follows it.
+#[tactic(auto, unfolding(crate::specs::ScriptReading::flush_queues_in))]
+pub fn flush_queues(text: &[u8]) -> Option<(FlushQueues, &[u8])>
+    ensures { option_map front_of result ≡ flush_queues_in text.now }
+{
+    if let Some(rest) = after(text, b"rw") {
+        return Some((FlushQueues::Both, rest));
+    }
+    if let Some(rest) = after(text, b"r") {
+        return Some((FlushQueues::Read, rest));
+    }
+    if let Some(rest) = after(text, b"w") {
+        return Some((FlushQueues::Write, rest));
+    }
+    None
+}
+
+/// The band of a flush, a number behind a space, or none, where the text is no more.
+#[tactic(auto, unfolding(crate::specs::ScriptReading::band_in))]
+pub fn band(text: &[u8]) -> Option<Option<u32>>
+    ensures { result ≡ band_in text.now }
+{
+    if text.is_empty() {
+        return Some(None);
+    }
+    let number = number(after(text, b" ")?)?;
+    Some(Some(number))
 }

@@ -2,13 +2,15 @@ use Rattle.std.proofs.Common.{◌≡◌, ℕ, List, Option, Some, ap, sym, refl}
 use Rattle.strm_types.specs.declared.names.Side.{Side}
 use Rattle.strm_types.specs.Calls.{Request}
 use Rattle.strm_run.specs.Script.{Call}
-use Rattle.strm_run.specs.ScriptRun.{PlainPair, answered, by_call}
+use Rattle.strm_run.specs.ScriptRun.{PlainPair, answered, by_call, by_show}
 use Rattle.strm_types.specs.declared.refusals.Refusal.TheVariants.{Einval}
 use Rattle.strm_run.specs.Commands.{command_of}
+use Rattle.strm_run.specs.Plain.{plain}
+use Rattle.strm_run.specs.Lines.{line_of}
 use Rattle.strm_run.specs.Outcomes.{LeadsTo}
 use Rattle.strm_run.specs.declared.session.Answered.{Answered}
 use Rattle.strm_run.specs.declared.commands.Command.{Command}
-use Rattle.strm_run.proofs.Events.{leads_unanswered, leads_same}
+use Rattle.strm_run.proofs.Events.{leads_unanswered, leads_looked, leads_same}
 use Rattle.strm_run.proofs.session.on_pair.Goals as goal
 
 -- a command that is known
@@ -43,3 +45,12 @@ returns-in-Turn c = known _ _ _ _ _ _ c.in-Turn.is (c.turn.ensures _)
 pub returns-in-Run : goal.returns-in-Run
 unfolding answered
 returns-in-Run c = known _ _ _ _ _ _ c.in-Run.is (c.run.ensures _)
+
+pub returns-in-Flush : goal.returns-in-Flush
+unfolding answered
+returns-in-Flush c = known _ _ _ _ _ _ c.in-Flush.is c.flush.ensures
+
+pub returns-in-Show : goal.returns-in-Show
+unfolding answered by_show
+returns-in-Show c = known _ _ _ _ _ _ c.in-Show.is
+    (leads_looked _ _ _ _ (λ account. ap (λ (x : Answered). record { line = line_of c.args.out.now.items x.line; pair = Some (plain c.args.pair.now); account = account; is_short = x.short }) (sym c.show.ensures)))
