@@ -4,6 +4,9 @@ use Rattle.std.specs.Prelude.{replicate}
 use Rattle.strm_types.specs.declared.limits.Config.{Config}
 use Rattle.strm_types.specs.State.{opening}
 use Rattle.strm_types.specs.Cells.{plain}
+use Rattle.strm_types.specs.declared.rules.Fates.{Fates}
+use Rattle.strm_types.specs.Kept.{told_by}
+use Rattle.strm_types.specs.Rules.{no_fates}
 use Rattle.strm_types.specs.Step.{IsLegal}
 use Rattle.strm_types.specs.Pair.{new_pair}
 use Rattle.strm_blocks.specs.Blocks.{Block, Held, StoreValue, empty_store}
@@ -19,11 +22,12 @@ pub record AreFresh (mblks dblks : ℕ) (p : Streams) : Type 0 where
   pub state : state_in (empty_store mblks dblks) p ≡ opening
   pub held : AreHeld (empty_store mblks dblks) p
 
-pub fresh-kept : (s : StoreValue) (p : Streams) (j : Journal) (limits : Config) → s ≡ empty_store limits.mblks limits.dblks → AreFresh limits.mblks limits.dblks p
-    → journal_of j ≡ [] → j.most_entries ≡ limits.journal_events → j.most_bytes ≡ limits.journal_bytes → IsKept s p j limits
-fresh-kept s p j limits blank fresh empty events bytes = record {
+pub fresh-kept : (s : StoreValue) (p : Streams) (j : Journal) (limits : Config) (fates : Fates) → s ≡ empty_store limits.mblks limits.dblks → AreFresh limits.mblks limits.dblks p
+    → journal_of j ≡ [] → j.most_entries ≡ limits.journal_events → j.most_bytes ≡ limits.journal_bytes → fates ≡ no_fates → IsKept s p j limits fates
+fresh-kept s p j limits fates blank fresh empty events bytes none = record {
   replayed = ap (λ v. state_in v p) blank ∙ fresh.state ∙ sym (led-nowhere j empty);
   legal = subst (λ js. IsLegal plain opening js) (sym empty) tt;
+  told = none ∙ ap (λ js. told_by plain opening js no_fates) (sym empty);
   held = subst (λ v. AreHeld v p) (sym blank) fresh.held;
   mblks = ap (λ (v : StoreValue). v.mblks) blank;
   dblks = ap (λ (v : StoreValue). v.dblks) blank;
@@ -31,10 +35,10 @@ fresh-kept s p j limits blank fresh empty events bytes = record {
   bytes = bytes;
 }
 
-pub fresh-shown : (s : StoreValue) (p : Streams) (j : Journal) (limits : Config) → s ≡ empty_store limits.mblks limits.dblks → AreFresh limits.mblks limits.dblks p → journal_of j ≡ [] → pair_of s p j limits ≡ new_pair limits
-fresh-shown s p j limits blank fresh empty =
-    ap (λ v. pair_of v p j limits) blank
-    ∙ rw (fresh.state, empty, free-empty limits.mblks limits.dblks) refl
+pub fresh-shown : (s : StoreValue) (p : Streams) (j : Journal) (limits : Config) (fates : Fates) → s ≡ empty_store limits.mblks limits.dblks → AreFresh limits.mblks limits.dblks p → journal_of j ≡ [] → fates ≡ no_fates → pair_of s p j limits fates ≡ new_pair limits
+fresh-shown s p j limits fates blank fresh empty none =
+    ap (λ v. pair_of v p j limits fates) blank
+    ∙ rw (none, fresh.state, empty, free-empty limits.mblks limits.dblks) refl
 
 -- a store that holds nothing, as it stands with its numbers of blocks, all of which are free
 pub vacant : (s : StoreValue) → s.lists ≡ replicate 8 [] → s.hand ≡ [] → s ≡ empty_store s.mblks s.dblks

@@ -12,3 +12,4 @@ pub mod JournalLemmas
 mod PlainWrites
 mod Refusing
 mod Fresh
+pub mod Reaching

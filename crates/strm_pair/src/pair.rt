@@ -8,6 +8,8 @@ ghost use Rattle.strm_types.specs.Pair.{new_pair, call_refused, queue_refused, A
 ghost use Rattle.strm_types.specs.Journal.{entries_in, reply_in, answer_len};
 ghost use Rattle.strm_types.specs.Refused.{enough, has_room};
 ghost use Rattle.strm_types.specs.Step.{replay, IsLegal};
+ghost use Rattle.strm_types.specs.Kept.{told_by};
+ghost use Rattle.strm_types.specs.Rules.{no_fates};
 ghost use Rattle.strm_types.specs.Queue.{bytes_of};
 ghost use Rattle.strm_types.specs.State.{AreOrdered, messages_in};
 ghost use Rattle.strm_pair.specs.Shows.{Shows, count_at, full_at, messages_at};
@@ -22,8 +24,8 @@ use std::alloc::Global;
 use std::marker::Model;
 use strm_blocks::Blocks;
 use strm_types::{
-    Answer, BANDS, Band, Caller, Config, Entry, Event, LISTS, NoMemory, QueueName, ReadBytes,
-    Refusal, TURN_BLOCKS, Turn,
+    Answer, BANDS, Band, Caller, Config, Entry, Event, Fates, LISTS, NoMemory, QueueName,
+    ReadBytes, Refusal, TURN_BLOCKS, Turn,
 };
 
 /// A pair of a master and a slave, whose messages stand in a store of its own. Contracts see it as its plain state, its
@@ -34,6 +36,7 @@ pub struct Pair<B: Blocks + Drop> {
     streams: Streams,
     journal: Journal,
     limits: Config,
+    fates: Fates,
 }
 
 /// What a pair's journal holds: its entries, and their bytes in order.
@@ -50,9 +53,9 @@ impl<B: Blocks + Drop> Model for Pair<B> {
 
     ghost use Rattle.strm_pair.specs.PairViews.{pair_of, IsKept};
 
-    ghost view = { λ p. pair_of (B.value p.store) p.streams p.journal p.limits };
+    ghost view = { λ p. pair_of (B.value p.store) p.streams p.journal p.limits p.fates };
 
-    ghost invariant = { λ p. IsKept (B.value p.store) p.streams p.journal p.limits };
+    ghost invariant = { λ p. IsKept (B.value p.store) p.streams p.journal p.limits p.fates };
 }
 
 impl<B: Blocks + Drop> Pair<B> {
@@ -80,6 +83,7 @@ impl<B: Blocks + Drop> Pair<B> {
             streams: Streams::new(),
             journal,
             limits,
+            fates: Fates::none(),
         })
     }
 
@@ -91,6 +95,7 @@ impl<B: Blocks + Drop> Pair<B> {
         self.store.reset();
         self.streams = Streams::new();
         self.journal.clear();
+        self.fates = Fates::none();
     }
 
     /// The queues that are enabled, in order of enabling.
@@ -113,6 +118,14 @@ impl<B: Blocks + Drop> Pair<B> {
         ensures dblks { result.1 ≡ self.now.free.dblks }
     {
         self.store.free_blocks()
+    }
+
+    /// How many bytes have gone in each direction by each rule since the journal began: what reads gave, and what flushes and
+    /// closes took.
+    pub fn fates(&self) -> &Fates
+        ensures { result.now ≡ self.now.fates }
+    {
+        &self.fates
     }
 
     /// The store, whose lists show the queues of the state, each chain read along its links from read place to write
@@ -240,7 +253,10 @@ impl<B: Blocks + Drop> Pair<B> {
         if let Some(refusal) = self.refusal(caller, event) {
             return Err(refusal);
         }
-        let answer = self.streams.carry_out(&mut self.store, caller, event, out);
+        let told = &mut self.fates;
+        let answer = self
+            .streams
+            .carry_out(&mut self.store, caller, event, out, told);
         self.journal.add_call(caller, event, answer, out.as_slice());
         Ok(answer)
     }
@@ -270,6 +286,7 @@ impl<B: Blocks + Drop> Pair<B> {
         ensures entries { entries_in result.entries.now result.bytes.now ≡ self.now.journal }
         ensures replayed { self.now.state ≡ replay plain self.now.base self.now.journal }
         ensures legal { IsLegal plain self.now.base self.now.journal }
+        ensures told { self.now.fates ≡ told_by plain self.now.base self.now.journal no_fates }
         ensures ordered { AreOrdered self.now.state }
         ensures blocks { IsPoolOf (messages_in self.now.state) self.now.limits self.now.free }
     {

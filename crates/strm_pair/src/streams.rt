@@ -4,7 +4,10 @@ ghost use Rattle.std.specs.Prelude.{ℕ, ◌≡◌, ◌+◌, ◌≤◌, ◌<◌,
 ghost use Rattle.strm_types.specs.Cells.{plain};
 ghost use Rattle.strm_types.specs.State.{opening, new_stream};
 ghost use Rattle.strm_types.specs.declared.answers.Answer.TheVariants.{Count, Bytes};
-ghost use Rattle.strm_types.specs.Calls.{called, request, opened_slave};
+ghost use Rattle.strm_types.specs.Calls.{Reply, called, request, opened_slave};
+ghost use Rattle.strm_types.specs.declared.entries.Entry.TheVariants.{Called};
+ghost use Rattle.strm_types.specs.Deliver.{tallied};
+ghost use Rattle.strm_types.specs.Kept.{gone};
 ghost use Rattle.strm_types.specs.Turns.{turned, driver_turned};
 ghost use Rattle.strm_types.specs.Refused.{blocks_taken, in_range, refused_at_once};
 ghost use Rattle.strm_types.specs.Write.{chunk_count};
@@ -22,8 +25,8 @@ use strm_frame::Enabled;
 use strm_queue::emptying::Chosen;
 use strm_queue::{Flush, HEAD_HIGH, HEAD_LOW, OTHER_HIGH, OTHER_LOW, Queue};
 use strm_types::{
-    Answer, Book, Caller, Event, Openness, Place, QueueName, READ_MAX, ReadBytes, Side, Turn,
-    chunk_count,
+    Answer, Book, Caller, Event, Fates, Openness, Place, QueueName, READ_MAX, ReadBytes, Rule,
+    Side, Turn, chunk_count,
 };
 
 /// The streams of a pair, whether its slave is locked, the queues that are enabled, the number that the next ioctl gets,
@@ -164,6 +167,7 @@ impl Streams {
         caller: Caller,
         event: &Event<&[u8]>,
         out: &mut ReadBytes,
+        told: &mut Fates,
     ) -> Answer<usize>
         requires held { AreHeld (B.value store.old) self.old }
         requires allowed { refused_at_once (state_in (B.value store.old) self.old) caller (request event.now) ≡ None }
@@ -176,6 +180,8 @@ impl Streams {
         ensures state { state_in (B.value store.new) self.new
             ≡ (called plain caller (request event.now) (state_in (B.value store.old) self.old)).state }
         ensures held { AreHeld (B.value store.new) self.new }
+        ensures told { (answer : Reply) → told.new ≡ tallied (gone plain (state_in (B.value store.old) self.old)
+            (Called caller (request event.now) answer)) told.old }
         ensures pool { SamePool (B.value store.old) (B.value store.new) }
     {
         out.clear();
@@ -193,18 +199,20 @@ impl Streams {
                 Answer::Done
             }
             Event::Shut => {
-                self.shut(store, caller.side);
+                self.shut(store, caller.side, told);
                 Answer::Done
             }
             Event::Flush { what, band } => {
-                self.flush(store, caller.side, *what, Chosen::of_data(*band));
+                self.flush(store, caller.side, *what, Chosen::of_data(*band), told);
                 Answer::Done
             }
             Event::Push { .. } | Event::Pop | Event::Look => Answer::Done,
             Event::Write { bytes } => Answer::Count(self.write(store, caller.side, bytes)),
             Event::Read { n } => {
                 self.read(store, caller.side, *n, out);
-                Answer::Bytes(out.len())
+                let given = out.len();
+                told.tell(caller.side.head().direction(), Rule::Read, given);
+                Answer::Bytes(given)
             }
         }
     }

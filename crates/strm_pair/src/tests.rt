@@ -10,7 +10,7 @@ use std::test::Fail;
 use strm_blocks::{Blocks, TableStore};
 use strm_types::{
     Answer, Band, Caller, Config, Event, FlushQueues, ModuleName, Place, QueueName, ReadBytes,
-    Refusal, Side, Turn, Way,
+    Refusal, Rule, Side, Turn, Way,
 };
 
 const MASTER: Caller = Caller { side: Side::Master };
@@ -68,6 +68,8 @@ enum Step<'a> {
     Counts(QueueName, usize, bool),
     // So many messages with so many bytes stand on a queue.
     Sizes(QueueName, usize, usize),
+    // So many bytes have gone by a rule, from the master and from the slave.
+    Gone(Rule, u64, u64),
     // The first message on the list of the master's driver has so many bytes, or there is none.
     Stored(Option<usize>),
     // The journal has so many entries, and these bytes.
@@ -105,6 +107,13 @@ fn stored<B: Blocks + Drop>(pair: &Pair<B>) -> Option<usize> {
     pair.store().peek(1)?.body
 }
 
+// How many bytes have gone by a rule, from the master and from the slave.
+fn gone<B: Blocks + Drop>(pair: &Pair<B>, rule: Rule) -> (u64, u64) {
+    let fates = pair.fates();
+    let at = rule.number();
+    (fates.from_master[at], fates.from_slave[at])
+}
+
 fn has_entered<B: Blocks + Drop>(pair: &Pair<B>, count: usize, bytes: &[u8]) -> bool {
     let journal = pair.journal();
     journal.entries.len() == count && journal.bytes == bytes
@@ -131,6 +140,7 @@ fn shows<B: Blocks + Drop>(pair: &Pair<B>, step: &Step<'_>) -> bool {
         Step::Free(mblks, dblks) => pair.free_blocks() == (*mblks, *dblks),
         Step::Counts(queue, bytes, full) => counts(pair, *queue, *bytes, *full),
         Step::Sizes(queue, messages, bytes) => pair.sizes(*queue) == (*messages, *bytes),
+        Step::Gone(rule, master, slave) => gone(pair, *rule) == (*master, *slave),
         Step::Stored(body) => stored(pair) == *body,
         Step::Entered(count, bytes) => has_entered(pair, *count, bytes),
         _ => false,
@@ -345,13 +355,15 @@ const NO_BAND: Event<&'static [u8]> = Event::Flush {
     band: Some(Band(8)),
 };
 
-const FLUSHING: [Step<'static>; 9] = [
+const FLUSHING: [Step<'static>; 11] = [
     Step::Call(MASTER, Event::Write { bytes: b"abc" }, Ok(Answer::Count(3))),
     Step::Sizes(MASTER_DRIVER, 1, 3),
     Step::Call(MASTER, LAST_BAND, DONE),
     Step::Sizes(MASTER_DRIVER, 1, 3),
+    Step::Gone(Rule::Flushed, 0, 0),
     Step::Call(MASTER, ALL_WRITES, DONE),
     Step::Sizes(MASTER_DRIVER, 0, 0),
+    Step::Gone(Rule::Flushed, 3, 0),
     Step::Turn(MASTER_DRIVER, Ok(Turn::Idle)),
     Step::Call(SLAVE, Event::Read { n: 1 }, AGAIN),
     Step::Entered(7, b"abc"),
@@ -362,7 +374,7 @@ fn a_flush_takes_what_was_written(rt: HostRuntime) -> Result<(), Fail> {
     Ok(run(&rt, rt.alloc(), SIZES, &OPENING, &FLUSHING)?)
 }
 
-const CLOSING_THE_SLAVE: [Step<'static>; 9] = [
+const CLOSING_THE_SLAVE: [Step<'static>; 11] = [
     Step::Call(MASTER, Event::Write { bytes: b"abc" }, Ok(Answer::Count(3))),
     Step::Turn(MASTER_DRIVER, Ok(Turn::Moved(3))),
     Step::Call(SLAVE, Event::Shut, DONE),
@@ -372,6 +384,8 @@ const CLOSING_THE_SLAVE: [Step<'static>; 9] = [
     Step::Call(MASTER, Event::OpenSlave, DONE),
     Step::Turn(MASTER_DRIVER, Ok(Turn::Moved(1))),
     Step::Read(SLAVE, 9, b"d"),
+    Step::Gone(Rule::EndClosed, 3, 0),
+    Step::Gone(Rule::Read, 1, 0),
 ];
 
 #[test]
@@ -379,10 +393,11 @@ fn a_closed_slave_ends_the_masters_input(rt: HostRuntime) -> Result<(), Fail> {
     Ok(run(&rt, rt.alloc(), SIZES, &OPENING, &CLOSING_THE_SLAVE)?)
 }
 
-const CLOSING_THE_MASTER: [Step<'static>; 11] = [
+const CLOSING_THE_MASTER: [Step<'static>; 14] = [
     Step::Call(SLAVE, Event::Write { bytes: b"abc" }, Ok(Answer::Count(3))),
     Step::Call(MASTER, Event::Shut, DONE),
     Step::Free(256, 256),
+    Step::Gone(Rule::EndClosed, 0, 3),
     Step::Call(SLAVE, Event::Write { bytes: b"d" }, NOT_OPEN),
     Step::Call(SLAVE, ALL_WRITES, NOT_OPEN),
     Step::Call(SLAVE, Event::Pop, NOT_OPEN),
@@ -391,6 +406,8 @@ const CLOSING_THE_MASTER: [Step<'static>; 11] = [
     Step::Call(MASTER, Event::OpenMaster, INVALID),
     Step::Call(SLAVE, Event::Shut, DONE),
     Step::Call(SLAVE, Event::OpenSlave, NOT_OPEN),
+    Step::Reset,
+    Step::Gone(Rule::EndClosed, 0, 0),
 ];
 
 #[test]

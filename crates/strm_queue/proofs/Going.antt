@@ -6,7 +6,7 @@ use Rattle.std.proofs.lemmas.List.{length-append}
 use Rattle.std.proofs.lemmas.List.Sums.{sum_by-cons}
 use Rattle.strm_types.specs.declared.kinds.Band.{Band}
 use Rattle.strm_types.specs.declared.kinds.MsgKind.{MsgKind}
-use Rattle.strm_types.specs.Emptied.{Choice, of_data, cells_gone}
+use Rattle.strm_types.specs.Emptied.{Choice, of_all, of_data, cells_gone}
 use Rattle.strm_types.specs.Flush.{is_data_kind, counted_band}
 use Rattle.strm_types.specs.Message.{Message, cells_of, size_of}
 use Rattle.strm_blocks.specs.Blocks.{Block, block_at}
@@ -75,3 +75,10 @@ band-twice false false n = refl
 
 pub gone-band : (band : Band) (q : List (List Block)) → AllByRecursion IsChain q → length (cells_gone (of_data (Some band)) (map message_of q)) ≡ sum_by (data_share band.0) q
 gone-band band q all = gone-long (of_data (Some band)) (data_share band.0) (λ chain one. band-twice (is_data chain) (band_of chain == band.0) (bytes_of chain)) q all
+
+any-twice : (b : Bool) (n : ℕ) → (if true then (if b then n else 0) else 0) ≡ (if b then n else 0)
+any-twice b n = refl
+
+-- all messages together have no more cells than those of data
+pub gone-every : (q : List (List Block)) → AllByRecursion IsChain q → length (cells_gone of_all (map message_of q)) ≡ sum_by data_bytes_of q
+gone-every q all = gone-long of_all data_bytes_of (λ chain one. any-twice (is_data chain) (bytes_of chain)) q all

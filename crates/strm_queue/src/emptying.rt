@@ -1,14 +1,14 @@
 //! What flushes and closes take off a queue (flushq(9F), flushband(9F)).
 
-ghost use Rattle.std.specs.Prelude.{◌≡◌, true};
+ghost use Rattle.std.specs.Prelude.{◌≡◌, true, length};
 ghost use Rattle.strm_types.specs.Refused.{is_a_band};
-ghost use Rattle.strm_types.specs.Emptied.{of_data, emptied, queue_behind, writer_goes};
-ghost use Rattle.strm_queue.specs.Stored.{queue_in, IsReady, Keeps, FreesBlocks};
+ghost use Rattle.strm_types.specs.Emptied.{of_data, cells_gone, emptied, queue_behind, writer_goes};
+ghost use Rattle.strm_queue.specs.Stored.{queue_in, messages_on, IsReady, Keeps, FreesBlocks};
 ghost use Rattle.strm_queue.specs.Choices.{choice_of, IsChoice};
 
 use crate::flush::Flush;
 use crate::queue::Queue;
-use crate::standing::{relieve, total};
+use crate::standing::{data_bytes, relieve, total};
 use strm_blocks::Blocks;
 use strm_types::Band;
 
@@ -31,6 +31,19 @@ impl Chosen {
             Some(band) => Chosen::Of(band),
             None => Chosen::Data,
         }
+    }
+}
+
+/// How many bytes of M_DATA, M_PROTO and M_PCPROTO go from a queue.
+pub fn going<B: Blocks>(store: &B, queue: &Queue, chosen: Chosen) -> usize
+    requires ready { IsReady (B.value store.now) queue.now }
+    requires valid { IsChoice chosen }
+    ensures { result ≡ length (cells_gone (choice_of chosen) (messages_on (B.value store.now) queue.now.list)) }
+{
+    match chosen {
+        Chosen::All => data_bytes(store, queue, None),
+        Chosen::Data => data_bytes(store, queue, None),
+        Chosen::Of(band) => data_bytes(store, queue, Some(band)),
     }
 }
 

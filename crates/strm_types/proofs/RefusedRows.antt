@@ -24,6 +24,7 @@ use Rattle.strm_types.specs.Write.{chunk_count}
 use Rattle.strm_types.specs.Calls.{Request, payload_of, content_of}
 use Rattle.strm_types.specs.Journal.{PlainEntry, content_max, room_of, room_used, entry_len, entries_in}
 use Rattle.strm_types.specs.Refused.{Free, free_beside, enough, blocks_taken, blocks_asked, has_room, refused, turn_refused}
+use Rattle.strm_types.specs.Rules.{no_fates}
 use Rattle.strm_types.specs.Pair.{PairState, new_pair, call_refused, queue_refused}
 
 -- blocks
@@ -196,11 +197,11 @@ turning = refl
 
 -- pairs: as they are made, and what they refuse by the blocks that are free
 
-pub new-pair-is-empty : new_pair (sizes 40 3 9) ≡ record { state = opening; base = opening; journal = []; limits = sizes 40 3 9; free = free 40 40 }
+pub new-pair-is-empty : new_pair (sizes 40 3 9) ≡ record { state = opening; base = opening; journal = []; limits = sizes 40 3 9; free = free 40 40; fates = no_fates }
 new-pair-is-empty = refl
 
 abbrev pair : ℕ → ℕ → PairState
-pair mblks dblks = record { state = state Open Open false; base = opening; journal = []; limits = sizes 40 3 9; free = free mblks dblks }
+pair mblks dblks = record { state = state Open Open false; base = opening; journal = []; limits = sizes 40 3 9; free = free mblks dblks; fates = no_fates }
 
 pub pair-turns-with-eight-blocks : map (λ p. queue_refused p (driver_of Master)) (pair 8 8 ∷ pair 7 8 ∷ pair 8 7 ∷ []) ≡ None ∷ Some Enosr ∷ Some Enosr ∷ []
 pair-turns-with-eight-blocks = refl

@@ -10,7 +10,9 @@ use Rattle.strm_types.specs.Names.{direction_from, direction_of, head_of, is_ope
 use Rattle.strm_types.specs.Queue.{weight}
 use Rattle.strm_types.specs.State.{State, Stream, stream, book}
 use Rattle.strm_types.specs.Head.{head_read}
-use Rattle.strm_types.specs.Deliver.{Fate}
+use Rattle.strm_types.specs.Deliver.{Fate, tallied}
+use Rattle.strm_types.specs.Step.{after}
+use Rattle.strm_types.specs.declared.rules.Fates.{Fates}
 use Rattle.strm_types.specs.Emptied.{of_data, flushed_on, closed_at}
 use Rattle.strm_types.specs.Write.{written}
 use Rattle.strm_types.specs.Journal.{PlainEntry}
@@ -53,3 +55,8 @@ module _ {C : Type 0} where
   gone cells s (Called caller Shut answer) = (closed_at caller.side s).gone
   gone cells s (Called caller asked answer) = []
   gone cells s (Turned name turn) = []
+
+  -- what entries let go, one after the other, told by its rules
+  abbrev pub told_by : Cells C → State C → List PlainEntry → Fates → Fates
+  told_by cells s [] fates = fates
+  told_by cells s (entry ∷ entries) fates = told_by cells (after cells s entry) entries (tallied (gone cells s entry) fates)

@@ -11,15 +11,20 @@ use Rattle.strm_types.specs.Refused.{Free, enough, blocks_asked, refused, turn_r
 use Rattle.strm_types.specs.declared.limits.TheConstants.{TURN_BLOCKS}
 use Rattle.strm_types.specs.Cells.{plain}
 use Rattle.strm_types.specs.Step.{Step}
+use Rattle.strm_types.specs.Kept.{gone}
+use Rattle.strm_types.specs.Deliver.{tallied}
+use Rattle.strm_types.specs.Rules.{no_fates}
+use Rattle.strm_types.specs.declared.rules.Fates.{Fates}
 
--- A pair: its plain state, the state that its journal began at, the journal, the sizes that it was made with, and how
--- many blocks are free.
+-- A pair: its plain state, the state that its journal began at, the journal, the sizes that it was made with, how many
+-- blocks are free, and how many bytes have gone by each rule since the journal began.
 pub record PairState : Type 0 where
   pub state : State ℕ
   pub base : State ℕ
   pub journal : List PlainEntry
   pub limits : Config
   pub free : Free
+  pub fates : Fates
 
 -- a pair as it is made
 abbrev pub new_pair : Config → PairState
@@ -29,6 +34,7 @@ new_pair limits = record {
   journal = [];
   limits = limits;
   free = record { mblks = limits.mblks; dblks = limits.dblks };
+  fates = no_fates;
 }
 
 -- the refusal of a call on a pair, if any
@@ -39,9 +45,11 @@ call_refused p caller asked = refused p.state p.journal p.limits (enough (blocks
 abbrev pub queue_refused : PairState → QueueName → Option Refusal
 queue_refused p name = turn_refused p.state p.journal p.limits (enough TURN_BLOCKS p.free) name
 
--- The pair took a step, and its journal has gained the entry of it. The base and the sizes stay.
+-- The pair took a step, and its journal has gained the entry of it. What the step let go is told by its rules. The base and the
+-- sizes stay.
 pub record AddsEntry (old new : PairState) (entry : PlainEntry) : Type 0 where
   pub journal : new.journal ≡ old.journal ++ entry ∷ []
   pub step : Step plain old.state entry new.state
+  pub fates : new.fates ≡ tallied (gone plain old.state entry) old.fates
   pub base : new.base ≡ old.base
   pub limits : new.limits ≡ old.limits

@@ -23,15 +23,15 @@ invariant_of-self g c =
     let out = c.carry_out-answer.new.out.items in
     let old = state_in s p.streams in
     let entry : PlainEntry = Called c.args.caller asked (reply_in c.carry_out-answer.result out) in
-    let allowed : call_refused (pair_of s p.streams p.journal p.limits) c.args.caller asked ≡ None = ap (λ (v : PairState). call_refused v c.args.caller asked) c.self.view_is ∙ sym c.refusal.ensures ∙ c.in_default.is in
+    let allowed : call_refused (pair_of s p.streams p.journal p.limits p.fates) c.args.caller asked ≡ None = ap (λ (v : PairState). call_refused v c.args.caller asked) c.self.view_is ∙ sym c.refusal.ensures ∙ c.in_default.is in
     let added : journal_of c.add_call.new.self ≡ journal_of p.journal ++ entry ∷ [] = c.add_call.ensures.added ∙ ap (λ b. journal_of p.journal ++ Called c.args.caller asked (reply_in c.carry_out-answer.result b) ∷ []) c.as_slice.ensures.value in
-    kept-step s new p.streams c.carry_out-answer.new.self p.journal c.add_call.new.self p.limits entry c.self.invariant
+    kept-step s new p.streams c.carry_out-answer.new.self p.journal c.add_call.new.self p.limits p.fates c.carry_out-answer.new.told entry c.self.invariant
     (record {
       allowed = (call-allowed old (journal_of p.journal) p.limits (enough (blocks_asked asked) (free_in s)) c.args.caller asked allowed).0;
       answered = sym c.carry_out-answer.ensures.answer;
       leads = refl;
     })
-    c.carry_out-answer.ensures.state c.carry_out-answer.ensures.held c.carry_out-answer.ensures.pool added c.add_call.ensures.most_entries c.add_call.ensures.most_bytes
+    c.carry_out-answer.ensures.state c.carry_out-answer.ensures.held c.carry_out-answer.ensures.pool (c.carry_out-answer.ensures.told (reply_in c.carry_out-answer.result out)) added c.add_call.ensures.most_entries c.add_call.ensures.most_bytes
 
 pub returns-clause-adds : goal.returns-clause-adds
 returns-clause-adds g c =
@@ -44,17 +44,18 @@ returns-clause-adds g c =
     let out = c.carry_out-answer.new.out.items in
     let old = state_in s p.streams in
     let entry : PlainEntry = Called c.args.caller asked (reply_in c.carry_out-answer.result out) in
-    let allowed : call_refused (pair_of s p.streams p.journal p.limits) c.args.caller asked ≡ None = ap (λ (v : PairState). call_refused v c.args.caller asked) c.self.view_is ∙ sym c.refusal.ensures ∙ c.in_default.is in
+    let allowed : call_refused (pair_of s p.streams p.journal p.limits p.fates) c.args.caller asked ≡ None = ap (λ (v : PairState). call_refused v c.args.caller asked) c.self.view_is ∙ sym c.refusal.ensures ∙ c.in_default.is in
     let added : journal_of k ≡ journal_of p.journal ++ entry ∷ [] = c.add_call.ensures.added ∙ ap (λ b. journal_of p.journal ++ Called c.args.caller asked (reply_in c.carry_out-answer.result b) ∷ []) c.as_slice.ensures.value in
     let taken : IsCall plain old c.args.caller asked (reply_in c.carry_out-answer.result out) (after plain old entry) = record {
       allowed = (call-allowed old (journal_of p.journal) p.limits (enough (blocks_asked asked) (free_in s)) c.args.caller asked allowed).0;
       answered = sym c.carry_out-answer.ensures.answer;
       leads = refl;
     } in
-    subst (λ (v : PairState). AddsEntry v (pair_of new q k p.limits) entry) c.self.view_is
+    subst (λ (v : PairState). AddsEntry v (pair_of new q k p.limits c.carry_out-answer.new.told) entry) c.self.view_is
     (record {
       journal = added;
       step = step-shown s new p.streams q entry c.carry_out-answer.ensures.state taken;
+      fates = c.carry_out-answer.ensures.told (reply_in c.carry_out-answer.result out);
       base = refl;
       limits = refl;
     })

@@ -29,7 +29,7 @@ pub returns-in-Read-clause-answer : goal.returns-in-Read-clause-answer
 returns-in-Read-clause-answer g c =
     let old = state_in (g.B.Blocks.value c.args.store.now) c.args.self.now in
     let out = c.read.new.out.items in
-    let whole : take c.len.result out ≡ out = ap (λ n. take n out) c.len.ensures.value ∙ take-length out in
+    let whole : take c.len-given.result out ≡ out = ap (λ n. take n out) c.len-given.ensures.value ∙ take-length out in
     rw c.in-Read.is (ap Bytes whole ∙ c.read.ensures.answer ∙ ap (λ (o : Outcome ℕ). o.answer) (sym (read-is c.args.caller.side c.in-Read.n old)))
 
 flush-band : (s : State ℕ) (caller : Caller) (what : FlushQueues) (band : Option Band) → refused_at_once s caller (Flush what band) ≡ None → is_a_band band ≡ true
