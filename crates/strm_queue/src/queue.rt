@@ -58,7 +58,8 @@ impl Queue {
     fn count_in(&mut self, share: Share)
         requires band { share.band < length self.old.flows }
         requires few { count_in (flow_at share.band self.old.flows) + share.bytes ≤ 16777216 }
-        ensures flows { self.new.flows ≡ slice_set self.old.flows share.band (added_to share.is_data share.bytes (flow_at share.band self.old.flows)) }
+        ensures flows { self.new.flows ≡ slice_set self.old.flows share.band
+            (added_to share.is_data share.bytes (flow_at share.band self.old.flows)) }
         ensures others { OnlyCounts self.old self.new }
     {
         let flow = self.flows[share.band];
@@ -68,8 +69,10 @@ impl Queue {
     // Counts a message out.
     fn count_out(&mut self, share: Share)
         requires band { share.band < length self.old.flows }
-        requires has { share.bytes ≤ (if share.is_data then (flow_at share.band self.old.flows).data_bytes else (flow_at share.band self.old.flows).other_bytes) }
-        ensures flows { self.new.flows ≡ slice_set self.old.flows share.band (removed_from share.is_data share.bytes (flow_at share.band self.old.flows)) }
+        requires has { share.bytes ≤ (if share.is_data then (flow_at share.band self.old.flows).data_bytes
+            else (flow_at share.band self.old.flows).other_bytes) }
+        ensures flows { self.new.flows ≡ slice_set self.old.flows share.band
+            (removed_from share.is_data share.bytes (flow_at share.band self.old.flows)) }
         ensures others { OnlyCounts self.old self.new }
     {
         let flow = self.flows[share.band];
@@ -85,10 +88,12 @@ impl Queue {
         requires in_hand { IsInHand (B.value store.old) (B.name message) }
         requires band { band_of (in_hand (B.value store.old) (B.name message)) < 8 }
         ensures placed { let s = B.value store.old in
-            B.value store.new ≡ placed (dropped s (B.name message)) self.old.list (put (in_hand s (B.name message)) (list_at s self.old.list)) }
+            B.value store.new ≡ placed (dropped s (B.name message)) self.old.list
+            (put (in_hand s (B.name message)) (list_at s self.old.list)) }
         ensures counted { AreCounted self.new.flows (list_at (B.value store.new) self.new.list) }
         ensures flows { plain_flows self.new.flows ≡ plain_flows self.old.flows }
-        ensures enables { result ≡ enables (in_hand (B.value store.old) (B.name message)) self.old.want_read self.old.no_enable }
+        ensures enables { result
+            ≡ enables (in_hand (B.value store.old) (B.name message)) self.old.want_read self.old.no_enable }
         ensures others { OnlyCounts self.old self.new }
     {
         store.audit();
@@ -104,7 +109,8 @@ impl Queue {
         requires in_hand { IsInHand (B.value store.old) (B.name message) }
         requires band { band_of (in_hand (B.value store.old) (B.name message)) < 8 }
         ensures placed { let s = B.value store.old in
-            B.value store.new ≡ placed (dropped s (B.name message)) self.old.list (put_back (in_hand s (B.name message)) (list_at s self.old.list)) }
+            B.value store.new ≡ placed (dropped s (B.name message)) self.old.list
+            (put_back (in_hand s (B.name message)) (list_at s self.old.list)) }
         ensures counted { AreCounted self.new.flows (list_at (B.value store.new) self.new.list) }
         ensures flows { plain_flows self.new.flows ≡ plain_flows self.old.flows }
         ensures others { OnlyCounts self.old self.new }
@@ -119,10 +125,12 @@ impl Queue {
     /// `back_enable`, once what is left of the message is put back. The cost is a step for each block of the message.
     pub fn getq<B: Blocks>(&mut self, store: &mut B) -> Option<B::Mp>
         requires { AreCounted self.old.flows (list_at (B.value store.old) self.old.list) }
-        ensures taken { MatchOption result (Unpopped (B.value store.old) (B.value store.new) self.old.list) (λ m. Popped (B.value store.old) (B.value store.new) self.old.list (B.name m)) }
+        ensures taken { MatchOption result (Unpopped (B.value store.old) (B.value store.new) self.old.list)
+            (λ m. Popped (B.value store.old) (B.value store.new) self.old.list (B.name m)) }
         ensures counted { AreCounted self.new.flows (list_at (B.value store.new) self.new.list) }
         ensures flows { plain_flows self.new.flows ≡ plain_flows self.old.flows }
-        ensures want_read { MatchOption result (self.new.want_read ≡ self.old.want_read) (λ _. self.new.want_read ≡ false) }
+        ensures want_read { MatchOption result (self.new.want_read ≡ self.old.want_read)
+            (λ _. self.new.want_read ≡ false) }
         ensures list { self.new.list ≡ self.old.list }
         ensures no_enable { self.new.no_enable ≡ self.old.no_enable }
     {
@@ -159,14 +167,16 @@ impl Queue {
     pub fn is_full(&self, band: Band) -> bool
         requires { band.0 < 8 }
         ensures kept { result ≡ (flow_at band.0 self.now.flows).full }
-        ensures full { (q : List (List Block)) → AreCounted self.now.flows q → result ≡ is_full (flow_at band.0 self.now.flows).high band.0 q }
+        ensures full { (q : List (List Block)) → AreCounted self.now.flows q →
+            result ≡ is_full (flow_at band.0 self.now.flows).high band.0 q }
     {
         self.flows[usize::from(band.0)].full
     }
 
     // Counts out what a flush of all messages, or of those of data, has taken.
     fn count_flush(&mut self, what: Flush)
-        ensures flows { (band : ℕ) → band < 8 → flow_at band self.new.flows ≡ flushed_of (takes_all what) (flow_at band self.old.flows) }
+        ensures flows { (band : ℕ) → band < 8 →
+            flow_at band self.new.flows ≡ flushed_of (takes_all what) (flow_at band self.old.flows) }
         ensures eight { length self.new.flows ≡ length self.old.flows }
         ensures others { OnlyCounts self.old self.new }
     {
@@ -179,7 +189,8 @@ impl Queue {
     // Sets want-read where nothing stands on the list.
     fn see_empty<B: Blocks>(&mut self, store: &B)
         ensures empty { list_at (B.value store.now) self.old.list ≡ [] → self.new.want_read ≡ true }
-        ensures filled { (list_at (B.value store.now) self.old.list ≡ [] → ⊥) → self.new.want_read ≡ self.old.want_read }
+        ensures filled { (list_at (B.value store.now) self.old.list ≡ [] → ⊥) →
+            self.new.want_read ≡ self.old.want_read }
         ensures flows { self.new.flows ≡ self.old.flows }
         ensures list { self.new.list ≡ self.old.list }
         ensures no_enable { self.new.no_enable ≡ self.old.no_enable }
@@ -194,11 +205,13 @@ impl Queue {
     pub fn flushq<B: Blocks>(&mut self, store: &mut B, what: Flush)
         requires { AreCounted self.old.flows (list_at (B.value store.old) self.old.list) }
         ensures flushed { let s = B.value store.old in
-            B.value store.new ≡ placed s self.old.list (flushed (record { all = takes_all what; band = None }) (list_at s self.old.list)) }
+            B.value store.new ≡ placed s self.old.list
+            (flushed (record { all = takes_all what; band = None }) (list_at s self.old.list)) }
         ensures counted { AreCounted self.new.flows (list_at (B.value store.new) self.new.list) }
         ensures flows { plain_flows self.new.flows ≡ plain_flows self.old.flows }
         ensures empty { list_at (B.value store.new) self.old.list ≡ [] → self.new.want_read ≡ true }
-        ensures filled { (list_at (B.value store.new) self.old.list ≡ [] → ⊥) → self.new.want_read ≡ self.old.want_read }
+        ensures filled { (list_at (B.value store.new) self.old.list ≡ [] → ⊥) →
+            self.new.want_read ≡ self.old.want_read }
         ensures list { self.new.list ≡ self.old.list }
         ensures no_enable { self.new.no_enable ≡ self.old.no_enable }
     {
@@ -220,11 +233,13 @@ impl Queue {
         requires counted { AreCounted self.old.flows (list_at (B.value store.old) self.old.list) }
         requires band { band.0 < 8 }
         ensures flushed { let s = B.value store.old in
-            B.value store.new ≡ placed s self.old.list (flushed (record { all = false; band = Some band }) (list_at s self.old.list)) }
+            B.value store.new ≡ placed s self.old.list
+            (flushed (record { all = false; band = Some band }) (list_at s self.old.list)) }
         ensures counted { AreCounted self.new.flows (list_at (B.value store.new) self.new.list) }
         ensures flows { plain_flows self.new.flows ≡ plain_flows self.old.flows }
         ensures empty { list_at (B.value store.new) self.old.list ≡ [] → self.new.want_read ≡ true }
-        ensures filled { (list_at (B.value store.new) self.old.list ≡ [] → ⊥) → self.new.want_read ≡ self.old.want_read }
+        ensures filled { (list_at (B.value store.new) self.old.list ≡ [] → ⊥) →
+            self.new.want_read ≡ self.old.want_read }
         ensures list { self.new.list ≡ self.old.list }
         ensures no_enable { self.new.no_enable ≡ self.old.no_enable }
     {
@@ -243,7 +258,8 @@ impl Queue {
     // Counts out what a flush of data of one band has taken.
     fn count_band_flush(&mut self, band: usize)
         requires { band < length self.old.flows }
-        ensures flows { self.new.flows ≡ slice_set self.old.flows band (flushed_of false (flow_at band self.old.flows)) }
+        ensures flows { self.new.flows
+            ≡ slice_set self.old.flows band (flushed_of false (flow_at band self.old.flows)) }
         ensures others { OnlyCounts self.old self.new }
     {
         let flow = self.flows[band];
@@ -255,7 +271,8 @@ impl Queue {
         requires band { band.0 < 8 }
         requires some { 1 ≤ high }
         requires order { low ≤ high }
-        ensures marks { self.new.flows ≡ slice_set self.old.flows band.0 (marked_with high low (flow_at band.0 self.old.flows)) }
+        ensures marks { self.new.flows
+            ≡ slice_set self.old.flows band.0 (marked_with high low (flow_at band.0 self.old.flows)) }
         ensures counted { (q : List (List Block)) → AreCounted self.old.flows q → AreCounted self.new.flows q }
         ensures others { OnlyCounts self.old self.new }
     {
