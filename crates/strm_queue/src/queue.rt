@@ -24,7 +24,7 @@ use strm_types::{BANDS, Band};
 #[derive(Drop)]
 pub struct Queue {
     pub list: usize,
-    pub flows: [Flow; 8],
+    pub flows: [Flow; BANDS],
     pub want_read: bool,
     pub no_enable: bool,
     pub ghost on_list: { list < 8 },
@@ -41,14 +41,14 @@ impl Queue {
         requires some { 1 ≤ high }
         requires order { low ≤ high }
         ensures counted { AreCounted result.flows [] }
-        ensures flows { plain_flows result.flows ≡ replicate 8 (record { high = high; low = low; want_write = false }) }
+        ensures flows { plain_flows result.flows ≡ replicate BANDS (record { high = high; low = low; want_write = false }) }
         ensures list { result.list ≡ list }
         ensures want_read { result.want_read ≡ true }
         ensures no_enable { result.no_enable ≡ false }
     {
         Queue {
             list,
-            flows: [Flow::new(high, low); 8],
+            flows: [Flow::new(high, low); BANDS],
             want_read: true,
             no_enable: false,
         }
@@ -86,7 +86,7 @@ impl Queue {
     pub fn putq<B: Blocks>(&mut self, store: &mut B, message: B::Mp) -> bool
         requires counted { AreCounted self.old.flows (list_at (B.value store.old) self.old.list) }
         requires in_hand { IsInHand (B.value store.old) (B.name message) }
-        requires band { band_of (in_hand (B.value store.old) (B.name message)) < 8 }
+        requires band { band_of (in_hand (B.value store.old) (B.name message)) < BANDS }
         ensures placed { let s = B.value store.old in
             B.value store.new ≡ placed (dropped s (B.name message)) self.old.list
             (put (in_hand s (B.name message)) (list_at s self.old.list)) }
@@ -107,7 +107,7 @@ impl Queue {
     pub fn putbq<B: Blocks>(&mut self, store: &mut B, message: B::Mp)
         requires counted { AreCounted self.old.flows (list_at (B.value store.old) self.old.list) }
         requires in_hand { IsInHand (B.value store.old) (B.name message) }
-        requires band { band_of (in_hand (B.value store.old) (B.name message)) < 8 }
+        requires band { band_of (in_hand (B.value store.old) (B.name message)) < BANDS }
         ensures placed { let s = B.value store.old in
             B.value store.new ≡ placed (dropped s (B.name message)) self.old.list
             (put_back (in_hand s (B.name message)) (list_at s self.old.list)) }
@@ -144,7 +144,7 @@ impl Queue {
 
     /// How many bytes count in a band: all of its messages', and in band 0 those of high priority too.
     pub fn count(&self, band: Band) -> usize
-        requires { band.0 < 8 }
+        requires { band.0 < BANDS }
         ensures kept { result ≡ count_in (flow_at band.0 self.now.flows) }
         ensures count { (q : List (List Block)) → AreCounted self.now.flows q → result ≡ count_of band.0 q }
     {
@@ -165,7 +165,7 @@ impl Queue {
 
     /// Whether a band's count is at or above its high-water mark.
     pub fn is_full(&self, band: Band) -> bool
-        requires { band.0 < 8 }
+        requires { band.0 < BANDS }
         ensures kept { result ≡ (flow_at band.0 self.now.flows).full }
         ensures full { (q : List (List Block)) → AreCounted self.now.flows q →
             result ≡ is_full (flow_at band.0 self.now.flows).high band.0 q }
@@ -175,7 +175,7 @@ impl Queue {
 
     // Counts out what a flush of all messages, or of those of data, has taken.
     fn count_flush(&mut self, what: Flush)
-        ensures flows { (band : ℕ) → band < 8 →
+        ensures flows { (band : ℕ) → band < BANDS →
             flow_at band self.new.flows ≡ flushed_of (takes_all what) (flow_at band self.old.flows) }
         ensures eight { length self.new.flows ≡ length self.old.flows }
         ensures others { OnlyCounts self.old self.new }
@@ -231,7 +231,7 @@ impl Queue {
     /// Want-read is set where that leaves the queue empty.
     pub fn flushband<B: Blocks>(&mut self, store: &mut B, band: Band)
         requires counted { AreCounted self.old.flows (list_at (B.value store.old) self.old.list) }
-        requires band { band.0 < 8 }
+        requires band { band.0 < BANDS }
         ensures flushed { let s = B.value store.old in
             B.value store.new ≡ placed s self.old.list
             (flushed (record { all = false; band = Some band }) (list_at s self.old.list)) }
@@ -268,7 +268,7 @@ impl Queue {
 
     /// Sets the marks of a band. It is full from then on exactly where its count is at or above the new high-water mark.
     pub fn set_marks(&mut self, band: Band, high: usize, low: usize)
-        requires band { band.0 < 8 }
+        requires band { band.0 < BANDS }
         requires some { 1 ≤ high }
         requires order { low ≤ high }
         ensures marks { self.new.flows
@@ -290,7 +290,7 @@ impl Queue {
 
     /// Sets want-write of a band, for a writer that waits until `back_enable` lets it go.
     pub fn let_wait(&mut self, band: Band)
-        requires { band.0 < 8 }
+        requires { band.0 < BANDS }
         ensures flows { plain_flows self.new.flows ≡ with_writer_at band.0 (plain_flows self.old.flows) }
         ensures counted { (q : List (List Block)) → AreCounted self.old.flows q → AreCounted self.new.flows q }
         ensures others { OnlyCounts self.old self.new }
@@ -302,7 +302,7 @@ impl Queue {
     /// Answers whether there was one, and the nearest earlier queue that has service is then to be enabled.
     pub fn back_enable(&mut self) -> bool
         ensures went { result ≡ list_any relieves self.old.flows }
-        ensures flows { (band : ℕ) → band < 8 → flow_at band self.new.flows ≡ relieved (flow_at band self.old.flows) }
+        ensures flows { (band : ℕ) → band < BANDS → flow_at band self.new.flows ≡ relieved (flow_at band self.old.flows) }
         ensures counted { (q : List (List Block)) → AreCounted self.old.flows q → AreCounted self.new.flows q }
         ensures others { OnlyCounts self.old self.new }
     {
