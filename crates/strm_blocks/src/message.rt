@@ -85,7 +85,8 @@ pub(crate) fn part_blocks(
 ) -> LinkedList<MessageBlock>
     requires within { at < length list.old }
     requires there { from ≤ length (message_at at list.old).blocks }
-    ensures kept { let m = message_at at list.old in list.new ≡ slice_set list.old at (with_blocks (take from m.blocks) m) }
+    ensures kept { let m = message_at at list.old in
+        list.new ≡ slice_set list.old at (with_blocks (take from m.blocks) m) }
     ensures rest { result ≡ drop from (message_at at list.old).blocks }
 {
     let _len = list.len();

@@ -46,8 +46,10 @@ fn place_from(end: End, count: usize, steps: usize) -> usize
 /// The run of blocks of one kind at an end of a message.
 pub(crate) fn run_at<B: Blocks>(store: &B, message: &B::Mp, end: End) -> Run
     requires { IsInHand (B.value store.now) (B.name message.now) }
-    ensures blocks { result.blocks ≡ length (front_run (seen_from end (in_hand (B.value store.now) (B.name message.now)))) }
-    ensures len { result.len ≡ length (bytes_of (front_run (seen_from end (in_hand (B.value store.now) (B.name message.now))))) }
+    ensures blocks { result.blocks
+        ≡ length (front_run (seen_from end (in_hand (B.value store.now) (B.name message.now)))) }
+    ensures len { result.len
+        ≡ length (bytes_of (front_run (seen_from end (in_hand (B.value store.now) (B.name message.now))))) }
 {
     store.audit();
     let count = store.blocks(message);
@@ -69,7 +71,8 @@ fn trim_block<B: Blocks>(store: &mut B, message: &B::Mp, end: End, at: usize, n:
     requires within { at < length (in_hand (B.value store.old) (B.name message.now)) }
     requires enough { n ≤ length (block_at at (in_hand (B.value store.old) (B.name message.now))).bytes }
     ensures { let chain = in_hand (B.value store.old) (B.name message.now) in
-        B.value store.new ≡ changed (B.value store.old) (B.name message.now) (with_block at (trim_at end n (block_at at chain)) chain) }
+        B.value store.new ≡ changed (B.value store.old) (B.name message.now)
+        (with_block at (trim_at end n (block_at at chain)) chain) }
 {
     match end {
         End::Head => store.trim_head(message, at, n),
@@ -82,7 +85,8 @@ fn trim_blocks<B: Blocks>(store: &mut B, message: &B::Mp, end: End, blocks: usiz
     requires in_hand { IsInHand (B.value store.old) (B.name message.now) }
     requires within { blocks ≤ length (in_hand (B.value store.old) (B.name message.now)) }
     ensures { let chain = in_hand (B.value store.old) (B.name message.now) in
-        B.value store.new ≡ changed (B.value store.old) (B.name message.now) (seen_from end (trimmed_front (trim_at end) n blocks (seen_from end chain))) }
+        B.value store.new ≡ changed (B.value store.old) (B.name message.now)
+        (seen_from end (trimmed_front (trim_at end) n blocks (seen_from end chain))) }
 {
     let count = store.blocks(message);
     let mut left = n;
@@ -107,7 +111,8 @@ pub fn adjmsg<B: Blocks>(store: &mut B, message: &B::Mp, n: isize) -> bool
     ensures left { let shown = bytes_of (in_hand (B.value store.old) (B.name message.now)) in
         OnTrue result (bytes_of (in_hand (B.value store.new) (B.name message.now)) ≡ left_of n shown) }
     // The blocks stay, with their kinds, bands and data blocks, and so no block is taken or freed.
-    ensures blocks { map without_bytes (in_hand (B.value store.new) (B.name message.now)) ≡ map without_bytes (in_hand (B.value store.old) (B.name message.now)) }
+    ensures blocks { map without_bytes (in_hand (B.value store.new) (B.name message.now))
+        ≡ map without_bytes (in_hand (B.value store.old) (B.name message.now)) }
     ensures free_m { free_m (B.value store.new) ≡ free_m (B.value store.old) }
     ensures free_d { free_d (B.value store.new) ≡ free_d (B.value store.old) }
 {

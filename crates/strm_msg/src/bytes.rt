@@ -27,7 +27,9 @@ pub(crate) fn block_of<B: Blocks>(
     bytes: &[u8],
 ) -> Result<B::Mp, NoBlocks>
     requires { length bytes.now ≤ 256 }
-    ensures { MatchResult result (λ m. Copied (B.value store.old) (B.value store.new) (B.name m) (piece kind band.0 bytes.now)) (λ _. NoneFree (B.value store.old) (B.value store.new)) }
+    ensures { MatchResult result
+        (λ m. Copied (B.value store.old) (B.value store.new) (B.name m) (piece kind band.0 bytes.now))
+        (λ _. NoneFree (B.value store.old) (B.value store.new)) }
 {
     store.alloc_with(kind, band, bytes)
 }
@@ -41,7 +43,9 @@ pub fn from_bytes<B: Blocks>(
     band: Band,
     bytes: &[u8],
 ) -> Result<B::Mp, NoBlocks>
-    ensures { MatchResult result (λ m. MadeOf (B.value store.old) (B.value store.new) (B.name m) kind band.0 bytes.now) (λ _. TooFew (B.value store.old) (B.value store.new) (write.chunk_count (length bytes.now))) }
+    ensures { MatchResult result
+        (λ m. MadeOf (B.value store.old) (B.value store.new) (B.name m) kind band.0 bytes.now)
+        (λ _. TooFew (B.value store.old) (B.value store.new) (write.chunk_count (length bytes.now))) }
 {
     let count = chunk_count(bytes.len());
     let mut message = block_of(store, kind, band, chunk_at(bytes, 0))?;

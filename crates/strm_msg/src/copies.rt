@@ -11,7 +11,8 @@ use strm_blocks::{Blocks, NoBlocks};
 pub fn dupmsg<B: Blocks>(store: &mut B, message: &B::Mp) -> Result<B::Mp, NoBlocks>
     requires { IsInHand (B.value store.old) (B.name message.now) }
     ensures { let chain = in_hand (B.value store.old) (B.name message.now) in
-        MatchResult result (λ m. Shared (B.value store.old) (B.value store.new) (B.name m) chain) (λ _. Unshared (B.value store.old) (B.value store.new) chain) }
+        MatchResult result (λ m. Shared (B.value store.old) (B.value store.new) (B.name m) chain)
+        (λ _. Unshared (B.value store.old) (B.value store.new) chain) }
 {
     store.audit();
     let count = store.blocks(message);
@@ -34,7 +35,8 @@ pub fn dupmsg<B: Blocks>(store: &mut B, message: &B::Mp) -> Result<B::Mp, NoBloc
 pub fn copymsg<B: Blocks>(store: &mut B, message: &B::Mp) -> Result<B::Mp, NoBlocks>
     requires { IsInHand (B.value store.old) (B.name message.now) }
     ensures { let chain = in_hand (B.value store.old) (B.name message.now) in
-        MatchResult result (λ m. Made (B.value store.old) (B.value store.new) (B.name m) chain) (λ _. TooFew (B.value store.old) (B.value store.new) (length chain)) }
+        MatchResult result (λ m. Made (B.value store.old) (B.value store.new) (B.name m) chain)
+        (λ _. TooFew (B.value store.old) (B.value store.new) (length chain)) }
 {
     let count = store.blocks(message);
     let mut copy = store.copy(message, 0)?;

@@ -30,10 +30,14 @@ fn take_from_block<B: Blocks>(
     requires in_hand { IsInHand (B.value store.old) (B.name message.now) }
     requires within { at < length (in_hand (B.value store.old) (B.name message.now)) }
     requires room { from ≤ length buffer.old }
-    ensures count { result ≡ min (length buffer.old - from) (length (block_at at (in_hand (B.value store.old) (B.name message.now))).bytes) }
-    ensures copied { buffer.new ≡ (take from buffer.old ++ take result (block_at at (in_hand (B.value store.old) (B.name message.now))).bytes) ++ drop (from + result) buffer.old }
+    ensures count { result ≡ min (length buffer.old - from)
+        (length (block_at at (in_hand (B.value store.old) (B.name message.now))).bytes) }
+    ensures copied { buffer.new ≡ (take from buffer.old
+        ++ take result (block_at at (in_hand (B.value store.old) (B.name message.now))).bytes)
+        ++ drop (from + result) buffer.old }
     ensures trimmed { let chain = in_hand (B.value store.old) (B.name message.now) in
-        B.value store.new ≡ changed (B.value store.old) (B.name message.now) (with_block at (trimmed_head result (block_at at chain)) chain) }
+        B.value store.new ≡ changed (B.value store.old) (B.name message.now)
+        (with_block at (trimmed_head result (block_at at chain)) chain) }
 {
     let count = copy_into(buffer, from, store.bytes_at(message, at));
     store.trim_head(message, at, count);
@@ -44,12 +48,15 @@ fn take_from_block<B: Blocks>(
 /// M_DATA blocks, which stay in the chain (`adjmsg(9F)` within each). The control part stays as it is. Returns how many.
 pub fn take_data<B: Blocks>(store: &mut B, message: &B::Mp, buffer: &mut [u8]) -> usize
     requires { IsInHand (B.value store.old) (B.name message.now) }
-    ensures count { result ≡ min (length buffer.old) (length (data_bytes (in_hand (B.value store.old) (B.name message.now)))) }
+    ensures count { result ≡ min (length buffer.old)
+        (length (data_bytes (in_hand (B.value store.old) (B.name message.now)))) }
     ensures given { buffer.new ≡ filled buffer.old (data_bytes (in_hand (B.value store.old) (B.name message.now))) }
     ensures trimmed { let chain = in_hand (B.value store.old) (B.name message.now) in
         B.value store.new ≡ changed (B.value store.old) (B.name message.now) (without_data (length buffer.old) chain) }
-    ensures left { data_bytes (in_hand (B.value store.new) (B.name message.now)) ≡ drop result (data_bytes (in_hand (B.value store.old) (B.name message.now))) }
-    ensures control { control_bytes (in_hand (B.value store.new) (B.name message.now)) ≡ control_bytes (in_hand (B.value store.old) (B.name message.now)) }
+    ensures left { data_bytes (in_hand (B.value store.new) (B.name message.now))
+        ≡ drop result (data_bytes (in_hand (B.value store.old) (B.name message.now))) }
+    ensures control { control_bytes (in_hand (B.value store.new) (B.name message.now))
+        ≡ control_bytes (in_hand (B.value store.old) (B.name message.now)) }
 {
     store.audit();
     let count = store.blocks(message);

@@ -64,7 +64,8 @@ fn join<B: Blocks>(store: &mut B, message: &B::Mp, count: usize) -> Result<B::Mp
     requires enough { count ≤ length (bytes_of (in_hand (B.value store.old) (B.name message.now))) }
     ensures { let chain = in_hand (B.value store.old) (B.name message.now) in let b = block_at 0 chain in
         MatchResult result
-        (λ m. Copied (B.value store.old) (B.value store.new) (B.name m) (piece b.kind b.band (take count (bytes_of chain))))
+        (λ m. Copied (B.value store.old) (B.value store.new) (B.name m)
+        (piece b.kind b.band (take count (bytes_of chain))))
         (λ _. NoneFree (B.value store.old) (B.value store.new)) }
 {
     store.audit();
@@ -100,7 +101,8 @@ fn drop_joined<B: Blocks>(store: &mut B, mut message: B::Mp, count: usize) -> B:
     requires { IsInHand (B.value store.old) (B.name message) }
     ensures kept_name { B.name result ≡ B.name message }
     ensures dropped { let chain = in_hand (B.value store.old) (B.name message) in
-        B.value store.new ≡ changed (B.value store.old) (B.name message) (take 1 chain ++ without_joined (block_at 0 chain).kind count (drop 1 chain)) }
+        B.value store.new ≡ changed (B.value store.old) (B.name message)
+        (take 1 chain ++ without_joined (block_at 0 chain).kind count (drop 1 chain)) }
 {
     let blocks = store.blocks(&message);
     let kind = store.kind(&message, 0);
@@ -131,7 +133,8 @@ pub fn pullup<B: Blocks>(store: &mut B, message: B::Mp, n: isize) -> Result<B::M
     requires { IsInHand (B.value store.old) (B.name message) }
     ensures { MatchResult result
         (λ m. PulledUp (B.value store.old) (B.value store.new) (B.name message) (B.name m) n)
-        (λ not. PullRefused (B.value store.old) (B.value store.new) (B.name message) (B.name not.message) n not.refusal) }
+        (λ not. PullRefused (B.value store.old) (B.value store.new) (B.name message)
+        (B.name not.message) n not.refusal) }
 {
     let run = run_at(store, &message, End::Head);
     let count = match joined_count(n, run.len) {

@@ -11,7 +11,8 @@ use strm_blocks::Blocks;
 pub fn message_size<B: Blocks>(store: &B, message: &B::Mp) -> usize
     requires { IsInHand (B.value store.now) (B.name message.now) }
     ensures bytes { result ≡ length (bytes_of (in_hand (B.value store.now) (B.name message.now))) }
-    ensures message { IsChain (in_hand (B.value store.now) (B.name message.now)) → result ≡ size_of (message_of (in_hand (B.value store.now) (B.name message.now))) }
+    ensures message { IsChain (in_hand (B.value store.now) (B.name message.now)) →
+        result ≡ size_of (message_of (in_hand (B.value store.now) (B.name message.now))) }
 {
     store.audit();
     let mut bytes = 0;

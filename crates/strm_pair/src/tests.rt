@@ -285,6 +285,30 @@ fn a_full_journal_refuses(rt: HostRuntime) -> Result<(), Fail> {
     Ok(run(&rt, rt.alloc(), THREE_ENTRIES, &OPENING, &REFUSED_AS_FULL)?)
 }
 
+const MANY_ENTRIES: Config = Config {
+    mblks: 64,
+    dblks: 64,
+    journal_events: 20000,
+    journal_bytes: 100,
+};
+
+const UNLOCKING: [Step<'static>; 1] = [Step::Call(MASTER, Event::Unlock, DONE)];
+
+const FULL_OF_UNLOCKS: [Step<'static>; 1] = [Step::Call(MASTER, Event::Unlock, FULL)];
+
+// A pair is made with room for as many entries as it is asked for, and takes a call for each of them.
+#[test]
+fn a_journal_of_twenty_thousand_entries_is_filled(rt: HostRuntime) -> Result<(), Fail> {
+    let mut pair = over_tables(rt.alloc(), MANY_ENTRIES)?;
+    follow(&rt, &mut pair, &OPENING);
+    for _ in OPENING.len()..20000 {
+        follow(&rt, &mut pair, &UNLOCKING);
+    }
+    assert!(rt; has_entered(&pair, 20000, b""));
+    follow(&rt, &mut pair, &FULL_OF_UNLOCKS);
+    Ok(())
+}
+
 const BAD_CALLS: [Step<'static>; 15] = [
     Step::Call(MASTER, Event::Read { n: 1 }, NOT_OPEN),
     Step::Call(SLAVE, Event::OpenSlave, NOT_OPEN),

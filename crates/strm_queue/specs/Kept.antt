@@ -2,6 +2,7 @@
 use Rattle.std.specs.Prelude.{◌≡◌, ℕ, Bool, false, not, ◌&&◌, ◌||◌, ◌==◌, nat_le, nat_lt, ◌≤◌, ◌<◌, if◌then◌else◌, List, length, sum_by, slice_index_or}
 use Rattle.std.specs.List.{AllByRecursion}
 use Rattle.strm_types.specs.Message.{is_high_priority}
+use Rattle.strm_types.specs.declared.limits.TheConstants.{BANDS}
 use Rattle.strm_types.specs.Flush.{is_data_kind, counted_band}
 use Rattle.strm_blocks.specs.Blocks.{Block, block_at}
 use Rattle.strm_queue.specs.declared.flow.Flow.{Flow}
@@ -54,13 +55,13 @@ pub record IsCounted (band : ℕ) (f : Flow) (q : List (List Block)) : Type 0 wh
 
 -- each message counts in a band that a queue has
 abbrev pub AllBands : List (List Block) → Type 0
-AllBands q = AllByRecursion (λ chain. band_of chain < 8) q
+AllBands q = AllByRecursion (λ chain. band_of chain < BANDS) q
 
 -- The numbers that are kept for each of a queue's bands are those of the messages on a list.
 pub record AreCounted (flows : List Flow) (q : List (List Block)) : Type 0 where
-  pub eight : length flows ≡ 8
+  pub eight : length flows ≡ BANDS
   pub bands : AllBands q
-  pub each : (band : ℕ) → band < 8 → IsCounted band (flow_at band flows) q
+  pub each : (band : ℕ) → band < BANDS → IsCounted band (flow_at band flows) q
 
 -- whether a put enables a queue that has a service procedure
 abbrev pub enables : List Block → Bool → Bool → Bool

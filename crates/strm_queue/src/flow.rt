@@ -23,7 +23,14 @@ pub struct Flow {
 impl Flow {
     /// The flow control of a band where nothing stands, with these marks.
     pub fn new(high: usize, low: usize) -> Flow
-        ensures { result ≡ record { data_bytes = 0; other_bytes = 0; high = high; low = low; full = nat_le high 0; want_write = false } }
+        ensures { result ≡ record {
+          data_bytes = 0;
+          other_bytes = 0;
+          high = high;
+          low = low;
+          full = nat_le high 0;
+          want_write = false;
+        } }
     {
         Flow {
             data_bytes: 0,

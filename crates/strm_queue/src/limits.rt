@@ -25,7 +25,7 @@ pub fn is_list(list: usize) -> bool
 
 /// Whether a queue has this band, from 0 to 7.
 pub fn is_band(band: Band) -> bool
-    ensures { result ≡ nat_lt band.0 8 }
+    ensures { result ≡ nat_lt band.0 BANDS }
 {
     usize::from(band.0) < BANDS
 }

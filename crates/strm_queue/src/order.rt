@@ -9,8 +9,10 @@ ghost use Rattle.strm_queue.specs.Order.{Operation, IsOrdered, ServesAllInOrder,
 /// nothing of a higher rank stands. Where nothing is put back, what is taken of one rank, and what stays, are what stood
 /// there and what was put of it, first come first.
 pub fn serves_in_order()
-    ensures order { (operations : List Operation) (q : List (List Block)) → IsOrdered q → IsOrdered (after_all operations q) }
+    ensures order { (operations : List Operation) (q : List (List Block)) → IsOrdered q →
+        IsOrdered (after_all operations q) }
     ensures each { (operations : List Operation) (q : List (List Block)) → IsOrdered q → ServesAllInOrder operations q }
-    ensures first_come { (operations : List Operation) (q : List (List Block)) (r : ℕ) → IsOrdered q → PutsNothingBack operations →
+    ensures first_come { (operations : List Operation) (q : List (List Block)) (r : ℕ) → IsOrdered q →
+        PutsNothingBack operations →
         lane r (taken_all operations q) ++ lane r (after_all operations q) ≡ lane r q ++ lane r (put_all operations) }
 {}

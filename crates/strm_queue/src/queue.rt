@@ -26,7 +26,7 @@ use strm_types::{BANDS, Band};
 #[derive(Drop)]
 pub struct Queue {
     pub list: usize,
-    pub flows: [Flow; 8],
+    pub flows: [Flow; BANDS],
     pub want_read: bool,
     pub no_enable: bool,
     pub ghost on_list: { list < 8 },
@@ -43,14 +43,14 @@ impl Queue {
         requires some { 1 ≤ high }
         requires order { low ≤ high }
         ensures counted { AreCounted result.flows [] }
-        ensures flows { plain_flows result.flows ≡ replicate 8 (record { high = high; low = low; want_write = false }) }
+        ensures flows { plain_flows result.flows ≡ replicate BANDS (record { high = high; low = low; want_write = false }) }
         ensures list { result.list ≡ list }
         ensures want_read { result.want_read ≡ true }
         ensures no_enable { result.no_enable ≡ false }
     {
         Queue {
             list,
-            flows: [Flow::new(high, low); 8],
+            flows: [Flow::new(high, low); BANDS],
             want_read: true,
             no_enable: false,
         }
@@ -60,7 +60,8 @@ impl Queue {
     fn count_in(&mut self, share: Share)
         requires band { share.band < length self.old.flows }
         requires few { count_in (flow_at share.band self.old.flows) + share.bytes ≤ 16777216 }
-        ensures flows { self.new.flows ≡ slice_set self.old.flows share.band (added_to share.is_data share.bytes (flow_at share.band self.old.flows)) }
+        ensures flows { self.new.flows ≡ slice_set self.old.flows share.band
+            (added_to share.is_data share.bytes (flow_at share.band self.old.flows)) }
         ensures others { OnlyCounts self.old self.new }
     {
         let flow = self.flows[share.band];
@@ -70,8 +71,10 @@ impl Queue {
     // Counts a message out.
     fn count_out(&mut self, share: Share)
         requires band { share.band < length self.old.flows }
-        requires has { share.bytes ≤ (if share.is_data then (flow_at share.band self.old.flows).data_bytes else (flow_at share.band self.old.flows).other_bytes) }
-        ensures flows { self.new.flows ≡ slice_set self.old.flows share.band (removed_from share.is_data share.bytes (flow_at share.band self.old.flows)) }
+        requires has { share.bytes ≤ (if share.is_data then (flow_at share.band self.old.flows).data_bytes
+            else (flow_at share.band self.old.flows).other_bytes) }
+        ensures flows { self.new.flows ≡ slice_set self.old.flows share.band
+            (removed_from share.is_data share.bytes (flow_at share.band self.old.flows)) }
         ensures others { OnlyCounts self.old self.new }
     {
         let flow = self.flows[share.band];
@@ -85,12 +88,14 @@ impl Queue {
     pub fn putq<B: Blocks>(&mut self, store: &mut B, message: B::Mp) -> bool
         requires counted { AreCounted self.old.flows (list_at (B.value store.old) self.old.list) }
         requires in_hand { IsInHand (B.value store.old) (B.name message) }
-        requires band { band_of (in_hand (B.value store.old) (B.name message)) < 8 }
+        requires band { band_of (in_hand (B.value store.old) (B.name message)) < BANDS }
         ensures placed { let s = B.value store.old in
-            B.value store.new ≡ placed (dropped s (B.name message)) self.old.list (put (in_hand s (B.name message)) (list_at s self.old.list)) }
+            B.value store.new ≡ placed (dropped s (B.name message)) self.old.list
+            (put (in_hand s (B.name message)) (list_at s self.old.list)) }
         ensures counted { AreCounted self.new.flows (list_at (B.value store.new) self.new.list) }
         ensures flows { plain_flows self.new.flows ≡ plain_flows self.old.flows }
-        ensures enables { result ≡ enables (in_hand (B.value store.old) (B.name message)) self.old.want_read self.old.no_enable }
+        ensures enables { result
+            ≡ enables (in_hand (B.value store.old) (B.name message)) self.old.want_read self.old.no_enable }
         ensures others { OnlyCounts self.old self.new }
     {
         store.audit();
@@ -104,9 +109,10 @@ impl Queue {
     pub fn putbq<B: Blocks>(&mut self, store: &mut B, message: B::Mp)
         requires counted { AreCounted self.old.flows (list_at (B.value store.old) self.old.list) }
         requires in_hand { IsInHand (B.value store.old) (B.name message) }
-        requires band { band_of (in_hand (B.value store.old) (B.name message)) < 8 }
+        requires band { band_of (in_hand (B.value store.old) (B.name message)) < BANDS }
         ensures placed { let s = B.value store.old in
-            B.value store.new ≡ placed (dropped s (B.name message)) self.old.list (put_back (in_hand s (B.name message)) (list_at s self.old.list)) }
+            B.value store.new ≡ placed (dropped s (B.name message)) self.old.list
+            (put_back (in_hand s (B.name message)) (list_at s self.old.list)) }
         ensures counted { AreCounted self.new.flows (list_at (B.value store.new) self.new.list) }
         ensures flows { plain_flows self.new.flows ≡ plain_flows self.old.flows }
         ensures others { OnlyCounts self.old self.new }
@@ -121,10 +127,12 @@ impl Queue {
     /// `back_enable`, once what is left of the message is put back. The cost is a step for each block of the message.
     pub fn getq<B: Blocks>(&mut self, store: &mut B) -> Option<B::Mp>
         requires { AreCounted self.old.flows (list_at (B.value store.old) self.old.list) }
-        ensures taken { MatchOption result (Unpopped (B.value store.old) (B.value store.new) self.old.list) (λ m. Popped (B.value store.old) (B.value store.new) self.old.list (B.name m)) }
+        ensures taken { MatchOption result (Unpopped (B.value store.old) (B.value store.new) self.old.list)
+            (λ m. Popped (B.value store.old) (B.value store.new) self.old.list (B.name m)) }
         ensures counted { AreCounted self.new.flows (list_at (B.value store.new) self.new.list) }
         ensures flows { plain_flows self.new.flows ≡ plain_flows self.old.flows }
-        ensures want_read { MatchOption result (self.new.want_read ≡ self.old.want_read) (λ _. self.new.want_read ≡ false) }
+        ensures want_read { MatchOption result (self.new.want_read ≡ self.old.want_read)
+            (λ _. self.new.want_read ≡ false) }
         ensures list { self.new.list ≡ self.old.list }
         ensures no_enable { self.new.no_enable ≡ self.old.no_enable }
     {
@@ -138,7 +146,7 @@ impl Queue {
 
     /// How many bytes count in a band: all of its messages', and in band 0 those of high priority too.
     pub fn count(&self, band: Band) -> usize
-        requires { band.0 < 8 }
+        requires { band.0 < BANDS }
         ensures kept { result ≡ count_in (flow_at band.0 self.now.flows) }
         ensures count { (q : List (List Block)) → AreCounted self.now.flows q → result ≡ count_of band.0 q }
     {
@@ -175,16 +183,18 @@ impl Queue {
 
     /// Whether a band's count is at or above its high-water mark.
     pub fn is_full(&self, band: Band) -> bool
-        requires { band.0 < 8 }
+        requires { band.0 < BANDS }
         ensures kept { result ≡ (flow_at band.0 self.now.flows).full }
-        ensures full { (q : List (List Block)) → AreCounted self.now.flows q → result ≡ is_full (flow_at band.0 self.now.flows).high band.0 q }
+        ensures full { (q : List (List Block)) → AreCounted self.now.flows q →
+            result ≡ is_full (flow_at band.0 self.now.flows).high band.0 q }
     {
         self.flows[usize::from(band.0)].full
     }
 
     // Counts out what a flush of all messages, or of those of data, has taken.
     fn count_flush(&mut self, what: Flush)
-        ensures flows { (band : ℕ) → band < 8 → flow_at band self.new.flows ≡ flushed_of (takes_all what) (flow_at band self.old.flows) }
+        ensures flows { (band : ℕ) → band < BANDS →
+            flow_at band self.new.flows ≡ flushed_of (takes_all what) (flow_at band self.old.flows) }
         ensures eight { length self.new.flows ≡ length self.old.flows }
         ensures others { OnlyCounts self.old self.new }
     {
@@ -197,7 +207,8 @@ impl Queue {
     // Sets want-read where nothing stands on the list.
     fn see_empty<B: Blocks>(&mut self, store: &B)
         ensures empty { list_at (B.value store.now) self.old.list ≡ [] → self.new.want_read ≡ true }
-        ensures filled { (list_at (B.value store.now) self.old.list ≡ [] → ⊥) → self.new.want_read ≡ self.old.want_read }
+        ensures filled { (list_at (B.value store.now) self.old.list ≡ [] → ⊥) →
+            self.new.want_read ≡ self.old.want_read }
         ensures flows { self.new.flows ≡ self.old.flows }
         ensures list { self.new.list ≡ self.old.list }
         ensures no_enable { self.new.no_enable ≡ self.old.no_enable }
@@ -212,11 +223,13 @@ impl Queue {
     pub fn flushq<B: Blocks>(&mut self, store: &mut B, what: Flush)
         requires { AreCounted self.old.flows (list_at (B.value store.old) self.old.list) }
         ensures flushed { let s = B.value store.old in
-            B.value store.new ≡ placed s self.old.list (flushed (record { all = takes_all what; band = None }) (list_at s self.old.list)) }
+            B.value store.new ≡ placed s self.old.list
+            (flushed (record { all = takes_all what; band = None }) (list_at s self.old.list)) }
         ensures counted { AreCounted self.new.flows (list_at (B.value store.new) self.new.list) }
         ensures flows { plain_flows self.new.flows ≡ plain_flows self.old.flows }
         ensures empty { list_at (B.value store.new) self.old.list ≡ [] → self.new.want_read ≡ true }
-        ensures filled { (list_at (B.value store.new) self.old.list ≡ [] → ⊥) → self.new.want_read ≡ self.old.want_read }
+        ensures filled { (list_at (B.value store.new) self.old.list ≡ [] → ⊥) →
+            self.new.want_read ≡ self.old.want_read }
         ensures list { self.new.list ≡ self.old.list }
         ensures no_enable { self.new.no_enable ≡ self.old.no_enable }
     {
@@ -236,13 +249,15 @@ impl Queue {
     /// Want-read is set where that leaves the queue empty.
     pub fn flushband<B: Blocks>(&mut self, store: &mut B, band: Band)
         requires counted { AreCounted self.old.flows (list_at (B.value store.old) self.old.list) }
-        requires band { band.0 < 8 }
+        requires band { band.0 < BANDS }
         ensures flushed { let s = B.value store.old in
-            B.value store.new ≡ placed s self.old.list (flushed (record { all = false; band = Some band }) (list_at s self.old.list)) }
+            B.value store.new ≡ placed s self.old.list
+            (flushed (record { all = false; band = Some band }) (list_at s self.old.list)) }
         ensures counted { AreCounted self.new.flows (list_at (B.value store.new) self.new.list) }
         ensures flows { plain_flows self.new.flows ≡ plain_flows self.old.flows }
         ensures empty { list_at (B.value store.new) self.old.list ≡ [] → self.new.want_read ≡ true }
-        ensures filled { (list_at (B.value store.new) self.old.list ≡ [] → ⊥) → self.new.want_read ≡ self.old.want_read }
+        ensures filled { (list_at (B.value store.new) self.old.list ≡ [] → ⊥) →
+            self.new.want_read ≡ self.old.want_read }
         ensures list { self.new.list ≡ self.old.list }
         ensures no_enable { self.new.no_enable ≡ self.old.no_enable }
     {
@@ -261,7 +276,8 @@ impl Queue {
     // Counts out what a flush of data of one band has taken.
     fn count_band_flush(&mut self, band: usize)
         requires { band < length self.old.flows }
-        ensures flows { self.new.flows ≡ slice_set self.old.flows band (flushed_of false (flow_at band self.old.flows)) }
+        ensures flows { self.new.flows
+            ≡ slice_set self.old.flows band (flushed_of false (flow_at band self.old.flows)) }
         ensures others { OnlyCounts self.old self.new }
     {
         let flow = self.flows[band];
@@ -270,10 +286,11 @@ impl Queue {
 
     /// Sets the marks of a band. It is full from then on exactly where its count is at or above the new high-water mark.
     pub fn set_marks(&mut self, band: Band, high: usize, low: usize)
-        requires band { band.0 < 8 }
+        requires band { band.0 < BANDS }
         requires some { 1 ≤ high }
         requires order { low ≤ high }
-        ensures marks { self.new.flows ≡ slice_set self.old.flows band.0 (marked_with high low (flow_at band.0 self.old.flows)) }
+        ensures marks { self.new.flows
+            ≡ slice_set self.old.flows band.0 (marked_with high low (flow_at band.0 self.old.flows)) }
         ensures counted { (q : List (List Block)) → AreCounted self.old.flows q → AreCounted self.new.flows q }
         ensures others { OnlyCounts self.old self.new }
     {
@@ -291,7 +308,7 @@ impl Queue {
 
     /// Sets want-write of a band, for a writer that waits until `back_enable` lets it go.
     pub fn let_wait(&mut self, band: Band)
-        requires { band.0 < 8 }
+        requires { band.0 < BANDS }
         ensures flows { plain_flows self.new.flows ≡ with_writer_at band.0 (plain_flows self.old.flows) }
         ensures counted { (q : List (List Block)) → AreCounted self.old.flows q → AreCounted self.new.flows q }
         ensures others { OnlyCounts self.old self.new }
@@ -303,7 +320,7 @@ impl Queue {
     /// Answers whether there was one, and the nearest earlier queue that has service is then to be enabled.
     pub fn back_enable(&mut self) -> bool
         ensures went { result ≡ list_any relieves self.old.flows }
-        ensures flows { (band : ℕ) → band < 8 → flow_at band self.new.flows ≡ relieved (flow_at band self.old.flows) }
+        ensures flows { (band : ℕ) → band < BANDS → flow_at band self.new.flows ≡ relieved (flow_at band self.old.flows) }
         ensures counted { (q : List (List Block)) → AreCounted self.old.flows q → AreCounted self.new.flows q }
         ensures others { OnlyCounts self.old self.new }
     {

@@ -33,7 +33,8 @@ pub(crate) fn share_of<B: Blocks>(store: &B, message: &B::Mp) -> Share
     ensures band { result.band ≡ band_of (in_hand (B.value store.now) (B.name message.now)) }
     ensures bytes { result.bytes ≡ bytes_of (in_hand (B.value store.now) (B.name message.now)) }
     ensures kind { result.is_data ≡ is_data (in_hand (B.value store.now) (B.name message.now)) }
-    ensures high { result.is_high ≡ is_high_priority (block_at 0 (in_hand (B.value store.now) (B.name message.now))).kind }
+    ensures high { result.is_high
+        ≡ is_high_priority (block_at 0 (in_hand (B.value store.now) (B.name message.now))).kind }
 {
     let summary = store.summary(message);
     let is_high = summary.kind.is_high_priority();

@@ -14,12 +14,12 @@ ghost use Rattle.strm_queue.specs.Stored.{queue_in, messages_on, IsReady, Change
 
 use crate::queue::Queue;
 use strm_blocks::{Blocks, Peek, Visitor};
-use strm_types::{Band, MsgKind};
+use strm_types::{BANDS, Band, MsgKind};
 
 /// How many bytes count in a band of a queue.
 pub fn count<B: Blocks>(store: &B, queue: &Queue, band: Band) -> usize
     requires ready { IsReady (B.value store.now) queue.now }
-    requires band { band.0 < 8 }
+    requires band { band.0 < BANDS }
     ensures { result ≡ count_of band.0 (messages_on (B.value store.now) queue.now.list) }
 {
     store.audit();
@@ -77,7 +77,7 @@ pub fn sizes<B: Blocks>(store: &B, queue: &Queue) -> (usize, usize)
 /// Whether a band of a queue is full: its count is at or above its high-water mark.
 pub fn is_full<B: Blocks>(store: &B, queue: &Queue, band: Band) -> bool
     requires ready { IsReady (B.value store.now) queue.now }
-    requires band { band.0 < 8 }
+    requires band { band.0 < BANDS }
     ensures { result ≡ is_full band.0 (queue_in (B.value store.now) queue.now) }
 {
     store.audit();
@@ -87,7 +87,7 @@ pub fn is_full<B: Blocks>(store: &B, queue: &Queue, band: Band) -> bool
 /// Whether flow control stops a message of this kind and band at a queue.
 pub fn is_stopped<B: Blocks>(store: &B, queue: &Queue, kind: MsgKind, band: Band) -> bool
     requires ready { IsReady (B.value store.now) queue.now }
-    requires band { band.0 < 8 }
+    requires band { band.0 < BANDS }
     ensures { result ≡ (is_held kind && is_full band.0 (queue_in (B.value store.now) queue.now)) }
 {
     kind.is_held() && is_full(store, queue, band)

@@ -23,27 +23,33 @@ ghost use Rattle.strm_types.specs.Step.{Step, replay};
 /// putq(9F): in an ordered queue the lane of the message's rank has it at its end, no other lane changes, and the queue
 /// stays in order.
 pub fn put_joins_its_lane<C>()
-    ensures lanes { (m : Message C) (q : List (Message C)) (r : ℕ) → IsOrdered q → lane r (put m q) ≡ (if rank_of m == r then lane r q ++ m ∷ [] else lane r q) }
+    ensures lanes { (m : Message C) (q : List (Message C)) (r : ℕ) → IsOrdered q →
+        lane r (put m q) ≡ (if rank_of m == r then lane r q ++ m ∷ [] else lane r q) }
     ensures order { (m : Message C) (q : List (Message C)) → IsOrdered q → IsOrdered (put m q) }
 {}
 
 /// putbq(9F): the lane of the message's rank has it in front, no other lane changes, and the queue stays in order.
 pub fn put_back_leads_its_lane<C>()
-    ensures lanes { (m : Message C) (q : List (Message C)) (r : ℕ) → lane r (put_back m q) ≡ (if rank_of m == r then m ∷ lane r q else lane r q) }
+    ensures lanes { (m : Message C) (q : List (Message C)) (r : ℕ) →
+        lane r (put_back m q) ≡ (if rank_of m == r then m ∷ lane r q else lane r q) }
     ensures order { (m : Message C) (q : List (Message C)) → IsOrdered q → IsOrdered (put_back m q) }
 {}
 
 /// getq(9F): the message that is taken has the highest rank, it was the first of its lane, no other lane changes, and
 /// the queue stays in order.
 pub fn take_is_the_first<C>()
-    ensures highest { (m : Message C) (q rest : List (Message C)) → IsOrdered q → take_first q ≡ Some (m, rest) → AllByRecursion (λ later. rank_of later ≤ rank_of m) rest }
-    ensures lanes { (m : Message C) (q rest : List (Message C)) (r : ℕ) → take_first q ≡ Some (m, rest) → lane r q ≡ (if rank_of m == r then m ∷ lane r rest else lane r rest) }
-    ensures order { (m : Message C) (q rest : List (Message C)) → IsOrdered q → take_first q ≡ Some (m, rest) → IsOrdered rest }
+    ensures highest { (m : Message C) (q rest : List (Message C)) → IsOrdered q → take_first q ≡ Some (m, rest) →
+        AllByRecursion (λ later. rank_of later ≤ rank_of m) rest }
+    ensures lanes { (m : Message C) (q rest : List (Message C)) (r : ℕ) → take_first q ≡ Some (m, rest) →
+        lane r q ≡ (if rank_of m == r then m ∷ lane r rest else lane r rest) }
+    ensures order { (m : Message C) (q rest : List (Message C)) → IsOrdered q → take_first q ≡ Some (m, rest) →
+        IsOrdered rest }
 {}
 
 /// An ordered queue is its lanes, joined from the highest rank down.
 pub fn queue_is_its_lanes<C>()
-    ensures { (top : ℕ) (q : List (Message C)) → IsOrdered q → AllByRecursion (λ m. rank_of m ≤ top) q → lanes_down top q ≡ q }
+    ensures { (top : ℕ) (q : List (Message C)) → IsOrdered q → AllByRecursion (λ m. rank_of m ≤ top) q →
+        lanes_down top q ≡ q }
 {}
 
 /// Within a rank, what comes first is first: messages put one after the other stand in their lane in that order, behind
@@ -54,29 +60,38 @@ pub fn first_come_first<C>()
 
 /// Band 0 counts the bytes of high priority and of band 0, and each other band the bytes of its own lane.
 pub fn count_is_that_of_its_lanes<C>()
-    ensures zero { (q : List (Message C)) → AllByRecursion (λ m. m.band < 256) q → count_of 0 q ≡ bytes_of (lane 256 q) + bytes_of (lane 0 q) }
-    ensures others { (band : ℕ) (q : List (Message C)) → AllByRecursion (λ m. m.band < 256) q → 0 < band → band < 256 → count_of band q ≡ bytes_of (lane band q) }
+    ensures zero { (q : List (Message C)) → AllByRecursion (λ m. m.band < 256) q →
+        count_of 0 q ≡ bytes_of (lane 256 q) + bytes_of (lane 0 q) }
+    ensures others { (band : ℕ) (q : List (Message C)) → AllByRecursion (λ m. m.band < 256) q → 0 < band → band < 256 →
+        count_of band q ≡ bytes_of (lane band q) }
 {}
 
 /// A longer journal goes on from where the shorter one leads.
 pub fn replay_goes_on<C>()
-    ensures { (cells : Cells C) (s : State C) (es fs : List PlainEntry) → replay cells s (es ++ fs) ≡ replay cells (replay cells s es) fs }
+    ensures { (cells : Cells C) (s : State C) (es fs : List PlainEntry) →
+        replay cells s (es ++ fs) ≡ replay cells (replay cells s es) fs }
 {}
 
 /// Forgetting the origins of bytes commutes with putq(9F), putbq(9F) and getq(9F).
 pub fn forgetting_commutes<C, D>()
-    ensures put { (f : C → D) (m : Message C) (q : List (Message C)) → map_messages f (put m q) ≡ put (map_message f m) (map_messages f q) }
-    ensures put_back { (f : C → D) (m : Message C) (q : List (Message C)) → map_messages f (put_back m q) ≡ put_back (map_message f m) (map_messages f q) }
-    ensures taken { (f : C → D) (m : Message C) (q rest : List (Message C)) → take_first q ≡ Some (m, rest) → take_first (map_messages f q) ≡ Some (map_message f m, map_messages f rest) }
+    ensures put { (f : C → D) (m : Message C) (q : List (Message C)) →
+        map_messages f (put m q) ≡ put (map_message f m) (map_messages f q) }
+    ensures put_back { (f : C → D) (m : Message C) (q : List (Message C)) →
+        map_messages f (put_back m q) ≡ put_back (map_message f m) (map_messages f q) }
+    ensures taken { (f : C → D) (m : Message C) (q rest : List (Message C)) → take_first q ≡ Some (m, rest) →
+        take_first (map_messages f q) ≡ Some (map_message f m, map_messages f rest) }
 {}
 
 /// Whatever stands for bytes, a call (open(2), unlockpt(3C), write(2), read(2)) and a turn of a service procedure
 /// (STREAMS Programming Guide, "Service Procedures") answer and do the same as on plain bytes; and so do all entries of a
 /// journal.
 pub fn steps_forget_origins<C>()
-    ensures call { (cells : Cells C) (caller : Caller) (asked : Request) (s : State C) → AreCells cells → called plain caller asked (map_state cells.byte s) ≡ map_outcome cells.byte (called cells caller asked s) }
-    ensures turn { (cells : Cells C) (name : QueueName) (turn : Turn) (s : State C) → AreCells cells → turned plain name turn (map_state cells.byte s) ≡ map_turn_outcome cells.byte (turned cells name turn s) }
-    ensures replay { (cells : Cells C) (s : State C) (es : List PlainEntry) → AreCells cells → replay plain (map_state cells.byte s) es ≡ map_state cells.byte (replay cells s es) }
+    ensures call { (cells : Cells C) (caller : Caller) (asked : Request) (s : State C) → AreCells cells →
+        called plain caller asked (map_state cells.byte s) ≡ map_outcome cells.byte (called cells caller asked s) }
+    ensures turn { (cells : Cells C) (name : QueueName) (turn : Turn) (s : State C) → AreCells cells →
+        turned plain name turn (map_state cells.byte s) ≡ map_turn_outcome cells.byte (turned cells name turn s) }
+    ensures replay { (cells : Cells C) (s : State C) (es : List PlainEntry) → AreCells cells →
+        replay plain (map_state cells.byte s) es ≡ map_state cells.byte (replay cells s es) }
 {}
 
 /// Nothing is lost or made: whatever test on bytes is chosen, as 'is this very byte', what stands on a pair's queues behind
@@ -84,12 +99,19 @@ pub fn steps_forget_origins<C>()
 /// is as new, so this wants that a side that isn't open has nothing for its readers, as it is in a new pair and behind each
 /// step. On a queue a put adds what the message has, and a take takes it away.
 pub fn bytes_are_kept<C>()
-    ensures step { (cells : Cells C) (p : C → Bool) (old new : State C) (entry : PlainEntry) → NothingUnread old → Step cells old entry new → state_weight p new + weight_gone p (gone cells old entry) ≡ state_weight p old + count_by p (came cells old entry) }
-    ensures unread { (cells : Cells C) (old new : State C) (entry : PlainEntry) → NothingUnread old → Step cells old entry new → NothingUnread new }
+    ensures step { (cells : Cells C) (p : C → Bool) (old new : State C) (entry : PlainEntry) → NothingUnread old →
+        Step cells old entry new →
+        state_weight p new + weight_gone p (gone cells old entry)
+        ≡ state_weight p old + count_by p (came cells old entry) }
+    ensures unread { (cells : Cells C) (old new : State C) (entry : PlainEntry) → NothingUnread old →
+        Step cells old entry new → NothingUnread new }
     ensures opening { (s : State C) → s ≡ opening → NothingUnread s }
-    ensures put { (p : C → Bool) (m : Message C) (q : List (Message C)) → weight p (put m q) ≡ weight_of p m + weight p q }
-    ensures put_back { (p : C → Bool) (m : Message C) (q : List (Message C)) → weight p (put_back m q) ≡ weight_of p m + weight p q }
-    ensures taken { (p : C → Bool) (m : Message C) (q rest : List (Message C)) → take_first q ≡ Some (m, rest) → weight p q ≡ weight_of p m + weight p rest }
+    ensures put { (p : C → Bool) (m : Message C) (q : List (Message C)) →
+        weight p (put m q) ≡ weight_of p m + weight p q }
+    ensures put_back { (p : C → Bool) (m : Message C) (q : List (Message C)) →
+        weight p (put_back m q) ≡ weight_of p m + weight p q }
+    ensures taken { (p : C → Bool) (m : Message C) (q rest : List (Message C)) → take_first q ≡ Some (m, rest) →
+        weight p q ≡ weight_of p m + weight p rest }
 {}
 
 /// Where no put loses or makes a cell, and what a put sends on has less before it than what was put, no delivery loses or

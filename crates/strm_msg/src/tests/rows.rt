@@ -62,7 +62,8 @@ fn seen<B: Blocks>(store: &B, message: &B::Mp) -> Seen
 fn adjust<B: Blocks>(store: &mut B, message: &B::Mp, n: isize) -> bool
     requires { IsInHand (B.value store.old) (B.name message.now) }
     ensures in_hand { IsInHand (B.value store.new) (B.name message.now) }
-    ensures others { dropped (B.value store.new) (B.name message.now) ≡ dropped (B.value store.old) (B.name message.now) }
+    ensures others { dropped (B.value store.new) (B.name message.now)
+        ≡ dropped (B.value store.old) (B.name message.now) }
 {
     adjmsg(store, message, n)
 }
@@ -71,7 +72,8 @@ fn adjust<B: Blocks>(store: &mut B, message: &B::Mp, n: isize) -> bool
 fn takes<B: Blocks>(store: &mut B, message: &B::Mp, room: usize, wanted: &[u8]) -> bool
     requires { IsInHand (B.value store.old) (B.name message.now) }
     ensures in_hand { IsInHand (B.value store.new) (B.name message.now) }
-    ensures others { dropped (B.value store.new) (B.name message.now) ≡ dropped (B.value store.old) (B.name message.now) }
+    ensures others { dropped (B.value store.new) (B.name message.now)
+        ≡ dropped (B.value store.old) (B.name message.now) }
 {
     let mut buffer = [0u8; 280];
     let count = take_data(store, message, &mut buffer[..room.min(280)]);

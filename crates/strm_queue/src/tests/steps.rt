@@ -9,7 +9,7 @@ use std::alloc::Global;
 use std::process::Abort;
 use std::test::Fail;
 use strm_blocks::{Blocks, NoBlocks, TableStore};
-use strm_types::{Band, MsgKind};
+use strm_types::{BANDS, Band, MsgKind};
 
 // What comes to a queue, and what is to be seen of it then.
 #[derive(Clone, Copy)]
@@ -37,9 +37,9 @@ fn message<B: Blocks>(
     band: u8,
     bytes: &[u8],
 ) -> Result<B::Mp, NoBlocks>
-    requires { band < 8 }
+    requires { band < BANDS }
     ensures in_hand { IfOk result (λ m. IsInHand (B.value store.new) (B.name m)) }
-    ensures low { IfOk result (λ m. band_of (in_hand (B.value store.new) (B.name m)) < 8) }
+    ensures low { IfOk result (λ m. band_of (in_hand (B.value store.new) (B.name m)) < BANDS) }
     ensures lists { (B.value store.new).lists ≡ (B.value store.old).lists }
 {
     let message = store.alloc(kind)?;
