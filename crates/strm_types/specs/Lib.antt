@@ -8,6 +8,8 @@ pub mod Books
 pub mod State
 pub mod Flush
 pub mod Head
+pub mod Reads
+pub mod Gets
 pub mod Write
 pub mod Rules
 pub mod Deliver
