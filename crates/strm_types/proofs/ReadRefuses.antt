@@ -9,7 +9,7 @@ use Rattle.strm_types.specs.declared.modes.ControlMode.{ControlMode}
 use Rattle.strm_types.specs.declared.refusals.Refusal.{Refusal}
 use Rattle.strm_types.specs.declared.refusals.Refusal.TheVariants.{Eagain, Ebadmsg}
 use Rattle.strm_types.specs.Message.{Message, cells_of}
-use Rattle.strm_types.specs.Reads.{Drawn, stopped, emptied_of, front_of, and_more, drawn, head_draw, shown, offered, control_gone, all_cells, no_cells, is_refused, is_passed, wanted_after, finds_none, starts_refused, read_refusal, OfOneMessage}
+use Rattle.strm_types.specs.Reads.{Drawn, stopped, emptied_of, front_of, and_more, drawn, head_draw, shown, offered, control_gone, all_cells, no_cells, is_refused, is_passed, wanted_after, finds_none, starts_refused, takes_none, read_refusal, OfOneMessage}
 use Rattle.strm_types.proofs.Drawing.{of-each}
 
 or-true : (b : Bool) → (b || true) ≡ true
@@ -63,6 +63,18 @@ module _ {C : Type 0} where
 
   pub refused-none : (read : ReadMode) (control : ControlMode) (at_end : Bool) (n : ℕ) (q : List (Message C)) (refusal : Refusal) → read_refusal control at_end n q ≡ Some refusal → head_draw read control n q ≡ stopped q
   refused-none read control at_end n q refusal is = refused-at read control n q refusal (n == 0) (finds_none control q) at_end (starts_refused control q) refl refl is
+
+  -- where a read has nothing to take, all stays
+  stopped-at : (read : ReadMode) (control : ControlMode) (n : ℕ) (q : List (Message C)) (zero none starts : Bool)
+      → (n == 0) ≡ zero → finds_none control q ≡ none → starts_refused control q ≡ starts → (zero || (none || starts)) ≡ true → head_draw read control n q ≡ stopped q
+  stopped-at read control n [] true none starts zero_is none_is starts_is is = refl
+  stopped-at read control n (m ∷ q) true none starts zero_is none_is starts_is is = rw zero_is refl
+  stopped-at read control n q false true starts zero_is none_is starts_is is = drawn-finds-none read control false n [] q none_is
+  stopped-at read control n q false false true zero_is none_is starts_is is = drawn-refused read control n q starts_is
+  stopped-at read control n q false false false zero_is none_is starts_is is = absurd (cc)
+
+  pub takes-none : (read : ReadMode) (control : ControlMode) (n : ℕ) (q : List (Message C)) → takes_none control n q ≡ true → head_draw read control n q ≡ stopped q
+  takes-none read control n q is = stopped-at read control n q (n == 0) (finds_none control q) (starts_refused control q) refl refl refl is
 
   -- nothing is given where nothing is wanted
   pub drawn-none : (read : ReadMode) (control : ControlMode) (begun : Bool) (q : List (Message C)) → (drawn read control begun 0 [] q).given ≡ []

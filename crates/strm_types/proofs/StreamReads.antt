@@ -28,7 +28,7 @@ module _ {C : Type 0} where
       ∙ ap (λ (plain : List ℕ). record { kind = kinds.Data; band = m.band; control = None; body = m.body; plain = plain }) is.plain
 
   -- what is left of one
-  rest-same : (n band : ℕ) (body : Option (List C)) → rest_after n (data_of band body) ≡ rest_of n (data_of band body)
+  pub rest-same : (n band : ℕ) (body : Option (List C)) → rest_after n (data_of band body) ≡ rest_of n (data_of band body)
   unfolding cells_of band_of is_high_priority
   rest-same n band body =
       ap (λ xs. rest_with xs (drop (n - 0) (part body)) (data_of band body)) (drop-none n)

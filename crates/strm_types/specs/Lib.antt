@@ -8,11 +8,11 @@ pub mod Books
 pub mod State
 pub mod Flush
 pub mod Head
-pub mod Reads
-pub mod Gets
 pub mod Write
 pub mod Rules
 pub mod Deliver
+pub mod Reads
+pub mod Gets
 pub mod Modules
 pub mod Places
 pub mod Origins

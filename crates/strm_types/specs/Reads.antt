@@ -9,7 +9,11 @@ use Rattle.strm_types.specs.declared.modes.ControlMode.TheVariants.{Refuse, Data
 use Rattle.strm_types.specs.declared.refusals.Refusal.{Refusal}
 use Rattle.strm_types.specs.declared.refusals.Refusal.TheVariants.{Eagain, Ebadmsg}
 use Rattle.strm_types.specs.Message.{Message, part, cells_of, band_of}
-use Rattle.strm_types.specs.Queue.{put_back, map_messages}
+use Rattle.strm_types.specs.Queue.{Queue, put_back, left_with, relieved, relieves, map_messages}
+use Rattle.strm_types.specs.declared.names.Dir.{Dir}
+use Rattle.strm_types.specs.declared.rules.Rule.TheVariants as rules
+use Rattle.strm_types.specs.Deliver.{Fate, tallied}
+use Rattle.strm_types.specs.declared.rules.Fates.{Fates}
 
 -- what a read takes: the cells that it gives, those of a message's rest that it discards, those of control parts that it drops,
 -- and the messages that it leaves
@@ -134,6 +138,38 @@ module _ {C : Type 0} where
       if n == 0 then None
       else (if finds_none control q then (if at_end then None else Some Eagain)
       else (if starts_refused control q then Some Ebadmsg else None))
+
+  -- whether a read has nothing to take, and so changes nothing
+  abbrev pub takes_none : ControlMode → ℕ → List (Message C) → Bool
+  takes_none control n q = n == 0 || (finds_none control q || starts_refused control q)
+
+  -- whether no byte goes by a read
+  abbrev pub none_went : Drawn C → Bool
+  none_went d = no_cells d.given && (no_cells d.discarded && no_cells d.dropped)
+
+  -- the head's queue behind a read: where bytes went, its waiting writers are let go
+  abbrev pub queue_drawn : Drawn C → Queue C → Queue C
+  queue_drawn d q = if none_went d then left_with d.left q else relieved (left_with d.left q)
+
+  abbrev pub read_queue : ReadMode → ControlMode → ℕ → Queue C → Queue C
+  read_queue read control n q = if takes_none control n q.messages then q else queue_drawn (head_draw read control n q.messages) q
+
+  -- whether a read lets a writer go
+  abbrev pub writer_goes : Drawn C → Queue C → Bool
+  writer_goes d q = if none_went d then false else relieves (left_with d.left q)
+
+  abbrev pub read_lets_go : ReadMode → ControlMode → ℕ → Queue C → Bool
+  read_lets_go read control n q = if takes_none control n q.messages then false else writer_goes (head_draw read control n q.messages) q
+
+  -- by which rules cells of a direction go by a read
+  abbrev pub read_fates : Dir → Drawn C → List (Fate C)
+  read_fates dir d =
+      record { direction = dir; rule = rules.Read; cells = d.given }
+      ∷ record { direction = dir; rule = rules.RestDiscarded; cells = d.discarded }
+      ∷ record { direction = dir; rule = rules.ControlDropped; cells = d.dropped } ∷ []
+
+  abbrev pub read_told : Dir → ReadMode → ControlMode → ℕ → List (Message C) → Fates → Fates
+  read_told dir read control n q fates = if takes_none control n q then fates else tallied (read_fates dir (head_draw read control n q)) fates
 
   -- these cells are the first ones of what one of the messages offers
   pub record OfOneMessage (control : ControlMode) (n : ℕ) (q : List (Message C)) (given : List C) : Type 0 where

@@ -1,7 +1,7 @@
 //! What follows from the definitions of reads and gets at a stream head, in the words of read(2), getmsg(2) and streamio(7I).
 //! Each law is the contract of a function that does nothing, and holds of bytes and of bytes with their origin alike.
 
-ghost use Rattle.std.specs.Prelude.{◌≡◌, ℕ, ◌+◌, ◌≤◌, ◌⊎◌, List, [], Some, length, count_by, Bool};
+ghost use Rattle.std.specs.Prelude.{◌≡◌, true, ℕ, ◌+◌, ◌≤◌, ◌⊎◌, List, [], Some, length, count_by, Bool};
 ghost use Rattle.std.specs.List.{AllByRecursion};
 ghost use Rattle.strm_types.specs.declared.modes.ReadMode.{ReadMode};
 ghost use Rattle.strm_types.specs.declared.modes.ReadMode.TheVariants.{ByteStream, MessageKeep, MessageDiscard};
@@ -12,7 +12,7 @@ ghost use Rattle.strm_types.specs.declared.refusals.Refusal.{Refusal};
 ghost use Rattle.strm_types.specs.Message.{Message, part};
 ghost use Rattle.strm_types.specs.Queue.{weight, map_messages};
 ghost use Rattle.strm_types.specs.Head.{head_read};
-ghost use Rattle.strm_types.specs.Reads.{head_draw, read_refusal, stopped, map_drawn, OfOneMessage, IsData};
+ghost use Rattle.strm_types.specs.Reads.{head_draw, read_refusal, takes_none, stopped, map_drawn, OfOneMessage, IsData};
 ghost use Rattle.strm_types.specs.Gets.{head_get, get_refusal, got_none, map_got};
 
 /// Nothing is lost or made: whatever test on bytes is chosen, those that a read gives, discards and drops, and those that stay,
@@ -28,10 +28,11 @@ pub fn reads_keep_cells<C>()
     ensures data { (read : ReadMode) (n : ℕ) (q : List (Message C)) → (head_draw read Data n q).dropped ≡ [] }
 {}
 
-/// A read that is refused takes nothing: EBADMSG comes before bytes are taken.
+/// A read that is refused takes nothing: EBADMSG comes before bytes are taken. Nor does one that has nothing to take.
 pub fn refused_reads_take_nothing<C>()
-    ensures { (read : ReadMode) (control : ControlMode) (at_end : Bool) (n : ℕ) (q : List (Message C)) (refusal : Refusal) →
+    ensures refused { (read : ReadMode) (control : ControlMode) (at_end : Bool) (n : ℕ) (q : List (Message C)) (refusal : Refusal) →
         read_refusal control at_end n q ≡ Some refusal → head_draw read control n q ≡ stopped q }
+    ensures none { (read : ReadMode) (control : ControlMode) (n : ℕ) (q : List (Message C)) → takes_none control n q ≡ true → head_draw read control n q ≡ stopped q }
 {}
 
 /// In the message modes a read gives the first bytes of one message, if any.

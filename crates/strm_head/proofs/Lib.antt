@@ -1,0 +1,13 @@
+pub mod Chains
+pub mod FlowControl
+pub mod Placed
+pub mod Holding
+pub mod Gotten
+pub mod Kept
+pub mod FreeBlocks
+pub mod Sizes
+pub mod Draws
+pub mod Seen
+pub mod FirstSeen
+pub mod Gathers
+pub mod Told

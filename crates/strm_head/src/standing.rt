@@ -1,0 +1,136 @@
+//! What stands on a head's queue.
+
+ghost use Rattle.std.specs.Prelude.{◌≡◌, ◌+◌, ◌-◌, ◌^◌, ◌&&◌, min, length, true, List};
+ghost use Rattle.strm_types.specs.Queue.{relieved, relieves};
+ghost use Rattle.strm_types.specs.Reads.{finds_none, starts_refused, takes_none};
+ghost use Rattle.strm_blocks.specs.Blocks.{Block, StoreValue};
+ghost use Rattle.strm_queue.specs.Kept.{AreCounted};
+ghost use Rattle.strm_queue.specs.Queues.{OnlyCounts};
+ghost use Rattle.strm_head.specs.Stored.{queue_in, messages_on, IsReady, IsHeadQueue};
+ghost use Rattle.strm_head.specs.Seen.{peek_passed, peek_refused, first_data};
+
+use strm_blocks::{Blocks, Peek, Visitor};
+use strm_queue::Queue;
+use strm_types::ControlMode;
+
+/// Lets waiting writers go where the count has come down to the low-water mark, and says whether one was.
+pub(crate) fn relieve(queue: &mut Queue) -> bool
+    ensures queue { (s : StoreValue) → IsReady s queue.old → queue_in s queue.new ≡ relieved (queue_in s queue.old) }
+    ensures went { (s : StoreValue) → IsReady s queue.old → result ≡ relieves (queue_in s queue.old) }
+    ensures counted { (q : List (List Block)) → AreCounted queue.old.flows q → AreCounted queue.new.flows q }
+    ensures others { OnlyCounts queue.old queue.new }
+{
+    queue.back_enable()
+}
+
+// Counts messages.
+#[derive(Drop)]
+struct Counted {
+    messages: usize,
+}
+
+impl Visitor for Counted {
+    ghost after = { λ v p. record { messages = min (v.messages + 1) (2 ^ 64 - 1) } };
+
+    ghost goes_on = { λ v. true };
+
+    fn see(&mut self, _message: Peek) -> bool {
+        self.messages = self.messages.saturating_add(1);
+        true
+    }
+}
+
+/// How many messages stand on a queue. The cost is a step for each block of them.
+pub(crate) fn messages<B: Blocks>(store: &B, queue: &Queue) -> usize
+    requires { IsReady (B.value store.now) queue.now }
+    ensures { result ≡ length (messages_on (B.value store.now) queue.now.list) }
+{
+    store.audit();
+    let mut counted = Counted { messages: 0 };
+    store.visit(queue.list, &mut counted);
+    counted.messages
+}
+
+/// How many bytes the data part of the first message has, none where there is no message.
+pub(crate) fn first_len<B: Blocks>(store: &B, queue: &Queue) -> usize
+    requires { IsHeadQueue (B.value store.now) queue.now }
+    ensures { result ≡ first_data (messages_on (B.value store.now) queue.now.list) }
+{
+    match store.peek(queue.list) {
+        Some(peek) => peek.body.unwrap_or(0),
+        None => 0,
+    }
+}
+
+/// Whether a read passes a message over: under RPROTDIS it has no data part.
+fn passes(control: ControlMode, message: Peek) -> bool
+    ensures { result ≡ peek_passed control message }
+{
+    match control {
+        ControlMode::Discard => message.body.is_none(),
+        _ => false,
+    }
+}
+
+/// Whether a read fails at a message: under RPROTNORM it has a control part.
+fn refuses(control: ControlMode, message: Peek) -> bool
+    ensures { result ≡ peek_refused control message }
+{
+    match control {
+        ControlMode::Refuse => message.control.is_some(),
+        _ => false,
+    }
+}
+
+// Sees whether all messages are passed over.
+#[derive(Drop)]
+struct Passing {
+    control: ControlMode,
+    all: bool,
+}
+
+impl Visitor for Passing {
+    ghost after = { λ v p. record { control = v.control; all = v.all && peek_passed v.control p } };
+
+    ghost goes_on = { λ v. v.all };
+
+    fn see(&mut self, message: Peek) -> bool {
+        self.all = self.all && passes(self.control, message);
+        self.all
+    }
+}
+
+/// Whether a read finds nothing: no message, or under RPROTDIS none that has a data part. The cost is a step for each block
+/// of the messages that are passed over, and of the next.
+pub(crate) fn finds_none<B: Blocks>(store: &B, queue: &Queue, control: ControlMode) -> bool
+    requires { IsHeadQueue (B.value store.now) queue.now }
+    ensures { result ≡ finds_none control (messages_on (B.value store.now) queue.now.list) }
+{
+    let mut passing = Passing { control, all: true };
+    store.visit(queue.list, &mut passing);
+    passing.all
+}
+
+/// Whether the first message has a control part under RPROTNORM.
+pub(crate) fn starts_refused<B: Blocks>(store: &B, queue: &Queue, control: ControlMode) -> bool
+    requires { IsHeadQueue (B.value store.now) queue.now }
+    ensures { result ≡ starts_refused control (messages_on (B.value store.now) queue.now.list) }
+{
+    match store.peek(queue.list) {
+        Some(peek) => refuses(control, peek),
+        None => false,
+    }
+}
+
+/// Whether a read of up to `n` bytes has nothing to take.
+pub(crate) fn takes_none<B: Blocks>(
+    store: &B,
+    queue: &Queue,
+    control: ControlMode,
+    n: usize,
+) -> bool
+    requires { IsHeadQueue (B.value store.now) queue.now }
+    ensures { result ≡ takes_none control n (messages_on (B.value store.now) queue.now.list) }
+{
+    n == 0 || finds_none(store, queue, control) || starts_refused(store, queue, control)
+}
