@@ -11,3 +11,5 @@ pub mod Seen
 pub mod FirstSeen
 pub mod Gathers
 pub mod Told
+pub mod OneMade
+pub mod Queued

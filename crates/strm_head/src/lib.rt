@@ -7,3 +7,6 @@ mod reading;
 mod standing;
 
 pub use head::{Head, Waiting};
+
+#[cfg(test)]
+mod tests;
