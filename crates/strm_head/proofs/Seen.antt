@@ -1,24 +1,28 @@
 -- What is seen of a message without taking it is what the message has.
 use Rattle.std.proofs.Common.{ℕ, ◌≡◌, ◌<◌, Bool, true, false, cond, List, [], ◌∷◌, length, map, refl, sym, ap, ◌∙◌, arith}
-use Rattle.std.specs.Prelude.{Some, unwrap_or, ◌&&◌}
+use Rattle.std.specs.Prelude.{None, Some, unwrap_or, ◌&&◌, ◌||◌, nat_le}
 use Rattle.std.specs.List.{AllByRecursion}
 use Rattle.strm_types.specs.declared.kinds.MsgKind.{MsgKind}
 use Rattle.strm_types.specs.declared.kinds.MsgKind.TheVariants as kinds
 use Rattle.strm_types.specs.declared.modes.ControlMode.{ControlMode}
 use Rattle.strm_types.specs.declared.modes.ControlMode.TheVariants.{Refuse, Data, Discard}
+use Rattle.strm_types.specs.declared.modes.Wanted.{Wanted}
+use Rattle.strm_types.specs.declared.modes.Wanted.TheVariants.{Any, High, Band}
+use Rattle.strm_types.specs.Gets.{is_wanted, get_refusal}
+use Rattle.strm_types.specs.declared.refusals.Refusal.TheVariants.{Eagain}
 use Rattle.strm_types.specs.Flush.{is_data_kind}
 use Rattle.strm_types.specs.Kinds.{is_control_kind, is_body_kind}
-use Rattle.strm_types.specs.Message.{Message, part}
+use Rattle.strm_types.specs.Message.{Message, part, is_high_priority}
 use Rattle.strm_types.specs.Reads.{is_there, is_passed, is_refused, finds_none}
 use Rattle.strm_blocks.specs.Blocks.{Block, block_at}
-use Rattle.strm_blocks.specs.Outcomes.{peek_of, part_len, control_len, body_len, told}
+use Rattle.strm_blocks.specs.Outcomes.{Peeked, peek_of, part_len, control_len, body_len, told}
 use Rattle.strm_blocks.specs.declared.asked.Peek.{Peek}
 use Rattle.strm_msg.specs.Bytes.{data_bytes, control_blocks, data_blocks}
 use Rattle.strm_msg.specs.Messages.{message_of, part_of}
-use Rattle.strm_msg.proofs.Chains.{bytes-sum}
+use Rattle.strm_msg.proofs.Chains.{bytes-sum, kind-is, band-is}
 use Rattle.strm_msg.proofs.Parts.{control-blocks-cons}
 use Rattle.strm_head.specs.declared.standing.Passing.{Passing}
-use Rattle.strm_head.specs.Seen.{peek_passed, peek_refused}
+use Rattle.strm_head.specs.Seen.{peek_passed, peek_refused, peek_wanted, gets_on}
 
 parts-shown : (chain : List Block) → is_data_kind (block_at 0 chain).kind ≡ true
     → message_of chain ≡ record { kind = (block_at 0 chain).kind; band = (block_at 0 chain).band; control = part_of (control_blocks chain); body = part_of (data_blocks chain); plain = [] }
@@ -52,6 +56,19 @@ module _ (chain : List Block) (readable : is_data_kind (block_at 0 chain).kind �
   refused-seen Refuse p is = ap is_there is ∙ control-there
   refused-seen Data p is = refl
   refused-seen Discard p is = refl
+
+-- whether a message is the one that a get asks for
+pub wanted-seen : (chain : List Block) (wanted : Wanted) (p : Peek) → Peeked p chain → peek_wanted wanted p ≡ is_wanted wanted (message_of chain)
+wanted-seen chain Any p seen = refl
+wanted-seen chain High p seen = ap is_high_priority (seen.kind ∙ sym (kind-is chain))
+wanted-seen chain (Band band) p seen =
+    ap (λ k. is_high_priority k || nat_le band.0 p.band.0) (seen.kind ∙ sym (kind-is chain))
+    ∙ ap (λ b. is_high_priority (message_of chain).kind || nat_le band.0 b) (seen.band ∙ sym (band-is chain))
+
+-- and what the get is refused for
+pub get-refused : (wanted : Wanted) (at_end : Bool) (q : List (Message ℕ)) → cond (gets_on wanted at_end q) None (Some Eagain) ≡ get_refusal wanted at_end q
+get-refused wanted at_end [] = refl
+get-refused wanted at_end (m ∷ q) = refl
 
 -- a visitor that sees whether all are passed over
 abbrev one_more : Passing → Peek → Passing

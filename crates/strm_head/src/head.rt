@@ -2,14 +2,15 @@
 
 ghost use Rattle.std.specs.Prelude.{◌≡◌, ◌≤◌, [], length};
 ghost use Rattle.strm_types.specs.Reads.{read_refusal, head_draw, read_queue, read_lets_go, read_told};
+ghost use Rattle.strm_types.specs.Gets.{get_refusal};
 ghost use Rattle.strm_head.specs.Stored.{messages_on, queue_in, IsHeadQueue, Keeps};
 ghost use Rattle.strm_head.specs.Seen.{first_data};
 
-use crate::reading;
 use crate::standing::{finds_none, first_len, messages, starts_refused};
+use crate::{reading, standing};
 use strm_blocks::Blocks;
 use strm_queue::Queue;
-use strm_types::{ControlMode, Dir, Fates, READ_MAX, ReadBytes, ReadMode, Refusal};
+use strm_types::{ControlMode, Dir, Fates, READ_MAX, ReadBytes, ReadMode, Refusal, Wanted};
 
 /// A stream head: the queue of what waits for its readers, and how they read it.
 #[derive(Drop)]
@@ -74,6 +75,14 @@ impl Head {
             return Some(Refusal::Ebadmsg);
         }
         None
+    }
+
+    /// What a getmsg(2) or getpmsg(2) is refused for: EAGAIN where the first message isn't the one that is asked for, or there
+    /// is none and the input isn't at its end.
+    pub fn get_refusal<B: Blocks>(&self, store: &B, wanted: Wanted, at_end: bool) -> Option<Refusal>
+        ensures { result ≡ get_refusal wanted at_end (messages_on (B.value store.now) self.now.queue.list) }
+    {
+        standing::get_refusal(store, &self.queue, wanted, at_end)
     }
 
     /// What waits for readers. The cost is a step for each block on the queue.

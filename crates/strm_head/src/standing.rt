@@ -3,15 +3,16 @@
 ghost use Rattle.std.specs.Prelude.{◌≡◌, ◌+◌, ◌-◌, ◌^◌, ◌&&◌, min, length, true, List};
 ghost use Rattle.strm_types.specs.Queue.{relieved, relieves};
 ghost use Rattle.strm_types.specs.Reads.{finds_none, starts_refused, takes_none};
+ghost use Rattle.strm_types.specs.Gets.{get_refusal};
 ghost use Rattle.strm_blocks.specs.Blocks.{Block, StoreValue};
 ghost use Rattle.strm_queue.specs.Kept.{AreCounted};
 ghost use Rattle.strm_queue.specs.Queues.{OnlyCounts};
 ghost use Rattle.strm_head.specs.Stored.{queue_in, messages_on, IsReady, IsHeadQueue};
-ghost use Rattle.strm_head.specs.Seen.{peek_passed, peek_refused, first_data};
+ghost use Rattle.strm_head.specs.Seen.{peek_passed, peek_refused, peek_wanted, gets_on, first_data};
 
 use strm_blocks::{Blocks, Peek, Visitor};
 use strm_queue::Queue;
-use strm_types::ControlMode;
+use strm_types::{ControlMode, Refusal, Wanted};
 
 /// Lets waiting writers go where the count has come down to the low-water mark, and says whether one was.
 pub(crate) fn relieve(queue: &mut Queue) -> bool
@@ -133,4 +134,42 @@ pub(crate) fn takes_none<B: Blocks>(
     ensures { result ≡ takes_none control n (messages_on (B.value store.now) queue.now.list) }
 {
     n == 0 || finds_none(store, queue, control) || starts_refused(store, queue, control)
+}
+
+// Whether a message is the one that a get asks for.
+fn is_asked_for(wanted: Wanted, message: Peek) -> bool
+    ensures { result ≡ peek_wanted wanted message }
+{
+    match wanted {
+        Wanted::Any => true,
+        Wanted::High => message.kind.is_high_priority(),
+        Wanted::Band(band) => message.kind.is_high_priority() || band.0 <= message.band.0,
+    }
+}
+
+// Whether a get may go on.
+fn gets_on<B: Blocks>(store: &B, queue: &Queue, wanted: Wanted, at_end: bool) -> bool
+    ensures { result ≡ gets_on wanted at_end (messages_on (B.value store.now) queue.now.list) }
+{
+    match store.peek(queue.list) {
+        Some(peek) => is_asked_for(wanted, peek),
+        None => at_end,
+    }
+}
+
+/// What a get is refused for: EAGAIN where the first message isn't the one that is asked for, or there is none and the input
+/// isn't at its end.
+pub(crate) fn get_refusal<B: Blocks>(
+    store: &B,
+    queue: &Queue,
+    wanted: Wanted,
+    at_end: bool,
+) -> Option<Refusal>
+    ensures { result ≡ get_refusal wanted at_end (messages_on (B.value store.now) queue.now.list) }
+{
+    if gets_on(store, queue, wanted, at_end) {
+        None
+    } else {
+        Some(Refusal::Eagain)
+    }
 }
