@@ -1,9 +1,8 @@
 -- What the calls of a store lead to, where they have a result (STREAMS Programming Guide, "Message Structure").
-use Rattle.std.specs.Prelude.{ℕ, Bool, true, false, not, ◌≡◌, ◌<◌, ◌⊎◌, List, [], ◌∷◌, length, filter, sum_by, take_while, if◌then◌else◌, Option, None, Some, option_map}
+use Rattle.std.specs.Prelude.{ℕ, Bool, not, ◌≡◌, ◌<◌, ◌⊎◌, List, [], ◌∷◌, length, filter, sum_by, take_while, if◌then◌else◌, Option, None, Some, option_map}
 use Rattle.strm_types.specs.Kinds.{is_control_kind, is_body_kind}
 use Rattle.strm_types.specs.Flush.{is_flushed}
 use Rattle.strm_types.specs.declared.kinds.MsgKind.{MsgKind}
-use Rattle.strm_types.specs.declared.kinds.MsgKind.TheVariants as kinds
 use Rattle.strm_blocks.specs.declared.asked.Peek.{Peek}
 use Rattle.strm_blocks.specs.declared.asked.Summary.{Summary}
 use Rattle.strm_blocks.specs.declared.asked.FlushWhat.{FlushWhat}

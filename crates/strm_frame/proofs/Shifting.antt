@@ -1,11 +1,10 @@
 -- Messages in hand that go and come, one after the other.
-use Rattle.std.proofs.Common.{ℕ, ◌≡◌, ◌≤◌, ◌<◌, ◌+◌, List, refl, sym, ap, subst, ◌∙◌, arith}
-use Rattle.strm_blocks.specs.Blocks.{Block, StoreValue, IsStore, IsInHand, IsFreshName, in_hand, list_at, held, dropped, times_in, free_m, free_d}
-use Rattle.strm_blocks.proofs.Laws.{in_hand-held_other, apart-fresh}
+use Rattle.std.proofs.Common.{ℕ, ◌≡◌, ◌≤◌, ◌+◌, refl, ap, ◌∙◌, arith}
+use Rattle.strm_blocks.specs.Blocks.{StoreValue, IsStore, in_hand, dropped, times_in}
 use Rattle.strm_queue.specs.declared.queue.Queue.{Queue}
-use Rattle.strm_queue.specs.Stored.{Changes, Keeps, FreesBlocks}
-use Rattle.strm_frame.specs.Hands.{once, CanPut, Hands, SamePool, Shifts, Spends}
-use Rattle.strm_frame.proofs.Handing.{can-in_hand, freed-hands, freed-spends}
+use Rattle.strm_queue.specs.Stored.{Changes, FreesBlocks}
+use Rattle.strm_frame.specs.Hands.{once, CanPut, Shifts}
+use Rattle.strm_frame.proofs.Handing.{freed-hands, freed-spends}
 
 -- nothing changed in hand
 pub shifts-none : (s : StoreValue) → Shifts s s (λ _. 0) (λ _. 0) 0

@@ -1,13 +1,11 @@
 -- How many bytes a flush takes.
-use Rattle.std.proofs.Common.{ℕ, ◌≡◌, ◌+◌, Bool, true, false, cond, List, [], ◌∷◌, ◌++◌, length, map, refl, sym, ap, ◌∙◌, arith}
-use Rattle.std.specs.Prelude.{sum_by, ◌&&◌, ◌==◌, if◌then◌else◌, Option, None, Some}
+use Rattle.std.proofs.Common.{ℕ, ◌≡◌, Bool, true, false, cond, List, [], ◌∷◌, length, map, refl, ap, ◌∙◌, arith}
+use Rattle.std.specs.Prelude.{sum_by, ◌&&◌, ◌==◌, if◌then◌else◌, None, Some}
 use Rattle.std.specs.List.{AllByRecursion}
 use Rattle.std.proofs.lemmas.List.{length-append}
 use Rattle.std.proofs.lemmas.List.Sums.{sum_by-cons}
 use Rattle.strm_types.specs.declared.kinds.Band.{Band}
-use Rattle.strm_types.specs.declared.kinds.MsgKind.{MsgKind}
 use Rattle.strm_types.specs.Emptied.{Choice, of_all, of_data, cells_gone}
-use Rattle.strm_types.specs.Flush.{is_data_kind, counted_band}
 use Rattle.strm_types.specs.Message.{Message, cells_of, size_of}
 use Rattle.strm_blocks.specs.Blocks.{Block, block_at}
 use Rattle.strm_msg.specs.Messages.{message_of, part_of, IsChain}

@@ -1,6 +1,5 @@
 -- A message in hand that is put on a queue.
-use Rattle.std.proofs.Common.{ℕ, ◌≡◌, ◌≤◌, ◌<◌, ◌+◌, List, length, refl, sym, ap, subst, ◌∙◌, arith}
-use Rattle.std.specs.Prelude.{sum_by}
+use Rattle.std.proofs.Common.{ℕ, ◌≡◌, ◌<◌, List, length, refl, sym, ap, subst, ◌∙◌, arith}
 use Rattle.strm_types.specs.Queue as plain
 use Rattle.strm_types.proofs.Ranked.{sum-put}
 use Rattle.strm_blocks.specs.Blocks.{Block, StoreValue, IsInHand, list_at, in_hand, placed, dropped, put, rank_of, names_of, total}

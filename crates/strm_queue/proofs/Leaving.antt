@@ -88,5 +88,6 @@ frees s new k what within is = subst (λ v. FreesBlocks s v) (sym is) (record {
   where
     less : StoreValue
     less = placed s k (flushed what (list_at s k))
+
     fewer : (f : List Block → ℕ) → total f (placed s k (flushed what (list_at s k))) ≤ total f s
     fewer f = omega (arith, total-placed f s k (flushed what (list_at s k)) within, stays-less what f (list_at s k))

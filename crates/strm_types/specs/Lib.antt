@@ -11,6 +11,8 @@ pub mod Head
 pub mod Write
 pub mod Rules
 pub mod Deliver
+pub mod Reads
+pub mod Gets
 pub mod Modules
 pub mod Places
 pub mod Origins

@@ -8,9 +8,11 @@ mod books;
 mod entries;
 mod events;
 mod flushing;
+pub mod head_laws;
 mod kinds;
 pub mod laws;
 mod limits;
+mod modes;
 mod names;
 mod refusals;
 mod rules;
@@ -26,6 +28,7 @@ pub use limits::{
     BANDS, BLOCK_SIZE, CHANGE_BLOCKS, CLOSE_BLOCKS, Config, HIGH_PRIORITY_RANK, LISTS, MODULES,
     READ_MAX, TURN_BLOCKS, WRITE_BLOCKS, chunk_count,
 };
+pub use modes::{ControlMode, ReadMode, Wanted};
 pub use names::{Dir, ModuleName, Openness, Place, QueueName, Side, Way, line};
 pub use refusals::{NoMemory, Refusal};
 pub use rules::{Fates, RULES, Rule};

@@ -1,6 +1,5 @@
 -- All messages have no more cells than those of data.
-use Rattle.std.proofs.Common.{ℕ, length, sym, ap, ◌∙◌}
-use Rattle.std.specs.Prelude.{None}
+use Rattle.std.proofs.Common.{length, sym, ap, ◌∙◌}
 use Rattle.strm_types.specs.Emptied.{cells_gone}
 use Rattle.strm_blocks.specs.Blocks.{list_at}
 use Rattle.strm_queue.specs.declared.emptying.Chosen.{Chosen}

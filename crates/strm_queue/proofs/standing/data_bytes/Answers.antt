@@ -5,8 +5,7 @@ use Rattle.strm_types.specs.declared.kinds.Band.{Band}
 use Rattle.strm_types.specs.Emptied.{cells_gone, of_data}
 use Rattle.strm_blocks.specs.Blocks.{Block, list_at}
 use Rattle.strm_msg.specs.Messages.{message_of, AreMessages}
-use Rattle.strm_queue.specs.Kept.{AreCounted, data_bytes_of, data_share}
-use Rattle.strm_queue.specs.declared.flow.Flow.{Flow}
+use Rattle.strm_queue.specs.Kept.{data_bytes_of, data_share}
 use Rattle.strm_queue.proofs.Going.{gone-all, gone-band}
 use Rattle.strm_queue.proofs.standing.data_bytes.Goals as goal
 

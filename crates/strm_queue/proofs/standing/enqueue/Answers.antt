@@ -1,7 +1,6 @@
 -- The message stands on the list, and it is no longer in hand.
-use Rattle.std.proofs.Common.{◌≡◌, ◌<◌, length, sym, subst, ap, ◌∙◌, arith}
+use Rattle.std.proofs.Common.{◌<◌, length, ◌∙◌, arith}
 use Rattle.strm_blocks.specs.Blocks.{in_hand}
-use Rattle.strm_queue.specs.Kept.{band_of}
 use Rattle.strm_queue.specs.Stored.{queue_in}
 use Rattle.strm_queue.proofs.Chains.{enables-same, chain-low}
 use Rattle.strm_queue.proofs.Joined.{joined-queue, joined-changes, joined-frees}

@@ -1,0 +1,22 @@
+use Rattle.std.proofs.Common.{◌≡◌, ◌≤◌, ◌<◌, ◌+◌, ◌++◌, length}
+use Rattle.strm_head.specs.Drawing.{drawn_on}
+use Rattle.strm_queue.specs.Stored.{messages_on, SameFlags}
+use Rattle.strm_head.specs.Stored.{Keeps}
+use Rattle.strm_head.proofs.reading.gather.Given as goal
+
+abbrev pub invariant-loop-wanted : goal.invariant-loop-wanted
+invariant-loop-wanted g l =
+    let now = drawn_on l.read l.begun l.wanted (messages_on (g.B.Blocks.value l.store) l.initial.queue.list) in
+    let all = drawn_on l.initial.read l.initial.begun l.initial.wanted (messages_on (g.B.Blocks.value l.initial.store) l.initial.queue.list) in
+    record {
+      given : l.out.items ++ now.given ≡ l.initial.out.items ++ all.given;
+      discarded : l.discarded + length now.discarded ≡ length all.discarded;
+      left : now.left ≡ all.left;
+      none : 0 < l.wanted → l.discarded ≡ 0;
+      fits : length l.out.items + l.wanted ≤ length l.initial.out.items + l.initial.wanted;
+      flags : SameFlags l.initial.queue l.queue;
+      keeps : Keeps (g.B.Blocks.value l.initial.store) (g.B.Blocks.value l.store) l.initial.queue l.queue;
+    }
+
+abbrev pub decreases-loop-wanted : goal.decreases-loop-wanted
+decreases-loop-wanted g l = l.wanted

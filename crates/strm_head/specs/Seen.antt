@@ -1,0 +1,38 @@
+-- What is seen of the messages of a head without taking them.
+use Rattle.std.specs.Prelude.{ℕ, Bool, true, false, ◌||◌, nat_le, if◌then◌else◌, List, [], ◌∷◌, length}
+use Rattle.strm_types.specs.declared.modes.ControlMode.{ControlMode}
+use Rattle.strm_types.specs.declared.modes.ControlMode.TheVariants.{Refuse, Data, Discard}
+use Rattle.strm_types.specs.declared.modes.Wanted.{Wanted}
+use Rattle.strm_types.specs.declared.modes.Wanted.TheVariants.{Any, High, Band}
+use Rattle.strm_types.specs.Message.{Message, part, is_high_priority}
+use Rattle.strm_types.specs.Reads.{is_there}
+use Rattle.strm_types.specs.Gets.{is_wanted}
+use Rattle.strm_blocks.specs.declared.asked.Peek.{Peek}
+
+-- whether a read passes over a message that is seen
+abbrev pub peek_passed : ControlMode → Peek → Bool
+peek_passed Refuse p = false
+peek_passed Data p = false
+peek_passed Discard p = if is_there p.body then false else true
+
+-- whether it fails at it
+abbrev pub peek_refused : ControlMode → Peek → Bool
+peek_refused Refuse p = is_there p.control
+peek_refused Data p = false
+peek_refused Discard p = false
+
+-- how many bytes the data part of the first message has
+abbrev pub first_data : List (Message ℕ) → ℕ
+first_data [] = 0
+first_data (m ∷ q) = length (part m.body)
+
+-- whether a message that is seen is the one that a get asks for
+abbrev pub peek_wanted : Wanted → Peek → Bool
+peek_wanted Any p = true
+peek_wanted High p = is_high_priority p.kind
+peek_wanted (Band band) p = is_high_priority p.kind || nat_le band.0 p.band.0
+
+-- whether a get may go on: the first message is the one that is asked for, or there is none and the input is at its end
+abbrev pub gets_on : Wanted → Bool → List (Message ℕ) → Bool
+gets_on wanted at_end [] = at_end
+gets_on wanted at_end (m ∷ q) = is_wanted wanted m

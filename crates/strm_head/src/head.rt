@@ -1,0 +1,135 @@
+//! A stream head.
+
+ghost use Rattle.std.specs.Prelude.{◌≡◌, ◌≤◌, [], length};
+ghost use Rattle.strm_types.specs.Reads.{read_refusal, head_draw, read_queue, read_lets_go, read_told};
+ghost use Rattle.strm_types.specs.Gets.{get_refusal};
+ghost use Rattle.strm_queue.specs.Stored.{messages_on, queue_in};
+ghost use Rattle.strm_head.specs.Stored.{IsHeadQueue, Keeps};
+ghost use Rattle.strm_head.specs.Seen.{first_data};
+
+use crate::standing::{finds_none, first_len, starts_refused};
+use crate::{reading, standing};
+use strm_blocks::Blocks;
+use strm_queue::Queue;
+use strm_queue::standing::sizes;
+use strm_types::{ControlMode, Dir, Fates, READ_MAX, ReadBytes, ReadMode, Refusal, Wanted};
+
+/// A stream head: the queue of what waits for its readers, and how they read it.
+#[derive(Drop)]
+pub struct Head {
+    pub queue: Queue,
+    pub read_mode: ReadMode,
+    pub control_mode: ControlMode,
+}
+
+/// What waits for readers (streamio(7I): I_NREAD): how many bytes the data part of the first message has, and how many
+/// messages there are.
+#[derive(Clone, Copy, Debug, PartialEq, Eq)]
+pub struct Waiting {
+    pub first: usize,
+    pub messages: usize,
+}
+
+impl Head {
+    /// A head on an empty queue: RNORM and RPROTNORM.
+    pub fn new(queue: Queue) -> Head
+        ensures queue { result.queue ≡ queue }
+        ensures read_mode { result.read_mode ≡ ByteStream }
+        ensures control_mode { result.control_mode ≡ Refuse }
+    {
+        Head {
+            queue,
+            read_mode: ReadMode::ByteStream,
+            control_mode: ControlMode::Refuse,
+        }
+    }
+
+    ghost use Rattle.strm_types.specs.declared.modes.ReadMode.TheVariants.{ByteStream};
+    ghost use Rattle.strm_types.specs.declared.modes.ControlMode.TheVariants.{Refuse};
+
+    /// Sets how reads treat the ends of messages. The control mode stays.
+    pub fn set_read_mode(&mut self, mode: ReadMode)
+        ensures { self.new ≡ record self.old { read_mode = mode } }
+    {
+        self.read_mode = mode;
+    }
+
+    /// Sets how reads treat control parts. The read mode stays.
+    pub fn set_control_mode(&mut self, mode: ControlMode)
+        ensures { self.new ≡ record self.old { control_mode = mode } }
+    {
+        self.control_mode = mode;
+    }
+
+    /// What a read of up to `n` bytes is refused for, before it takes anything: EAGAIN where it finds nothing and the input
+    /// isn't at its end, EBADMSG for a control part under RPROTNORM.
+    pub fn read_refusal<B: Blocks>(&self, store: &B, at_end: bool, n: usize) -> Option<Refusal>
+        requires { IsHeadQueue (B.value store.now) self.now.queue }
+        ensures { result ≡ read_refusal self.now.control_mode at_end n (messages_on (B.value store.now) self.now.queue.list) }
+    {
+        if n == 0 {
+            return None;
+        }
+        if finds_none(store, &self.queue, self.control_mode) {
+            return if at_end { None } else { Some(Refusal::Eagain) };
+        }
+        if starts_refused(store, &self.queue, self.control_mode) {
+            return Some(Refusal::Ebadmsg);
+        }
+        None
+    }
+
+    /// What a getmsg(2) or getpmsg(2) is refused for: EAGAIN where the first message isn't the one that is asked for, or there
+    /// is none and the input isn't at its end.
+    pub fn get_refusal<B: Blocks>(&self, store: &B, wanted: Wanted, at_end: bool) -> Option<Refusal>
+        ensures { result ≡ get_refusal wanted at_end (messages_on (B.value store.now) self.now.queue.list) }
+    {
+        standing::get_refusal(store, &self.queue, wanted, at_end)
+    }
+
+    /// What waits for readers. The cost is a step for each block on the queue.
+    pub fn nread<B: Blocks>(&self, store: &B) -> Waiting
+        requires { IsHeadQueue (B.value store.now) self.now.queue }
+        ensures first { result.first ≡ first_data (messages_on (B.value store.now) self.now.queue.list) }
+        ensures messages { result.messages ≡ length (messages_on (B.value store.now) self.now.queue.list) }
+    {
+        Waiting {
+            first: first_len(store, &self.queue),
+            messages: sizes(store, &self.queue).0,
+        }
+    }
+    /// Gives up to `n` bytes of what waits, tells by which rules bytes of the direction go, and says whether a waiting writer
+    /// is let go. Where `read_refusal` refuses the read, or there is nothing to take, nothing changes. RPROTNORM alone: under
+    /// the other control modes nothing reads yet.
+    pub fn read<B: Blocks>(
+        &mut self,
+        store: &mut B,
+        n: usize,
+        out: &mut ReadBytes,
+        direction: Dir,
+        fates: &mut Fates,
+    ) -> bool
+        requires ready { IsHeadQueue (B.value store.old) self.old.queue }
+        requires mode { self.old.control_mode ≡ Refuse }
+        requires most { n ≤ READ_MAX }
+        requires fresh { out.old.items ≡ [] }
+        ensures given { out.new.items ≡ (head_draw self.old.read_mode Refuse n (messages_on (B.value store.old) self.old.queue.list)).given }
+        ensures most_given { length out.new.items ≤ n }
+        ensures queue { queue_in (B.value store.new) self.new.queue
+            ≡ read_queue self.old.read_mode Refuse n (queue_in (B.value store.old) self.old.queue) }
+        ensures went { result ≡ read_lets_go self.old.read_mode Refuse n (queue_in (B.value store.old) self.old.queue) }
+        ensures told { fates.new ≡ read_told direction self.old.read_mode Refuse n (messages_on (B.value store.old) self.old.queue.list) fates.old }
+        ensures keeps { Keeps (B.value store.old) (B.value store.new) self.old.queue self.new.queue }
+        ensures modes { self.new ≡ record self.old { queue = self.new.queue } }
+    {
+        reading::read(
+            store,
+            &mut self.queue,
+            self.read_mode,
+            n,
+            out,
+            direction,
+            fates,
+        )
+    }
+}

@@ -1,0 +1,12 @@
+//! A stream head, on one queue of any store: its modes, what its readers take and by which rule it goes (read(2), streamio(7I):
+//! I_SRDOPT, I_NREAD).
+#![tactic(auto)]
+
+mod head;
+mod reading;
+mod standing;
+
+pub use head::{Head, Waiting};
+
+#[cfg(test)]
+mod tests;
