@@ -232,9 +232,9 @@ impl<B: Blocks + Drop> Pair<B> {
         }
     }
 
-    /// Makes a call. It is refused for the first of: its side isn't open (ENXIO); an argument is wrong (EINVAL); the
-    /// journal is full; too few blocks are free (ENOSR); the state doesn't allow it (EAGAIN, EINVAL). A refused call
-    /// changes nothing, and `out` stays. Else the call is carried out, and the journal gains it with its answer;
+    /// Makes a call. It is refused for the first of: its side isn't open, or is hung up where the call sends something down
+    /// (ENXIO); an argument is wrong (EINVAL); a book is full (ERANGE); the journal is full; too few blocks are free (ENOSR);
+    /// the state doesn't allow it (EAGAIN, EINVAL). A refused call changes nothing, and `out` stays. Else the call is carried out, and the journal gains it with its answer;
     /// `out` has the bytes that it gives, which are none for any call but a read.
     ///
     /// The cost is in proportion to the bytes that the call moves. No memory is taken.
@@ -261,8 +261,8 @@ impl<B: Blocks + Drop> Pair<B> {
         Ok(answer)
     }
 
-    /// Makes a turn of an enabled queue's service procedure. It is refused where the queue isn't enabled (EINVAL), the
-    /// journal is full, or fewer than 8 blocks of a kind are free (ENOSR), and then changes nothing. Else the journal
+    /// Makes a turn of an enabled queue's service procedure. It is refused where the queue isn't enabled (EINVAL), a book is
+    /// full (ERANGE), the journal is full, or fewer than 8 blocks of a kind are free (ENOSR), and then changes nothing. Else the journal
     /// gains the turn with its answer.
     ///
     /// The cost is that of one message. No memory is taken.
