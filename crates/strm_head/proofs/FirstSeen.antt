@@ -12,9 +12,9 @@ use Rattle.strm_blocks.specs.declared.asked.Peek.{Peek}
 use Rattle.strm_msg.specs.Bytes.{data_bytes}
 use Rattle.strm_msg.specs.Messages.{message_of, IsChain, AreMessages}
 use Rattle.strm_msg.proofs.Chains.{data-shown}
-use Rattle.strm_head.specs.Stored.{HoldsReadable}
+use Rattle.strm_queue.specs.Stored.{HoldsReadable}
 use Rattle.strm_head.specs.Drawing.{drawn_on}
-use Rattle.strm_head.proofs.Holding.{first-chain, first-readable}
+use Rattle.strm_queue.proofs.Holding.{first-chain, first-holds}
 use Rattle.strm_head.proofs.Seen.{control-there, data-kind, body-is, first-same}
 use Rattle.strm_head.proofs.Draws.{drawn-refused, drawn-stays}
 
@@ -26,7 +26,7 @@ module _ (s : StoreValue) (k : ℕ) (chain : List Block) (rest : List (List Bloc
   pub kind-seen : AreMessages (list_at s k) → HoldsReadable (list_at s k) → is_there peek.control ≡ false → (block_at 0 chain).kind ≡ kinds.Data
   kind-seen messages readable none =
       let one = first-chain chain rest (subst AreMessages joined messages) in
-      data-kind chain one.some (first-readable chain rest (subst HoldsReadable joined readable)) (sym (ap is_there (seen.seen.control ∙ ap control_len same-seen)) ∙ none)
+      data-kind chain one.some (first-holds is_data_kind chain rest (subst HoldsReadable joined readable)) (sym (ap is_there (seen.seen.control ∙ ap control_len same-seen)) ∙ none)
 
 some-size : (body : Option ℕ) (n : ℕ) → body ≡ Some n → body ≡ Some 0 → n ≡ 0
 some-size body n is none = ap (λ o. unwrap_or o 0) (sym is ∙ none)

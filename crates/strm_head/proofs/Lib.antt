@@ -1,10 +1,5 @@
-pub mod Placed
-pub mod Holding
-pub mod Gotten
-pub mod Kept
 pub mod Draws
 pub mod Seen
 pub mod FirstSeen
 pub mod Gathers
 pub mod Told
-pub mod Queued

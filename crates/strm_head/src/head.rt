@@ -3,8 +3,7 @@
 ghost use Rattle.std.specs.Prelude.{◌≡◌, ◌≤◌, [], length};
 ghost use Rattle.strm_types.specs.Reads.{read_refusal, head_draw, read_queue, read_lets_go, read_told};
 ghost use Rattle.strm_types.specs.Gets.{get_refusal};
-ghost use Rattle.strm_queue.specs.Stored.{messages_on, queue_in};
-ghost use Rattle.strm_head.specs.Stored.{IsHeadQueue, Keeps};
+ghost use Rattle.strm_queue.specs.Stored.{messages_on, queue_in, IsHeadQueue, Keeps};
 ghost use Rattle.strm_head.specs.Seen.{first_data};
 
 use crate::standing::{finds_none, first_len, starts_refused};

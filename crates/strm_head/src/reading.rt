@@ -8,8 +8,7 @@ ghost use Rattle.strm_types.specs.Reads.{Drawn, wanted_after, is_there, head_dra
 ghost use Rattle.strm_blocks.specs.Blocks.{IsInHand, in_hand, changed};
 ghost use Rattle.strm_msg.specs.Bytes.{data_bytes};
 ghost use Rattle.strm_msg.specs.Taken.{without_data};
-ghost use Rattle.strm_queue.specs.Stored.{queue_in, messages_on, SameFlags};
-ghost use Rattle.strm_head.specs.Stored.{IsHeadQueue, Keeps};
+ghost use Rattle.strm_queue.specs.Stored.{queue_in, messages_on, SameFlags, IsHeadQueue, Keeps};
 ghost use Rattle.strm_head.specs.Drawing.{drawn_on, Stepped, discards, more_behind};
 
 use crate::standing::takes_none;

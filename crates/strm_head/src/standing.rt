@@ -7,8 +7,7 @@ ghost use Rattle.strm_types.specs.Gets.{get_refusal};
 ghost use Rattle.strm_blocks.specs.Blocks.{Block, StoreValue};
 ghost use Rattle.strm_queue.specs.Kept.{AreCounted};
 ghost use Rattle.strm_queue.specs.Queues.{OnlyCounts};
-ghost use Rattle.strm_queue.specs.Stored.{queue_in, messages_on, IsReady};
-ghost use Rattle.strm_head.specs.Stored.{IsHeadQueue};
+ghost use Rattle.strm_queue.specs.Stored.{queue_in, messages_on, IsReady, IsHeadQueue};
 ghost use Rattle.strm_head.specs.Seen.{peek_passed, peek_refused, peek_wanted, gets_on, first_data};
 
 use strm_blocks::{Blocks, Peek, Visitor};

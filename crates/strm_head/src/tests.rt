@@ -2,7 +2,7 @@
 
 ghost use Rattle.std.specs.Prelude.{◌≡◌, ◌≤◌, [], length};
 ghost use Rattle.strm_blocks.specs.Blocks.{list_at};
-ghost use Rattle.strm_head.specs.Stored.{IsHeadQueue};
+ghost use Rattle.strm_queue.specs.Stored.{IsHeadQueue};
 ghost use Rattle.strm_types.specs.declared.modes.ControlMode.TheVariants.{Refuse};
 
 use crate::{Head, Waiting};

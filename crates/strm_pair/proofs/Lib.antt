@@ -6,6 +6,7 @@ pub mod FreeBlocks
 pub mod Steps
 pub mod Shown
 pub mod DataLemmas
+pub mod DataQueues
 pub mod DataRead
 pub mod StreamLemmas
 pub mod JournalLemmas

@@ -10,8 +10,8 @@ use Rattle.strm_queue.specs.Flows.{plain_flows}
 use Rattle.strm_queue.specs.Queues.{OnlyCounts}
 use Rattle.strm_queue.specs.Kept as kept
 use Rattle.strm_queue.specs.Kept.{AreCounted}
-use Rattle.strm_queue.specs.Stored.{queue_in, HoldsData, IsReady, PassedOn}
-use Rattle.strm_queue.proofs.Holding.{first-chain, rest-messages, first-data, rest-data, put-messages, put-data}
+use Rattle.strm_queue.specs.Stored.{queue_in, Holds, is_m_data, HoldsData, IsReady, KeepsBoth, PassedOn}
+use Rattle.strm_queue.proofs.Holding.{first-chain, rest-messages, first-holds, rest-holds, put-messages, put-holds}
 use Rattle.strm_queue.proofs.Placed.{Landed, put-on}
 use Rattle.strm_queue.proofs.Queued.{put-queue}
 use Rattle.strm_queue.proofs.Gotten.{left, off, chain-is, before, behind}
@@ -52,8 +52,10 @@ module _ (s got new : StoreValue) (from from' to to' : Queue) (i size : ℕ) whe
             counted = subst (AreCounted from'.flows) (ap (λ k. list_at got k) list ∙ ap (λ v. list_at v from.list) p.after ∙ sym stays ∙ sym (ap (list_at new) list)) counted;
           };
           to_ready = record { messages = subst AreMessages put_is (put-messages p.message (list_at s to.list) one to_ready.messages); counted = to_counted };
-          from_data = λ d. subst HoldsData rest_is (rest-data p.message p.rest (subst HoldsData p.joined d));
-          to_data = λ d e. subst HoldsData put_is (put-data p.message (list_at s to.list) (first-data p.message p.rest (subst HoldsData p.joined d)) e);
+          from_holds = λ test h. subst (Holds test) rest_is (rest-holds test p.message p.rest (subst (Holds test) p.joined h));
+          to_holds = λ test h j. subst (Holds test) put_is (put-holds test p.message (list_at s to.list) (first-holds test p.message p.rest (subst (Holds test) p.joined h)) j);
+          from_data = λ h. subst HoldsData rest_is (rest-holds is_m_data p.message p.rest (subst HoldsData p.joined h));
+          to_data = λ h j. subst HoldsData put_is (put-holds is_m_data p.message (list_at s to.list) (first-holds is_m_data p.message p.rest (subst HoldsData p.joined h)) j);
           from_list = list;
           to_list = others.list;
           others = λ j from_else to_else. b.others j to_else ∙ o.others j from_else;
@@ -62,6 +64,26 @@ module _ (s got new : StoreValue) (from from' to to' : Queue) (i size : ℕ) whe
           dblks = b.dblks ∙ o.dblks;
         };
       }
+
+-- only the numbers and flags of the first queue changed since
+pub both-counted : (s t : StoreValue) (from p r to to' : Queue) → KeepsBoth s t from p to to' → r.list ≡ p.list → AreCounted r.flows (list_at t p.list) → KeepsBoth s t from r to to'
+both-counted s t from p r to to' keeps list counted = record {
+  from_ready = record {
+    messages = subst (λ k. AreMessages (list_at t k)) (sym list) keeps.from_ready.messages;
+    counted = subst (λ k. AreCounted r.flows (list_at t k)) (sym list) counted;
+  };
+  to_ready = keeps.to_ready;
+  from_holds = λ test h. subst (λ k. Holds test (list_at t k)) (sym list) (keeps.from_holds test h);
+  to_holds = keeps.to_holds;
+  from_data = λ h. subst (λ k. HoldsData (list_at t k)) (sym list) (keeps.from_data h);
+  to_data = keeps.to_data;
+  from_list = list ∙ keeps.from_list;
+  to_list = keeps.to_list;
+  others = keeps.others;
+  hand = keeps.hand;
+  mblks = keeps.mblks;
+  dblks = keeps.dblks;
+}
 
 -- a writer waits for a band of a queue
 pub waits-queue : (s : StoreValue) (q q' : Queue) (band : ℕ) → plain_flows q'.flows ≡ plain.with_writer_at band (plain_flows q.flows) → OnlyCounts q q' → queue_in s q' ≡ record (queue_in s q) { flows = plain.with_writer_at band (plain_flows q.flows) }

@@ -14,7 +14,8 @@ use Rattle.strm_msg.specs.Messages.{message_of, IsChain, AreMessages}
 use Rattle.strm_msg.proofs.Chains.{bytes-sum}
 use Rattle.strm_queue.specs.Stored.{messages_on, HoldsData}
 use Rattle.strm_pair.proofs.DataRead.{size-is}
-use Rattle.strm_queue.proofs.Holding.{first-chain, first-data}
+use Rattle.strm_pair.proofs.DataQueues.{first-data}
+use Rattle.strm_queue.proofs.Holding.{first-chain}
 
 -- whether some bytes are seen
 pub body-some : (body : Option ℕ) (n : ℕ) → body ≡ Some n → true ≡ not (option_eq eqb body (Some 0)) → 0 < n
@@ -53,5 +54,5 @@ module _ (s : StoreValue) (k : ℕ) (peek : Peek) (p : PeekedFirst s k peek) whe
   pub seen-body : AreMessages (list_at s k) → HoldsData (list_at s k) → peek.body ≡ Some (size_of (message_of p.message))
   seen-body m d =
       let one = seen-chain m in
-      let kind = first-data p.message p.rest (subst HoldsData p.joined d) in
+      let kind = first-data p.message p.rest (list_at s k) d p.joined in
       p.seen.body ∙ body-is p.message one.some kind ∙ ap Some (sym (size-is p.message one kind))

@@ -14,7 +14,7 @@ use Rattle.strm_blocks.specs.declared.asked.Peek.{Peek}
 use Rattle.strm_msg.specs.Messages.{message_of, AreMessages}
 use Rattle.strm_queue.specs.Kept.{AreCounted}
 use Rattle.strm_pair.specs.declared.ends.End.{End}
-use Rattle.strm_queue.specs.Stored.{messages_on, HoldsData}
+use Rattle.strm_queue.specs.Stored.{messages_on, Holds, HoldsData}
 use Rattle.strm_pair.specs.Streams.{CanPass, Passes}
 use Rattle.strm_queue.proofs.Chains.{stopped-same, held-band, stopped-held}
 use Rattle.strm_pair.proofs.Peeked.{seen-before, seen-chain}
@@ -75,8 +75,10 @@ passes-none s from from' to to' can from_list from_flows head_stays to_list to_c
       messages = subst AreMessages (ap (list_at s) (sym to_list)) can.head.messages;
       counted = subst (λ k. AreCounted to'.head.flows (list_at s k)) (sym to_list) to_counted;
     };
-    from_data = λ d. subst HoldsData (ap (list_at s) (sym from_list)) d;
-    to_data = λ d e. subst HoldsData (ap (list_at s) (sym to_list)) e;
+    from_holds = λ test h. subst (Holds test) (ap (list_at s) (sym from_list)) h;
+    to_holds = λ test h j. subst (Holds test) (ap (list_at s) (sym to_list)) j;
+    from_data = λ h. subst HoldsData (ap (list_at s) (sym from_list)) h;
+    to_data = λ h j. subst HoldsData (ap (list_at s) (sym to_list)) j;
     from_list = from_list;
     to_list = to_list;
     others = λ k from_else to_else. refl;

@@ -11,8 +11,8 @@ use Rattle.strm_msg.specs.Messages.{message_of, IsChain, AreMessages}
 use Rattle.strm_msg.proofs.Chains.{chain-without, kind-without, rest-without, put_back-chains}
 use Rattle.strm_queue.specs.declared.queue.Queue.{Queue}
 use Rattle.strm_queue.specs.Kept.{AreCounted}
-use Rattle.strm_queue.specs.Stored.{messages_on, HoldsData, IsReady, IsDataQueue, Keeps}
-use Rattle.strm_queue.proofs.Holding.{put_back-messages, put_back-data, first-chain, rest-messages, first-data, rest-data}
+use Rattle.strm_queue.specs.Stored.{messages_on, Holds, IsReady, Keeps}
+use Rattle.strm_queue.proofs.Holding.{put_back-messages, put_back-holds, first-chain, rest-messages, rest-holds}
 use Rattle.strm_queue.proofs.Placed.{Landed, landed, landed-again, keeps-landed, put-back-on, changed-held}
 
 -- a store has the list of each queue
@@ -62,12 +62,9 @@ module _ (s got : StoreValue) (k i : ℕ) (within : k < length s.lists) (p : Pop
       landed-again s left new k p.rest (list_back n) off
       (put-back-on left k i (without_data n p.message) here new (is ∙ ap (λ v. placed (dropped v i) k (put_back (in_hand v i) (list_at v k))) cut_is))
 
-  module _ (messages : AreMessages (list_at s k)) (data_only : HoldsData (list_at s k)) where
+  module _ (messages : AreMessages (list_at s k)) (kind : (block_at 0 p.message).kind ≡ kinds.Data) where
     pub one : IsChain p.message
     one = first-chain p.message p.rest (subst AreMessages p.joined messages)
-
-    pub kind : (block_at 0 p.message).kind ≡ kinds.Data
-    kind = first-data p.message p.rest (subst HoldsData p.joined data_only)
 
     pub back-messages : (n : ℕ) (new : StoreValue) → Landed s new k (list_back n) → messages_on new k ≡ plain.put_back (rest_of n (message_of p.message)) (map message_of p.rest)
     back-messages n new b =
@@ -80,17 +77,16 @@ pub freed-keeps : (s got new : StoreValue) (q q' : Queue) (i : ℕ) (within : q.
 freed-keeps s got new q q' i within p ready is list counted =
     let o = off s got q.list i within p in
     subst (λ v. Keeps s v q q') (sym is)
-    (keeps-landed s (left s got q.list i within p) q q' p.rest o (rest-messages p.message p.rest (subst AreMessages p.joined ready.messages)) (λ d. rest-data p.message p.rest (subst HoldsData p.joined d)) list
+    (keeps-landed s (left s got q.list i within p) q q' p.rest o (rest-messages p.message p.rest (subst AreMessages p.joined ready.messages)) (λ test passes h. rest-holds test p.message p.rest (subst (Holds test) p.joined h)) list
     (subst (AreCounted q'.flows) (ap (λ v. list_at v q'.list) p.after) counted))
 
-pub back-keeps : (s got new : StoreValue) (q q' : Queue) (i n : ℕ) (within : q.list < length s.lists) (p : Popped s got q.list i) → IsDataQueue s q → Landed s new q.list (list_back s got q.list i within p n) → q'.list ≡ q.list → AreCounted q'.flows (list_at new q'.list) → Keeps s new q q'
-back-keeps s got new q q' i n within p ready b list counted =
+pub back-keeps : (s got new : StoreValue) (q q' : Queue) (i n : ℕ) (within : q.list < length s.lists) (p : Popped s got q.list i) → IsReady s q → (block_at 0 p.message).kind ≡ kinds.Data → Landed s new q.list (list_back s got q.list i within p n) → q'.list ≡ q.list → AreCounted q'.flows (list_at new q'.list) → Keeps s new q q'
+back-keeps s got new q q' i n within p ready kind b list counted =
     let o = off s got q.list i within p in
-    let m = one s got q.list i within p ready.ready.messages ready.data_only in
-    let k = kind s got q.list i within p ready.ready.messages ready.data_only in
-    let rest_messages = subst AreMessages (sym o.here) (rest-messages p.message p.rest (subst AreMessages p.joined ready.ready.messages)) in
-    let rest_data = subst HoldsData (sym o.here) (rest-data p.message p.rest (subst HoldsData p.joined ready.data_only)) in
+    let m = one s got q.list i within p ready.messages kind in
+    let rest_messages = subst AreMessages (sym o.here) (rest-messages p.message p.rest (subst AreMessages p.joined ready.messages)) in
     keeps-landed s new q q' (list_back s got q.list i within p n) b
-    (put_back-messages (without_data n p.message) (list_at (left s got q.list i within p) q.list) (chain-without n p.message m k) rest_messages)
-    (λ d. put_back-data (without_data n p.message) (list_at (left s got q.list i within p) q.list) (kind-without n p.message m ∙ k) rest_data)
+    (put_back-messages (without_data n p.message) (list_at (left s got q.list i within p) q.list) (chain-without n p.message m kind) rest_messages)
+    (λ test passes h. put_back-holds test (without_data n p.message) (list_at (left s got q.list i within p) q.list) (ap test (kind-without n p.message m ∙ kind) ∙ passes)
+    (subst (Holds test) (sym o.here) (rest-holds test p.message p.rest (subst (Holds test) p.joined h))))
     list counted

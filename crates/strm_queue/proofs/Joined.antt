@@ -1,16 +1,17 @@
 -- A message in hand that is put on a queue.
-use Rattle.std.proofs.Common.{ℕ, ◌≡◌, ◌<◌, List, length, refl, sym, ap, subst, ◌∙◌, arith}
+use Rattle.std.proofs.Common.{ℕ, ◌≡◌, ◌<◌, Bool, true, List, length, refl, sym, ap, subst, ◌∙◌, arith}
+use Rattle.strm_types.specs.declared.kinds.MsgKind.{MsgKind}
 use Rattle.strm_types.specs.Queue as plain
 use Rattle.strm_types.proofs.Ranked.{sum-put}
-use Rattle.strm_blocks.specs.Blocks.{Block, StoreValue, IsInHand, list_at, in_hand, placed, dropped, put, rank_of, names_of, total}
+use Rattle.strm_blocks.specs.Blocks.{Block, block_at, StoreValue, IsInHand, list_at, in_hand, placed, dropped, put, rank_of, names_of, total}
 use Rattle.strm_blocks.proofs.Laws.{total-placed, total-dropped, used-is, references-is, free_m-is, free_d-more}
 use Rattle.strm_msg.specs.Messages.{message_of, IsChain, AreMessages}
 use Rattle.strm_queue.specs.declared.queue.Queue.{Queue}
 use Rattle.strm_queue.specs.Flows.{plain_flows}
 use Rattle.strm_queue.specs.Kept.{AreCounted}
 use Rattle.strm_queue.specs.Queues.{OnlyCounts}
-use Rattle.strm_queue.specs.Stored.{queue_in, IsReady, Changes, FreesBlocks}
-use Rattle.strm_queue.proofs.Holding.{put-messages}
+use Rattle.strm_queue.specs.Stored.{queue_in, Holds, IsReady, Changes, FreesBlocks}
+use Rattle.strm_queue.proofs.Holding.{put-messages, put-holds}
 use Rattle.strm_queue.proofs.Placed.{Landed, landed}
 use Rattle.strm_queue.proofs.Queued.{put-queue}
 
@@ -34,6 +35,9 @@ module _ (s new : StoreValue) (q q' : Queue) (i : ℕ) (within : q.list < length
     mblks = there.mblks;
     dblks = there.dblks;
   }
+
+  pub joined-holds : q'.list ≡ q.list → (test : MsgKind → Bool) → test (block_at 0 (in_hand s i)).kind ≡ true → Holds test (list_at s q.list) → Holds test (list_at new q'.list)
+  joined-holds list test passes h = subst (Holds test) (sym (ap (list_at new) list ∙ there.here)) (put-holds test (in_hand s i) (list_at s q.list) passes h)
 
   same : (f : List Block → ℕ) → total f (placed (dropped s i) q.list (put (in_hand s i) (list_at s q.list))) ≡ total f s
   same f =

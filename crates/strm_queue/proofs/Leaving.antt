@@ -2,6 +2,7 @@
 use Rattle.std.proofs.Common.{ℕ, ◌≡◌, ◌≤◌, ◌<◌, Bool, true, false, not, cond, List, [], ◌∷◌, length, map, refl, sym, ap, subst, ◌∙◌, arith}
 use Rattle.std.specs.Prelude.{◌||◌, option_map, sum_by}
 use Rattle.std.proofs.lemmas.List.Sums.{sum_by-cons}
+use Rattle.strm_types.specs.declared.kinds.MsgKind.{MsgKind}
 use Rattle.strm_types.specs.Flush.{is_flushed}
 use Rattle.strm_types.specs.Message.{Message}
 use Rattle.strm_types.specs.Turns.{is_none_left}
@@ -17,8 +18,8 @@ use Rattle.strm_queue.specs.declared.queue.Queue.{Queue}
 use Rattle.strm_queue.specs.Flows.{plain_flows}
 use Rattle.strm_queue.specs.Kept.{AreCounted}
 use Rattle.strm_queue.proofs.Counted.{all-kept}
-use Rattle.strm_queue.specs.Stored.{queue_in, messages_on, HoldsData, IsReady, Keeps, FreesBlocks}
-use Rattle.strm_queue.proofs.Holding.{IsData}
+use Rattle.strm_queue.specs.Stored.{queue_in, messages_on, Holds, IsReady, Keeps, FreesBlocks}
+use Rattle.strm_queue.proofs.Holding.{Passes}
 use Rattle.strm_queue.proofs.Placed.{Landed, landed, keeps-landed}
 
 -- which messages a flush takes
@@ -46,8 +47,8 @@ messages-stay what q are = record {
   ordered = Ordered-filter rank_of (λ chain. not (flushes what chain)) q are.ordered;
 }
 
-data-stays : (what : FlushWhat) (q : List (List Block)) → HoldsData q → HoldsData (flushed what q)
-data-stays what q holds = record { each = all-kept IsData (λ chain. not (flushes what chain)) q holds.each }
+holds-still : (test : MsgKind → Bool) (what : FlushWhat) (q : List (List Block)) → Holds test q → Holds test (flushed what q)
+holds-still test what q holds = record { each = all-kept (Passes test) (λ chain. not (flushes what chain)) q holds.each }
 
 -- a queue wants to be read where nothing is left
 wants : (left : List (List Block)) (old new : Bool) → (left ≡ [] → new ≡ true) → ((left ≡ [] → ⊥) → new ≡ old) → new ≡ (old || is_none_left (map message_of left))
@@ -69,7 +70,7 @@ module _ (s new : StoreValue) (q q' : Queue) (what : FlushWhat) (within : q.list
 
   pub emptied-keeps : IsReady s q → q'.list ≡ q.list → AreCounted q'.flows (list_at new q'.list) → Keeps s new q q'
   emptied-keeps ready list counted =
-      keeps-landed s new q q' (flushed what (list_at s q.list)) there (messages-stay what (list_at s q.list) ready.messages) (data-stays what (list_at s q.list)) list counted
+      keeps-landed s new q q' (flushed what (list_at s q.list)) there (messages-stay what (list_at s q.list) ready.messages) (λ test passes h. holds-still test what (list_at s q.list) h) list counted
 
 -- a sum over what stays is no greater
 stays-less : (what : FlushWhat) (f : List Block → ℕ) (q : List (List Block)) → sum_by f (flushed what q) ≤ sum_by f q

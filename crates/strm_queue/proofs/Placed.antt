@@ -2,12 +2,14 @@
 use Rattle.std.proofs.Common.{ℕ, ◌≡◌, ◌≢◌, ◌<◌, ◌+◌, Bool, true, cond, List, [], ◌∷◌, length, refl, sym, ap, subst, ◌∙◌, arith, get_or-set_same, get_or-set_other}
 use Rattle.std.specs.Prelude.{sum_by, ◌==◌}
 use Rattle.std.proofs.lemmas.Bool.Decides.{nat_tests}
+use Rattle.strm_types.specs.declared.kinds.MsgKind.{MsgKind}
+use Rattle.strm_types.specs.declared.kinds.MsgKind.TheVariants as kinds
 use Rattle.strm_blocks.specs.Blocks.{Block, StoreValue, in_hand, list_at, held, dropped, changed, placed, put, put_back, names_of, total, free_m, free_d, with_chain}
 use Rattle.strm_blocks.proofs.Laws.{dropped-held, in_hand-held, total-placed, total-held, references-is, used-is, free_m-is, free_d-same}
 use Rattle.strm_msg.specs.Messages.{AreMessages}
 use Rattle.strm_queue.specs.declared.queue.Queue.{Queue}
 use Rattle.strm_queue.specs.Kept.{AreCounted}
-use Rattle.strm_queue.specs.Stored.{HoldsData, IsReady, Keeps}
+use Rattle.strm_queue.specs.Stored.{Holds, is_m_data, HoldsData, IsReady, Keeps}
 
 -- one list of a store is this one now, and nothing else changed
 pub record Landed (s new : StoreValue) (k : ℕ) (list : List (List Block)) : Type 0 where
@@ -36,12 +38,13 @@ landed-again s t u k first second a b = record {
 }
 
 -- a queue on that list is ready, where its numbers are those of the list
-pub keeps-landed : (s new : StoreValue) (q q' : Queue) (list : List (List Block)) → Landed s new q.list list → AreMessages list → (HoldsData (list_at s q.list) → HoldsData list) → q'.list ≡ q.list → AreCounted q'.flows (list_at new q'.list) → Keeps s new q q'
-keeps-landed s new q q' list l messages data_only same counted =
+pub keeps-landed : (s new : StoreValue) (q q' : Queue) (list : List (List Block)) → Landed s new q.list list → AreMessages list → ((test : MsgKind → Bool) → test kinds.Data ≡ true → Holds test (list_at s q.list) → Holds test list) → q'.list ≡ q.list → AreCounted q'.flows (list_at new q'.list) → Keeps s new q q'
+keeps-landed s new q q' list l messages holds same counted =
     let is : list ≡ list_at new q'.list = sym (ap (list_at new) same ∙ l.here) in
     record {
       ready = record { messages = subst AreMessages is messages; counted = counted };
-      data_only = λ d. subst HoldsData is (data_only d);
+      holds = λ test passes h. subst (Holds test) is (holds test passes h);
+      data_only = λ h. subst HoldsData is (holds is_m_data refl h);
       list = same;
       others = l.others;
       hand = l.hand;

@@ -14,7 +14,7 @@ use Rattle.strm_queue.specs.Kept as kept
 use Rattle.strm_queue.specs.Kept.{AreCounted}
 use Rattle.strm_queue.specs.Stored.{messages_on, queue_in, IsReady, Keeps}
 use Rattle.strm_queue.proofs.Chains.{band-same}
-use Rattle.strm_queue.proofs.Holding.{put-messages, put-data}
+use Rattle.strm_queue.proofs.Holding.{put-messages, put-holds}
 use Rattle.strm_queue.proofs.Placed.{Landed, put-is, put-on, keeps-landed, same-free_m, same-free_d}
 use Rattle.strm_queue.proofs.OneMade.{OneMade}
 
@@ -56,7 +56,7 @@ module _ (s made new : StoreValue) (q : Queue) (i : ℕ) (bytes : List ℕ) (wit
 
   pub sent-keeps : (q' : Queue) → IsReady s q → q'.list ≡ q.list → AreCounted q'.flows (list_at new q'.list) → Keeps s new q q'
   sent-keeps q' ready same counted =
-      keeps-landed s new q q' (put (in_hand made i) (list_at s q.list)) sent-on (put-messages (in_hand made i) (list_at s q.list) m.shows.one ready.messages) (λ d. put-data (in_hand made i) (list_at s q.list) m.shows.kind d) same counted
+      keeps-landed s new q q' (put (in_hand made i) (list_at s q.list)) sent-on (put-messages (in_hand made i) (list_at s q.list) m.shows.one ready.messages) (λ test passes h. put-holds test (in_hand made i) (list_at s q.list) (ap test m.shows.kind ∙ passes) h) same counted
 
 -- what the store has once the message is made
 module _ (s made : StoreValue) (q : Queue) (i : ℕ) (bytes : List ℕ) (m : OneMade s made i bytes) where

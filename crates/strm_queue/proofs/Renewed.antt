@@ -27,4 +27,4 @@ cleared s new k within is =
 -- another queue on that list, as new
 pub renewed-keeps : (s new : StoreValue) (q q' : Queue) → Landed s new q.list [] → q'.list ≡ q.list → AreCounted q'.flows [] → Keeps s new q q'
 renewed-keeps s new q q' l list counted =
-    keeps-landed s new q q' [] l (record { chains = tt; ordered = tt }) (λ d. record { each = tt }) list (subst (AreCounted q'.flows) (sym (ap (list_at new) list ∙ l.here)) counted)
+    keeps-landed s new q q' [] l (record { chains = tt; ordered = tt }) (λ test passes h. record { each = tt }) list (subst (AreCounted q'.flows) (sym (ap (list_at new) list ∙ l.here)) counted)

@@ -1,7 +1,9 @@
 -- What a store and the queues beside it stand for, and what holds of a queue and its list.
-use Rattle.std.specs.Prelude.{ℕ, false, ◌≡◌, ◌≢◌, ◌≤◌, List, ◌∷◌, map}
+use Rattle.std.specs.Prelude.{ℕ, Bool, true, false, ◌≡◌, ◌≢◌, ◌≤◌, List, ◌∷◌, map}
 use Rattle.std.specs.List.{AllByRecursion}
+use Rattle.strm_types.specs.declared.kinds.MsgKind.{MsgKind}
 use Rattle.strm_types.specs.declared.kinds.MsgKind.TheVariants as kinds
+use Rattle.strm_types.specs.Flush.{is_data_kind}
 use Rattle.strm_types.specs.Message.{Message, size_of}
 use Rattle.strm_types.specs.Queue as plain
 use Rattle.strm_types.specs.Turns.{moved_on}
@@ -30,19 +32,37 @@ pub record IsReady (s : StoreValue) (q : Queue) : Type 0 where
   pub messages : AreMessages (list_at s q.list)
   pub counted : AreCounted q.flows (list_at s q.list)
 
--- Each message is M_DATA, of any number of blocks and of any band: all that a byte-stream read has a rule for today.
-pub record HoldsData (q : List (List Block)) : Type 0 where
-  pub each : AllByRecursion (λ chain. (block_at 0 chain).kind ≡ kinds.Data) q
+-- The kind of each message passes a test.
+pub record Holds (test : MsgKind → Bool) (q : List (List Block)) : Type 0 where
+  pub each : AllByRecursion (λ chain. test (block_at 0 chain).kind ≡ true) q
+
+-- Each message is M_DATA, M_PROTO or M_PCPROTO: all that a stream head's queue holds.
+abbrev pub HoldsReadable : List (List Block) → Type 0
+HoldsReadable = Holds is_data_kind
+
+abbrev pub is_m_data : MsgKind → Bool
+is_m_data kinds.Data = true
+is_m_data _ = false
+
+-- Each message is M_DATA, of any number of blocks and of any band.
+abbrev pub HoldsData : List (List Block) → Type 0
+HoldsData = Holds is_m_data
 
 -- a queue with M_DATA messages alone
 pub record IsDataQueue (s : StoreValue) (q : Queue) : Type 0 where
   pub ready : IsReady s q
   pub data_only : HoldsData (list_at s q.list)
 
--- One queue of a store may have changed, and no other one, nor what is in hand. The queue is ready, and has M_DATA
--- messages alone where it had them.
+-- a stream head's queue
+pub record IsHeadQueue (s : StoreValue) (q : Queue) : Type 0 where
+  pub ready : IsReady s q
+  pub readable : HoldsReadable (list_at s q.list)
+
+-- One queue of a store may have changed, and no other one, nor what is in hand. The queue is ready. A test that M_DATA
+-- passes is passed by all its messages still, where it was by all. (`data_only` is one such test, for searches.)
 pub record Keeps (old new : StoreValue) (q q' : Queue) : Type 0 where
   pub ready : IsReady new q'
+  pub holds : (test : MsgKind → Bool) → test kinds.Data ≡ true → Holds test (list_at old q.list) → Holds test (list_at new q'.list)
   pub data_only : HoldsData (list_at old q.list) → HoldsData (list_at new q'.list)
   pub list : q'.list ≡ q.list
   pub others : (k : ℕ) → k ≢ q.list → list_at new k ≡ list_at old k
@@ -70,11 +90,14 @@ pub record SameFlags (old new : Queue) : Type 0 where
   pub want_read : old.want_read ≡ false → new.want_read ≡ false
   pub no_enable : new.no_enable ≡ old.no_enable
 
--- Two queues of a store may have changed, and no other one, nor what is in hand. Both are ready, and have M_DATA
--- messages alone where they had.
+-- Two queues of a store may have changed, and no other one, nor what is in hand. Both are ready. A test is passed by all
+-- messages of the first one still, where it was by all, and by those of the second where it was by those of both.
+-- (`from_data` and `to_data` are of one such test, for searches.)
 pub record KeepsBoth (old new : StoreValue) (from from' to to' : Queue) : Type 0 where
   pub from_ready : IsReady new from'
   pub to_ready : IsReady new to'
+  pub from_holds : (test : MsgKind → Bool) → Holds test (list_at old from.list) → Holds test (list_at new from'.list)
+  pub to_holds : (test : MsgKind → Bool) → Holds test (list_at old from.list) → Holds test (list_at old to.list) → Holds test (list_at new to'.list)
   pub from_data : HoldsData (list_at old from.list) → HoldsData (list_at new from'.list)
   pub to_data : HoldsData (list_at old from.list) → HoldsData (list_at old to.list) → HoldsData (list_at new to'.list)
   pub from_list : from'.list ≡ from.list

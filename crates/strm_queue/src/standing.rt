@@ -1,16 +1,17 @@
 //! A queue beside its store, as the plain messages that stand there: what is counted and full, and who is let go (STREAMS
 //! Programming Guide, "Flow Control").
 
-ghost use Rattle.std.specs.Prelude.{◌≡◌, ◌<◌, ◌+◌, ◌-◌, ◌^◌, ◌&&◌, min, true, length, List};
+ghost use Rattle.std.specs.Prelude.{◌≡◌, ◌<◌, ◌+◌, ◌-◌, ◌^◌, ◌&&◌, Bool, min, true, length, List};
+ghost use Rattle.strm_types.specs.declared.kinds.MsgKind.{MsgKind};
 ghost use Rattle.strm_types.specs.Message.{is_held};
 ghost use Rattle.strm_types.specs.Emptied.{cells_gone, of_data};
 ghost use Rattle.strm_types.specs.Refused.{is_a_band};
 ghost use Rattle.strm_types.specs.Queue.{put_on, put_enables, bytes_of, count_of, is_full, relieved, relieves};
-ghost use Rattle.strm_blocks.specs.Blocks.{Block, StoreValue, IsInHand, in_hand, dropped};
+ghost use Rattle.strm_blocks.specs.Blocks.{Block, StoreValue, IsInHand, block_at, in_hand, list_at, dropped};
 ghost use Rattle.strm_msg.specs.Messages.{message_of, IsChain};
 ghost use Rattle.strm_queue.specs.Kept.{AreCounted};
 ghost use Rattle.strm_queue.specs.Queues.{OnlyCounts};
-ghost use Rattle.strm_queue.specs.Stored.{queue_in, messages_on, IsReady, Changes, FreesBlocks};
+ghost use Rattle.strm_queue.specs.Stored.{queue_in, messages_on, Holds, IsReady, Changes, FreesBlocks};
 
 use crate::queue::Queue;
 use strm_blocks::{Blocks, Peek, Visitor};
@@ -112,6 +113,8 @@ pub fn enqueue<B: Blocks>(store: &mut B, queue: &mut Queue, message: B::Mp) -> b
         ≡ put_on (message_of (in_hand (B.value store.old) (B.name message))) (queue_in (B.value store.old) queue.old) }
     ensures enables { result
         ≡ put_enables (message_of (in_hand (B.value store.old) (B.name message))) (queue_in (B.value store.old) queue.old) }
+    ensures holds { (test : MsgKind → Bool) → test (block_at 0 (in_hand (B.value store.old) (B.name message))).kind ≡ true →
+        Holds test (list_at (B.value store.old) queue.old.list) → Holds test (list_at (B.value store.new) queue.new.list) }
     ensures changes { Changes (dropped (B.value store.old) (B.name message)) (B.value store.new) queue.old queue.new }
     ensures frees { FreesBlocks (B.value store.old) (B.value store.new) }
 {

@@ -10,15 +10,15 @@ use Rattle.strm_blocks.specs.Blocks.{placed, dropped, put_back, in_hand, list_at
 use Rattle.strm_msg.specs.Bytes.{data_bytes}
 use Rattle.strm_msg.specs.Messages.{message_of, AreMessages}
 use Rattle.strm_msg.proofs.Chains.{data-shown}
-use Rattle.strm_queue.specs.Stored.{messages_on}
-use Rattle.strm_head.specs.Stored.{HoldsReadable}
+use Rattle.strm_types.specs.Flush.{is_data_kind}
+use Rattle.strm_queue.specs.Stored.{messages_on, HoldsReadable}
 use Rattle.strm_head.specs.Drawing.{drawn_on, discards, more_behind}
-use Rattle.strm_head.proofs.Holding.{first-chain, first-readable}
+use Rattle.strm_queue.proofs.Holding.{first-chain, first-holds}
 use Rattle.strm_head.proofs.Seen.{body-is}
 use Rattle.strm_head.proofs.FirstSeen.{stop-why, kind-seen, same-seen}
 use Rattle.strm_head.proofs.Draws.{kept, freed}
 use Rattle.strm_head.proofs.Draws as draws
-use Rattle.strm_head.proofs.Gotten.{has-list, chain-is, before, behind, trimmed, freed-less, one, back, back-messages, back-keeps}
+use Rattle.strm_queue.proofs.Gotten.{has-list, chain-is, before, behind, trimmed, freed-less, one, back, back-messages, back-keeps}
 use Rattle.strm_head.proofs.reading.draw_first.Goals as goal
 
 pub returns-in_default-clause-took : goal.returns-in_default-clause-took
@@ -36,7 +36,7 @@ returns-then-stays-clause-took g c =
     let chain = p.message in
     let rest = map message_of p.rest in
     let all = ap (map message_of) p.joined in
-    let readable = first-readable chain p.rest (subst HoldsReadable p.joined ready.readable) in
+    let readable = first-holds is_data_kind chain p.rest (subst HoldsReadable p.joined ready.readable) in
     let is = first-chain chain p.rest (subst AreMessages p.joined ready.ready.messages) in
     let why : (is_there c.in-Some.peek.control ≡ true) ⊎ ((c.args.begun ≡ true) × (c.in-Some.peek.body ≡ Some 0)) =
     subst (λ b. OnTrue b ((is_there c.in-Some.peek.control ≡ true) ⊎ ((c.args.begun ≡ true) × (c.in-Some.peek.body ≡ Some 0)))) c.if-stays.true c.stays.ensures.stays in
@@ -89,7 +89,7 @@ returns-then-keeps_rest-clause-keeps g c =
     let goes = subst (λ b. OnFalse b ((is_there c.in-Some.peek.control ≡ false) × (c.in-Some.peek.body ≡ Some 0 → c.args.begun ≡ false))) c.if-stays.false c.stays.ensures.goes in
     let kind = kind-seen s q.list p.message p.rest c.in-Some.peek c.in-Some.ensures p.joined ready.ready.messages ready.readable goes.0 in
     let b = back s got q.list i within p part cut new (trimmed s got q.list i within p part cut c.take_into.ensures.trimmed) (c.putbq.ensures.placed ∙ ap (λ l. placed (dropped cut i) l (put_back (in_hand cut i) (list_at cut l))) c.getq.ensures.list) in
-    back-keeps s got new q c.putbq.new.self i part within p ready kind b (c.putbq.ensures.others.list ∙ c.getq.ensures.list) c.putbq.ensures.counted
+    back-keeps s got new q c.putbq.new.self i part within p ready.ready kind b (c.putbq.ensures.others.list ∙ c.getq.ensures.list) c.putbq.ensures.counted
 
 pub returns-clause-took : goal.returns-clause-took
 returns-clause-took g c =

@@ -1,9 +1,39 @@
 -- Where nothing more is wanted, what was drawn is all.
-use Rattle.std.proofs.Common.{◌++◌, false, length, arith}
-use Rattle.strm_head.specs.Drawing.{drawn_on}
+use Rattle.std.proofs.Common.{◌<◌, ◌++◌, false, length, ap, subst, arith, length-append}
+use Rattle.strm_head.specs.Drawing.{drawn_on, Stepped}
 use Rattle.strm_queue.specs.Stored.{messages_on}
-use Rattle.strm_head.proofs.Gathers.{all-given, all-discarded, all-left}
+use Rattle.strm_queue.proofs.Kept.{head-kept, keeps-both, flags-both}
+use Rattle.strm_head.proofs.Gathers.{next-given, next-discarded, next-left, next-none, all-given, all-discarded, all-left}
 use Rattle.strm_head.proofs.reading.gather.Goals as goal
+
+pub draw_first-step-requires-clause-ready : goal.draw_first-step-requires-clause-ready
+draw_first-step-requires-clause-ready g c =
+    let l = c.loop-wanted in
+    head-kept (g.B.Blocks.value c.args.store.now) (g.B.Blocks.value l.store) c.args.queue.now l.queue c.requires.ready l.invariant.keeps
+
+pub loop-wanted-preserved : goal.loop-wanted-preserved
+loop-wanted-preserved g c =
+    let l = c.loop-wanted in
+    let step = c.draw_first-step in
+    let s = g.B.Blocks.value c.args.store.now in
+    let t = g.B.Blocks.value l.store in
+    let u = g.B.Blocks.value step.new.store in
+    let q = c.args.queue.now in
+    let old = messages_on t q.list in
+    let new = messages_on u q.list in
+    let all = drawn_on c.args.read false c.args.wanted (messages_on s q.list) in
+    let took : Stepped c.args.read l.begun l.wanted step.result.more step.result.discarded old new l.out.items step.new.out.items =
+    subst (λ k. Stepped c.args.read l.begun l.wanted step.result.more step.result.discarded (messages_on t k) (messages_on u k) l.out.items step.new.out.items) l.invariant.keeps.list step.ensures.took in
+    let some : 0 < l.wanted = omega (arith, c.loop-wanted-test.true) in
+    record {
+      given = next-given c.args.read l.begun l.wanted step.result.more step.result.discarded old new l.out.items step.new.out.items took (c.args.out.now.items ++ all.given) l.invariant.given;
+      discarded = next-discarded c.args.read l.begun l.wanted step.result.more step.result.discarded old new l.out.items step.new.out.items took l.discarded (length all.discarded) (l.invariant.none some) l.invariant.discarded;
+      left = next-left c.args.read l.begun l.wanted step.result.more step.result.discarded old new l.out.items step.new.out.items took all.left l.invariant.left;
+      none = next-none c.args.read l.begun l.wanted step.result.more step.result.discarded old new l.out.items step.new.out.items took;
+      fits = omega (arith, l.invariant.fits, took.most, ap length took.given, length-append l.out.items took.piece);
+      flags = flags-both q l.queue step.new.queue l.invariant.flags step.ensures.flags;
+      keeps = keeps-both s t u q l.queue step.new.queue l.invariant.keeps step.ensures.keeps;
+    }
 
 pub returns-clause-given : goal.returns-clause-given
 returns-clause-given g c =

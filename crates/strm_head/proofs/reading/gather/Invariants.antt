@@ -1,7 +1,6 @@
 use Rattle.std.proofs.Common.{◌≡◌, ◌≤◌, ◌<◌, ◌+◌, ◌++◌, length}
 use Rattle.strm_head.specs.Drawing.{drawn_on}
-use Rattle.strm_queue.specs.Stored.{messages_on, SameFlags}
-use Rattle.strm_head.specs.Stored.{Keeps}
+use Rattle.strm_queue.specs.Stored.{messages_on, SameFlags, Keeps}
 use Rattle.strm_head.proofs.reading.gather.Given as goal
 
 abbrev pub invariant-loop-wanted : goal.invariant-loop-wanted

@@ -7,9 +7,10 @@ use Rattle.strm_blocks.specs.Blocks.{list_at, placed, dropped, put_back, in_hand
 use Rattle.strm_msg.specs.Bytes.{data_bytes}
 use Rattle.strm_msg.specs.Messages.{message_of, AreMessages}
 use Rattle.strm_queue.specs.Stored.{messages_on}
+use Rattle.strm_pair.proofs.DataQueues.{first-data}
 use Rattle.strm_pair.proofs.DataRead.{cells-are, size-is, sized, stays-first}
 use Rattle.strm_pair.proofs.TakenFirst.{ends, goes-on}
-use Rattle.strm_queue.proofs.Gotten.{has-list, chain-is, before, behind, trimmed, freed-less, one, kind, back, back-messages, freed-keeps, back-keeps}
+use Rattle.strm_queue.proofs.Gotten.{has-list, chain-is, before, behind, trimmed, freed-less, one, back, back-messages, freed-keeps, back-keeps}
 use Rattle.strm_pair.proofs.reading.take_first.Goals as goal
 
 pub returns-then-ends_read-clause-took : goal.returns-then-ends_read-clause-took
@@ -24,12 +25,12 @@ returns-then-ends_read-clause-took g c =
     let p = c.in_ok-message.ensures.taken in
     let part = c.min-part.result in
     let within = has-list s q c.audit.ensures in
-    let m = one s got q.list i within p ready.ready.messages ready.data_only in
-    let k = kind s got q.list i within p ready.ready.messages ready.data_only in
+    let k = first-data p.message p.rest (list_at s q.list) ready.data_only p.joined in
+    let m = one s got q.list i within p ready.ready.messages k in
     let len_is : c.msgdsize-len.result ≡ size_of (message_of p.message) = c.msgdsize-len.ensures ∙ ap (λ chain. length (data_bytes chain)) (chain-is s got q.list i within p) ∙ sym (size-is p.message m k) in
     let b = back s got q.list i within p part cut new (trimmed s got q.list i within p part cut c.take_into.ensures.trimmed) (c.putbq.ensures.placed ∙ ap (λ l. placed (dropped cut i) l (put_back (in_hand cut i) (list_at cut l))) c.getq.ensures.list) in
     ends c.args.wanted part (message_of p.message) (map message_of p.rest) (messages_on s q.list) (messages_on new q.list) c.args.out.now.items c.take_into.new.out.items c.requires.some
-    (before s got q.list i within p) (back-messages s got q.list i within p ready.ready.messages ready.data_only part new b) (sized p.message m k)
+    (before s got q.list i within p) (back-messages s got q.list i within p ready.ready.messages k part new b) (sized p.message m k)
     (λ none. stays-first p.message m k p.rest part (subst AreMessages p.joined ready.ready.messages) none)
     (c.min-part.ensures ∙ ap (λ n. min c.args.wanted n) len_is)
     (subst (λ n. (n ≡ 0) ⊎ (c.args.wanted < n)) len_is (subst (λ b. OnTrue b ((c.msgdsize-len.result ≡ 0) ⊎ (c.args.wanted < c.msgdsize-len.result))) c.if-ends_read.true c.ends_read.ensures.ends))
@@ -47,7 +48,7 @@ returns-then-ends_read-clause-keeps g c =
     let part = c.min-part.result in
     let within = has-list s q c.audit.ensures in
     let b = back s got q.list i within p part cut new (trimmed s got q.list i within p part cut c.take_into.ensures.trimmed) (c.putbq.ensures.placed ∙ ap (λ l. placed (dropped cut i) l (put_back (in_hand cut i) (list_at cut l))) c.getq.ensures.list) in
-    back-keeps s got new q c.putbq.new.self i part within p c.requires.ready b (c.putbq.ensures.others.list ∙ c.getq.ensures.list) c.putbq.ensures.counted
+    back-keeps s got new q c.putbq.new.self i part within p c.requires.ready.ready (first-data p.message p.rest (list_at s q.list) c.requires.ready.data_only p.joined) b (c.putbq.ensures.others.list ∙ c.getq.ensures.list) c.putbq.ensures.counted
 
 pub returns-clause-took : goal.returns-clause-took
 returns-clause-took g c =
@@ -61,8 +62,8 @@ returns-clause-took g c =
     let p = c.in_ok-message.ensures.taken in
     let part = c.min-part.result in
     let within = has-list s q c.audit.ensures in
-    let m = one s got q.list i within p ready.ready.messages ready.data_only in
-    let k = kind s got q.list i within p ready.ready.messages ready.data_only in
+    let k = first-data p.message p.rest (list_at s q.list) ready.data_only p.joined in
+    let m = one s got q.list i within p ready.ready.messages k in
     let len_is : c.msgdsize-len.result ≡ size_of (message_of p.message) = c.msgdsize-len.ensures ∙ ap (λ chain. length (data_bytes chain)) (chain-is s got q.list i within p) ∙ sym (size-is p.message m k) in
     let sizes = subst (λ b. OnFalse b ((0 < c.msgdsize-len.result) × (c.msgdsize-len.result ≤ c.args.wanted))) c.if-ends_read.false c.ends_read.ensures.goes_on in
     let fits : c.msgdsize-len.result ≤ c.args.wanted = sizes.1 in

@@ -5,6 +5,7 @@ use Rattle.strm_types.specs.Message.{data_message}
 use Rattle.strm_types.specs.Queue.{put_enables}
 use Rattle.strm_types.specs.Write.{Sent}
 use Rattle.strm_queue.specs.Stored.{queue_in}
+use Rattle.strm_queue.proofs.Kept.{keeps-both}
 use Rattle.strm_pair.proofs.DataLemmas.{sent-more, front-256, back-256}
 use Rattle.strm_pair.proofs.sending.+send.Goals as goal
 
@@ -84,4 +85,7 @@ pub returns-clause-fits : goal.returns-clause-fits
 returns-clause-fits g t c = search rules steps 300000
 
 pub returns-clause-keeps : goal.returns-clause-keeps
-returns-clause-keeps g t c = search rules steps 1000000
+returns-clause-keeps g t c =
+    let chunk = c.put_chunk-enables in
+    let more = c.send-more in
+    keeps-both (g.B.Blocks.value c.args.store.now) (g.B.Blocks.value chunk.new.store) (g.B.Blocks.value more.new.store) c.args.queue.now chunk.new.queue more.new.queue chunk.ensures.keeps more.ensures.keeps

@@ -3,7 +3,7 @@ use Rattle.std.proofs.Common.{◌<◌, length, ◌∙◌, arith}
 use Rattle.strm_blocks.specs.Blocks.{in_hand}
 use Rattle.strm_queue.specs.Stored.{queue_in}
 use Rattle.strm_queue.proofs.Chains.{enables-same, chain-low}
-use Rattle.strm_queue.proofs.Joined.{joined-queue, joined-changes, joined-frees}
+use Rattle.strm_queue.proofs.Joined.{joined-queue, joined-holds, joined-changes, joined-frees}
 use Rattle.strm_queue.proofs.standing.enqueue.Goals as goal
 
 pub putq-requires-clause-band : goal.putq-requires-clause-band
@@ -20,6 +20,13 @@ pub returns-clause-enables : goal.returns-clause-enables
 returns-clause-enables g c =
     let s = g.B.Blocks.value c.args.store.now in
     c.putq.ensures.enables ∙ enables-same (in_hand s (g.B.Blocks.name c.args.message)) (queue_in s c.args.queue.now)
+
+pub returns-clause-holds : goal.returns-clause-holds
+returns-clause-holds g c =
+    let s = g.B.Blocks.value c.args.store.now in
+    let q = c.args.queue.now in
+    let within : q.list < length s.lists = let low = q.on_list in omega (arith, low, c.audit.ensures.eight) in
+    joined-holds s (g.B.Blocks.value c.putq.new.store) q c.putq.new.self (g.B.Blocks.name c.args.message) within c.requires.in_hand c.putq.ensures.placed c.putq.ensures.others.list
 
 pub returns-clause-changes : goal.returns-clause-changes
 returns-clause-changes g c =
