@@ -4,6 +4,7 @@
 use Rattle.std.specs.Prelude.{suc, Bool, true, false, ◌&&◌, if◌then◌else◌, List, [], ◌∷◌, ◌++◌}
 use Rattle.strm_types.specs.declared.flushing.FlushAsked.{FlushAsked}
 use Rattle.strm_types.specs.declared.kinds.MsgKind.{MsgKind}
+use Rattle.strm_types.specs.declared.limits.TheConstants.{MODULES}
 use Rattle.strm_types.specs.declared.kinds.MsgKind.TheVariants.{Data, Proto, Pcproto, Stop, Start, Iocack, Iocnak, Flush}
 use Rattle.strm_types.specs.declared.names.Side.{Side}
 use Rattle.strm_types.specs.declared.names.Way.{Way}
@@ -15,7 +16,7 @@ use Rattle.strm_types.specs.declared.spots.Spot.{Spot}
 use Rattle.strm_types.specs.Deliver.{Acted, Parcel}
 use Rattle.strm_types.specs.Emptied.{of_data, cells_gone, queue_behind, writer_goes}
 use Rattle.strm_types.specs.Flushing.{asked_by, read_flush, flush_message}
-use Rattle.strm_types.specs.Message.{Message, cells_of}
+use Rattle.strm_types.specs.Message.{Message, cells_of, has_parts}
 use Rattle.strm_types.specs.Names.{other, direction_from}
 use Rattle.strm_types.specs.Queue.{Queue, put_on, put_enables}
 
@@ -30,12 +31,12 @@ crosses Iocack = true
 crosses Iocnak = true
 crosses _ = false
 
--- the place above the other side's driver, on the way up, and that driver itself
+-- the place above the other side's driver, on the way up, and that driver itself, which has the place behind all modules' there
 abbrev pub bottom_across : Side → Across → Spot
 bottom_across side across = record { side = other side; at = across.bottom; way = Up }
 
 abbrev pub driver_across : Side → Across → Spot
-driver_across side across = record { side = other side; at = suc across.bottom; way = Up }
+driver_across side across = record { side = other side; at = suc MODULES; way = Up }
 
 module _ {C : Type 0} where
   -- the message is freed
@@ -89,8 +90,9 @@ module _ {C : Type 0} where
   put_across side across Flush m q = flush_across side across (asked_by m.plain) q
   put_across side across kind m q = freed q
 
+  -- A message with parts is for the other side, whichever way it comes; any other one is told by its kind.
   abbrev pub driver_put : Side → Across → Spot → Message C → Queue C → Acted C (Queue C)
-  driver_put side across here m q = by here.way
+  driver_put side across here m q = if has_parts m then taken_in side across m q else by here.way
     where
       by : Way → Acted C (Queue C)
       by Down = put_down side across m.kind m q
