@@ -50,6 +50,21 @@ module _ {chain : List Block} {before buffer : List ℕ} {done at : ℕ} (so : G
       let whole : front ++ back ≡ bytes_of chain = sym (bytes-append (take at chain) (drop at chain)) ∙ ap (λ xs. bytes_of xs) (take-append-drop at chain) in
       so.given ∙ paste_none (filled before front) done back ∙ filled-more before front back done 0 count (omega arith) ∙ ap (λ xs. filled before xs) whole
 
+  -- how many there are, by then
+  pub full-count : done ≡ length buffer → done ≡ min (length before) (length (bytes_of chain))
+  full-count full =
+      let room = gathered-length in
+      let count = so.count in
+      let front = bytes_of (take at chain) in
+      let back = bytes_of (drop at chain) in
+      let whole : front ++ back ≡ bytes_of chain = sym (bytes-append (take at chain) (drop at chain)) ∙ ap (λ xs. bytes_of xs) (take-append-drop at chain) in
+      let len = ap (λ xs. length xs) whole in
+      let both = length-append front back in
+      omega arith
+
+  pub all-count : length chain ≤ at → done ≡ min (length before) (length (bytes_of chain))
+  all-count all = so.count ∙ ap (λ xs. min (length before) (length (bytes_of xs))) (take_all at chain all)
+
   pub gathered-all : length chain ≤ at → buffer ≡ filled before (bytes_of chain)
   gathered-all all = so.given ∙ ap (λ xs. filled before (bytes_of xs)) (take_all at chain all)
 

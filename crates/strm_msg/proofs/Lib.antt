@@ -14,6 +14,7 @@ pub mod InHand
 pub mod Joining
 pub mod KindNumbers
 pub mod MadeData
+pub mod MadePlain
 pub mod Making
 pub mod Parts
 pub mod Pieces

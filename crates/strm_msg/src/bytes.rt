@@ -1,9 +1,13 @@
-//! Messages made of bytes.
-ghost use Rattle.std.specs.Prelude.{◌≡◌, ◌≤◌, ◌*◌, length, take, drop, MatchResult};
+//! Messages made of bytes, and the first bytes of a message.
+ghost use Rattle.std.specs.Prelude.{◌≡◌, ◌≤◌, ◌*◌, min, length, take, drop, MatchResult};
 ghost use Rattle.strm_types.specs.Write as write;
+ghost use Rattle.strm_blocks.specs.Blocks.{IsInHand, in_hand};
 ghost use Rattle.strm_blocks.specs.Outcomes.{Copied, NoneFree};
+ghost use Rattle.strm_msg.specs.Bytes.{bytes_of};
 ghost use Rattle.strm_msg.specs.Made.{MadeOf, TooFew, piece};
+ghost use Rattle.strm_msg.specs.Taken.{filled};
 
+use crate::data::copy_into;
 use strm_blocks::{Blocks, NoBlocks};
 use strm_types::{Band, MsgKind, chunk_count};
 
@@ -59,4 +63,22 @@ pub fn from_bytes<B: Blocks>(
         }
     }
     Ok(message)
+}
+
+/// Copies the first bytes of a message into a buffer, as many as both have, whatever the kinds of its blocks. The message
+/// keeps them. Returns how many.
+pub fn first_bytes<B: Blocks>(store: &B, message: &B::Mp, buffer: &mut [u8]) -> usize
+    requires { IsInHand (B.value store.now) (B.name message.now) }
+    ensures count { result ≡ min (length buffer.old)
+        (length (bytes_of (in_hand (B.value store.now) (B.name message.now)))) }
+    ensures given { buffer.new ≡ filled buffer.old (bytes_of (in_hand (B.value store.now) (B.name message.now))) }
+{
+    let mut done = 0;
+    for at in 0..store.blocks(message) {
+        if done == buffer.len() {
+            return done;
+        }
+        done += copy_into(buffer, done, store.bytes_at(message, at));
+    }
+    done
 }

@@ -12,11 +12,11 @@ mod pulls;
 mod sizes;
 
 pub use adjust::adjmsg;
-pub use bytes::from_bytes;
+pub use bytes::{first_bytes, from_bytes};
 pub use copies::{copymsg, dupmsg};
 pub use data::take_data;
 pub use pulls::{NotPulled, pullup};
-pub use sizes::{control_len, data_len, message_size, msgdsize};
+pub use sizes::{booked_size, control_len, data_len, message_size, msgdsize};
 
 #[cfg(test)]
 mod tests;

@@ -9,8 +9,7 @@ ghost use Rattle.strm_msg.specs.Runs.{front_run};
 ghost use Rattle.strm_msg.specs.Pulled.{run_bytes, asked_of, count_refusal, without_joined, PulledUp, PullRefused};
 
 use crate::adjust::{End, run_at};
-use crate::bytes::block_of;
-use crate::data::copy_into;
+use crate::bytes::{block_of, first_bytes};
 use crate::kinds::same_kind;
 use strm_blocks::{Blocks, NoBlocks};
 use strm_types::Refusal;
@@ -43,20 +42,6 @@ fn joined_count(n: isize, size: usize) -> Result<usize, Refusal>
     Ok(count)
 }
 
-/// Copies the bytes of a message into a buffer, as many as both have.
-fn gather<B: Blocks>(store: &B, message: &B::Mp, buffer: &mut [u8])
-    requires { IsInHand (B.value store.now) (B.name message.now) }
-    ensures { buffer.new ≡ filled buffer.old (bytes_of (in_hand (B.value store.now) (B.name message.now))) }
-{
-    let mut done = 0;
-    for at in 0..store.blocks(message) {
-        if done == buffer.len() {
-            return;
-        }
-        done += copy_into(buffer, done, store.bytes_at(message, at));
-    }
-}
-
 /// Makes a message of one block, of a message's kind and band, that shows its first bytes.
 fn join<B: Blocks>(store: &mut B, message: &B::Mp, count: usize) -> Result<B::Mp, NoBlocks>
     requires in_hand { IsInHand (B.value store.old) (B.name message.now) }
@@ -72,7 +57,7 @@ fn join<B: Blocks>(store: &mut B, message: &B::Mp, count: usize) -> Result<B::Mp
     let kind = store.kind(message, 0);
     let band = store.band(message);
     let mut buffer = [0u8; 256];
-    gather(store, message, &mut buffer);
+    first_bytes(store, message, &mut buffer);
     block_of(store, kind, band, &buffer[..count])
 }
 

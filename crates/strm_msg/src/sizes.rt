@@ -1,7 +1,7 @@
 //! How many bytes the parts of a message have.
 ghost use Rattle.std.specs.Prelude.{◌≡◌, length};
 ghost use Rattle.strm_blocks.specs.Blocks.{IsInHand, in_hand};
-ghost use Rattle.strm_types.specs.Message.{size_of};
+ghost use Rattle.strm_types.specs.Message.{cells_of, size_of};
 ghost use Rattle.strm_msg.specs.Bytes.{bytes_of, control_blocks, data_blocks, data_bytes, length_of_part};
 ghost use Rattle.strm_msg.specs.Messages.{message_of, IsChain};
 
@@ -20,6 +20,20 @@ pub fn message_size<B: Blocks>(store: &B, message: &B::Mp) -> usize
         bytes += store.block_len(message, at);
     }
     bytes
+}
+
+/// How many bytes of a message the ledgers count: all those of an M_DATA, M_PROTO or M_PCPROTO message, and none of another.
+pub fn booked_size<B: Blocks>(store: &B, message: &B::Mp) -> usize
+    requires in_hand { IsInHand (B.value store.now) (B.name message.now) }
+    requires chain { IsChain (in_hand (B.value store.now) (B.name message.now)) }
+    ensures { result ≡ length (cells_of (message_of (in_hand (B.value store.now) (B.name message.now)))) }
+{
+    store.audit();
+    if store.kind(message, 0).is_data_kind() {
+        message_size(store, message)
+    } else {
+        0
+    }
 }
 
 /// How many bytes the M_DATA blocks of a message have, whatever stands between them: `msgdsize(9F)`.

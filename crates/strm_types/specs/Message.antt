@@ -1,5 +1,5 @@
 -- A message as its users see it: without blocks (STREAMS Programming Guide, "Messages").
-use Rattle.std.specs.Prelude.{ℕ, Bool, true, false, List, [], ◌++◌, length, ◌+◌, map, if◌then◌else◌, Option, None, Some, unwrap_or, option_map, count_by}
+use Rattle.std.specs.Prelude.{ℕ, Bool, true, false, ◌||◌, List, [], ◌++◌, length, ◌+◌, map, if◌then◌else◌, Option, None, Some, unwrap_or, option_map, count_by}
 use Rattle.strm_types.specs.declared.kinds.MsgKind.{MsgKind}
 use Rattle.strm_types.specs.declared.limits.TheConstants.{HIGH_PRIORITY_RANK}
 use Rattle.strm_types.specs.declared.kinds.MsgKind.TheVariants.{Data, Proto, Sig, Ctl, Ioctl, Setopts}
@@ -33,6 +33,15 @@ module _ {C : Type 0} where
   -- the cells of a part, none where it is absent
   abbrev pub part : Option (List C) → List C
   part o = unwrap_or o []
+
+  -- whether a part is there
+  abbrev pub is_part : Option (List C) → Bool
+  is_part None = false
+  is_part (Some cells) = true
+
+  -- whether a message has parts: M_DATA, M_PROTO and M_PCPROTO have, and no other one
+  abbrev pub has_parts : Message C → Bool
+  has_parts m = is_part m.control || is_part m.body
 
   -- all cells of a message: its control part, then its data part
   unfoldable pub cells_of : Message C → List C

@@ -15,5 +15,5 @@ pub returns : goal.returns
 returns g c =
     let s = g.B.Blocks.value c.args.store.now in
     let chain = in_hand s (g.B.Blocks.name c.args.message.now) in
-    let block = piece-first (block_at 0 chain).kind (block_at 0 chain).band (replicate 256 0) (bytes_of chain) c.gather.new.buffer c.args.count c.kind-kind.ensures c.band-band.ensures c.gather.ensures (omega (arith, length-replicate {A = ℕ} 256 0)) c.requires.enough in
+    let block = piece-first (block_at 0 chain).kind (block_at 0 chain).band (replicate 256 0) (bytes_of chain) c.first_bytes.new.buffer c.args.count c.kind-kind.ensures c.band-band.ensures c.first_bytes.ensures.given (omega (arith, length-replicate {A = ℕ} 256 0)) c.requires.enough in
     subst (λ (b : Block). MatchResult c.block_of.result (λ m. Copied s (g.B.Blocks.value c.block_of.new.store) (g.B.Blocks.name m) b) (λ _. NoneFree s (g.B.Blocks.value c.block_of.new.store))) block c.block_of.ensures

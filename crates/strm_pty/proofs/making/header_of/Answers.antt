@@ -1,0 +1,16 @@
+-- Sixteen bytes are enough.
+use Rattle.std.proofs.Common.{ap, sym, ◌∙◌, take, replicate}
+use Rattle.strm_types.specs.Ioctls.{read_ioc}
+use Rattle.strm_blocks.specs.Blocks.{in_hand}
+use Rattle.strm_msg.specs.Bytes.{bytes_of}
+use Rattle.strm_msg.proofs.MadePlain.{plain-is}
+use Rattle.strm_pty.proofs.Read.{first-of, ioc-first}
+use Rattle.strm_pty.proofs.making.header_of.Goals as goal
+
+pub returns : goal.returns
+returns g c =
+    let chain = in_hand (g.B.Blocks.value c.args.store.now) (g.B.Blocks.name c.args.message.now) in
+    let count = c.first_bytes-count in
+    c.read.ensures
+    ∙ ap (λ xs. read_ioc xs) (ap (λ xs. take count.result xs) count.ensures.given ∙ first-of (replicate 16 0) (bytes_of chain) count.result count.ensures.count)
+    ∙ ioc-first (bytes_of chain) ∙ ap (λ m. read_ioc m.plain) (sym (plain-is chain c.requires.kind))

@@ -1,0 +1,11 @@
+//! The drivers at the bottom of both streams of a pseudoterminal, on a queue each and over any store of blocks: what a put
+//! at one does (ptm(7D), pts(7D); put(9E)).
+#![tactic(auto)]
+
+mod answering;
+mod drivers;
+mod flushing;
+mod making;
+mod taking;
+
+pub use drivers::put;

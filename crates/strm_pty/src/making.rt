@@ -1,0 +1,73 @@
+//! Messages that a driver makes, and what it reads of those that it has in hand.
+
+ghost use Rattle.std.specs.Prelude.{◌≡◌, ◌≤◌, false, true, length};
+ghost use Rattle.std.specs.Option.{option_to_list};
+ghost use Rattle.strm_types.specs.Drivers.{reader_flush};
+ghost use Rattle.strm_types.specs.Flush.{is_data_kind};
+ghost use Rattle.strm_types.specs.Flushing.{asked_by};
+ghost use Rattle.strm_types.specs.Ioctls.{read_ioc};
+ghost use Rattle.strm_types.specs.Refused.{is_a_band};
+ghost use Rattle.strm_blocks.specs.Blocks.{IsInHand, in_hand, block_at};
+ghost use Rattle.strm_frame.specs.Hands.{HasRoom};
+ghost use Rattle.strm_frame.specs.Outboxes.{message_in};
+ghost use Rattle.strm_pty.specs.Does.{MadeOne, Makes};
+
+use strm_blocks::Blocks;
+use strm_frame::Sent;
+use strm_msg::{first_bytes, from_bytes};
+use strm_types::{Band, FlushAsked, Ioc, MsgKind, Spot};
+
+/// Makes a message of a kind without parts, of band 0, in one block.
+pub(crate) fn make<B: Blocks>(store: &mut B, kind: MsgKind, bytes: &[u8]) -> B::Mp
+    requires kind { is_data_kind kind ≡ false }
+    requires few { length bytes.now ≤ 256 }
+    requires room { HasRoom (B.value store.old) 1 }
+    ensures { MadeOne (B.value store.old) (B.value store.new) (B.name result) kind bytes.now }
+{
+    let Ok(message) = from_bytes(store, kind, Band(0), bytes) else {
+        unreachable!()
+    };
+    message
+}
+
+/// Makes an M_FLUSH for readers that goes to a spot, where a condition holds.
+pub(crate) fn flush_to<B: Blocks>(
+    store: &mut B,
+    goes: bool,
+    asked: FlushAsked,
+    to: Spot,
+) -> Option<Sent<B::Mp>>
+    requires { HasRoom (B.value store.old) 1 }
+    ensures { Makes B.name (B.value store.old) (B.value store.new) 1 (option_to_list result)
+        (reader_flush goes asked to) }
+{
+    if goes {
+        let message = make(store, MsgKind::Flush, asked.for_readers().as_slice());
+        Some(Sent { to, message })
+    } else {
+        None
+    }
+}
+
+/// What an M_FLUSH in hand asks for.
+pub(crate) fn asked_of<B: Blocks>(store: &B, message: &B::Mp) -> FlushAsked
+    requires in_hand { IsInHand (B.value store.now) (B.name message.now) }
+    requires kind { is_data_kind (block_at 0 (in_hand (B.value store.now) (B.name message.now))).kind ≡ false }
+    ensures asked { result ≡ asked_by (message_in (B.value store.now) (B.name message.now)).plain }
+    ensures band { is_a_band result.band ≡ true }
+{
+    let mut bytes = [0; 2];
+    let count = first_bytes(store, message, &mut bytes);
+    FlushAsked::read(&bytes[..count])
+}
+
+/// The header of an ioctl message in hand, if it has one.
+pub(crate) fn header_of<B: Blocks>(store: &B, message: &B::Mp) -> Option<Ioc>
+    requires in_hand { IsInHand (B.value store.now) (B.name message.now) }
+    requires kind { is_data_kind (block_at 0 (in_hand (B.value store.now) (B.name message.now))).kind ≡ false }
+    ensures { result ≡ read_ioc (message_in (B.value store.now) (B.name message.now)).plain }
+{
+    let mut bytes = [0; 16];
+    let count = first_bytes(store, message, &mut bytes);
+    Ioc::read(&bytes[..count])
+}

@@ -1,0 +1,76 @@
+//! Messages that a driver keeps for the other side, or frees.
+
+ghost use Rattle.std.specs.Prelude.{◌≡◌, if◌then◌else◌, [], ◌∷◌};
+ghost use Rattle.strm_types.specs.Drivers.{taken_in};
+ghost use Rattle.strm_blocks.specs.Blocks.{IsInHand, in_hand};
+ghost use Rattle.strm_msg.specs.Messages.{IsChain};
+ghost use Rattle.strm_queue.specs.Stored.{queue_in, IsReady};
+ghost use Rattle.strm_frame.specs.Outboxes.{message_in, sent_of};
+ghost use Rattle.strm_pty.specs.Does.{Does, Swaps};
+
+use arrayvec::ArrayVec;
+use strm_blocks::Blocks;
+use strm_frame::{Acts, Outbox};
+use strm_msg::booked_size;
+use strm_queue::Queue;
+use strm_queue::standing::enqueue;
+use strm_types::{Across, Fates, Note, Rule, Side, Way};
+
+/// A note, where a condition holds.
+pub(crate) fn note_if(holds: bool, note: Note) -> ArrayVec<Note, 4>
+    ensures { result.items ≡ (if holds then note ∷ [] else []) }
+{
+    let mut notes = ArrayVec::new();
+    if holds {
+        notes.push(note);
+    }
+    notes
+}
+
+/// Frees a message, and nothing comes of it.
+pub(crate) fn let_go<B: Blocks>(store: &mut B, message: B::Mp) -> Acts<B::Mp>
+    requires { IsInHand (B.value store.old) (B.name message) }
+    ensures notes { result.notes.items ≡ [] }
+    ensures sent { sent_of result.sent ≡ [] }
+    ensures swaps { Swaps B.name (B.value store.old) (B.value store.new) (B.name message) 0 (sent_of result.sent) [] }
+{
+    store.audit();
+    store.free(message);
+    Acts {
+        notes: ArrayVec::new(),
+        sent: Outbox::none(),
+    }
+}
+
+/// Puts a message on the driver's queue, from which it will go up the other side's stream. Once the master is closed it is
+/// freed, and its bytes are told.
+pub(crate) fn take_in<B: Blocks>(
+    store: &mut B,
+    queue: &mut Queue,
+    across: Across,
+    side: Side,
+    message: B::Mp,
+    told: &mut Fates,
+) -> Acts<B::Mp>
+    requires ready { IsReady (B.value store.old) queue.old }
+    requires in_hand { IsInHand (B.value store.old) (B.name message) }
+    requires chain { IsChain (in_hand (B.value store.old) (B.name message)) }
+    ensures { let s = B.value store.old in
+        Does B.name s (B.value store.new) queue.old queue.new (B.name message) 0 result told.old told.new
+        (taken_in side across (message_in s (B.name message)) (queue_in s queue.old)) }
+{
+    if across.ended {
+        told.tell(
+            side.direction(),
+            Rule::EndClosed,
+            booked_size(store, &message),
+        );
+        return let_go(store, message);
+    }
+    store.audit();
+    let enables = enqueue(store, queue, message);
+    Acts {
+        notes: note_if(enables, Note::Enable(Way::Down)),
+        sent: Outbox::none(),
+    }
+}
