@@ -17,7 +17,7 @@ use Rattle.strm_types.specs.Names.{other, driver_of, head_of, direction_of, befo
 use Rattle.strm_types.specs.Origins.{map_fate, map_carried}
 use Rattle.strm_types.specs.Queue.{Queue, bytes_of, relieved, relieves, map_messages, map_queue}
 use Rattle.strm_types.specs.State.{State, Stream, stream, with_stream, with_head_queue, with_driver_queue, map_stream, map_state}
-use Rattle.strm_types.specs.Turns.{is_none_left}
+use Rattle.strm_types.specs.Queue.{is_none_left}
 use Rattle.strm_types.proofs.Forgetting.{kind-forgets, named_band-forgets, cells-forget, size-forgets, none-forgets, relieved-forgets, relieves_from-forgets}
 
 -- what becomes of a state whose head's or driver's queue on a side is emptied

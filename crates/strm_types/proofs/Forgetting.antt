@@ -5,7 +5,7 @@ use Rattle.std.proofs.lemmas.List.{take-map, drop-map, length-map, map-append}
 use Rattle.std.proofs.lemmas.List.Sums.{sum_by-cons}
 use Rattle.strm_types.specs.Message.{Message, part, rank_of, band_of, cells_of, size_of, data_message, map_message}
 use Rattle.strm_types.specs.Queue.{Queue, Flow, put, put_back, put_on, put_enables, count_of, is_full, flow_of, relieved, relieved_from, relieves_from, map_messages, map_queue}
-use Rattle.strm_types.specs.Turns.{is_none_left}
+use Rattle.strm_types.specs.Queue.{is_none_left}
 use Rattle.strm_types.specs.Write.{Sent, sent, written, chunks_of, chunk_count}
 use Rattle.strm_types.specs.Head.{Taken, rest_of, gathered, head_read}
 use Rattle.strm_types.proofs.Ranked.{put-map, put_back-map}

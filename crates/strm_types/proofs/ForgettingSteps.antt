@@ -24,7 +24,8 @@ use Rattle.strm_types.specs.State.{State, Stream, stream, with_stream, with_driv
 use Rattle.strm_types.specs.Books.{with_written}
 use Rattle.strm_types.specs.Write.{Sent, written}
 use Rattle.strm_types.specs.Head.{Taken, head_read}
-use Rattle.strm_types.specs.Turns.{Served, TurnOutcome, map_turn_outcome, is_none_left, held_back, moved_on, is_stopped, driver_serves, goes_on, driver_turned, turned_at, turned}
+use Rattle.strm_types.specs.Turns.{Served, TurnOutcome, map_turn_outcome, held_back, moved_on, is_stopped, driver_serves, goes_on, driver_turned, turned_at, turned}
+use Rattle.strm_types.specs.Queue.{is_none_left}
 use Rattle.strm_types.specs.Calls.{Outcome, Request, Reply, map_outcome, done, queue_after, lets_go, wrote, called}
 use Rattle.strm_types.specs.Journal.{PlainEntry}
 use Rattle.strm_types.specs.Step.{after, replay}

@@ -20,7 +20,8 @@ use Rattle.strm_types.specs.Message.{Message, size_of, band_of}
 use Rattle.strm_types.specs.Queue.{Queue, Flow, put_on, weight, left_with, relieved, with_writer_at}
 use Rattle.strm_types.specs.State.{State, Stream, stream, book, opening}
 use Rattle.strm_types.specs.Head.{Taken, head_read}
-use Rattle.strm_types.specs.Turns.{is_none_left, is_stopped, moved_on, driver_serves, driver_turned, turned_at, turned}
+use Rattle.strm_types.specs.Turns.{is_stopped, moved_on, driver_serves, driver_turned, turned_at, turned}
+use Rattle.strm_types.specs.Queue.{is_none_left}
 use Rattle.strm_types.specs.Calls.{Outcome, Request, Reply, queue_after, lets_go, wrote, called}
 use Rattle.strm_types.specs.Journal.{PlainEntry}
 use Rattle.strm_types.specs.Refused.{or_else, unless, refused_at_once, refused_by_state}

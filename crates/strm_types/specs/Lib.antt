@@ -20,6 +20,8 @@ pub mod Turns
 pub mod Emptied
 pub mod Flushing
 pub mod Drivers
+pub mod Heads
+pub mod Puts
 pub mod Calls
 pub mod Refused
 pub mod Journal
