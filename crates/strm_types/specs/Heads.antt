@@ -1,17 +1,17 @@
 -- What a stream head does with a message that comes up to it (STREAMS Programming Guide, "Stream Head" and "Flush Handling";
 -- streamio(7I)).
-use Rattle.std.specs.Prelude.{Bool, true, false, ◌&&◌, if◌then◌else◌, List, [], ◌∷◌}
+use Rattle.std.specs.Prelude.{Bool, true, false, ◌&&◌, ◌||◌, if◌then◌else◌, List, [], ◌∷◌}
 use Rattle.std.specs.List.{list_any}
 use Rattle.strm_types.specs.declared.flushing.FlushAsked.{FlushAsked}
 use Rattle.strm_types.specs.declared.kinds.MsgKind.{MsgKind}
-use Rattle.strm_types.specs.declared.kinds.MsgKind.TheVariants.{Pcproto, Flush, Hangup}
+use Rattle.strm_types.specs.declared.kinds.MsgKind.TheVariants.{Pcproto, Hangup}
 use Rattle.strm_types.specs.declared.names.Way.TheVariants.{Up, Down}
 use Rattle.strm_types.specs.declared.rules.Rule.TheVariants.{Flushed, Doubled}
 use Rattle.strm_types.specs.declared.spots.Note.TheVariants.{Room}
 use Rattle.strm_types.specs.declared.spots.Spot.{Spot}
 use Rattle.strm_types.specs.Deliver.{Acted, Parcel, toward}
 use Rattle.strm_types.specs.Emptied.{of_data, cells_gone, queue_behind, writer_goes}
-use Rattle.strm_types.specs.Flushing.{asked_by, flush_bytes, flush_message}
+use Rattle.strm_types.specs.Flushing.{is_flush, asked_by, flush_bytes, flush_message}
 use Rattle.strm_types.specs.Message.{Message, cells_of, has_parts}
 use Rattle.strm_types.specs.Names.{direction_at}
 use Rattle.strm_types.specs.Queue.{put_on}
@@ -20,6 +20,10 @@ use Rattle.strm_types.specs.State.{Head}
 abbrev pub is_pcproto : MsgKind → Bool
 is_pcproto Pcproto = true
 is_pcproto _ = false
+
+abbrev pub is_hangup : MsgKind → Bool
+is_hangup Hangup = true
+is_hangup _ = false
 
 module _ {C : Type 0} where
   -- the message is freed
@@ -57,11 +61,11 @@ module _ {C : Type 0} where
   abbrev pub flush_up : Spot → FlushAsked → Head C → Acted C (Head C)
   flush_up here asked h = record (if asked.for_read then head_flushed here asked h else passed_by h) { sent = turned_round here asked }
 
-  -- a message without parts, by its kind
-  abbrev pub obeyed : Spot → MsgKind → Message C → Head C → Acted C (Head C)
-  obeyed here Flush m h = flush_up here (asked_by m.plain) h
-  obeyed here Hangup m h = passed_by (record h { hung_up = true })
-  obeyed here _ m h = passed_by h
+  -- A message without parts: an M_FLUSH is obeyed, an M_HANGUP says that the other end is gone, and all others are freed.
+  abbrev pub obeyed : Spot → Message C → Head C → Acted C (Head C)
+  obeyed here m h =
+      if is_flush m.kind then flush_up here (asked_by m.plain) h
+      else passed_by (record h { hung_up = h.hung_up || is_hangup m.kind })
 
   abbrev pub head_put : Spot → Message C → Head C → Acted C (Head C)
-  head_put here m h = if has_parts m then waits_for_readers here m h else obeyed here m.kind m h
+  head_put here m h = if has_parts m then waits_for_readers here m h else obeyed here m h

@@ -3,8 +3,6 @@
 use Rattle.std.specs.Prelude.{ℕ, suc, ◌+◌, ◌-◌, Bool, true, false, ◌&&◌, ◌==◌, if◌then◌else◌, List, [], ◌∷◌, Option}
 use Rattle.strm_types.specs.declared.events.FlushQueues.{FlushQueues}
 use Rattle.strm_types.specs.declared.kinds.Band.{Band}
-use Rattle.strm_types.specs.declared.kinds.MsgKind.{MsgKind}
-use Rattle.strm_types.specs.declared.kinds.MsgKind.TheVariants.{Flush}
 use Rattle.strm_types.specs.declared.limits.TheConstants.{MODULES, HOPS}
 use Rattle.strm_types.specs.declared.names.Side.{Side}
 use Rattle.strm_types.specs.declared.names.Place.{Place}
@@ -19,7 +17,7 @@ use Rattle.strm_types.specs.declared.spots.Note.TheVariants.{Enable, Room}
 use Rattle.strm_types.specs.declared.spots.Spot.{Spot}
 use Rattle.strm_types.specs.Deliver.{Acted, Carried, Parcel, Took, carried}
 use Rattle.strm_types.specs.Drivers.{driver_put}
-use Rattle.strm_types.specs.Flushing.{asked_by, asked_of, flush_bytes, flush_message}
+use Rattle.strm_types.specs.Flushing.{is_flush, asked_by, asked_of, flush_bytes, flush_message}
 use Rattle.strm_types.specs.Heads.{head_put}
 use Rattle.strm_types.specs.Message.{Message, cells_of}
 use Rattle.strm_types.specs.Names.{other, is_open, is_closed, direction_at, before, enable, enable_found}
@@ -30,11 +28,6 @@ abbrev pub noted : Side → Place → List Note → List QueueName → List Queu
 noted side place [] names = names
 noted side place (Enable way ∷ notes) names = noted side place notes (enable (record { side = side; place = place; way = way }) names)
 noted side place (Room way ∷ notes) names = noted side place notes (enable_found (before (record { side = side; place = place; way = way })) names)
-
--- whether a message that comes up is at a driver: an M_FLUSH that the other driver has sent across
-abbrev pub is_flush : MsgKind → Bool
-is_flush Flush = true
-is_flush _ = false
 
 -- whether what comes up may go down again: an M_FLUSH with FLUSHW
 abbrev pub is_turned : {C : Type 0} → Message C → Bool
