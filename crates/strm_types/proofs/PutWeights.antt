@@ -14,8 +14,8 @@ use Rattle.strm_types.specs.declared.spots.Spot.{Spot}
 use Rattle.strm_types.specs.Deliver.{Acted, Parcel, toward}
 use Rattle.strm_types.specs.Drivers.{bottom_across, crosses, driver_across, driver_put, freed, own_flushed, put_across, put_down, reader_flush, taken_in}
 use Rattle.strm_types.specs.Emptied.{of_data}
-use Rattle.strm_types.specs.Flushing.{asked_by, flush_bytes, flush_message, read_flush}
-use Rattle.strm_types.specs.Heads.{head_flushed, head_put, is_doubled, obeyed, passed_by, turned_round, waits_for_readers}
+use Rattle.strm_types.specs.Flushing.{is_flush, asked_by, flush_bytes, flush_message, read_flush}
+use Rattle.strm_types.specs.Heads.{head_flushed, head_put, is_doubled, is_hangup, obeyed, passed_by, turned_round, waits_for_readers}
 use Rattle.strm_types.specs.Message.{Message, cells_of, has_parts, is_part, part, weight_of}
 use Rattle.strm_types.specs.Places.{weight_sent, weight_gone}
 use Rattle.strm_types.specs.Names.{direction_from, direction_at}
@@ -25,7 +25,7 @@ use Rattle.strm_types.proofs.EmptiedKeeps.{behind-keeps}
 use Rattle.strm_types.proofs.Weights.{weight-put, weight-whole}
 
 -- an M_FLUSH has no cells
-weight-flush : {C : Type 0} (p : C → Bool) (bytes : List ℕ) → weight_of p (flush_message bytes) ≡ 0
+pub weight-flush : {C : Type 0} (p : C → Bool) (bytes : List ℕ) → weight_of p (flush_message bytes) ≡ 0
 unfolding weight_of cells_of
 weight-flush p bytes = refl
 
@@ -119,17 +119,17 @@ module _ {C : Type 0} (p : C → Bool) where
       at true = omega (arith, weight-flush p (flush_bytes (record asked { for_read = false })))
       at false = refl
 
-  obeyed-keeps : (here : Spot) (kind : MsgKind) (m : Message C) (h : Head C) → weight_of p m ≡ 0 → head_total (obeyed here kind m h) ≡ weight p h.queue.messages + weight_of p m
-  obeyed-keeps here Flush m h none = omega (arith, none, at (asked_by m.plain).for_read)
+  obeyed-keeps : (here : Spot) (m : Message C) (h : Head C) → weight_of p m ≡ 0 → head_total (obeyed here m h) ≡ weight p h.queue.messages + weight_of p m
+  obeyed-keeps here m h none = omega (arith, none, at (is_flush m.kind) (asked_by m.plain).for_read)
     where
-      at : (own : Bool) → head_total (record (cond own (head_flushed here (asked_by m.plain) h) (passed_by h)) { sent = turned_round here (asked_by m.plain) }) ≡ weight p h.queue.messages
-      at true = omega (arith, round-keeps here (asked_by m.plain), behind-keeps p (of_data (asked_by m.plain).band) h.queue)
-      at false = omega (arith, round-keeps here (asked_by m.plain))
-  obeyed-keeps here kind m h none = omega (arith, none)
+      at : (flush own : Bool) → head_total (cond flush (record (cond own (head_flushed here (asked_by m.plain) h) (passed_by h)) { sent = turned_round here (asked_by m.plain) }) (passed_by (record h { hung_up = h.hung_up || is_hangup m.kind }))) ≡ weight p h.queue.messages
+      at true true = omega (arith, round-keeps here (asked_by m.plain), behind-keeps p (of_data (asked_by m.plain).band) h.queue)
+      at true false = omega (arith, round-keeps here (asked_by m.plain))
+      at false own = omega arith
 
   pub head_put-keeps : (here : Spot) (m : Message C) (h : Head C) → head_total (head_put here m h) ≡ weight p h.queue.messages + weight_of p m
   head_put-keeps here m h = at (has_parts m) refl
     where
-      at : (parts : Bool) → has_parts m ≡ parts → head_total (cond parts (waits_for_readers here m h) (obeyed here m.kind m h)) ≡ weight p h.queue.messages + weight_of p m
+      at : (parts : Bool) → has_parts m ≡ parts → head_total (cond parts (waits_for_readers here m h) (obeyed here m h)) ≡ weight p h.queue.messages + weight_of p m
       at true is = waits-keeps here m h
-      at false is = obeyed-keeps here m.kind m h (no-parts m is)
+      at false is = obeyed-keeps here m h (no-parts m is)

@@ -1,6 +1,6 @@
 -- What a put in a pair sends on has less before it than what was put, so that deliveries end.
 use Rattle.std.proofs.Common.{ℕ, zero, suc, ◌≡◌, ◌<◌, ◌≤◌, ◌+◌, Bool, true, false, cond, List, [], ◌∷◌, ◌++◌, refl, sym, ap, subst, ◌∙◌, arith}
-use Rattle.std.specs.Prelude.{◌==◌, ◌&&◌, nat_lt, Option, None, Some}
+use Rattle.std.specs.Prelude.{◌==◌, ◌&&◌, ◌||◌, nat_lt, Option, None, Some}
 use Rattle.std.proofs.lemmas.Bool.Decides.{nat_tests}
 use Rattle.strm_types.specs.declared.flushing.FlushAsked.{FlushAsked}
 use Rattle.strm_types.specs.declared.kinds.Band.{Band}
@@ -14,11 +14,11 @@ use Rattle.strm_types.specs.declared.spots.Across.{Across}
 use Rattle.strm_types.specs.declared.spots.Spot.{Spot}
 use Rattle.strm_types.specs.Deliver.{Acted, AreLower, Falls, Parcel, Took, toward}
 use Rattle.strm_types.specs.Drivers.{bottom_across, crosses, driver_across, driver_put, flush_across, flush_down, freed, own_flushed, put_across, put_down, reader_flush, taken_in}
-use Rattle.strm_types.specs.Flushing.{asked_by, flush_bytes, flush_message, nothing_asked, read_flush}
-use Rattle.strm_types.specs.Heads.{flush_up, head_put, is_doubled, obeyed, turned_round, waits_for_readers}
+use Rattle.strm_types.specs.Flushing.{is_flush, asked_by, flush_bytes, flush_message, nothing_asked, read_flush}
+use Rattle.strm_types.specs.Heads.{flush_up, head_put, is_doubled, is_hangup, obeyed, passed_by, turned_round, waits_for_readers}
 use Rattle.strm_types.specs.Message.{Message, has_parts}
 use Rattle.strm_types.specs.Names.{is_open}
-use Rattle.strm_types.specs.Puts.{across_of, far, far_at, is_flush, is_turned, passed_up, put_at_driver, put_at_head, put_below, put_in}
+use Rattle.strm_types.specs.Puts.{across_of, far, far_at, is_turned, passed_up, put_at_driver, put_at_head, put_below, put_in}
 use Rattle.strm_types.specs.Queue.{Queue}
 use Rattle.strm_types.specs.State.{Head, State, stream}
 
@@ -106,25 +106,28 @@ module _ (C : Type 0) where
       at false = put_across-lower top side across m.kind m q bottom
 
   -- at a head
-  round-lower : (here : Spot) (m : Message C) → here.at ≡ 0 → m.kind ≡ Flush → Lower (far here m) (turned_round here (asked_by m.plain))
+  round-lower : (here : Spot) (m : Message C) → here.at ≡ 0 → is_flush m.kind ≡ true → Lower (far here m) (turned_round here (asked_by m.plain))
   round-lower here m top is = at (asked_by m.plain).for_write refl
     where
       at : (b : Bool) → (asked_by m.plain).for_write ≡ b → Lower (far here m) (cond b (record { to = toward Down here; message = flush_message (flush_bytes (record (asked_by m.plain) { for_read = false })) } ∷ []) [])
       at false known = tt
       at true known =
-          let may = ap (λ kind. is_flush kind && (asked_by m.plain).for_write) is ∙ known in
+          let may = ap (λ b. b && (asked_by m.plain).for_write) is ∙ known in
           (subst (λ b. far_at Down (asked_by (flush_bytes (record (asked_by m.plain) { for_read = false }))).for_write (here.at + 1) < far_at here.way b here.at) (sym may) (turned-less here.way (asked_by (flush_bytes (record (asked_by m.plain) { for_read = false }))).for_write here.at top), tt)
 
-  obeyed-lower : (here : Spot) (kind : MsgKind) (m : Message C) (h : Head C) → here.at ≡ 0 → m.kind ≡ kind → Lower (far here m) (obeyed here kind m h).sent
-  obeyed-lower here Flush m h top is = round-lower here m top is
-  obeyed-lower here kind m h top is = tt
+  obeyed-lower : (here : Spot) (m : Message C) (h : Head C) → here.at ≡ 0 → Lower (far here m) (obeyed here m h).sent
+  obeyed-lower here m h top = at (is_flush m.kind) refl
+    where
+      at : (flush : Bool) → is_flush m.kind ≡ flush → Lower (far here m) (cond flush (flush_up here (asked_by m.plain) h) (passed_by (record h { hung_up = h.hung_up || is_hangup m.kind }))).sent
+      at true is = round-lower here m top is
+      at false is = tt
 
   head-lower : (here : Spot) (m : Message C) (h : Head C) → here.at ≡ 0 → Lower (far here m) (head_put here m h).sent
   head-lower here m h top = at (has_parts m)
     where
-      at : (parts : Bool) → Lower (far here m) (cond parts (waits_for_readers here m h) (obeyed here m.kind m h)).sent
+      at : (parts : Bool) → Lower (far here m) (cond parts (waits_for_readers here m h) (obeyed here m h)).sent
       at true = sent-nothing (far here m) (Head C) (is_doubled m h.queue.messages) _ _ refl refl
-      at false = obeyed-lower here m.kind m h top refl
+      at false = obeyed-lower here m h top
 
   -- in a pair
   either-lower : (top : ℕ) (b : Bool) (one another : Took C (State C)) → Lower top one.sent → Lower top another.sent → Lower top (cond b one another).sent

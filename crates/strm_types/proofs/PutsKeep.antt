@@ -9,12 +9,13 @@ use Rattle.strm_types.specs.declared.names.Way.{Way}
 use Rattle.strm_types.specs.declared.names.Way.TheVariants.{Up, Down}
 use Rattle.strm_types.specs.declared.spots.Spot.{Spot}
 use Rattle.strm_types.specs.Deliver.{Took}
+use Rattle.strm_types.specs.Flushing.{is_flush}
 use Rattle.strm_types.specs.Heads.{head_put}
 use Rattle.strm_types.specs.Kept.{NothingUnread, state_weight}
 use Rattle.strm_types.specs.Message.{Message, weight_of}
 use Rattle.strm_types.specs.Names.{is_open}
 use Rattle.strm_types.specs.Places.{PutKeeps, weight_sent, weight_gone}
-use Rattle.strm_types.specs.Puts.{across_of, is_flush, passed_up, put_at_driver, put_at_head, put_below, put_in}
+use Rattle.strm_types.specs.Puts.{SameEnds, across_of, passed_up, put_at_driver, put_at_head, put_below, put_in}
 use Rattle.strm_types.specs.Queue.{Queue}
 use Rattle.strm_types.specs.State.{Head, State, stream}
 use Rattle.strm_types.proofs.DeliveryHolds.{PutHolds}
@@ -49,10 +50,34 @@ module _ {C : Type 0} where
   either-holds Holds true one another first second = first refl
   either-holds Holds false one another first second = second
 
-  -- what holds of a state that is another only in the queue of one driver, in the head of one side that is open, and in the
-  -- enabled queues, holds behind each put
-  put-holds : (Holds : State C → Type 0)
-      → ((side : Side) (here : Spot) (m : Message C) (s : State C) → Holds s → is_open (stream side s).opened ≡ true → Holds (put_at_head side here m s).state)
-      → ((side : Side) (here : Spot) (m : Message C) (s : State C) → Holds s → Holds (put_at_driver side here m s).state)
-      → PutHolds Holds put_in
-  put-holds Holds at_head at_driver to m s holds = ?
+  head-unread : (side : Side) (here : Spot) (m : Message C) (s : State C) → NothingUnread s → NothingUnread (put_at_head side here m s).state
+  head-unread Master here m s unread = either-holds NothingUnread (is_open s.master.opened) _ _ (λ opened. record { master = λ closed. absurd (cc); slave = unread.slave }) unread
+  head-unread Slave here m s unread = either-holds NothingUnread (is_open s.slave.opened) _ _ (λ opened. record { master = unread.master; slave = λ closed. absurd (cc) }) unread
+
+  driver-unread : (side : Side) (here : Spot) (m : Message C) (s : State C) → NothingUnread s → NothingUnread (put_at_driver side here m s).state
+  driver-unread Master here m s unread = record { master = unread.master; slave = unread.slave }
+  driver-unread Slave here m s unread = record { master = unread.master; slave = unread.slave }
+
+  below-unread : (way : Way) (here : Spot) (m : Message C) (s : State C) → NothingUnread s → NothingUnread (put_below way here m s).state
+  below-unread Down here m s unread = driver-unread here.side here m s unread
+  below-unread Up here m s unread = either-holds NothingUnread (is_flush m.kind && here.at == suc MODULES) _ _ (λ _. driver-unread here.side here m s unread) unread
+
+  pub puts-unread : PutHolds {C = C} NothingUnread put_in
+  puts-unread to m s unread = either-holds NothingUnread (to.at == 0) _ _ (λ _. head-unread to.side to m s unread) (below-unread to.way to m s unread)
+
+  -- no put changes which sides are open, the lock, the next ioctl's number or a book
+  module _ (s : State C) where
+    head-same : (side : Side) (here : Spot) (m : Message C) (t : State C) → SameEnds s t → SameEnds s (put_at_head side here m t).state
+    head-same Master here m t same = either-holds (SameEnds s) (is_open t.master.opened) _ _ (λ _. record { master = same.master; slave = same.slave; locked = same.locked; next_ioctl = same.next_ioctl; from_master = same.from_master; from_slave = same.from_slave }) same
+    head-same Slave here m t same = either-holds (SameEnds s) (is_open t.slave.opened) _ _ (λ _. record { master = same.master; slave = same.slave; locked = same.locked; next_ioctl = same.next_ioctl; from_master = same.from_master; from_slave = same.from_slave }) same
+
+    driver-same : (side : Side) (here : Spot) (m : Message C) (t : State C) → SameEnds s t → SameEnds s (put_at_driver side here m t).state
+    driver-same Master here m t same = record { master = same.master; slave = same.slave; locked = same.locked; next_ioctl = same.next_ioctl; from_master = same.from_master; from_slave = same.from_slave }
+    driver-same Slave here m t same = record { master = same.master; slave = same.slave; locked = same.locked; next_ioctl = same.next_ioctl; from_master = same.from_master; from_slave = same.from_slave }
+
+    below-same : (way : Way) (here : Spot) (m : Message C) (t : State C) → SameEnds s t → SameEnds s (put_below way here m t).state
+    below-same Down here m t same = driver-same here.side here m t same
+    below-same Up here m t same = either-holds (SameEnds s) (is_flush m.kind && here.at == suc MODULES) _ _ (λ _. driver-same here.side here m t same) same
+
+    pub puts-same : PutHolds (SameEnds s) put_in
+    puts-same to m t same = either-holds (SameEnds s) (to.at == 0) _ _ (λ _. head-same to.side to m t same) (below-same to.way to m t same)

@@ -1,6 +1,6 @@
 -- What a message does that is put at a spot of a pair, and with all that it gives rise to (STREAMS Programming Guide, "Put
 -- Procedures"): at a head, at a driver, or at a place where nothing stands.
-use Rattle.std.specs.Prelude.{ℕ, suc, ◌+◌, ◌-◌, Bool, true, false, ◌&&◌, ◌==◌, if◌then◌else◌, List, [], ◌∷◌, Option}
+use Rattle.std.specs.Prelude.{ℕ, suc, ◌≡◌, ◌+◌, ◌-◌, Bool, true, false, ◌&&◌, ◌==◌, if◌then◌else◌, List, [], ◌∷◌, Option}
 use Rattle.strm_types.specs.declared.events.FlushQueues.{FlushQueues}
 use Rattle.strm_types.specs.declared.kinds.Band.{Band}
 use Rattle.strm_types.specs.declared.limits.TheConstants.{MODULES, HOPS}
@@ -92,3 +92,12 @@ module _ {C : Type 0} where
   -- a flush of a side's stream: an M_FLUSH goes down from its head
   abbrev pub flushed_on : Option Band → Side → FlushQueues → State C → Carried C (State C)
   flushed_on band side what s = delivered (record { side = side; at = 1; way = Down }) (flush_message (flush_bytes (asked_of what band))) s
+
+-- two states with the same ends: which sides are open, the lock, the number of the next ioctl, and the books
+pub record SameEnds {C : Type 0} (s t : State C) : Type 0 where
+  pub master : t.master.opened ≡ s.master.opened
+  pub slave : t.slave.opened ≡ s.slave.opened
+  pub locked : t.locked ≡ s.locked
+  pub next_ioctl : t.next_ioctl ≡ s.next_ioctl
+  pub from_master : t.from_master ≡ s.from_master
+  pub from_slave : t.from_slave ≡ s.from_slave
