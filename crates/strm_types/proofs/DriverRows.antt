@@ -1,7 +1,8 @@
--- What an M_FLUSH asks for, and what a driver does with a message that is put at it, case by case.
-use Rattle.std.proofs.Common.{ℕ, ◌≡◌, Bool, true, false, List, [], ◌∷◌, map, refl, replicate}
-use Rattle.std.specs.Prelude.{Option, None, Some}
+-- What an M_FLUSH asks for, the headers of ioctls, and what a driver does with a message that is put at it, case by case.
+use Rattle.std.proofs.Common.{ℕ, ◌≡◌, Bool, true, false, List, [], ◌∷◌, ◌++◌, map, take, refl, replicate}
+use Rattle.std.specs.Prelude.{not, Option, None, Some}
 use Rattle.strm_types.specs.declared.flushing.FlushAsked.{FlushAsked}
+use Rattle.strm_types.specs.declared.ioctls.Ioc.{Ioc}
 use Rattle.strm_types.specs.declared.kinds.Band.{Band}
 use Rattle.strm_types.specs.declared.kinds.MsgKind.TheVariants.{Data, Proto, Pcproto, Sig, Ctl, Ioctl, Setopts, Iocack, Iocnak, Pcsig, Stop, Start, Hangup, Flush}
 use Rattle.strm_types.specs.declared.names.Dir.TheVariants.{MasterToSlave, SlaveToMaster}
@@ -17,6 +18,7 @@ use Rattle.strm_types.specs.Deliver.{Acted, Parcel}
 use Rattle.strm_types.specs.Drivers.{crosses, driver_put}
 use Rattle.strm_types.specs.Flush.{is_data_kind}
 use Rattle.strm_types.specs.Flushing.{asked_by, read_flush, flush_message}
+use Rattle.strm_types.specs.Ioctls.{ioc_bytes, read_ioc}
 use Rattle.strm_types.specs.Message.{Message, rank_of, band_of, size_of, cells_of, is_high_priority}
 use Rattle.strm_types.specs.Queue.{Queue, new_queue}
 use Rattle.strm_types.proofs.Samples.{ordinary, proto, queue, flow}
@@ -72,8 +74,13 @@ pub data-goes-once-the-master-is-closed : driver_put Slave (across false true) (
 unfolding crosses cells_of
 data-goes-once-the-master-is-closed = refl
 
-pub signals-are-freed : driver_put Slave (across true false) (here Slave Down) (record { kind = Sig; band = 0; control = None; body = None; plain = 2 ∷ [] }) resting
-    ≡ record { state = resting; notes = []; sent = []; gone = [] }
+abbrev signal : Message ℕ
+signal = record { kind = Sig; band = 0; control = None; body = None; plain = 2 ∷ [] }
+
+abbrev nothing : Acted ℕ (Queue ℕ)
+nothing = record { state = resting; notes = []; sent = []; gone = [] }
+
+pub signals-are-freed : driver_put Slave (across true false) (here Slave Down) signal resting ≡ nothing
 unfolding crosses
 signals-are-freed = refl
 
@@ -90,7 +97,7 @@ abbrev to_readers : Parcel ℕ
 to_readers = record { to = record { side = Slave; at = 2; way = Up }; message = flush (1 ∷ []) }
 
 abbrev to_driver : List ℕ → Parcel ℕ
-to_driver bytes = record { to = record { side = Slave; at = 3; way = Up }; message = flush bytes }
+to_driver bytes = record { to = record { side = Slave; at = 4; way = Up }; message = flush bytes }
 
 pub flush-of-writers : map (λ is_open. driver_put Master (across is_open false) (here Master Down) (flush (2 ∷ [])) waiting) (true ∷ false ∷ []) ≡ emptied_own (to_readers ∷ []) ∷ emptied_own [] ∷ []
 unfolding is_data_kind cells_of size_of band_of is_high_priority
@@ -116,7 +123,55 @@ pub flush-that-comes-across : driver_put Master (across true false) (here Master
 unfolding is_data_kind cells_of size_of band_of is_high_priority
 flush-that-comes-across = refl
 
--- nothing else comes across, nor an M_FLUSH for writers
-pub others-that-come-across : map (λ m. driver_put Slave (across true false) (here Slave Up) m waiting) (flush (2 ∷ []) ∷ ordinary (7 ∷ []) ∷ [])
-    ≡ record { state = waiting; notes = []; sent = []; gone = [] } ∷ record { state = waiting; notes = []; sent = []; gone = [] } ∷ []
+-- an M_FLUSH for writers doesn't come across, nor does a signal; data is taken in, whichever way it comes
+pub others-that-come-across : map (λ m. driver_put Slave (across true false) (here Slave Up) m resting) (flush (2 ∷ []) ∷ signal ∷ ordinary (7 ∷ []) ∷ [])
+    ≡ nothing ∷ nothing ∷ record { state = record resting { messages = ordinary (7 ∷ []) ∷ [] }; notes = Enable Down ∷ []; sent = []; gone = [] } ∷ []
+unfolding rank_of band_of is_high_priority
 others-that-come-across = refl
+
+-- a header of 16 bytes, its command and its number the last bytes of their four, and a payload behind it
+abbrev header : ℕ → ℕ → ℕ → List ℕ
+header command number error = 0 ∷ 0 ∷ 0 ∷ command ∷ 0 ∷ 0 ∷ 0 ∷ number ∷ 0 ∷ 0 ∷ 0 ∷ error ∷ 0 ∷ 0 ∷ 0 ∷ 0 ∷ []
+
+abbrev ioc : ℕ → ℕ → Ioc
+ioc command number = record { command = command; number = number; error = 0; result = 0 }
+
+pub headers-are-written : map ioc_bytes (ioc 5 7 ∷ record { command = 0x01020304; number = 0x05060708; error = 0x090a0b0c; result = 0x0d0e0f10 } ∷ [])
+    ≡ header 5 7 0 ∷ (1 ∷ 2 ∷ 3 ∷ 4 ∷ 5 ∷ 6 ∷ 7 ∷ 8 ∷ 9 ∷ 10 ∷ 11 ∷ 12 ∷ 13 ∷ 14 ∷ 15 ∷ 16 ∷ []) ∷ []
+headers-are-written = refl
+
+pub headers-are-read : map read_ioc (header 5 7 0 ∷ (header 5 7 0 ++ 200 ∷ 201 ∷ []) ∷ take 15 (header 5 7 0) ∷ [] ∷ []) ≡ Some (ioc 5 7) ∷ Some (ioc 5 7) ∷ None ∷ None ∷ []
+headers-are-read = refl
+
+-- an M_IOCTL of command 5, with a payload of two bytes
+abbrev ioctl : ℕ → Message ℕ
+ioctl number = record { kind = Ioctl; band = 0; control = None; body = None; plain = header 5 number 0 ++ 200 ∷ 201 ∷ [] }
+
+abbrev queued_ioctl : ℕ → Acted ℕ (Queue ℕ)
+queued_ioctl number = record { state = record resting { messages = ioctl number ∷ [] }; notes = Enable Down ∷ []; sent = []; gone = [] }
+
+-- EINVAL, of the same command and number, up the same stream, and without the payload
+abbrev refused_ioctl : Side → ℕ → Acted ℕ (Queue ℕ)
+refused_ioctl side number = record {
+  state = resting;
+  notes = [];
+  sent = record { to = record { side = side; at = 0; way = Up }; message = record { kind = Iocnak; band = 0; control = None; body = None; plain = header 5 number 1 } } ∷ [];
+  gone = [];
+}
+
+-- what the slave's driver isn't told of goes no further, also once the master is closed; the master's goes to an open slave
+pub ioctls-of-the-slave : map (λ ended. driver_put Slave (across (not ended) ended) (here Slave Down) (ioctl 7) resting) (false ∷ true ∷ []) ≡ refused_ioctl Slave 7 ∷ refused_ioctl Slave 7 ∷ []
+ioctls-of-the-slave = refl
+
+pub ioctls-of-the-master : map (λ is_open. driver_put Master (across is_open false) (here Master Down) (ioctl 7) resting) (true ∷ false ∷ []) ≡ queued_ioctl 7 ∷ refused_ioctl Master 7 ∷ []
+unfolding rank_of band_of is_high_priority
+ioctls-of-the-master = refl
+
+-- one of number 0 goes across, and is freed once the master is closed; so is one that is too short
+pub ioctls-of-number-0 : map (λ ended. driver_put Slave (across (not ended) ended) (here Slave Down) (ioctl 0) resting) (false ∷ true ∷ [])
+    ≡ queued_ioctl 0 ∷ record nothing { gone = record { direction = SlaveToMaster; rule = EndClosed; cells = [] } ∷ [] } ∷ []
+unfolding cells_of rank_of band_of is_high_priority
+ioctls-of-number-0 = refl
+
+pub short-ioctls-are-freed : driver_put Slave (across true false) (here Slave Down) (record (ioctl 7) { plain = take 15 (header 5 7 0) }) resting ≡ nothing
+short-ioctls-are-freed = refl

@@ -19,6 +19,7 @@ pub mod Origins
 pub mod Turns
 pub mod Emptied
 pub mod Flushing
+pub mod Ioctls
 pub mod Drivers
 pub mod Heads
 pub mod Puts

@@ -9,6 +9,7 @@ mod entries;
 mod events;
 mod flushing;
 pub mod head_laws;
+mod ioctls;
 mod kinds;
 pub mod laws;
 mod limits;
@@ -23,6 +24,7 @@ pub use books::{BOOK_MAX, Book};
 pub use entries::Entry;
 pub use events::{Caller, Event, FlushQueues};
 pub use flushing::FlushAsked;
+pub use ioctls::Ioc;
 pub use kinds::{Band, MsgKind};
 pub use limits::{
     BANDS, BLOCK_SIZE, CHANGE_BLOCKS, CLOSE_BLOCKS, Config, HIGH_PRIORITY_RANK, LISTS, MODULES,
