@@ -1,9 +1,10 @@
 -- What a put at a head or at a driver makes of the cells of its message.
 use Rattle.std.proofs.Common.{ℕ, ◌≡◌, ◌+◌, Bool, true, false, cond, List, [], ◌∷◌, ◌++◌, refl, arith}
-use Rattle.std.specs.Prelude.{◌&&◌, ◌||◌, Option, None, Some, count_by}
+use Rattle.std.specs.Prelude.{◌==◌, ◌&&◌, ◌||◌, Option, None, Some, count_by}
 use Rattle.strm_types.specs.declared.flushing.FlushAsked.{FlushAsked}
+use Rattle.strm_types.specs.declared.ioctls.Ioc.{Ioc}
 use Rattle.strm_types.specs.declared.kinds.MsgKind.{MsgKind}
-use Rattle.strm_types.specs.declared.kinds.MsgKind.TheVariants.{Flush}
+use Rattle.strm_types.specs.declared.kinds.MsgKind.TheVariants.{Flush, Ioctl}
 use Rattle.strm_types.specs.declared.names.Side.{Side}
 use Rattle.strm_types.specs.declared.names.Way.{Way}
 use Rattle.strm_types.specs.declared.names.Way.TheVariants.{Up, Down}
@@ -12,19 +13,25 @@ use Rattle.strm_types.specs.declared.spots.Across.{Across}
 use Rattle.strm_types.specs.declared.spots.Note.TheVariants.{Enable}
 use Rattle.strm_types.specs.declared.spots.Spot.{Spot}
 use Rattle.strm_types.specs.Deliver.{Acted, Parcel, toward}
-use Rattle.strm_types.specs.Drivers.{bottom_across, crosses, driver_across, driver_put, freed, own_flushed, put_across, put_down, reader_flush, taken_in}
+use Rattle.strm_types.specs.Drivers.{answered, bottom_across, crosses, driver_across, driver_put, freed, ioctl_put, own_flushed, put_across, put_down, reader_flush, taken_in}
 use Rattle.strm_types.specs.Emptied.{of_data}
 use Rattle.strm_types.specs.Flushing.{is_flush, asked_by, flush_bytes, flush_message, read_flush}
+use Rattle.strm_types.specs.Ioctls.{nak_message, read_ioc}
 use Rattle.strm_types.specs.Heads.{head_flushed, head_put, is_doubled, is_hangup, obeyed, passed_by, turned_round, waits_for_readers}
 use Rattle.strm_types.specs.Message.{Message, cells_of, has_parts, is_part, part, weight_of}
 use Rattle.strm_types.specs.Places.{weight_sent, weight_gone}
-use Rattle.strm_types.specs.Names.{direction_from, direction_at}
+use Rattle.strm_types.specs.Names.{direction_from, direction_at, is_master}
 use Rattle.strm_types.specs.Queue.{Queue, put_on, put_enables, weight}
 use Rattle.strm_types.specs.State.{Head}
 use Rattle.strm_types.proofs.EmptiedKeeps.{behind-keeps}
 use Rattle.strm_types.proofs.Weights.{weight-put, weight-whole}
 
--- an M_FLUSH has no cells
+-- an M_IOCNAK has no cells
+weight-nak : {C : Type 0} (p : C → Bool) (ioc : Ioc) → weight_of p (nak_message ioc) ≡ 0
+unfolding weight_of cells_of
+weight-nak p ioc = refl
+
+-- nor has an M_FLUSH
 pub weight-flush : {C : Type 0} (p : C → Bool) (bytes : List ℕ) → weight_of p (flush_message bytes) ≡ 0
 unfolding weight_of cells_of
 weight-flush p bytes = refl
@@ -72,14 +79,23 @@ module _ {C : Type 0} (p : C → Bool) where
   flushed-keeps side asked q true ps none = omega (arith, none, behind-keeps p (of_data asked.band) q)
   flushed-keeps side asked q false ps none = omega (arith, none)
 
-  put_down-keeps : (side : Side) (across : Across) (kind : MsgKind) (m : Message C) (q : Queue C) → weight_of p m ≡ 0 → queue_total (put_down side across kind m q) ≡ weight p q.messages + weight_of p m
-  put_down-keeps side across Flush m q none =
+  ioctl-keeps : (side : Side) (across : Across) (here : Spot) (known : Option Ioc) (m : Message C) (q : Queue C) → weight_of p m ≡ 0 → queue_total (ioctl_put side across here known m q) ≡ weight p q.messages + weight_of p m
+  ioctl-keeps side across here None m q none = omega (arith, none)
+  ioctl-keeps side across here (Some ioc) m q none = at (ioc.number == 0 || (is_master side && across.is_open))
+    where
+      at : (crosses : Bool) → queue_total (cond crosses (taken_in side across m q) (answered here ioc q)) ≡ weight p q.messages + weight_of p m
+      at true = taken_in-keeps side across m q
+      at false = omega (arith, none, weight-nak p ioc)
+
+  put_down-keeps : (side : Side) (across : Across) (here : Spot) (kind : MsgKind) (m : Message C) (q : Queue C) → weight_of p m ≡ 0 → queue_total (put_down side across here kind m q) ≡ weight p q.messages + weight_of p m
+  put_down-keeps side across here Flush m q none =
       let asked = asked_by m.plain in
       let across_flush = reader_flush (asked.for_write && across.is_open) asked (bottom_across side across) in
       let driver_flush = reader_flush asked.for_read asked (driver_across side across) in
       let sent : weight_sent p (across_flush ++ driver_flush) ≡ 0 = omega (arith, weight-both across_flush driver_flush, weight-reads (asked.for_write && across.is_open) asked (bottom_across side across), weight-reads asked.for_read asked (driver_across side across)) in
       omega (arith, none, flushed-keeps side asked q asked.for_write (across_flush ++ driver_flush) sent)
-  put_down-keeps side across kind m q none = crossing-keeps side across m q (crosses kind) none
+  put_down-keeps side across here Ioctl m q none = ioctl-keeps side across here (read_ioc m.plain) m q none
+  put_down-keeps side across here kind m q none = crossing-keeps side across m q (crosses kind) none
 
   put_across-keeps : (side : Side) (across : Across) (kind : MsgKind) (m : Message C) (q : Queue C) → weight_of p m ≡ 0 → queue_total (put_across side across kind m q) ≡ weight p q.messages + weight_of p m
   put_across-keeps side across Flush m q none = omega (arith, none, at (asked_by m.plain).for_read)
@@ -92,9 +108,9 @@ module _ {C : Type 0} (p : C → Bool) where
   way-keeps : (way : Way) (side : Side) (across : Across) (here : Spot) (m : Message C) (q : Queue C) → queue_total (driver_put side across (record here { way = way }) m q) ≡ weight p q.messages + weight_of p m
   way-keeps Down side across here m q = at (has_parts m) refl
     where
-      at : (parts : Bool) → has_parts m ≡ parts → queue_total (cond parts (taken_in side across m q) (put_down side across m.kind m q)) ≡ weight p q.messages + weight_of p m
+      at : (parts : Bool) → has_parts m ≡ parts → queue_total (cond parts (taken_in side across m q) (put_down side across (record here { way = Down }) m.kind m q)) ≡ weight p q.messages + weight_of p m
       at true is = taken_in-keeps side across m q
-      at false is = put_down-keeps side across m.kind m q (no-parts m is)
+      at false is = put_down-keeps side across (record here { way = Down }) m.kind m q (no-parts m is)
   way-keeps Up side across here m q = at (has_parts m) refl
     where
       at : (parts : Bool) → has_parts m ≡ parts → queue_total (cond parts (taken_in side across m q) (put_across side across m.kind m q)) ≡ weight p q.messages + weight_of p m

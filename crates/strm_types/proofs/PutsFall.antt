@@ -1,11 +1,12 @@
 -- What a put in a pair sends on has less before it than what was put, so that deliveries end.
-use Rattle.std.proofs.Common.{ℕ, zero, suc, ◌≡◌, ◌<◌, ◌≤◌, ◌+◌, Bool, true, false, cond, List, [], ◌∷◌, ◌++◌, refl, sym, ap, subst, ◌∙◌, arith}
+use Rattle.std.proofs.Common.{ℕ, zero, suc, ◌≡◌, ◌<◌, ◌≤◌, ◌+◌, ◌-◌, Bool, true, false, cond, List, [], ◌∷◌, ◌++◌, refl, sym, ap, subst, ◌∙◌, arith}
 use Rattle.std.specs.Prelude.{◌==◌, ◌&&◌, ◌||◌, nat_lt, Option, None, Some}
 use Rattle.std.proofs.lemmas.Bool.Decides.{nat_tests}
 use Rattle.strm_types.specs.declared.flushing.FlushAsked.{FlushAsked}
+use Rattle.strm_types.specs.declared.ioctls.Ioc.{Ioc}
 use Rattle.strm_types.specs.declared.kinds.Band.{Band}
 use Rattle.strm_types.specs.declared.kinds.MsgKind.{MsgKind}
-use Rattle.strm_types.specs.declared.kinds.MsgKind.TheVariants.{Flush}
+use Rattle.strm_types.specs.declared.kinds.MsgKind.TheVariants.{Flush, Ioctl}
 use Rattle.strm_types.specs.declared.limits.TheConstants.{BANDS, MODULES, HOPS}
 use Rattle.strm_types.specs.declared.names.Side.{Side}
 use Rattle.strm_types.specs.declared.names.Way.{Way}
@@ -13,11 +14,12 @@ use Rattle.strm_types.specs.declared.names.Way.TheVariants.{Up, Down}
 use Rattle.strm_types.specs.declared.spots.Across.{Across}
 use Rattle.strm_types.specs.declared.spots.Spot.{Spot}
 use Rattle.strm_types.specs.Deliver.{Acted, AreLower, Falls, Parcel, Took, toward}
-use Rattle.strm_types.specs.Drivers.{bottom_across, crosses, driver_across, driver_put, flush_across, flush_down, freed, own_flushed, put_across, put_down, reader_flush, taken_in}
+use Rattle.strm_types.specs.Drivers.{answered, bottom_across, crosses, driver_across, driver_put, freed, ioctl_put, own_flushed, put_across, put_down, reader_flush, taken_in}
 use Rattle.strm_types.specs.Flushing.{is_flush, asked_by, flush_bytes, flush_message, nothing_asked, read_flush}
+use Rattle.strm_types.specs.Ioctls.{read_ioc}
 use Rattle.strm_types.specs.Heads.{flush_up, head_put, is_doubled, is_hangup, obeyed, passed_by, turned_round, waits_for_readers}
 use Rattle.strm_types.specs.Message.{Message, has_parts}
-use Rattle.strm_types.specs.Names.{is_open}
+use Rattle.strm_types.specs.Names.{is_master, is_open}
 use Rattle.strm_types.specs.Puts.{across_of, far, far_at, is_turned, passed_up, put_at_driver, put_at_head, put_below, put_in}
 use Rattle.strm_types.specs.Queue.{Queue}
 use Rattle.strm_types.specs.State.{Head, State, stream}
@@ -77,11 +79,21 @@ module _ (C : Type 0) where
   crossing-lower top side across m q true = taken_in-lower top side across m q
   crossing-lower top side across m q false = tt
 
-  put_down-lower : (top : ℕ) (side : Side) (across : Across) (kind : MsgKind) (m : Message C) (q : Queue C) → across.bottom + 1 < top → 5 < top → Lower top (put_down side across kind m q).sent
-  put_down-lower top side across Flush m q bottom driver =
+  -- an answer goes to the place above
+  ioctl-lower : (top : ℕ) (side : Side) (across : Across) (here : Spot) (known : Option Ioc) (m : Message C) (q : Queue C) → here.at - 1 + 1 < top → Lower top (ioctl_put side across here known m q).sent
+  ioctl-lower top side across here None m q low = tt
+  ioctl-lower top side across here (Some ioc) m q low = at (ioc.number == 0 || (is_master side && across.is_open))
+    where
+      at : (crosses : Bool) → Lower top (cond crosses (taken_in side across m q) (answered here ioc q)).sent
+      at true = taken_in-lower top side across m q
+      at false = (low, tt)
+
+  put_down-lower : (top : ℕ) (side : Side) (across : Across) (here : Spot) (kind : MsgKind) (m : Message C) (q : Queue C) → across.bottom + 1 < top → 5 < top → here.at < top → Lower top (put_down side across here kind m q).sent
+  put_down-lower top side across here Flush m q bottom driver low =
       let asked = asked_by m.plain in
       both-lower top _ _ (reads-lower asked (asked.for_write && across.is_open) (bottom_across side across) top refl bottom) (reads-lower asked asked.for_read (driver_across side across) top refl driver)
-  put_down-lower top side across kind m q bottom driver = crossing-lower top side across m q (crosses kind)
+  put_down-lower top side across here Ioctl m q bottom driver low = ioctl-lower top side across here (read_ioc m.plain) m q (omega (arith, low, driver))
+  put_down-lower top side across here kind m q bottom driver low = crossing-lower top side across m q (crosses kind)
 
   put_across-lower : (top : ℕ) (side : Side) (across : Across) (kind : MsgKind) (m : Message C) (q : Queue C) → across.bottom + 1 < top → Lower top (put_across side across kind m q).sent
   put_across-lower top side across Flush m q bottom = at (asked_by m.plain).for_read
@@ -91,12 +103,12 @@ module _ (C : Type 0) where
       at false = tt
   put_across-lower top side across kind m q bottom = tt
 
-  came-down-lower : (top : ℕ) (side : Side) (across : Across) (here : Spot) (m : Message C) (q : Queue C) → across.bottom + 1 < top → 5 < top → Lower top (driver_put side across (record here { way = Down }) m q).sent
-  came-down-lower top side across here m q bottom driver = at (has_parts m)
+  came-down-lower : (top : ℕ) (side : Side) (across : Across) (here : Spot) (m : Message C) (q : Queue C) → across.bottom + 1 < top → 5 < top → here.at < top → Lower top (driver_put side across (record here { way = Down }) m q).sent
+  came-down-lower top side across here m q bottom driver low = at (has_parts m)
     where
-      at : (parts : Bool) → Lower top (cond parts (taken_in side across m q) (put_down side across m.kind m q)).sent
+      at : (parts : Bool) → Lower top (cond parts (taken_in side across m q) (put_down side across (record here { way = Down }) m.kind m q)).sent
       at true = taken_in-lower top side across m q
-      at false = put_down-lower top side across m.kind m q bottom driver
+      at false = put_down-lower top side across (record here { way = Down }) m.kind m q bottom driver low
 
   came-up-lower : (top : ℕ) (side : Side) (across : Across) (here : Spot) (m : Message C) (q : Queue C) → across.bottom + 1 < top → Lower top (driver_put side across (record here { way = Up }) m q).sent
   came-up-lower top side across here m q bottom = at (has_parts m)
@@ -139,7 +151,7 @@ module _ (C : Type 0) where
 
   below-lower : (way : Way) (here : Spot) (m : Message C) (s : State C) → 0 < here.at → let to : Spot = record here { way = way } in Lower (far to m) (put_below way to m s).sent
   below-lower Down here m s some =
-      came-down-lower (far_at Down (is_turned m) here.at) here.side (across_of here.side s) (record here { at = 1 }) m (stream here.side s).driver.queue (omega arith) (omega arith)
+      came-down-lower (far_at Down (is_turned m) here.at) here.side (across_of here.side s) (record here { at = 1 }) m (stream here.side s).driver.queue (omega arith) (omega arith) (omega arith)
   below-lower Up here m s some =
       let top = far_at Up (is_turned m) here.at in
       let up : Spot = record here { way = Up } in
