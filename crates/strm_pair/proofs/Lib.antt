@@ -3,6 +3,7 @@ pub mod Peeked
 pub mod Passed
 pub mod Sides
 pub mod FreeBlocks
+pub mod DataTurned
 pub mod Steps
 pub mod Shown
 pub mod DataLemmas

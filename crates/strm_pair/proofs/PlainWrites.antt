@@ -2,7 +2,7 @@
 use Rattle.std.proofs.Common.{ℕ, ◌≡◌, List, [], refl, ap}
 use Rattle.std.specs.Prelude.{min, ◌==◌, ◌||◌, if◌then◌else◌}
 use Rattle.strm_types.specs.declared.answers.Answer.TheVariants.{Bytes}
-use Rattle.strm_types.specs.Turns.{is_none_left}
+use Rattle.strm_types.specs.Queue.{is_none_left}
 use Rattle.strm_types.specs.declared.limits.TheConstants.{READ_MAX}
 use Rattle.strm_types.specs.declared.names.Side.{Side}
 use Rattle.strm_types.specs.Names.{direction_from}

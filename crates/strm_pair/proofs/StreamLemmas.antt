@@ -7,7 +7,9 @@ use Rattle.strm_types.specs.Queue as plain
 use Rattle.strm_types.specs.Queue.{is_full, put_on, with_writer_at}
 use Rattle.strm_types.specs.Names.{is_open}
 use Rattle.strm_types.specs.State.{Stream, with_driver_queue, with_head_queue}
-use Rattle.strm_types.specs.Turns.{Served, driver_serves, held_back, moved_on, is_stopped}
+use Rattle.strm_types.specs.Turns.{held_back, is_stopped}
+use Rattle.strm_pair.specs.DataTurns.{Served, driver_serves}
+use Rattle.strm_queue.specs.Stored.{moved_on}
 use Rattle.strm_blocks.specs.Blocks.{StoreValue, block_at, list_at}
 use Rattle.strm_blocks.specs.Outcomes.{PeekedFirst}
 use Rattle.strm_blocks.specs.declared.asked.Peek.{Peek}
@@ -20,7 +22,7 @@ use Rattle.strm_queue.proofs.Chains.{stopped-same, held-band, stopped-held}
 use Rattle.strm_pair.proofs.Peeked.{seen-before, seen-chain}
 
 -- the message is stopped: it stays, and a writer waits for its band
-abbrev pub stopped_by : ℕ → Stream ℕ → Stream ℕ → Served ℕ
+abbrev pub stopped_by : ℕ → Stream ℕ → Stream ℕ → Served
 stopped_by band from to = record { turn = Blocked; from = with_driver_queue (held_back from.driver.queue) from; to = with_head_queue (record to.head.queue { flows = with_writer_at band to.head.queue.flows }) to }
 
 serves-stopped : (m : Message ℕ) (rest : List (Message ℕ)) (from to : Stream ℕ) → is_open to.opened ≡ true → is_stopped m to.head.queue ≡ true → driver_serves (m ∷ rest) from to ≡ stopped_by (band_of m) from to

@@ -1,4 +1,5 @@
 pub mod Reads
+pub mod DataTurns
 pub mod Streams
 pub mod Journals
 pub mod Pairs

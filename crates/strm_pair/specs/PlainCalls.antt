@@ -6,7 +6,7 @@ use Rattle.strm_types.specs.declared.answers.Answer.TheVariants.{Count, Bytes}
 use Rattle.strm_types.specs.Names.{driver_of, head_of, before, direction_from, enable_if, enable_some}
 use Rattle.strm_types.specs.State.{State, stream, with_stream, with_driver_queue, with_head_queue, book, with_book}
 use Rattle.strm_types.specs.Books.{with_written}
-use Rattle.strm_types.specs.Turns.{is_none_left}
+use Rattle.strm_types.specs.Queue.{is_none_left}
 use Rattle.strm_types.specs.Calls.{Outcome, queue_after, lets_go}
 use Rattle.strm_types.specs.Head.{head_read}
 use Rattle.strm_types.specs.Write.{written}

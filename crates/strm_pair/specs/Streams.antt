@@ -1,7 +1,7 @@
 -- What the two streams stand for, beside their store.
 use Rattle.std.specs.Prelude.{ℕ, ◌≡◌, ◌≢◌, ◌+◌, []}
 use Rattle.strm_types.specs.State.{Stream}
-use Rattle.strm_types.specs.Turns.{Served, driver_serves}
+use Rattle.strm_pair.specs.DataTurns.{Served, driver_serves}
 use Rattle.strm_blocks.specs.Blocks.{StoreValue, list_at}
 use Rattle.strm_pair.specs.declared.ends.End.{End}
 use Rattle.strm_queue.specs.Stored.{queue_in, messages_on, IsReady, IsDataQueue, KeepsBoth}
@@ -15,7 +15,7 @@ stream_in s e = record {
 }
 
 -- what a turn of one side's driver leads to, where its messages go to the other side's head
-abbrev pub served_in : StoreValue → End → End → Served ℕ
+abbrev pub served_in : StoreValue → End → End → Served
 served_in s from to = driver_serves (messages_on s from.driver.list) (stream_in s from) (stream_in s to)
 
 -- the four lists from a number on are empty

@@ -1,7 +1,8 @@
 //! A turn of a driver: what goes from it to the other side's head (STREAMS Programming Guide, "Service Procedures").
 
 ghost use Rattle.std.specs.Prelude.{◌≡◌, ◌≢◌, false};
-ghost use Rattle.strm_types.specs.Turns.{goes_on, is_none_left};
+ghost use Rattle.strm_pair.specs.DataTurns.{goes_on};
+ghost use Rattle.strm_types.specs.Queue.{is_none_left};
 ghost use Rattle.strm_blocks.specs.Blocks.{list_at};
 ghost use Rattle.strm_queue.specs.Stored.{queue_in, IsReady, PassedOn, MovedOn};
 ghost use Rattle.strm_pair.specs.Streams.{stream_in, served_in, CanPass, Passes};

@@ -8,7 +8,8 @@ ghost use Rattle.strm_types.specs.Calls.{Reply, called, request, opened_slave};
 ghost use Rattle.strm_types.specs.declared.entries.Entry.TheVariants.{Called};
 ghost use Rattle.strm_types.specs.Deliver.{tallied};
 ghost use Rattle.strm_types.specs.Kept.{gone};
-ghost use Rattle.strm_types.specs.Turns.{turned, driver_turned};
+ghost use Rattle.strm_types.specs.Turns.{turned};
+ghost use Rattle.strm_pair.specs.DataTurns.{data_turned};
 ghost use Rattle.strm_types.specs.Refused.{blocks_taken, in_range, refused_at_once};
 ghost use Rattle.strm_types.specs.Write.{chunk_count};
 ghost use Rattle.strm_types.specs.Journal.{reply_in, answer_len, content_max};
@@ -220,9 +221,9 @@ impl Streams {
     // A turn of a side's driver, which is off the list of enabled queues.
     fn turn_driver<B: Blocks>(&mut self, store: &mut B, side: Side) -> Turn
         requires { AreHeld (B.value store.old) self.old }
-        ensures turn { result ≡ (driver_turned side (state_in (B.value store.old) self.old)).turn }
+        ensures turn { result ≡ (data_turned side (state_in (B.value store.old) self.old)).turn }
         ensures state { state_in (B.value store.new) self.new
-            ≡ (driver_turned side (state_in (B.value store.old) self.old)).state }
+            ≡ (data_turned side (state_in (B.value store.old) self.old)).state }
         ensures held { AreHeld (B.value store.new) self.new }
         ensures pool { SamePool (B.value store.old) (B.value store.new) }
     {

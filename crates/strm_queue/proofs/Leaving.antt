@@ -5,7 +5,7 @@ use Rattle.std.proofs.lemmas.List.Sums.{sum_by-cons}
 use Rattle.strm_types.specs.declared.kinds.MsgKind.{MsgKind}
 use Rattle.strm_types.specs.Flush.{is_flushed}
 use Rattle.strm_types.specs.Message.{Message}
-use Rattle.strm_types.specs.Turns.{is_none_left}
+use Rattle.strm_types.specs.Queue.{is_none_left}
 use Rattle.strm_types.specs.Emptied.{Choice, stayed, emptied}
 use Rattle.strm_blocks.specs.declared.asked.FlushWhat.{FlushWhat}
 use Rattle.strm_blocks.specs.Blocks.{Block, StoreValue, block_at, list_at, placed, rank_of, names_of, total}

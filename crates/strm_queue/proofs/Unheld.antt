@@ -5,7 +5,7 @@ use Rattle.std.specs.List.{list_any}
 use Rattle.strm_types.specs.declared.kinds.MsgKind.{MsgKind}
 use Rattle.strm_types.specs.Message.{is_held}
 use Rattle.strm_types.specs.Refused.{has_no_data}
-use Rattle.strm_types.specs.Turns.{is_none_left}
+use Rattle.strm_types.specs.Queue.{is_none_left}
 use Rattle.strm_blocks.specs.Blocks.{Block, block_at}
 use Rattle.strm_msg.specs.Messages.{message_of}
 use Rattle.strm_msg.proofs.Chains.{kind-is}

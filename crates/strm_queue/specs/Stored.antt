@@ -1,12 +1,11 @@
 -- What a store and the queues beside it stand for, and what holds of a queue and its list.
-use Rattle.std.specs.Prelude.{ℕ, Bool, true, false, ◌≡◌, ◌≢◌, ◌≤◌, List, ◌∷◌, map}
+use Rattle.std.specs.Prelude.{ℕ, Bool, true, false, ◌==◌, if◌then◌else◌, ◌≡◌, ◌≢◌, ◌≤◌, List, ◌∷◌, map}
 use Rattle.std.specs.List.{AllByRecursion}
 use Rattle.strm_types.specs.declared.kinds.MsgKind.{MsgKind}
 use Rattle.strm_types.specs.declared.kinds.MsgKind.TheVariants as kinds
 use Rattle.strm_types.specs.Flush.{is_data_kind}
 use Rattle.strm_types.specs.Message.{Message, size_of}
 use Rattle.strm_types.specs.Queue as plain
-use Rattle.strm_types.specs.Turns.{moved_on}
 use Rattle.strm_blocks.specs.Blocks.{Block, StoreValue, block_at, list_at, free_m, free_d}
 use Rattle.strm_msg.specs.Messages.{message_of, AreMessages}
 use Rattle.strm_queue.specs.declared.queue.Queue.{Queue}
@@ -116,6 +115,12 @@ pub record PassedOn (old new : StoreValue) (from from' to to' : Queue) (count : 
   pub flows : plain_flows from'.flows ≡ plain_flows from.flows
   pub no_enable : from'.no_enable ≡ from.no_enable
   pub keeps : KeepsBoth old new from from' to to'
+
+-- the queue after its first message went, of this size: one that is empty now wants to be read
+abbrev pub moved_on : ℕ → List (Message ℕ) → plain.Queue ℕ → plain.Queue ℕ
+moved_on size rest q =
+    let after = record q { messages = rest; want_read = plain.is_none_left rest } in
+    if size == 0 then after else plain.relieved after
 
 -- The same, and the first queue is as after a turn that took its message: its waiting writers are let go.
 pub record MovedOn (old new : StoreValue) (from from' to to' : Queue) (count : ℕ) : Type 0 where

@@ -11,13 +11,13 @@ use Rattle.strm_types.specs.declared.events.FlushQueues.TheVariants.{Read, Write
 use Rattle.strm_types.specs.declared.rules.Rule.{Rule}
 use Rattle.strm_types.specs.declared.rules.Rule.TheVariants.{Flushed, EndClosed}
 use Rattle.strm_types.specs.Deliver.{Fate, Carried}
-use Rattle.strm_types.specs.Emptied.{Choice, of_all, stayed, cells_gone, emptied, none_goes, queue_behind, writer_goes, head_emptied, driver_emptied, none_gone, and_then, reached, write_flushed, read_flushed, flushed_on, ended, hung_up_at, closed_at}
+use Rattle.strm_types.specs.Emptied.{Choice, of_all, stayed, cells_gone, emptied, none_goes, queue_behind, writer_goes, head_emptied, driver_emptied, and_then, ended, hung_up_at, closed_at}
 use Rattle.strm_types.specs.Message.{Message, cells_of, size_of, map_message}
 use Rattle.strm_types.specs.Names.{other, driver_of, head_of, direction_of, before, is_open, enable_some}
 use Rattle.strm_types.specs.Origins.{map_fate, map_carried}
 use Rattle.strm_types.specs.Queue.{Queue, bytes_of, relieved, relieves, map_messages, map_queue}
 use Rattle.strm_types.specs.State.{State, Stream, stream, with_stream, with_head_queue, with_driver_queue, map_stream, map_state}
-use Rattle.strm_types.specs.Turns.{is_none_left}
+use Rattle.strm_types.specs.Queue.{is_none_left}
 use Rattle.strm_types.proofs.Forgetting.{kind-forgets, named_band-forgets, cells-forget, size-forgets, none-forgets, relieved-forgets, relieves_from-forgets}
 
 -- what becomes of a state whose head's or driver's queue on a side is emptied
@@ -50,7 +50,7 @@ module _ {C D : Type 0} (f : C → D) where
       at true = refl
       at false = refl
 
-  gone-forgets : (chosen : Choice) (ms : List (Message C)) → cells_gone chosen (map_messages f ms) ≡ map f (cells_gone chosen ms)
+  pub gone-forgets : (chosen : Choice) (ms : List (Message C)) → cells_gone chosen (map_messages f ms) ≡ map f (cells_gone chosen ms)
   gone-forgets chosen [] = refl
   gone-forgets chosen (m ∷ ms) =
       ap (λ (goes : Bool). cond goes (cells_of (map_message f m)) [] ++ cells_gone chosen (map_messages f ms)) (chosen-forgets chosen m)
@@ -77,7 +77,7 @@ module _ {C D : Type 0} (f : C → D) where
       ∙ ap (λ (left : ℕ). left == bytes_of (map_messages f q.messages)) (bytes-forget (stayed chosen q.messages))
       ∙ ap (λ (all : ℕ). bytes_of (stayed chosen q.messages) == all) (bytes-forget q.messages)
 
-  queue_behind-forgets : (chosen : Choice) (q : Queue C) → queue_behind chosen (map_queue f q) ≡ map_queue f (queue_behind chosen q)
+  pub queue_behind-forgets : (chosen : Choice) (q : Queue C) → queue_behind chosen (map_queue f q) ≡ map_queue f (queue_behind chosen q)
   queue_behind-forgets chosen q =
       ap (λ (none : Bool). cond none (emptied chosen (map_queue f q)) (relieved (emptied chosen (map_queue f q)))) (none_goes-forgets chosen q)
       ∙ ap (λ (rest : Queue D). cond (none_goes chosen q) rest (relieved rest)) (emptied-forgets chosen q)
@@ -87,7 +87,7 @@ module _ {C D : Type 0} (f : C → D) where
       at true = refl
       at false = sym (relieved-forgets f (emptied chosen q))
 
-  writer_goes-forgets : (chosen : Choice) (q : Queue C) → writer_goes chosen (map_queue f q) ≡ writer_goes chosen q
+  pub writer_goes-forgets : (chosen : Choice) (q : Queue C) → writer_goes chosen (map_queue f q) ≡ writer_goes chosen q
   writer_goes-forgets chosen q =
       ap (λ (none : Bool). cond none false (relieves (emptied chosen (map_queue f q)))) (none_goes-forgets chosen q)
       ∙ ap (λ (rest : Queue D). cond (none_goes chosen q) false (relieves rest)) (emptied-forgets chosen q)
@@ -102,7 +102,7 @@ module _ {C D : Type 0} (f : C → D) where
   driver_made-forgets rule Master s q goes cells = refl
   driver_made-forgets rule Slave s q goes cells = refl
 
-  stream-forgets : (side : Side) (s : State C) → stream side (map_state f s) ≡ map_stream f (stream side s)
+  pub stream-forgets : (side : Side) (s : State C) → stream side (map_state f s) ≡ map_stream f (stream side s)
   stream-forgets Master s = refl
   stream-forgets Slave s = refl
 
@@ -134,30 +134,6 @@ module _ {C D : Type 0} (f : C → D) where
       ap (λ (u : Carried D (State D)). and_then u next') is
       ∙ ap (λ (u : Carried D (State D)). record { state = u.state; gone = map (map_fate f) t.gone ++ u.gone }) (agree t.state)
       ∙ ap (λ (gone : List (Fate D)). record { state = map_state f (next t.state).state; gone = gone }) (sym (map-append (map_fate f) t.gone (next t.state).gone))
-
-  reached-forgets : (chosen : Choice) (side : Side) (s : State C) → reached chosen side (map_state f s) ≡ map_carried f (map_state f) (reached chosen side s)
-  reached-forgets chosen side s =
-      ap (λ (t : Stream D). cond (is_open t.opened) (head_emptied Flushed chosen side (map_state f s)) (none_gone (map_state f s))) (stream-forgets side s)
-      ∙ at (is_open (stream side s).opened)
-    where
-      at : (opened : Bool) → cond opened (head_emptied Flushed chosen side (map_state f s)) (none_gone (map_state f s)) ≡ map_carried f (map_state f) (cond opened (head_emptied Flushed chosen side s) (none_gone s))
-      at true = head_emptied-forgets Flushed chosen side s
-      at false = refl
-
-  write_flushed-forgets : (chosen : Choice) (side : Side) (s : State C) → write_flushed chosen side (map_state f s) ≡ map_carried f (map_state f) (write_flushed chosen side s)
-  write_flushed-forgets chosen side s =
-      and_then-forgets (driver_emptied Flushed chosen side s) (driver_emptied Flushed chosen side (map_state f s)) (reached chosen (other side)) (reached chosen (other side)) (driver_emptied-forgets Flushed chosen side s) (reached-forgets chosen (other side))
-
-  read_flushed-forgets : (chosen : Choice) (side : Side) (s : State C) → read_flushed chosen side (map_state f s) ≡ map_carried f (map_state f) (read_flushed chosen side s)
-  read_flushed-forgets chosen side s =
-      and_then-forgets (driver_emptied Flushed chosen (other side) s) (driver_emptied Flushed chosen (other side) (map_state f s)) (reached chosen side) (reached chosen side) (driver_emptied-forgets Flushed chosen (other side) s) (reached-forgets chosen side)
-
-  -- a flush
-  pub flushed_on-forgets : (chosen : Choice) (side : Side) (what : FlushQueues) (s : State C) → flushed_on chosen side what (map_state f s) ≡ map_carried f (map_state f) (flushed_on chosen side what s)
-  flushed_on-forgets chosen side Read s = read_flushed-forgets chosen side s
-  flushed_on-forgets chosen side Write s = write_flushed-forgets chosen side s
-  flushed_on-forgets chosen side Both s =
-      and_then-forgets (write_flushed chosen side s) (write_flushed chosen side (map_state f s)) (read_flushed chosen side) (read_flushed chosen side) (write_flushed-forgets chosen side s) (read_flushed-forgets chosen side)
 
   -- a close
   hung_up-forgets : (s : State C) → hung_up_at Slave (map_state f s) ≡ map_state f (hung_up_at Slave s)

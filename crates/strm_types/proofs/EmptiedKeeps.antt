@@ -1,20 +1,18 @@
--- Flushes and closes lose no byte: what they take from the queues is what they say has gone.
+-- Queues that are emptied, and closes, lose no byte: what they take from the queues is what they say has gone.
 use Rattle.std.proofs.Common.{ℕ, ◌≡◌, ◌+◌, Bool, true, false, cond, List, [], ◌∷◌, ◌++◌, refl, ap, ◌∙◌, arith}
 use Rattle.std.specs.Prelude.{not, count_by}
 use Rattle.strm_types.specs.declared.names.Side.{Side}
 use Rattle.strm_types.specs.declared.names.Side.TheVariants.{Master, Slave}
-use Rattle.strm_types.specs.declared.events.FlushQueues.{FlushQueues}
-use Rattle.strm_types.specs.declared.events.FlushQueues.TheVariants.{Read, Write, Both}
 use Rattle.strm_types.specs.declared.rules.Rule.{Rule}
-use Rattle.strm_types.specs.declared.rules.Rule.TheVariants.{Flushed, EndClosed}
+use Rattle.strm_types.specs.declared.rules.Rule.TheVariants.{EndClosed}
 use Rattle.strm_types.specs.Deliver.{Carried}
-use Rattle.strm_types.specs.Emptied.{Choice, of_all, stayed, cells_gone, emptied, none_goes, queue_behind, head_emptied, driver_emptied, none_gone, and_then, reached, write_flushed, read_flushed, flushed_on, ended, hung_up_at, closed_at}
+use Rattle.strm_types.specs.Emptied.{Choice, of_all, stayed, cells_gone, emptied, none_goes, queue_behind, head_emptied, driver_emptied, and_then, ended, hung_up_at, closed_at}
 use Rattle.strm_types.specs.Kept.{state_weight, NothingUnread}
 use Rattle.strm_types.specs.Message.{Message, cells_of}
-use Rattle.strm_types.specs.Names.{other, is_open}
+use Rattle.strm_types.specs.Names.{is_open}
 use Rattle.strm_types.specs.Places.{weight_gone}
 use Rattle.strm_types.specs.Queue.{Queue, weight, relieved}
-use Rattle.strm_types.specs.State.{State, stream}
+use Rattle.strm_types.specs.State.{State}
 use Rattle.strm_types.proofs.DeliveryKeeps.{gone-append}
 use Rattle.strm_types.proofs.Weights.{weight-take, count-join, weight-whole}
 
@@ -40,7 +38,7 @@ module _ {C : Type 0} where
         at true ih = omega (arith, ih, weight-take p m ms, weight-whole p m, count-join p (cells_of m) (cells_gone chosen ms))
         at false ih = omega (arith, ih, weight-take p m ms, weight-take p m (stayed chosen ms))
 
-    behind-keeps : (chosen : Choice) (q : Queue C) → weight p (queue_behind chosen q).messages + count_by p (cells_gone chosen q.messages) ≡ weight p q.messages
+    pub behind-keeps : (chosen : Choice) (q : Queue C) → weight p (queue_behind chosen q).messages + count_by p (cells_gone chosen q.messages) ≡ weight p q.messages
     behind-keeps chosen q = ap (λ (ms : List (Message C)). weight p ms + count_by p (cells_gone chosen q.messages)) (behind-is chosen q) ∙ stayed-keeps chosen q.messages
 
     -- all that stands there, and all that has gone
@@ -59,28 +57,6 @@ module _ {C : Type 0} where
     -- one after the other
     and_then-keeps : (n : ℕ) (t : Carried C (State C)) (next : State C → Carried C (State C)) → total t ≡ n → ((s : State C) → total (next s) ≡ state_weight p s) → total (and_then t next) ≡ n
     and_then-keeps n t next is keeps = omega (arith, is, keeps t.state, gone-append p t.gone (next t.state).gone)
-
-    reached-keeps : (chosen : Choice) (side : Side) (s : State C) → total (reached chosen side s) ≡ state_weight p s
-    reached-keeps chosen side s = at (is_open (stream side s).opened)
-      where
-        at : (opened : Bool) → total (cond opened (head_emptied Flushed chosen side s) (none_gone s)) ≡ state_weight p s
-        at true = head_emptied-keeps Flushed chosen side s
-        at false = omega arith
-
-    write_flushed-keeps : (chosen : Choice) (side : Side) (s : State C) → total (write_flushed chosen side s) ≡ state_weight p s
-    write_flushed-keeps chosen side s =
-        and_then-keeps (state_weight p s) (driver_emptied Flushed chosen side s) (reached chosen (other side)) (driver_emptied-keeps Flushed chosen side s) (reached-keeps chosen (other side))
-
-    read_flushed-keeps : (chosen : Choice) (side : Side) (s : State C) → total (read_flushed chosen side s) ≡ state_weight p s
-    read_flushed-keeps chosen side s =
-        and_then-keeps (state_weight p s) (driver_emptied Flushed chosen (other side) s) (reached chosen side) (driver_emptied-keeps Flushed chosen (other side) s) (reached-keeps chosen side)
-
-    -- a flush
-    pub flushed_on-keeps : (chosen : Choice) (side : Side) (what : FlushQueues) (s : State C) → total (flushed_on chosen side what s) ≡ state_weight p s
-    flushed_on-keeps chosen side Read s = read_flushed-keeps chosen side s
-    flushed_on-keeps chosen side Write s = write_flushed-keeps chosen side s
-    flushed_on-keeps chosen side Both s =
-        and_then-keeps (state_weight p s) (write_flushed chosen side s) (read_flushed chosen side) (write_flushed-keeps chosen side s) (read_flushed-keeps chosen side)
 
     -- a close: what stands on the head has gone before that is as new
     behind-all : (q : Queue C) → weight p (queue_behind of_all q).messages ≡ 0
@@ -120,24 +96,6 @@ module _ {C : Type 0} where
   driver_emptied-unread : (rule : Rule) (chosen : Choice) (side : Side) (s : State C) → NothingUnread s → NothingUnread (driver_emptied rule chosen side s).state
   driver_emptied-unread rule chosen Master s unread = record { master = unread.master; slave = unread.slave }
   driver_emptied-unread rule chosen Slave s unread = record { master = unread.master; slave = unread.slave }
-
-  reached-unread : (chosen : Choice) (side : Side) (s : State C) → NothingUnread s → NothingUnread (reached chosen side s).state
-  reached-unread chosen side s unread = at (is_open (stream side s).opened)
-    where
-      at : (opened : Bool) → NothingUnread (cond opened (head_emptied Flushed chosen side s) (none_gone s)).state
-      at true = head_emptied-unread Flushed chosen side s unread
-      at false = unread
-
-  write_flushed-unread : (chosen : Choice) (side : Side) (s : State C) → NothingUnread s → NothingUnread (write_flushed chosen side s).state
-  write_flushed-unread chosen side s unread = reached-unread chosen (other side) (driver_emptied Flushed chosen side s).state (driver_emptied-unread Flushed chosen side s unread)
-
-  read_flushed-unread : (chosen : Choice) (side : Side) (s : State C) → NothingUnread s → NothingUnread (read_flushed chosen side s).state
-  read_flushed-unread chosen side s unread = reached-unread chosen side (driver_emptied Flushed chosen (other side) s).state (driver_emptied-unread Flushed chosen (other side) s unread)
-
-  pub flushed_on-unread : (chosen : Choice) (side : Side) (what : FlushQueues) (s : State C) → NothingUnread s → NothingUnread (flushed_on chosen side what s).state
-  flushed_on-unread chosen side Read s unread = read_flushed-unread chosen side s unread
-  flushed_on-unread chosen side Write s unread = write_flushed-unread chosen side s unread
-  flushed_on-unread chosen side Both s unread = read_flushed-unread chosen side (write_flushed chosen side s).state (write_flushed-unread chosen side s unread)
 
   hung_up-unread : (s : State C) → NothingUnread s → NothingUnread (hung_up_at Slave s)
   hung_up-unread s unread = at (is_open s.slave.opened)

@@ -5,9 +5,8 @@ use Rattle.std.proofs.lemmas.List.{take-map, drop-map, length-map, map-append}
 use Rattle.std.proofs.lemmas.List.Sums.{sum_by-cons}
 use Rattle.strm_types.specs.Message.{Message, part, rank_of, band_of, cells_of, size_of, data_message, map_message}
 use Rattle.strm_types.specs.Queue.{Queue, Flow, put, put_back, put_on, put_enables, count_of, is_full, flow_of, relieved, relieved_from, relieves_from, map_messages, map_queue}
-use Rattle.strm_types.specs.Turns.{is_none_left}
+use Rattle.strm_types.specs.Queue.{is_none_left}
 use Rattle.strm_types.specs.Write.{Sent, sent, written, chunks_of, chunk_count}
-use Rattle.strm_types.specs.Head.{Taken, rest_of, gathered, head_read}
 use Rattle.strm_types.proofs.Ranked.{put-map, put_back-map}
 
 module _ {C D : Type 0} (f : C → D) where
@@ -46,10 +45,6 @@ module _ {C D : Type 0} (f : C → D) where
   data-forgets : (cells : List C) → map_message f (data_message cells) ≡ data_message (map f cells)
   unfolding map_message data_message
   data-forgets cells = refl
-
-  rest-forgets : (n : ℕ) (m : Message C) → map_message f (rest_of n m) ≡ rest_of n (map_message f m)
-  unfolding map_message
-  rest-forgets n m = ap (λ xs. record { kind = m.kind; band = m.band; control = None; body = Some xs; plain = m.plain }) (sym (drop-map f n (cells_of m)) ∙ ap (λ xs. drop n xs) (sym (cells-forget m)))
 
   pub put-forgets : (m : Message C) (q : List (Message C)) → map_messages f (put m q) ≡ put (map_message f m) (map_messages f q)
   put-forgets m q = put-map (map_message f) rank_of rank_of rank-forgets m q
@@ -90,8 +85,15 @@ module _ {C D : Type 0} (f : C → D) where
   abbrev pub map_sent : Sent C → Sent D
   map_sent s = record { taken = s.taken; queue = map_queue f s.queue; enables = s.enables }
 
-  put_on-forgets : (cells : List C) (q : Queue C) → map_queue f (put_on (data_message cells) q) ≡ put_on (data_message (map f cells)) (map_queue f q)
-  put_on-forgets cells q = ap (λ ms. record { messages = ms; flows = q.flows; want_read = q.want_read; no_enable = q.no_enable }) (put-forgets (data_message cells) q.messages ∙ ap (λ m. put m (map_messages f q.messages)) (data-forgets cells))
+  pub put_on-forgets : (m : Message C) (q : Queue C) → put_on (map_message f m) (map_queue f q) ≡ map_queue f (put_on m q)
+  put_on-forgets m q = ap (λ ms. record { messages = ms; flows = q.flows; want_read = q.want_read; no_enable = q.no_enable }) (sym (put-forgets m q.messages))
+
+  pub put_enables-forgets : (m : Message C) (q : Queue C) → put_enables (map_message f m) (map_queue f q) ≡ put_enables m q
+  unfolding map_message band_of
+  put_enables-forgets m q = refl
+
+  data-on-forgets : (cells : List C) (q : Queue C) → map_queue f (put_on (data_message cells) q) ≡ put_on (data_message (map f cells)) (map_queue f q)
+  data-on-forgets cells q = sym (put_on-forgets (data_message cells) q) ∙ ap (λ m. put_on m (map_queue f q)) (data-forgets cells)
 
   enables-forgets : (cells : List C) (q : Queue C) → put_enables (data_message (map f cells)) (map_queue f q) ≡ put_enables (data_message cells) q
   unfolding data_message band_of
@@ -108,41 +110,9 @@ module _ {C D : Type 0} (f : C → D) where
           ≡ cond b (record { taken = 0; queue = map_queue f q; enables = false }) (let more = sent (chunks_of count (map f (drop 256 cells))) (put_on (data_message (map f (take 256 cells))) (map_queue f q)) in record { taken = length (map f (take 256 cells)) + more.taken; queue = more.queue; enables = put_enables (data_message (map f (take 256 cells))) (map_queue f q) || more.enables })
       sent-at true ih = refl
       sent-at false ih =
-          let whole = ih ∙ ap (λ r. sent (chunks_of count (map f (drop 256 cells))) r) (put_on-forgets (take 256 cells) q) in
+          let whole = ih ∙ ap (λ r. sent (chunks_of count (map f (drop 256 cells))) r) (data-on-forgets (take 256 cells) q) in
           ap (λ (s : Sent D). record { taken = length (take 256 cells) + s.taken; queue = s.queue; enables = put_enables (data_message (take 256 cells)) q || s.enables }) whole
           ∙ rw (length-map (take 256 cells) f, enables-forgets (take 256 cells) q) refl
 
   pub written-forgets : (cells : List C) (q : Queue C) → map_sent (written cells q) ≡ written (map f cells) (map_queue f q)
   written-forgets cells q = sent-forgets (chunk_count (length cells)) cells q ∙ ap (λ n. sent (chunks_of (chunk_count n) (map f cells)) (map_queue f q)) (sym (length-map cells f))
-
-  -- what a read takes, of other cells
-  abbrev pub map_taken : Taken C → Taken D
-  map_taken t = record { given = map f t.given; left = map_messages f t.left }
-
-  gathered-at : (n : ℕ) (m : Message C) (q : List (Message C)) (stop shorter : Bool)
-      → map_taken (gathered (n - size_of m) q) ≡ gathered (n - size_of m) (map_messages f q)
-      → map_taken (cond stop (record { given = []; left = m ∷ q }) (cond shorter (record { given = take n (cells_of m); left = put_back (rest_of n m) q }) (record { given = cells_of m ++ (gathered (n - size_of m) q).given; left = (gathered (n - size_of m) q).left })))
-      ≡ cond stop (record { given = []; left = map_message f m ∷ map_messages f q }) (cond shorter (record { given = take n (cells_of (map_message f m)); left = put_back (rest_of n (map_message f m)) (map_messages f q) }) (record { given = cells_of (map_message f m) ++ (gathered (n - size_of m) (map_messages f q)).given; left = (gathered (n - size_of m) (map_messages f q)).left }))
-  gathered-at n m q true shorter ih = refl
-  gathered-at n m q false true ih =
-      let cells = sym (take-map f n (cells_of m)) ∙ ap (λ xs. take n xs) (sym (cells-forget m)) in
-      let rest = put_back-forgets (rest_of n m) q ∙ ap (λ r. put_back r (map_messages f q)) (rest-forgets n m) in
-      ap (λ xs. record { given = xs; left = map_messages f (put_back (rest_of n m) q) }) cells ∙ ap (λ xs. record { given = take n (cells_of (map_message f m)); left = xs }) rest
-  gathered-at n m q false false ih =
-      let cells = map-append f (cells_of m) (gathered (n - size_of m) q).given ∙ ap (λ xs. xs ++ map f (gathered (n - size_of m) q).given) (sym (cells-forget m)) in
-      ap (λ xs. record { given = xs; left = map_messages f (gathered (n - size_of m) q).left }) cells ∙ ap (λ (t : Taken D). record { given = cells_of (map_message f m) ++ t.given; left = t.left }) ih
-
-  gathered-forgets : (n : ℕ) (q : List (Message C)) → map_taken (gathered n q) ≡ gathered n (map_messages f q)
-  gathered-forgets n [] = refl
-  gathered-forgets n (m ∷ q) = gathered-at n m q (n == 0 || size_of m == 0) (nat_lt n (size_of m)) (gathered-forgets (n - size_of m) q) ∙ rw (size-forgets m) refl
-
-  head_read-at : (n : ℕ) (m : Message C) (q : List (Message C)) (none empty : Bool)
-      → map_taken (cond none (record { given = []; left = m ∷ q }) (cond empty (record { given = []; left = q }) (gathered n (m ∷ q))))
-      ≡ cond none (record { given = []; left = map_message f m ∷ map_messages f q }) (cond empty (record { given = []; left = map_messages f q }) (gathered n (map_message f m ∷ map_messages f q)))
-  head_read-at n m q true empty = refl
-  head_read-at n m q false true = refl
-  head_read-at n m q false false = gathered-forgets n (m ∷ q)
-
-  pub head_read-forgets : (n : ℕ) (q : List (Message C)) → map_taken (head_read n q) ≡ head_read n (map_messages f q)
-  head_read-forgets n [] = refl
-  head_read-forgets n (m ∷ q) = head_read-at n m q (n == 0) (size_of m == 0) ∙ rw (size-forgets m) refl

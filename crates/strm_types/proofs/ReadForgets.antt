@@ -8,9 +8,9 @@ use Rattle.strm_types.specs.declared.modes.ControlMode.{ControlMode}
 use Rattle.strm_types.specs.declared.modes.ControlMode.TheVariants.{Refuse, Data, Discard}
 use Rattle.strm_types.specs.declared.refusals.Refusal.TheVariants.{Eagain, Ebadmsg}
 use Rattle.strm_types.specs.Message.{Message, part, cells_of, band_of, map_message}
-use Rattle.strm_types.specs.Queue.{put_back, map_messages}
-use Rattle.strm_types.specs.Reads.{Drawn, is_there, part_left, no_cells, stopped, emptied_of, front_of, and_more, drawn, head_draw, shown, offered, control_gone, all_cells, rest_with, rest_after, is_refused, is_passed, wanted_after, finds_none, starts_refused, read_refusal, map_drawn}
-use Rattle.strm_types.proofs.Forgetting.{cells-forget, put_back-forgets}
+use Rattle.strm_types.specs.Queue.{Queue, put_back, left_with, relieved, relieves, map_messages, map_queue}
+use Rattle.strm_types.specs.Reads.{Drawn, is_there, part_left, no_cells, stopped, emptied_of, front_of, and_more, drawn, head_draw, shown, offered, control_gone, all_cells, rest_with, rest_after, is_refused, is_passed, wanted_after, finds_none, starts_refused, read_refusal, takes_none, none_went, queue_drawn, read_queue, writer_goes, read_lets_go, map_drawn}
+use Rattle.strm_types.proofs.Forgetting.{cells-forget, put_back-forgets, relieved-forgets, relieves_from-forgets}
 use Rattle.strm_types.proofs.Drawing.{ended, ended-agrees}
 
 module _ {C D : Type 0} (f : C → D) where
@@ -165,3 +165,44 @@ module _ {C D : Type 0} (f : C → D) where
   refusal-forgets control at_end n q =
       ap (λ b. cond (n == 0) None (cond b (cond at_end None (Some Eagain)) (cond (starts_refused control (map_messages f q)) (Some Ebadmsg) None))) (none-forgets control q)
       ∙ ap (λ b. cond (n == 0) None (cond (finds_none control q) (cond at_end None (Some Eagain)) (cond b (Some Ebadmsg) None))) (starts-forgets control q)
+
+  -- the queue behind a read, and who is let go
+  takes-forgets : (control : ControlMode) (n : ℕ) (q : List (Message C)) → takes_none control n (map_messages f q) ≡ takes_none control n q
+  takes-forgets control n q =
+      ap (λ b. n == 0 || (b || starts_refused control (map_messages f q))) (none-forgets control q)
+      ∙ ap (λ b. n == 0 || (finds_none control q || b)) (starts-forgets control q)
+
+  went-forgets : (d : Drawn C) → none_went (map_drawn f d) ≡ none_went d
+  went-forgets d =
+      ap (λ b. b && (no_cells (map f d.discarded) && no_cells (map f d.dropped))) (no-cells-forget d.given)
+      ∙ ap (λ b. no_cells d.given && (b && no_cells (map f d.dropped))) (no-cells-forget d.discarded)
+      ∙ ap (λ b. no_cells d.given && (no_cells d.discarded && b)) (no-cells-forget d.dropped)
+
+  queue_drawn-forgets : (d : Drawn C) (q : Queue C) → queue_drawn (map_drawn f d) (map_queue f q) ≡ map_queue f (queue_drawn d q)
+  queue_drawn-forgets d q = ap (λ none. cond none (left_with (map_messages f d.left) (map_queue f q)) (relieved (left_with (map_messages f d.left) (map_queue f q)))) (went-forgets d) ∙ at (none_went d)
+    where
+      at : (none : Bool) → cond none (left_with (map_messages f d.left) (map_queue f q)) (relieved (left_with (map_messages f d.left) (map_queue f q))) ≡ map_queue f (cond none (left_with d.left q) (relieved (left_with d.left q)))
+      at true = refl
+      at false = sym (relieved-forgets f (left_with d.left q))
+
+  pub read_queue-forgets : (read : ReadMode) (control : ControlMode) (n : ℕ) (q : Queue C) → read_queue read control n (map_queue f q) ≡ map_queue f (read_queue read control n q)
+  read_queue-forgets read control n q =
+      ap (λ d. cond (takes_none control n (map_messages f q.messages)) (map_queue f q) (queue_drawn d (map_queue f q))) (sym (head_draw-forgets read control n q.messages))
+      ∙ ap (λ none. cond none (map_queue f q) (queue_drawn (map_drawn f (head_draw read control n q.messages)) (map_queue f q))) (takes-forgets control n q.messages)
+      ∙ ap (λ behind. cond (takes_none control n q.messages) (map_queue f q) behind) (queue_drawn-forgets (head_draw read control n q.messages) q)
+      ∙ at (takes_none control n q.messages)
+    where
+      at : (none : Bool) → cond none (map_queue f q) (map_queue f (queue_drawn (head_draw read control n q.messages) q)) ≡ map_queue f (cond none q (queue_drawn (head_draw read control n q.messages) q))
+      at true = refl
+      at false = refl
+
+  writer_goes-forgets : (d : Drawn C) (q : Queue C) → writer_goes (map_drawn f d) (map_queue f q) ≡ writer_goes d q
+  writer_goes-forgets d q =
+      ap (λ none. cond none false (relieves (left_with (map_messages f d.left) (map_queue f q)))) (went-forgets d)
+      ∙ ap (λ goes. cond (none_went d) false goes) (relieves_from-forgets f 0 d.left q.flows)
+
+  pub read_lets_go-forgets : (read : ReadMode) (control : ControlMode) (n : ℕ) (q : Queue C) → read_lets_go read control n (map_queue f q) ≡ read_lets_go read control n q
+  read_lets_go-forgets read control n q =
+      ap (λ d. cond (takes_none control n (map_messages f q.messages)) false (writer_goes d (map_queue f q))) (sym (head_draw-forgets read control n q.messages))
+      ∙ ap (λ none. cond none false (writer_goes (map_drawn f (head_draw read control n q.messages)) (map_queue f q))) (takes-forgets control n q.messages)
+      ∙ ap (λ goes. cond (takes_none control n q.messages) false goes) (writer_goes-forgets (head_draw read control n q.messages) q)

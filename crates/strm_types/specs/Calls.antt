@@ -15,10 +15,11 @@ use Rattle.strm_types.specs.Names.{driver_of, head_of, direction_from, before, e
 use Rattle.strm_types.specs.Queue.{Queue, left_with, relieved, relieves}
 use Rattle.strm_types.specs.State.{State, stream, with_stream, with_driver_queue, with_head_queue, new_head, book, with_book, map_state}
 use Rattle.strm_types.specs.Books.{with_written}
-use Rattle.strm_types.specs.Head.{Taken, head_read}
+use Rattle.strm_types.specs.Reads.{head_draw, read_queue, read_lets_go}
 use Rattle.strm_types.specs.Write.{written}
-use Rattle.strm_types.specs.Turns.{is_none_left}
-use Rattle.strm_types.specs.Emptied.{of_data, flushed_on, closed_at}
+use Rattle.strm_types.specs.Queue.{is_none_left}
+use Rattle.strm_types.specs.Emptied.{closed_at}
+use Rattle.strm_types.specs.Puts.{flushed_on}
 
 -- a call over other things that stand for its bytes
 abbrev pub map_event : {A B : Type 0} → (A → B) → Event A → Event B
@@ -100,26 +101,16 @@ module _ {C : Type 0} where
         };
       }
 
-  -- the head's queue after a read that took these messages' bytes: writers that waited are let go
-  abbrev pub queue_after : Taken C → Queue C → Queue C
-  queue_after taken q =
-      let after = left_with taken.left q in
-      if is_none_left taken.given then after else relieved after
-
-  -- whether the read lets a writer go
-  abbrev pub lets_go : Taken C → Queue C → Bool
-  lets_go taken q = if is_none_left taken.given then false else relieves (left_with taken.left q)
-
-  -- a read of up to n bytes on a side's stream; a read of none, or of an empty head, changes nothing
+  -- a read of up to n bytes on a side's stream, in the modes of its head
   abbrev pub read_at : Cells C → Side → ℕ → State C → Outcome C
   read_at cells side n s =
       let above = stream side s in
-      let taken = head_read (min n READ_MAX) above.head.queue.messages in
-      if n == 0 || is_none_left above.head.queue.messages then record { answer = Bytes []; state = s }
-      else record {
-        answer = Bytes (bytes_of cells taken.given);
-        state = record (with_stream side (with_head_queue (queue_after taken above.head.queue) above) s) {
-          enabled = enable_some (lets_go taken above.head.queue) (before (head_of side)) s.enabled;
+      let h = above.head in
+      let most = min n READ_MAX in
+      record {
+        answer = Bytes (bytes_of cells (head_draw h.read_mode h.control_mode most h.queue.messages).given);
+        state = record (with_stream side (with_head_queue (read_queue h.read_mode h.control_mode most h.queue) above) s) {
+          enabled = enable_some (read_lets_go h.read_mode h.control_mode most h.queue) (before (head_of side)) s.enabled;
         };
       }
 
@@ -132,6 +123,6 @@ module _ {C : Type 0} where
   called cells caller (Push name) s = done s
   called cells caller Pop s = done s
   called cells caller Look s = done s
-  called cells caller (Flush what band) s = done (flushed_on (of_data band) caller.side what s).state
+  called cells caller (Flush what band) s = done (flushed_on band caller.side what s).state
   called cells caller (Write bytes) s = wrote cells caller.side bytes s
   called cells caller (Read n) s = read_at cells caller.side n s

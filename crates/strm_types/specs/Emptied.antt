@@ -6,16 +6,14 @@ use Rattle.strm_types.specs.declared.kinds.MsgKind.{MsgKind}
 use Rattle.strm_types.specs.declared.names.Side.{Side}
 use Rattle.strm_types.specs.declared.names.Side.TheVariants.{Master, Slave}
 use Rattle.strm_types.specs.declared.names.Openness.TheVariants.{Closed}
-use Rattle.strm_types.specs.declared.events.FlushQueues.{FlushQueues}
-use Rattle.strm_types.specs.declared.events.FlushQueues.TheVariants.{Read, Write, Both}
 use Rattle.strm_types.specs.declared.rules.Rule.{Rule}
-use Rattle.strm_types.specs.declared.rules.Rule.TheVariants.{Flushed, EndClosed}
+use Rattle.strm_types.specs.declared.rules.Rule.TheVariants.{EndClosed}
 use Rattle.strm_types.specs.Message.{Message, cells_of}
-use Rattle.strm_types.specs.Names.{other, driver_of, head_of, direction_of, before, is_open, enable_some}
+use Rattle.strm_types.specs.Names.{driver_of, head_of, direction_of, before, is_open, enable_some}
 use Rattle.strm_types.specs.Queue.{Queue, bytes_of, relieved, relieves}
 use Rattle.strm_types.specs.State.{State, stream, with_stream, with_head_queue, with_driver_queue, new_head}
 use Rattle.strm_types.specs.Flush.{is_flushed}
-use Rattle.strm_types.specs.Turns.{is_none_left}
+use Rattle.strm_types.specs.Queue.{is_none_left}
 use Rattle.strm_types.specs.Deliver.{Carried}
 
 -- which messages go, by their kind and their band
@@ -88,31 +86,9 @@ module _ {C : Type 0} where
     gone = record { direction = direction_of (driver_of side); rule = rule; cells = cells_gone chosen (stream side s).driver.queue.messages } ∷ [];
   }
 
-  -- nothing goes
-  abbrev pub none_gone : State C → Carried C (State C)
-  none_gone s = record { state = s; gone = [] }
-
   -- one after the other
   abbrev pub and_then : Carried C (State C) → (State C → Carried C (State C)) → Carried C (State C)
   and_then t next = let u = next t.state in record { state = u.state; gone = t.gone ++ u.gone }
-
-  -- what a driver sends up a side's stream reaches its head, where that is open
-  abbrev pub reached : Choice → Side → State C → Carried C (State C)
-  reached chosen side s = if is_open (stream side s).opened then head_emptied Flushed chosen side s else none_gone s
-
-  -- FLUSHW at the driver of a side: its own queue, and then what stands for the readers across
-  abbrev pub write_flushed : Choice → Side → State C → Carried C (State C)
-  write_flushed chosen side s = and_then (driver_emptied Flushed chosen side s) (reached chosen (other side))
-
-  -- FLUSHR at the driver of a side: the driver's queue across, and then what stands for the side's own readers
-  abbrev pub read_flushed : Choice → Side → State C → Carried C (State C)
-  read_flushed chosen side s = and_then (driver_emptied Flushed chosen (other side) s) (reached chosen side)
-
-  -- a flush of a side's stream
-  abbrev pub flushed_on : Choice → Side → FlushQueues → State C → Carried C (State C)
-  flushed_on chosen side Read s = read_flushed chosen side s
-  flushed_on chosen side Write s = write_flushed chosen side s
-  flushed_on chosen side Both s = and_then (write_flushed chosen side s) (read_flushed chosen side)
 
   -- a side that is closed, with a head as new
   abbrev pub ended : Side → State C → State C

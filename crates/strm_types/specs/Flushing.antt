@@ -1,10 +1,17 @@
 -- What an M_FLUSH asks for (STREAMS Programming Guide, "Flush Handling"; sys/stream.h: FLUSHR, FLUSHW, FLUSHBAND).
-use Rattle.std.specs.Prelude.{ℕ, Bool, false, ◌==◌, ◌/◌, ◌%◌, nat_lt, if◌then◌else◌, List, [], ◌∷◌, Option, None, Some}
+use Rattle.std.specs.Prelude.{ℕ, Bool, true, false, ◌+◌, ◌==◌, ◌/◌, ◌%◌, nat_lt, if◌then◌else◌, List, [], ◌∷◌, Option, None, Some}
 use Rattle.strm_types.specs.declared.flushing.FlushAsked.{FlushAsked}
+use Rattle.strm_types.specs.declared.events.FlushQueues.{FlushQueues}
+use Rattle.strm_types.specs.declared.events.FlushQueues.TheVariants.{Read, Write, Both}
 use Rattle.strm_types.specs.declared.kinds.Band.{Band}
+use Rattle.strm_types.specs.declared.kinds.MsgKind.{MsgKind}
 use Rattle.strm_types.specs.declared.kinds.MsgKind.TheVariants.{Flush}
 use Rattle.strm_types.specs.declared.limits.TheConstants.{BANDS}
 use Rattle.strm_types.specs.Message.{Message}
+
+abbrev pub is_flush : MsgKind → Bool
+is_flush Flush = true
+is_flush _ = false
 
 -- whether a flag of a worth is set
 abbrev pub has_flag : ℕ → ℕ → Bool
@@ -29,6 +36,27 @@ asked_by (flags ∷ bytes) =
 abbrev pub read_flush : Option Band → List ℕ
 read_flush None = 1 ∷ []
 read_flush (Some band) = 5 ∷ band.0 ∷ []
+
+-- the worth of the flags for readers and for writers
+abbrev pub flags_of : Bool → Bool → ℕ
+flags_of false false = 0
+flags_of true false = 1
+flags_of false true = 2
+flags_of true true = 3
+
+-- the bytes of an M_FLUSH that asks for this
+abbrev pub flush_bytes : FlushAsked → List ℕ
+flush_bytes asked = with_band asked.band (flags_of asked.for_read asked.for_write)
+  where
+    with_band : Option Band → ℕ → List ℕ
+    with_band None flags = flags ∷ []
+    with_band (Some band) flags = (flags + 4) ∷ band.0 ∷ []
+
+-- what a flush of a stream asks for
+abbrev pub asked_of : FlushQueues → Option Band → FlushAsked
+asked_of Read band = record { for_read = true; for_write = false; band = band }
+asked_of Write band = record { for_read = false; for_write = true; band = band }
+asked_of Both band = record { for_read = true; for_write = true; band = band }
 
 -- an M_FLUSH of these bytes
 abbrev pub flush_message : {C : Type 0} → List ℕ → Message C

@@ -3,17 +3,18 @@ use Rattle.std.specs.Prelude.{◌≡◌, ℕ, ◌+◌, min, Bool, false, List, [
 use Rattle.strm_types.specs.declared.limits.TheConstants.{READ_MAX}
 use Rattle.strm_types.specs.declared.names.Side.{Side}
 use Rattle.strm_types.specs.declared.events.Event.TheVariants.{Shut, Flush, Write, Read}
-use Rattle.strm_types.specs.declared.rules.Rule.TheVariants as rules
 use Rattle.strm_types.specs.declared.entries.Entry.TheVariants.{Called, Turned}
 use Rattle.strm_types.specs.Cells.{Cells, cells_written}
 use Rattle.strm_types.specs.Names.{direction_from, direction_of, head_of, is_open}
 use Rattle.strm_types.specs.Queue.{weight}
 use Rattle.strm_types.specs.State.{State, Stream, stream, book}
-use Rattle.strm_types.specs.Head.{head_read}
+use Rattle.strm_types.specs.Reads.{read_gone}
 use Rattle.strm_types.specs.Deliver.{Fate, tallied}
 use Rattle.strm_types.specs.Step.{after}
 use Rattle.strm_types.specs.declared.rules.Fates.{Fates}
-use Rattle.strm_types.specs.Emptied.{of_data, flushed_on, closed_at}
+use Rattle.strm_types.specs.Emptied.{closed_at}
+use Rattle.strm_types.specs.Puts.{flushed_on}
+use Rattle.strm_types.specs.Turns.{turned}
 use Rattle.strm_types.specs.Write.{written}
 use Rattle.strm_types.specs.Journal.{PlainEntry}
 
@@ -43,18 +44,15 @@ module _ {C : Type 0} where
   came cells s (Called caller asked answer) = []
   came cells s (Turned name turn) = []
 
-  -- what an entry takes away, by its rules: what a read gives, and what a flush or a close takes
+  -- what an entry takes away, by its rules: what a read gives, what a flush or a close takes, and what goes on its way
   abbrev pub gone : Cells C → State C → PlainEntry → List (Fate C)
   gone cells s (Called caller (Read n) answer) =
-      record {
-        direction = direction_of (head_of caller.side);
-        rule = rules.Read;
-        cells = (head_read (min n READ_MAX) (stream caller.side s).head.queue.messages).given;
-      } ∷ []
-  gone cells s (Called caller (Flush what band) answer) = (flushed_on (of_data band) caller.side what s).gone
+      let h = (stream caller.side s).head in
+      read_gone (direction_of (head_of caller.side)) h.read_mode h.control_mode (min n READ_MAX) h.queue.messages
+  gone cells s (Called caller (Flush what band) answer) = (flushed_on band caller.side what s).gone
   gone cells s (Called caller Shut answer) = (closed_at caller.side s).gone
   gone cells s (Called caller asked answer) = []
-  gone cells s (Turned name turn) = []
+  gone cells s (Turned name turn) = (turned cells name turn s).gone
 
   -- what entries let go, one after the other, told by its rules
   abbrev pub told_by : Cells C → State C → List PlainEntry → Fates → Fates

@@ -21,6 +21,8 @@ pub mod Emptied
 pub mod Flushing
 pub mod Ioctls
 pub mod Drivers
+pub mod Heads
+pub mod Puts
 pub mod Calls
 pub mod Refused
 pub mod Journal

@@ -2,7 +2,7 @@
 use Rattle.std.specs.Prelude.{◌≡◌, map}
 use Rattle.strm_types.specs.declared.spots.Spot.{Spot}
 use Rattle.strm_types.specs.Message.{Message, map_message}
-use Rattle.strm_types.specs.Deliver.{Parcel, Fate, Took, Carried}
+use Rattle.strm_types.specs.Deliver.{Acted, Parcel, Fate, Took, Carried}
 
 module _ {C D : Type 0} (f : C → D) where
   abbrev pub map_parcel : Parcel C → Parcel D
@@ -14,6 +14,9 @@ module _ {C D : Type 0} (f : C → D) where
   module _ {S T : Type 0} (g : S → T) where
     abbrev pub map_took : Took C S → Took D T
     map_took t = record { state = g t.state; sent = map map_parcel t.sent; gone = map map_fate t.gone }
+
+    abbrev pub map_acted : Acted C S → Acted D T
+    map_acted t = record { state = g t.state; notes = t.notes; sent = map map_parcel t.sent; gone = map map_fate t.gone }
 
     abbrev pub map_carried : Carried C S → Carried D T
     map_carried t = record { state = g t.state; gone = map map_fate t.gone }

@@ -17,6 +17,11 @@ pub record Queue (C : Type 0) : Type 0 where
   pub want_read : Bool
   pub no_enable : Bool
 
+-- whether nothing stands in a list
+abbrev pub is_none_left : {A : Type 0} → List A → Bool
+is_none_left [] = true
+is_none_left (_ ∷ _) = false
+
 module _ {C : Type 0} where
   -- the messages of one rank, in their order
   abbrev pub lane : ℕ → List (Message C) → List (Message C)

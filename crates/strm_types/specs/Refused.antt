@@ -16,7 +16,7 @@ use Rattle.strm_types.specs.Names.{is_master, is_enabled, is_open, is_never, is_
 use Rattle.strm_types.specs.Queue.{is_full}
 use Rattle.strm_types.specs.State.{State, stream}
 use Rattle.strm_types.specs.Write.{chunk_count}
-use Rattle.strm_types.specs.Turns.{is_none_left}
+use Rattle.strm_types.specs.Reads.{read_refusal}
 use Rattle.strm_types.specs.declared.limits.TheConstants.{BANDS, WRITE_BLOCKS, CHANGE_BLOCKS, CLOSE_BLOCKS}
 use Rattle.strm_types.specs.declared.events.Event.TheVariants.{OpenMaster, Unlock, OpenSlave, Shut, Push, Pop, Look, Flush, Write, Read}
 use Rattle.strm_types.specs.Books as books
@@ -85,11 +85,13 @@ module _ {C : Type 0} where
   abbrev pub has_no_data : List (Message C) → Bool
   has_no_data ms = not (list_any (λ m. is_held m.kind) ms)
 
-  -- The end of input at a side's head, where that is empty: the other end is gone, or the slave was closed and nothing of
-  -- it is on its way.
+  -- The end of input at a side's head, where nothing is to be read there: the other end is gone, or the slave was closed and
+  -- no M_DATA or M_PROTO of it stands anywhere.
   abbrev pub at_end : Side → State C → Bool
   at_end Slave s = s.slave.head.hung_up
-  at_end Master s = s.master.head.hung_up || (is_closed s.slave.opened && has_no_data s.slave.driver.queue.messages)
+  at_end Master s =
+      s.master.head.hung_up
+      || (is_closed s.slave.opened && (has_no_data s.slave.driver.queue.messages && has_no_data s.master.head.queue.messages))
 
   -- more may be written and made in both directions, as a call in one may make bytes in the other
   abbrev pub in_range : State C → Bool
@@ -116,7 +118,8 @@ module _ {C : Type 0} where
       or_else (unless (not (is_open s.slave.opened)) Einval) (unless (not s.locked) Eagain)
   refused_by_state s caller (Write bytes) = unless (not (is_full 0 (stream caller.side s).driver.queue)) Eagain
   refused_by_state s caller (Read n) =
-      unless (n == 0 || (not (is_none_left (stream caller.side s).head.queue.messages) || at_end caller.side s)) Eagain
+      let h = (stream caller.side s).head in
+      read_refusal h.control_mode (at_end caller.side s) n h.queue.messages
   refused_by_state s caller Pop = Some Einval
   refused_by_state s caller Look = Some Einval
   refused_by_state s caller _ = None

@@ -9,12 +9,18 @@ use Rattle.strm_types.specs.declared.names.Dir.TheVariants.{MasterToSlave, Slave
 use Rattle.strm_types.specs.declared.names.Openness.{Openness}
 use Rattle.strm_types.specs.declared.names.Openness.TheVariants.{Never}
 use Rattle.strm_types.specs.declared.books.Book.{Book}
+use Rattle.strm_types.specs.declared.modes.ReadMode.{ReadMode}
+use Rattle.strm_types.specs.declared.modes.ReadMode.TheVariants.{ByteStream}
+use Rattle.strm_types.specs.declared.modes.ControlMode.{ControlMode}
+use Rattle.strm_types.specs.declared.modes.ControlMode.TheVariants.{Refuse}
 use Rattle.strm_types.specs.Books.{new_book}
 use Rattle.strm_types.specs.Queue.{Queue, IsOrdered, new_queue, map_queue}
 
--- a stream head: what it has for its readers, and whether an M_HANGUP came up, as the other end is gone
+-- a stream head: what it has for its readers, how they read it, and whether an M_HANGUP came up, as the other end is gone
 pub record Head (C : Type 0) : Type 0 where
   pub queue : Queue C
+  pub read_mode : ReadMode
+  pub control_mode : ControlMode
   pub hung_up : Bool
 
 -- a driver: what it has for the other side
@@ -39,9 +45,9 @@ pub record State (C : Type 0) : Type 0 where
   pub from_slave : Book
 
 module _ {C : Type 0} where
-  -- a head as it is made: marks 5120 and 1024
+  -- a head as it is made: marks 5120 and 1024, RNORM and RPROTNORM
   abbrev pub new_head : Head C
-  new_head = record { queue = new_queue 5120 1024; hung_up = false }
+  new_head = record { queue = new_queue 5120 1024; read_mode = ByteStream; control_mode = Refuse; hung_up = false }
 
   -- a driver as it is made: marks 512 and 128
   abbrev pub new_driver : Driver C
@@ -84,7 +90,7 @@ module _ {C : Type 0} where
   with_book SlaveToMaster new s = record s { from_slave = new }
 
   abbrev pub with_head_queue : Queue C → Stream C → Stream C
-  with_head_queue q t = record t { head = record { queue = q; hung_up = t.head.hung_up } }
+  with_head_queue q t = record t { head = record t.head { queue = q } }
 
   abbrev pub with_driver_queue : Queue C → Stream C → Stream C
   with_driver_queue q t = record t { driver = record { queue = q } }
@@ -102,8 +108,15 @@ abbrev pub messages_in : {C : Type 0} → State C → ℕ
 messages_in s = length s.master.head.queue.messages + length s.master.driver.queue.messages + (length s.slave.head.queue.messages + length s.slave.driver.queue.messages)
 
 -- the same state of other cells, as where their origins are forgotten
+abbrev pub map_head : {C D : Type 0} → (C → D) → Head C → Head D
+map_head f h = record { queue = map_queue f h.queue; read_mode = h.read_mode; control_mode = h.control_mode; hung_up = h.hung_up }
+
 abbrev pub map_stream : {C D : Type 0} → (C → D) → Stream C → Stream D
-map_stream f t = record { opened = t.opened; head = record { queue = map_queue f t.head.queue; hung_up = t.head.hung_up }; driver = record { queue = map_queue f t.driver.queue } }
+map_stream f t = record {
+  opened = t.opened;
+  head = map_head f t.head;
+  driver = record { queue = map_queue f t.driver.queue };
+}
 
 abbrev pub map_state : {C D : Type 0} → (C → D) → State C → State D
 map_state f s = record {

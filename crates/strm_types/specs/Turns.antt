@@ -1,5 +1,5 @@
 -- Turns of the service procedures (STREAMS Programming Guide, "Service Procedures"; canput(9F), getq(9F)).
-use Rattle.std.specs.Prelude.{ℕ, Bool, true, false, not, ◌&&◌, ◌==◌, if◌then◌else◌, List, [], ◌∷◌}
+use Rattle.std.specs.Prelude.{ℕ, Bool, true, false, not, ◌&&◌, ◌||◌, ◌==◌, if◌then◌else◌, List, [], ◌∷◌, map}
 use Rattle.strm_types.specs.declared.answers.Turn.{Turn}
 use Rattle.strm_types.specs.declared.answers.Turn.TheVariants.{Moved, Blocked, Idle}
 use Rattle.strm_types.specs.declared.names.Side.{Side}
@@ -7,29 +7,29 @@ use Rattle.strm_types.specs.declared.names.Place.{Place}
 use Rattle.strm_types.specs.declared.names.Place.TheVariants.{Head, Ldterm, Driver}
 use Rattle.strm_types.specs.declared.names.QueueName.{QueueName}
 use Rattle.strm_types.specs.Message.{Message, size_of, band_of, is_held}
-use Rattle.strm_types.specs.Queue.{Queue, is_full, put_on, relieved, with_writer_at}
+use Rattle.strm_types.specs.Queue.{Queue, is_none_left, is_full, left_with, relieved, relieves, with_writer_at}
 use Rattle.strm_types.specs.Cells.{Cells}
-use Rattle.strm_types.specs.Names.{other, driver_of, is_open, without, enable_if}
+use Rattle.strm_types.specs.declared.names.Way.TheVariants.{Up}
+use Rattle.strm_types.specs.declared.spots.Spot.{Spot}
+use Rattle.strm_types.specs.Deliver.{Fate}
+use Rattle.strm_types.specs.Origins.{map_fate}
+use Rattle.strm_types.specs.Puts.{delivered}
+use Rattle.strm_types.specs.Names.{other, driver_of, before, is_open, without, enable_if, enable_some}
 use Rattle.strm_types.specs.State.{State, Stream, stream, with_stream, with_driver_queue, with_head_queue, map_state}
 
--- what a turn of a driver's queue does: its answer, the stream that it is of, and the other side's
-pub record Served (C : Type 0) : Type 0 where
-  pub turn : Turn
-  pub from : Stream C
-  pub to : Stream C
-
--- what a turn leads to
+-- what a turn leads to, and what goes on the way by which rule
 pub record TurnOutcome (C : Type 0) : Type 0 where
   pub turn : Turn
   pub state : State C
+  pub gone : List (Fate C)
 
 -- the same with a state of other cells
 abbrev pub map_turn_outcome : {C D : Type 0} → (C → D) → TurnOutcome C → TurnOutcome D
-map_turn_outcome f outcome = record { turn = outcome.turn; state = map_state f outcome.state }
+map_turn_outcome f outcome = record { turn = outcome.turn; state = map_state f outcome.state; gone = map (map_fate f) outcome.gone }
 
-abbrev pub is_none_left : {A : Type 0} → List A → Bool
-is_none_left [] = true
-is_none_left (_ ∷ _) = false
+-- the lowest place of the other side's stream, on the way up
+abbrev pub up_across : Side → Spot
+up_across side = record { side = other side; at = 0; way = Up }
 
 module _ {C : Type 0} where
   -- how many bytes the first message has
@@ -41,58 +41,66 @@ module _ {C : Type 0} where
   abbrev pub held_back : Queue C → Queue C
   held_back q = record q { want_read = false }
 
-  -- the queue after a turn that took its first message: one that is empty now wants to be read
-  abbrev pub moved_on : ℕ → List (Message C) → Queue C → Queue C
-  moved_on size rest q =
-      let after = record q { messages = rest; want_read = is_none_left rest } in
-      if size == 0 then after else relieved after
-
   -- Whether flow control stops a message at a queue.
   abbrev pub is_stopped : Message C → Queue C → Bool
   is_stopped m q = is_held m.kind && is_full (band_of m) q
 
-  -- A driver gives its first message to the other side's head, unless that side isn't open or the head's band is full,
-  -- where a writer then waits.
-  abbrev pub driver_serves : List (Message C) → Stream C → Stream C → Served C
-  driver_serves [] from to =
-      record { turn = Idle; from = with_driver_queue (record from.driver.queue { want_read = true }) from; to = to }
-  driver_serves (m ∷ rest) from to =
-      if not (is_open to.opened) then record { turn = Blocked; from = with_driver_queue (held_back from.driver.queue) from; to = to }
-      else (if is_stopped m to.head.queue
-      then record {
-        turn = Blocked;
-        from = with_driver_queue (held_back from.driver.queue) from;
-        to = with_head_queue (record to.head.queue { flows = with_writer_at (band_of m) to.head.queue.flows }) to;
-      }
-      else record {
-        turn = Moved (size_of m);
-        from = with_driver_queue (moved_on (size_of m) rest from.driver.queue) from;
-        to = with_head_queue (put_on m to.head.queue) to;
-      })
+  -- a turn that moved nothing
+  abbrev pub stayed_put : Turn → State C → TurnOutcome C
+  stayed_put turn s = record { turn = turn; state = s; gone = [] }
 
-  -- whether a turn put its queue back among the enabled ones: it moved a message, and more stand there
-  abbrev pub goes_on : Turn → Queue C → Bool
-  goes_on (Moved _) q = not (is_none_left q.messages)
-  goes_on Blocked q = false
-  goes_on Idle q = false
+  -- the driver's queue of a side is another one
+  abbrev pub with_driver : Side → Queue C → State C → State C
+  with_driver side q s = with_stream side (with_driver_queue q (stream side s)) s
+
+  -- the queue of a turn that took a message off it, once what came of that is done: empty, it wants to be read
+  abbrev pub turned_queue : Queue C → Queue C
+  turned_queue q = record q { want_read = q.want_read || is_none_left q.messages }
+
+  -- The end of a turn of a driver that took a message of this size: where bytes went, writers that waited for its queue are let
+  -- go, and the queue is enabled again where more stand there.
+  abbrev pub turn_ended : Side → ℕ → State C → State C
+  turn_ended side size s =
+      let q = turned_queue (stream side s).driver.queue in
+      let went = not (size == 0) in
+      record (with_driver side (if went then relieved q else q) s) {
+        enabled = enable_if (not (is_none_left q.messages)) (driver_of side)
+            (enable_some (went && relieves q) (before (driver_of side)) s.enabled);
+      }
+
+  -- a message taken off the driver's queue of a side goes up the other side's stream, with all that it gives rise to
+  abbrev pub moved_across : Side → Message C → List (Message C) → State C → TurnOutcome C
+  moved_across side m rest s =
+      let t = delivered (up_across side) m (with_driver side (left_with rest (stream side s).driver.queue) s) in
+      record { turn = Moved (size_of m); state = turn_ended side (size_of m) t.state; gone = t.gone }
+
+  -- Where the other side's head has no room for the message, a writer waits for it there.
+  abbrev pub blocked_at_head : Side → Message C → State C → State C
+  blocked_at_head side m s =
+      let above = stream (other side) s in
+      let q = above.head.queue in
+      with_stream (other side) (with_head_queue (record q { flows = with_writer_at (band_of m) q.flows }) above) s
+
+  -- A driver sends its first message up the other side's stream, unless that isn't open, or the head there is full in the
+  -- message's band.
+  abbrev pub driver_serves : Side → List (Message C) → State C → TurnOutcome C
+  driver_serves side [] s = stayed_put Idle (with_driver side (record (stream side s).driver.queue { want_read = true }) s)
+  driver_serves side (m ∷ rest) s =
+      let above = stream (other side) s in
+      let waits = with_driver side (held_back (stream side s).driver.queue) s in
+      if not (is_open above.opened) then stayed_put Blocked waits
+      else (if is_stopped m above.head.queue then stayed_put Blocked (blocked_at_head side m waits)
+      else moved_across side m rest s)
 
   -- a turn of the driver of a side, taken off the enabled list
   abbrev pub driver_turned : Side → State C → TurnOutcome C
-  driver_turned side s =
-      let from = stream side s in
-      let served = driver_serves from.driver.queue.messages from (stream (other side) s) in
-      record {
-        turn = served.turn;
-        state = record (with_stream (other side) served.to (with_stream side served.from s)) {
-          enabled = enable_if (goes_on served.turn served.from.driver.queue) (driver_of side) s.enabled;
-        };
-      }
+  driver_turned side s = driver_serves side (stream side s).driver.queue.messages s
 
   -- by what the queue belongs to: heads have no service procedure, and no module stands on a stream yet
   abbrev pub turned_at : Cells C → Place → Side → Turn → State C → TurnOutcome C
   turned_at cells Driver side turn s = driver_turned side s
-  turned_at cells Head side turn s = record { turn = Idle; state = s }
-  turned_at cells Ldterm side turn s = record { turn = Idle; state = s }
+  turned_at cells Head side turn s = stayed_put Idle s
+  turned_at cells Ldterm side turn s = stayed_put Idle s
 
   -- A turn of an enabled queue, which is answered so. Where a service procedure may stop within a message, the answer says
   -- how far it went.

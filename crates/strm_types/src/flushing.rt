@@ -1,10 +1,11 @@
 //! What an M_FLUSH asks for (STREAMS Programming Guide, "Flush Handling").
 
 ghost use Rattle.std.specs.Prelude.{◌≡◌, ◌≤◌, length};
-ghost use Rattle.strm_types.specs.Flushing.{asked_by, read_flush, nothing_asked};
+ghost use Rattle.strm_types.specs.Flushing.{asked_by, asked_of, flags_of, flush_bytes, read_flush, nothing_asked};
 ghost use Rattle.strm_types.specs.Refused.{is_a_band};
 ghost use Rattle.std.specs.Prelude.{true};
 
+use crate::events::FlushQueues;
 use crate::kinds::Band;
 use crate::limits::BANDS;
 use arrayvec::ArrayVec;
@@ -50,6 +51,45 @@ impl FlushAsked {
             band: Some(Band(bytes[1])),
             ..asked
         }
+    }
+
+    /// What a flush of a stream asks for, of a band or of all: `I_FLUSH` and `I_FLUSHBAND` of streamio(7I).
+    pub fn of(what: FlushQueues, band: Option<Band>) -> FlushAsked
+        ensures { result ≡ asked_of what band }
+    {
+        FlushAsked {
+            for_read: !matches!(what, FlushQueues::Write),
+            for_write: !matches!(what, FlushQueues::Read),
+            band,
+        }
+    }
+
+    // The worth of its flags: FLUSHR 1, FLUSHW 2.
+    fn flags(&self) -> u8
+        ensures value { result ≡ flags_of self.now.for_read self.now.for_write }
+        ensures small { result ≤ 3 }
+    {
+        match (self.for_read, self.for_write) {
+            (false, false) => 0,
+            (true, false) => 1,
+            (false, true) => 2,
+            (true, true) => 3,
+        }
+    }
+
+    /// The bytes of an M_FLUSH that asks for this.
+    pub fn bytes(&self) -> ArrayVec<u8, 2>
+        ensures { result.items ≡ flush_bytes self.now }
+    {
+        let mut bytes = ArrayVec::new();
+        match self.band {
+            Some(band) => {
+                bytes.push(self.flags() + 4);
+                bytes.push(band.0);
+            }
+            None => bytes.push(self.flags()),
+        }
+        bytes
     }
 
     /// The bytes of an M_FLUSH with FLUSHR alone, and the band where one is named.

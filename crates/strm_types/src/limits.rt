@@ -18,6 +18,9 @@ pub const HIGH_PRIORITY_RANK: usize = 256;
 /// How many modules a stream has at most.
 pub const MODULES: usize = 3;
 
+/// How often a message is handed on at most, with all that it gives rise to.
+pub const HOPS: usize = 16;
+
 /// The most bytes that one read gives.
 pub const READ_MAX: usize = 4096;
 

@@ -2,7 +2,7 @@
 use Rattle.std.proofs.Common.{◌∙◌, ℕ, refl, sym, ap, rules}
 use Rattle.strm_types.specs.State.{with_head_queue, with_driver_queue}
 use Rattle.strm_types.specs.declared.answers.Turn.TheVariants.{Moved}
-use Rattle.strm_types.specs.Turns.{Served, driver_serves}
+use Rattle.strm_pair.specs.DataTurns.{Served, driver_serves}
 use Rattle.strm_blocks.specs.Blocks.{list_at}
 use Rattle.strm_queue.specs.Stored.{queue_in, messages_on}
 use Rattle.strm_pair.specs.Streams.{stream_in}
@@ -14,19 +14,19 @@ pub returns-then-is_stopped-clause-turn : goal.returns-then-is_stopped-clause-tu
 returns-then-is_stopped-clause-turn g c =
     let s = g.B.Blocks.value c.args.store.now in
     let e = seen-stops s c.args.from.now.driver.list c.in-Some.first c.in-Some.ensures (stream_in s c.args.from.now) (stream_in s c.args.to.now) c.is_stopped.result (sym c.is_open.ensures ∙ c.if-not-is_open.false) c.is_stopped.ensures c.if-is_stopped.true in
-    sym (ap (λ (t : Served ℕ). t.turn) e)
+    sym (ap (λ (t : Served). t.turn) e)
 
 pub returns-then-is_stopped-clause-from : goal.returns-then-is_stopped-clause-from
 returns-then-is_stopped-clause-from g c =
     let s = g.B.Blocks.value c.args.store.now in
     let e = seen-stops s c.args.from.now.driver.list c.in-Some.first c.in-Some.ensures (stream_in s c.args.from.now) (stream_in s c.args.to.now) c.is_stopped.result (sym c.is_open.ensures ∙ c.if-not-is_open.false) c.is_stopped.ensures c.if-is_stopped.true in
-    sym (ap (λ (t : Served ℕ). t.from) e)
+    sym (ap (λ (t : Served). t.from) e)
 
 pub returns-then-is_stopped-clause-to : goal.returns-then-is_stopped-clause-to
 returns-then-is_stopped-clause-to g c =
     let s = g.B.Blocks.value c.args.store.now in
     let e = seen-stops s c.args.from.now.driver.list c.in-Some.first c.in-Some.ensures (stream_in s c.args.from.now) (stream_in s c.args.to.now) c.is_stopped.result (sym c.is_open.ensures ∙ c.if-not-is_open.false) c.is_stopped.ensures c.if-is_stopped.true in
-    ap (λ q. with_head_queue q (stream_in s c.args.to.now)) (waits-queue s c.args.to.now.head c.let_wait.new.self c.in-Some.first.band.0 c.let_wait.ensures.flows c.let_wait.ensures.others) ∙ sym (ap (λ (t : Served ℕ). t.to) e)
+    ap (λ q. with_head_queue q (stream_in s c.args.to.now)) (waits-queue s c.args.to.now.head c.let_wait.new.self c.in-Some.first.band.0 c.let_wait.ensures.flows c.let_wait.ensures.others) ∙ sym (ap (λ (t : Served). t.to) e)
 
 pub returns-clause-turn : goal.returns-clause-turn
 returns-clause-turn g c =
@@ -38,7 +38,7 @@ returns-clause-turn g c =
     let rest = messages_on (g.B.Blocks.value c.advance.new.store) k in
     let goes = seen-moves s k c.in-Some.first c.in-Some.ensures to.head.queue c.is_stopped.result c.is_stopped.ensures c.if-is_stopped.false a.message rest a.first in
     let e = serves-moved a.message rest from to (sym c.is_open.ensures ∙ c.if-not-is_open.false) goes in
-    ap (λ n. Moved n) a.size ∙ sym (ap (λ (t : Served ℕ). t.turn) (ap (λ ms. driver_serves ms from to) a.first ∙ e))
+    ap (λ n. Moved n) a.size ∙ sym (ap (λ (t : Served). t.turn) (ap (λ ms. driver_serves ms from to) a.first ∙ e))
 
 pub returns-clause-from : goal.returns-clause-from
 returns-clause-from g c =
@@ -54,7 +54,7 @@ returns-clause-from g c =
     let e = serves-moved a.message rest from to (sym c.is_open.ensures ∙ c.if-not-is_open.false) goes in
     ap (λ q. record { opened = f.opened; head = record { queue = q; hung_up = f.hung_up }; driver = record { queue = queue_in new c.advance.new.from } }) (queue-same s new f.head (a.keeps.others f.head.list c.requires.head_beside c.requires.head_across))
     ∙ ap (λ q. with_driver_queue q from) a.moved
-    ∙ sym (ap (λ (t : Served ℕ). t.from) (ap (λ ms. driver_serves ms from to) a.first ∙ e))
+    ∙ sym (ap (λ (t : Served). t.from) (ap (λ ms. driver_serves ms from to) a.first ∙ e))
 
 pub returns-clause-to : goal.returns-clause-to
 returns-clause-to g c =
@@ -70,7 +70,7 @@ returns-clause-to g c =
     let e = serves-moved a.message rest from to (sym c.is_open.ensures ∙ c.if-not-is_open.false) goes in
     ap (λ q. record { opened = h.opened; head = record { queue = queue_in new c.advance.new.to; hung_up = h.hung_up }; driver = record { queue = q } }) (queue-same s new h.driver (a.keeps.others h.driver.list c.requires.driver_across c.requires.driver_beside))
     ∙ ap (λ q. with_head_queue q to) a.put
-    ∙ sym (ap (λ (t : Served ℕ). t.to) (ap (λ ms. driver_serves ms from to) a.first ∙ e))
+    ∙ sym (ap (λ (t : Served). t.to) (ap (λ ms. driver_serves ms from to) a.first ∙ e))
 
 pub is_stopped-requires-clause-band : goal.is_stopped-requires-clause-band
 is_stopped-requires-clause-band g c =

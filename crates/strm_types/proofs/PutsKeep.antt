@@ -1,0 +1,83 @@
+-- A put in a pair loses no cell, and leaves a side that isn't open nothing to be read.
+use Rattle.std.proofs.Common.{ℕ, suc, ◌≡◌, ◌+◌, Bool, true, false, cond, List, [], ◌∷◌, refl, arith}
+use Rattle.std.specs.Prelude.{◌==◌, ◌&&◌}
+use Rattle.strm_types.specs.declared.limits.TheConstants.{MODULES}
+use Rattle.strm_types.specs.declared.names.Openness.{Openness}
+use Rattle.strm_types.specs.declared.names.Side.{Side}
+use Rattle.strm_types.specs.declared.names.Side.TheVariants.{Master, Slave}
+use Rattle.strm_types.specs.declared.names.Way.{Way}
+use Rattle.strm_types.specs.declared.names.Way.TheVariants.{Up, Down}
+use Rattle.strm_types.specs.declared.spots.Spot.{Spot}
+use Rattle.strm_types.specs.Deliver.{Took}
+use Rattle.strm_types.specs.Flushing.{is_flush}
+use Rattle.strm_types.specs.Heads.{head_put}
+use Rattle.strm_types.specs.Kept.{NothingUnread, state_weight}
+use Rattle.strm_types.specs.Message.{Message, weight_of}
+use Rattle.strm_types.specs.Names.{is_open}
+use Rattle.strm_types.specs.Places.{PutKeeps, weight_sent, weight_gone}
+use Rattle.strm_types.specs.Puts.{SameEnds, across_of, passed_up, put_at_driver, put_at_head, put_below, put_in}
+use Rattle.strm_types.specs.Queue.{Queue}
+use Rattle.strm_types.specs.State.{Head, State, stream}
+use Rattle.strm_types.proofs.DeliveryHolds.{PutHolds}
+use Rattle.strm_types.proofs.PutWeights.{driver_put-keeps, head_put-keeps}
+use Rattle.strm_types.proofs.Weights.{weight-whole}
+
+module _ {C : Type 0} (p : C → Bool) where
+  abbrev total : Took C (State C) → ℕ
+  total t = state_weight p t.state + (weight_sent p t.sent + weight_gone p t.gone)
+
+  either-keeps : (n : ℕ) (b : Bool) (one another : Took C (State C)) → (b ≡ true → total one ≡ n) → (b ≡ false → total another ≡ n) → total (cond b one another) ≡ n
+  either-keeps n true one another first second = first refl
+  either-keeps n false one another first second = second refl
+
+  head-keeps : (side : Side) (here : Spot) (m : Message C) (s : State C) → total (put_at_head side here m s) ≡ state_weight p s + weight_of p m
+  head-keeps Master here m s = either-keeps _ (is_open s.master.opened) _ _ (λ _. omega (arith, head_put-keeps p here m s.master.head)) (λ _. omega (arith, weight-whole p m))
+  head-keeps Slave here m s = either-keeps _ (is_open s.slave.opened) _ _ (λ _. omega (arith, head_put-keeps p here m s.slave.head)) (λ _. omega (arith, weight-whole p m))
+
+  driver-keeps : (side : Side) (here : Spot) (m : Message C) (s : State C) → total (put_at_driver side here m s) ≡ state_weight p s + weight_of p m
+  driver-keeps Master here m s = omega (arith, driver_put-keeps p Master (across_of Master s) (record here { at = 1 }) m s.master.driver.queue)
+  driver-keeps Slave here m s = omega (arith, driver_put-keeps p Slave (across_of Slave s) (record here { at = 1 }) m s.slave.driver.queue)
+
+  below-keeps : (way : Way) (here : Spot) (m : Message C) (s : State C) → total (put_below way here m s) ≡ state_weight p s + weight_of p m
+  below-keeps Down here m s = driver-keeps here.side here m s
+  below-keeps Up here m s = either-keeps _ (is_flush m.kind && here.at == suc MODULES) _ _ (λ _. driver-keeps here.side here m s) (λ _. omega arith)
+
+  pub puts-keep : PutKeeps p (state_weight p) put_in
+  puts-keep to m s = either-keeps _ (to.at == 0) _ _ (λ _. head-keeps to.side to m s) (λ _. below-keeps to.way to m s)
+
+module _ {C : Type 0} where
+  either-holds : (Holds : State C → Type 0) (b : Bool) (one another : Took C (State C)) → (b ≡ true → Holds one.state) → Holds another.state → Holds (cond b one another).state
+  either-holds Holds true one another first second = first refl
+  either-holds Holds false one another first second = second
+
+  head-unread : (side : Side) (here : Spot) (m : Message C) (s : State C) → NothingUnread s → NothingUnread (put_at_head side here m s).state
+  head-unread Master here m s unread = either-holds NothingUnread (is_open s.master.opened) _ _ (λ opened. record { master = λ closed. absurd (cc); slave = unread.slave }) unread
+  head-unread Slave here m s unread = either-holds NothingUnread (is_open s.slave.opened) _ _ (λ opened. record { master = unread.master; slave = λ closed. absurd (cc) }) unread
+
+  driver-unread : (side : Side) (here : Spot) (m : Message C) (s : State C) → NothingUnread s → NothingUnread (put_at_driver side here m s).state
+  driver-unread Master here m s unread = record { master = unread.master; slave = unread.slave }
+  driver-unread Slave here m s unread = record { master = unread.master; slave = unread.slave }
+
+  below-unread : (way : Way) (here : Spot) (m : Message C) (s : State C) → NothingUnread s → NothingUnread (put_below way here m s).state
+  below-unread Down here m s unread = driver-unread here.side here m s unread
+  below-unread Up here m s unread = either-holds NothingUnread (is_flush m.kind && here.at == suc MODULES) _ _ (λ _. driver-unread here.side here m s unread) unread
+
+  pub puts-unread : PutHolds {C = C} NothingUnread put_in
+  puts-unread to m s unread = either-holds NothingUnread (to.at == 0) _ _ (λ _. head-unread to.side to m s unread) (below-unread to.way to m s unread)
+
+  -- no put changes which sides are open, the lock, the next ioctl's number or a book
+  module _ (s : State C) where
+    head-same : (side : Side) (here : Spot) (m : Message C) (t : State C) → SameEnds s t → SameEnds s (put_at_head side here m t).state
+    head-same Master here m t same = either-holds (SameEnds s) (is_open t.master.opened) _ _ (λ _. record { master = same.master; slave = same.slave; locked = same.locked; next_ioctl = same.next_ioctl; from_master = same.from_master; from_slave = same.from_slave }) same
+    head-same Slave here m t same = either-holds (SameEnds s) (is_open t.slave.opened) _ _ (λ _. record { master = same.master; slave = same.slave; locked = same.locked; next_ioctl = same.next_ioctl; from_master = same.from_master; from_slave = same.from_slave }) same
+
+    driver-same : (side : Side) (here : Spot) (m : Message C) (t : State C) → SameEnds s t → SameEnds s (put_at_driver side here m t).state
+    driver-same Master here m t same = record { master = same.master; slave = same.slave; locked = same.locked; next_ioctl = same.next_ioctl; from_master = same.from_master; from_slave = same.from_slave }
+    driver-same Slave here m t same = record { master = same.master; slave = same.slave; locked = same.locked; next_ioctl = same.next_ioctl; from_master = same.from_master; from_slave = same.from_slave }
+
+    below-same : (way : Way) (here : Spot) (m : Message C) (t : State C) → SameEnds s t → SameEnds s (put_below way here m t).state
+    below-same Down here m t same = driver-same here.side here m t same
+    below-same Up here m t same = either-holds (SameEnds s) (is_flush m.kind && here.at == suc MODULES) _ _ (λ _. driver-same here.side here m t same) same
+
+    pub puts-same : PutHolds (SameEnds s) put_in
+    puts-same to m t same = either-holds (SameEnds s) (to.at == 0) _ _ (λ _. head-same to.side to m t same) (below-same to.way to m t same)

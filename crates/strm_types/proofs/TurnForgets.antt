@@ -1,0 +1,130 @@
+-- Forgetting the origins of cells commutes with turns of the drivers.
+use Rattle.std.proofs.Common.{ℕ, ◌≡◌, Bool, true, false, cond, List, [], ◌∷◌, refl, sym, ap, ◌∙◌}
+use Rattle.std.specs.Prelude.{◌==◌, ◌&&◌, ◌||◌, not}
+use Rattle.strm_types.specs.declared.answers.Turn.TheVariants.{Moved, Blocked, Idle}
+use Rattle.strm_types.specs.declared.kinds.MsgKind.{MsgKind}
+use Rattle.strm_types.specs.declared.names.Side.{Side}
+use Rattle.strm_types.specs.declared.names.Side.TheVariants.{Master, Slave}
+use Rattle.strm_types.specs.Deliver.{Carried}
+use Rattle.strm_types.specs.Message.{Message, size_of, band_of, is_held, map_message}
+use Rattle.strm_types.specs.Names.{before, driver_of, enable_if, enable_some, is_open, other}
+use Rattle.strm_types.specs.Origins.{map_carried}
+use Rattle.strm_types.specs.Puts.{delivered}
+use Rattle.strm_types.specs.Queue.{Queue, Flow, is_full, is_none_left, left_with, relieved, relieves, with_writer_at, map_messages, map_queue}
+use Rattle.strm_types.specs.State.{State, stream, with_stream, with_head_queue, map_stream, map_state}
+use Rattle.strm_types.specs.Turns.{TurnOutcome, blocked_at_head, driver_serves, driver_turned, held_back, is_stopped, map_turn_outcome, moved_across, stayed_put, turn_ended, turned_queue, up_across, with_driver}
+use Rattle.strm_types.proofs.EmptiedForgets.{stream-forgets}
+use Rattle.strm_types.proofs.Forgetting.{band-forgets, full-forgets, kind-forgets, none-forgets, relieved-forgets, relieves_from-forgets, size-forgets}
+use Rattle.strm_types.proofs.PutsForget.{delivered-forgets}
+
+-- the end of a turn: the queue behind it, whether more stands there, and whether a writer is let go
+abbrev ended_made : {E : Type 0} → Side → Queue E → Bool → Bool → State E → State E
+ended_made side q more goes s = record (with_driver side q s) {
+  enabled = enable_if more (driver_of side) (enable_some goes (before (driver_of side)) s.enabled);
+}
+
+-- a turn that moved a message of this size
+abbrev moved_made : {E : Type 0} → Side → ℕ → Carried E (State E) → TurnOutcome E
+moved_made side size t = record { turn = Moved size; state = turn_ended side size t.state; gone = t.gone }
+
+-- a turn by whether the other side is open, and whether flow control stops the message
+abbrev served : {E : Type 0} → Bool → Bool → TurnOutcome E → TurnOutcome E → TurnOutcome E → TurnOutcome E
+served opened stopped shut waits moves = cond (not opened) shut (cond stopped waits moves)
+
+module _ {C D : Type 0} (f : C → D) where
+  stopped-forgets : (m : Message C) (q : Queue C) → is_stopped (map_message f m) (map_queue f q) ≡ is_stopped m q
+  stopped-forgets m q =
+      ap (λ (kind : MsgKind). is_held kind && is_full (band_of (map_message f m)) (map_queue f q)) (kind-forgets f m)
+      ∙ ap (λ (band : ℕ). is_held m.kind && is_full band (map_queue f q)) (band-forgets f m)
+      ∙ ap (λ (full : Bool). is_held m.kind && full) (full-forgets f (band_of m) q)
+
+  with_driver-forgets : (side : Side) (q : Queue C) (s : State C) → with_driver side (map_queue f q) (map_state f s) ≡ map_state f (with_driver side q s)
+  with_driver-forgets Master q s = refl
+  with_driver-forgets Slave q s = refl
+
+  ended_made-forgets : (side : Side) (q : Queue C) (more goes : Bool) (s : State C) → ended_made side (map_queue f q) more goes (map_state f s) ≡ map_state f (ended_made side q more goes s)
+  ended_made-forgets Master q more goes s = refl
+  ended_made-forgets Slave q more goes s = refl
+
+  turned_queue-forgets : (q : Queue C) → turned_queue (map_queue f q) ≡ map_queue f (turned_queue q)
+  turned_queue-forgets q = ap (λ (none : Bool). record (map_queue f q) { want_read = q.want_read || none }) (none-forgets f (map_message f) q.messages)
+
+  left-forgets : (went : Bool) (q : Queue C) → cond went (relieved (map_queue f q)) (map_queue f q) ≡ map_queue f (cond went (relieved q) q)
+  left-forgets true q = sym (relieved-forgets f q)
+  left-forgets false q = refl
+
+  turn_ended-forgets : (side : Side) (size : ℕ) (s : State C) → turn_ended side size (map_state f s) ≡ map_state f (turn_ended side size s)
+  turn_ended-forgets side size s = over side
+    where
+      from : (side : Side) (went : Bool) (q : Queue C) → let r = turned_queue (map_queue f q) in
+          ended_made side (cond went (relieved r) r) (not (is_none_left r.messages)) (went && relieves r) (map_state f s)
+          ≡ (let r = turned_queue q in map_state f (ended_made side (cond went (relieved r) r) (not (is_none_left r.messages)) (went && relieves r) s))
+      from side went q =
+          let r = turned_queue q in
+          ap (λ (x : Queue D). ended_made side (cond went (relieved x) x) (not (is_none_left x.messages)) (went && relieves x) (map_state f s)) (turned_queue-forgets q)
+          ∙ ap (λ (x : Queue D). ended_made side x (not (is_none_left (map_messages f r.messages))) (went && relieves (map_queue f r)) (map_state f s)) (left-forgets went r)
+          ∙ ap (λ (none : Bool). ended_made side (map_queue f (cond went (relieved r) r)) (not none) (went && relieves (map_queue f r)) (map_state f s)) (none-forgets f (map_message f) r.messages)
+          ∙ ap (λ (goes : Bool). ended_made side (map_queue f (cond went (relieved r) r)) (not (is_none_left r.messages)) (went && goes) (map_state f s)) (relieves_from-forgets f 0 r.messages r.flows)
+          ∙ ended_made-forgets side (cond went (relieved r) r) (not (is_none_left r.messages)) (went && relieves r) s
+
+      over : (side : Side) → turn_ended side size (map_state f s) ≡ map_state f (turn_ended side size s)
+      over Master = from Master (not (size == 0)) s.master.driver.queue
+      over Slave = from Slave (not (size == 0)) s.slave.driver.queue
+
+  moved_made-forgets : (side : Side) (size : ℕ) (t : Carried C (State C)) → moved_made side size (map_carried f (map_state f) t) ≡ map_turn_outcome f (moved_made side size t)
+  moved_made-forgets side size t = ap (λ (s : State D). record { turn = Moved size; state = s; gone = (map_carried f (map_state f) t).gone }) (turn_ended-forgets side size t.state)
+
+  taken-forgets : (side : Side) (rest : List (Message C)) (s : State C) → with_driver side (left_with (map_messages f rest) (stream side (map_state f s)).driver.queue) (map_state f s) ≡ map_state f (with_driver side (left_with rest (stream side s).driver.queue) s)
+  taken-forgets Master rest s = refl
+  taken-forgets Slave rest s = refl
+
+  moved-forgets : (side : Side) (m : Message C) (rest : List (Message C)) (s : State C) → moved_across side (map_message f m) (map_messages f rest) (map_state f s) ≡ map_turn_outcome f (moved_across side m rest s)
+  moved-forgets side m rest s =
+      let from = with_driver side (left_with rest (stream side s).driver.queue) s in
+      ap (λ (x : State D). moved_made side (size_of (map_message f m)) (delivered (up_across side) (map_message f m) x)) (taken-forgets side rest s)
+      ∙ ap (λ (size : ℕ). moved_made side size (delivered (up_across side) (map_message f m) (map_state f from))) (size-forgets f m)
+      ∙ ap (λ (t : Carried D (State D)). moved_made side (size_of m) t) (delivered-forgets f (up_across side) m from)
+      ∙ moved_made-forgets side (size_of m) (delivered (up_across side) m from)
+
+  held-forgets : (side : Side) (s : State C) → with_driver side (held_back (stream side (map_state f s)).driver.queue) (map_state f s) ≡ map_state f (with_driver side (held_back (stream side s).driver.queue) s)
+  held-forgets Master s = refl
+  held-forgets Slave s = refl
+
+  blocked-forgets : (side : Side) (m : Message C) (s : State C) → blocked_at_head side (map_message f m) (map_state f s) ≡ map_state f (blocked_at_head side m s)
+  blocked-forgets Master m s = ap (λ (band : ℕ). with_stream Slave (with_head_queue (record (map_queue f s.slave.head.queue) { flows = with_writer_at band s.slave.head.queue.flows }) (map_stream f s.slave)) (map_state f s)) (band-forgets f m)
+  blocked-forgets Slave m s = ap (λ (band : ℕ). with_stream Master (with_head_queue (record (map_queue f s.master.head.queue) { flows = with_writer_at band s.master.head.queue.flows }) (map_stream f s.master)) (map_state f s)) (band-forgets f m)
+
+  served-forgets : (opened stopped : Bool) (shut waits moves : TurnOutcome C) (shut' waits' moves' : TurnOutcome D) → shut' ≡ map_turn_outcome f shut → waits' ≡ map_turn_outcome f waits → moves' ≡ map_turn_outcome f moves
+      → served opened stopped shut' waits' moves' ≡ map_turn_outcome f (served opened stopped shut waits moves)
+  served-forgets false stopped shut waits moves shut' waits' moves' one two three = one
+  served-forgets true true shut waits moves shut' waits' moves' one two three = two
+  served-forgets true false shut waits moves shut' waits' moves' one two three = three
+
+  serves-some : (side : Side) (m : Message C) (rest : List (Message C)) (s : State C) → driver_serves side (map_message f m ∷ map_messages f rest) (map_state f s) ≡ map_turn_outcome f (driver_serves side (m ∷ rest) s)
+  serves-some side m rest s =
+      let above = stream (other side) s in
+      let held = held_back (stream side (map_state f s)).driver.queue in
+      let waits = with_driver side held (map_state f s) in
+      let kept = with_driver side (held_back (stream side s).driver.queue) s in
+      let moves = moved_across side (map_message f m) (map_messages f rest) (map_state f s) in
+      let shut = stayed_put Blocked waits in
+      let blocked = stayed_put Blocked (blocked_at_head side (map_message f m) waits) in
+      ap (λ t. served (is_open t.opened) (is_stopped (map_message f m) t.head.queue) shut blocked moves) (stream-forgets f (other side) s)
+      ∙ ap (λ (stopped : Bool). served (is_open above.opened) stopped shut blocked moves) (stopped-forgets m above.head.queue)
+      ∙ served-forgets (is_open above.opened) (is_stopped m above.head.queue) (stayed_put Blocked kept) (stayed_put Blocked (blocked_at_head side m kept)) (moved_across side m rest s) shut blocked moves
+      (ap (λ (x : State D). stayed_put Blocked x) (held-forgets side s))
+      (ap (λ (x : State D). stayed_put Blocked (blocked_at_head side (map_message f m) x)) (held-forgets side s) ∙ ap (λ (x : State D). stayed_put Blocked x) (blocked-forgets side m kept))
+      (moved-forgets side m rest s)
+
+  pub driver_turned-forgets : (side : Side) (s : State C) → driver_turned side (map_state f s) ≡ map_turn_outcome f (driver_turned side s)
+  driver_turned-forgets side s = over side
+    where
+      from : (side : Side) (ms : List (Message C)) → driver_serves side (map_messages f ms) (map_state f s) ≡ map_turn_outcome f (driver_serves side ms s)
+      from Master [] = refl
+      from Slave [] = refl
+      from Master (m ∷ rest) = serves-some Master m rest s
+      from Slave (m ∷ rest) = serves-some Slave m rest s
+
+      over : (side : Side) → driver_turned side (map_state f s) ≡ map_turn_outcome f (driver_turned side s)
+      over Master = from Master s.master.driver.queue.messages
+      over Slave = from Slave s.slave.driver.queue.messages

@@ -1,0 +1,107 @@
+-- A turn loses no cell, and leaves a side that isn't open nothing to be read.
+use Rattle.std.proofs.Common.{ℕ, ◌≡◌, ◌+◌, Bool, true, false, cond, List, [], ◌∷◌, refl, sym, ap, ◌∙◌, arith}
+use Rattle.std.specs.Prelude.{◌==◌, ◌||◌, not}
+use Rattle.strm_types.specs.declared.answers.Turn.{Turn}
+use Rattle.strm_types.specs.declared.names.Side.{Side}
+use Rattle.strm_types.specs.declared.names.Side.TheVariants.{Master, Slave}
+use Rattle.strm_types.specs.declared.names.Place.{Place}
+use Rattle.strm_types.specs.declared.names.Place.TheVariants.{Head, Ldterm, Driver}
+use Rattle.strm_types.specs.declared.names.QueueName.{QueueName}
+use Rattle.strm_types.specs.Cells.{Cells}
+use Rattle.strm_types.specs.Kept.{NothingUnread, state_weight}
+use Rattle.strm_types.specs.Message.{Message, size_of}
+use Rattle.strm_types.specs.Names.{is_open, other, without}
+use Rattle.strm_types.specs.Places.{weight_gone}
+use Rattle.strm_types.specs.Puts.{delivered}
+use Rattle.strm_types.specs.Queue.{Queue, left_with, relieved, weight}
+use Rattle.strm_types.specs.State.{State, stream}
+use Rattle.strm_types.specs.Turns.{TurnOutcome, blocked_at_head, driver_serves, driver_turned, held_back, is_stopped, moved_across, turned, turned_at, turned_queue, turn_ended, up_across, with_driver}
+use Rattle.strm_types.proofs.Deliveries.{delivered-keeps, delivered-unread}
+use Rattle.strm_types.proofs.Weights.{weight-take}
+
+module _ {C : Type 0} where
+  -- the end of a turn leaves all messages on its queue
+  left-there : (went : Bool) (q : Queue C) → (cond went (relieved q) q).messages ≡ q.messages
+  left-there true q = refl
+  left-there false q = refl
+
+  with-unread : (side : Side) (q : Queue C) (s : State C) → NothingUnread s → NothingUnread (with_driver side q s)
+  with-unread Master q s unread = record { master = unread.master; slave = unread.slave }
+  with-unread Slave q s unread = record { master = unread.master; slave = unread.slave }
+
+  ended-unread : (side : Side) (size : ℕ) (s : State C) → NothingUnread s → NothingUnread (turn_ended side size s)
+  ended-unread Master size s unread = record { master = unread.master; slave = unread.slave }
+  ended-unread Slave size s unread = record { master = unread.master; slave = unread.slave }
+
+  moved-unread : (side : Side) (m : Message C) (rest : List (Message C)) (s : State C) → NothingUnread s → NothingUnread (moved_across side m rest s).state
+  moved-unread side m rest s unread =
+      let from = with_driver side (left_with rest (stream side s).driver.queue) s in
+      ended-unread side (size_of m) (delivered (up_across side) m from).state (delivered-unread (up_across side) m from (with-unread side (left_with rest (stream side s).driver.queue) s unread))
+
+  blocked-unread : (side : Side) (m : Message C) (s : State C) → NothingUnread s → NothingUnread (blocked_at_head side m s)
+  blocked-unread Master m s unread = record { master = unread.master; slave = unread.slave }
+  blocked-unread Slave m s unread = record { master = unread.master; slave = unread.slave }
+
+  any-holds : (Holds : TurnOutcome C → Type 0) (opened stopped : Bool) (shut waits moves : TurnOutcome C) → Holds shut → Holds waits → Holds moves → Holds (cond (not opened) shut (cond stopped waits moves))
+  any-holds Holds false stopped shut waits moves one two three = one
+  any-holds Holds true true shut waits moves one two three = two
+  any-holds Holds true false shut waits moves one two three = three
+
+  serves-unread : (side : Side) (ms : List (Message C)) (s : State C) → NothingUnread s → NothingUnread (driver_serves side ms s).state
+  serves-unread side [] s unread = with-unread side (record (stream side s).driver.queue { want_read = true }) s unread
+  serves-unread side (m ∷ rest) s unread =
+      let waits = with-unread side (held_back (stream side s).driver.queue) s unread in
+      any-holds (λ t. NothingUnread t.state) (is_open (stream (other side) s).opened) (is_stopped m (stream (other side) s).head.queue) _ _ _
+      waits (blocked-unread side m (with_driver side (held_back (stream side s).driver.queue) s) waits) (moved-unread side m rest s unread)
+
+  pub turn-unread : (cells : Cells C) (name : QueueName) (turn : Turn) (s : State C) → NothingUnread s → NothingUnread (turned cells name turn s).state
+  turn-unread cells name turn s unread = at name.place (record s { enabled = without name s.enabled }) (record { master = unread.master; slave = unread.slave })
+    where
+      at : (place : Place) (s : State C) → NothingUnread s → NothingUnread (turned_at cells place name.side turn s).state
+      at Driver s unread = serves-unread name.side (stream name.side s).driver.queue.messages s unread
+      at Head s unread = unread
+      at Ldterm s unread = unread
+
+module _ {C : Type 0} (p : C → Bool) where
+  abbrev total : TurnOutcome C → ℕ
+  total t = state_weight p t.state + weight_gone p t.gone
+
+  same-weight : (xs ys : List (Message C)) → xs ≡ ys → weight p xs ≡ weight p ys
+  same-weight xs ys is = ap (λ (q : List (Message C)). weight p q) is
+
+  ended-keeps : (side : Side) (size : ℕ) (s : State C) → state_weight p (turn_ended side size s) ≡ state_weight p s
+  ended-keeps Master size s = omega (arith, same-weight _ _ (left-there (not (size == 0)) (turned_queue s.master.driver.queue)))
+  ended-keeps Slave size s = omega (arith, same-weight _ _ (left-there (not (size == 0)) (turned_queue s.slave.driver.queue)))
+
+  taken-keeps : (side : Side) (m : Message C) (rest : List (Message C)) (s : State C) → (stream side s).driver.queue.messages ≡ m ∷ rest → state_weight p (with_driver side (left_with rest (stream side s).driver.queue) s) + weight p (m ∷ []) ≡ state_weight p s
+  taken-keeps Master m rest s is = omega (arith, same-weight _ _ is, weight-take p m rest, weight-take p m [])
+  taken-keeps Slave m rest s is = omega (arith, same-weight _ _ is, weight-take p m rest, weight-take p m [])
+
+  moved-keeps : (side : Side) (m : Message C) (rest : List (Message C)) (s : State C) → (stream side s).driver.queue.messages ≡ m ∷ rest → total (moved_across side m rest s) ≡ state_weight p s
+  moved-keeps side m rest s is =
+      let from = with_driver side (left_with rest (stream side s).driver.queue) s in
+      omega (arith, ended-keeps side (size_of m) (delivered (up_across side) m from).state, delivered-keeps p (up_across side) m from (omega arith), taken-keeps side m rest s is, weight-take p m [])
+
+  blocked-keeps : (side : Side) (m : Message C) (s : State C) → state_weight p (blocked_at_head side m s) ≡ state_weight p s
+  blocked-keeps Master m s = refl
+  blocked-keeps Slave m s = refl
+
+  waits-keeps : (side : Side) (s : State C) (want : Bool) → state_weight p (with_driver side (record (stream side s).driver.queue { want_read = want }) s) ≡ state_weight p s
+  waits-keeps Master s want = refl
+  waits-keeps Slave s want = refl
+
+  serves-keeps : (side : Side) (ms : List (Message C)) (s : State C) → (stream side s).driver.queue.messages ≡ ms → total (driver_serves side ms s) ≡ state_weight p s
+  serves-keeps side [] s is = omega (arith, waits-keeps side s true)
+  serves-keeps side (m ∷ rest) s is =
+      any-holds (λ t. total t ≡ state_weight p s) (is_open (stream (other side) s).opened) (is_stopped m (stream (other side) s).head.queue) _ _ _
+      (omega (arith, waits-keeps side s false))
+      (omega (arith, waits-keeps side s false, blocked-keeps side m (with_driver side (held_back (stream side s).driver.queue) s)))
+      (moved-keeps side m rest s is)
+
+  pub turn-keeps : (cells : Cells C) (name : QueueName) (turn : Turn) (s : State C) → total (turned cells name turn s) ≡ state_weight p s
+  turn-keeps cells name turn s = at name.place (record s { enabled = without name s.enabled })
+    where
+      at : (place : Place) (s : State C) → total (turned_at cells place name.side turn s) ≡ state_weight p s
+      at Driver s = serves-keeps name.side (stream name.side s).driver.queue.messages s refl
+      at Head s = omega arith
+      at Ldterm s = omega arith

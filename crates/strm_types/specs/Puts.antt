@@ -1,0 +1,103 @@
+-- What a message does that is put at a spot of a pair, and with all that it gives rise to (STREAMS Programming Guide, "Put
+-- Procedures"): at a head, at a driver, or at a place where nothing stands.
+use Rattle.std.specs.Prelude.{ℕ, suc, ◌≡◌, ◌+◌, ◌-◌, Bool, true, false, ◌&&◌, ◌==◌, if◌then◌else◌, List, [], ◌∷◌, Option}
+use Rattle.strm_types.specs.declared.events.FlushQueues.{FlushQueues}
+use Rattle.strm_types.specs.declared.kinds.Band.{Band}
+use Rattle.strm_types.specs.declared.limits.TheConstants.{MODULES, HOPS}
+use Rattle.strm_types.specs.declared.names.Side.{Side}
+use Rattle.strm_types.specs.declared.names.Place.{Place}
+use Rattle.strm_types.specs.declared.names.Place.TheVariants as places
+use Rattle.strm_types.specs.declared.names.QueueName.{QueueName}
+use Rattle.strm_types.specs.declared.names.Way.{Way}
+use Rattle.strm_types.specs.declared.names.Way.TheVariants.{Up, Down}
+use Rattle.strm_types.specs.declared.rules.Rule.TheVariants.{EndClosed}
+use Rattle.strm_types.specs.declared.spots.Across.{Across}
+use Rattle.strm_types.specs.declared.spots.Note.{Note}
+use Rattle.strm_types.specs.declared.spots.Note.TheVariants.{Enable, Room}
+use Rattle.strm_types.specs.declared.spots.Spot.{Spot}
+use Rattle.strm_types.specs.Deliver.{Acted, Carried, Parcel, Took, carried}
+use Rattle.strm_types.specs.Drivers.{driver_put}
+use Rattle.strm_types.specs.Flushing.{is_flush, asked_by, asked_of, flush_bytes, flush_message}
+use Rattle.strm_types.specs.Heads.{head_put}
+use Rattle.strm_types.specs.Message.{Message, cells_of}
+use Rattle.strm_types.specs.Names.{other, is_open, is_closed, direction_at, before, enable, enable_found}
+use Rattle.strm_types.specs.State.{State, stream, with_stream, with_driver_queue}
+
+-- the enabled queues behind what a put says of the queues of a place, one after the other
+abbrev pub noted : Side → Place → List Note → List QueueName → List QueueName
+noted side place [] names = names
+noted side place (Enable way ∷ notes) names = noted side place notes (enable (record { side = side; place = place; way = way }) names)
+noted side place (Room way ∷ notes) names = noted side place notes (enable_found (before (record { side = side; place = place; way = way })) names)
+
+-- whether what comes up may go down again: an M_FLUSH with FLUSHW
+abbrev pub is_turned : {C : Type 0} → Message C → Bool
+is_turned m = is_flush m.kind && (asked_by m.plain).for_write
+
+-- On the way up the places to the head count, and what may be turned round has the way down before it too. On the way down
+-- the places to the driver count, which may then send something across, or up again.
+abbrev pub far_at : Way → Bool → ℕ → ℕ
+far_at Up true at = at + 11
+far_at Up false at = at + 1
+far_at Down turnable at = 6 + (4 - at)
+
+-- how far a message that is put at a spot still has to go at most, with all that it gives rise to
+abbrev pub far : {C : Type 0} → Spot → Message C → ℕ
+far here m = far_at here.way (is_turned m) here.at
+
+module _ {C : Type 0} where
+  -- what the driver of a side is told of the other one: no module stands on a stream yet
+  abbrev pub across_of : Side → State C → Across
+  across_of side s = record { is_open = is_open (stream (other side) s).opened; bottom = 0; ended = is_closed s.master.opened }
+
+  -- a message that comes to the head of a side's stream; where that isn't open nobody reads, and its bytes go
+  abbrev pub put_at_head : Side → Spot → Message C → State C → Took C (State C)
+  put_at_head side here m s =
+      let above = stream side s in
+      let t = head_put here m above.head in
+      if is_open above.opened then record {
+        state = record (with_stream side (record above { head = t.state }) s) { enabled = noted side places.Head t.notes s.enabled };
+        sent = t.sent;
+        gone = t.gone;
+      }
+      else record { state = s; sent = []; gone = record { direction = direction_at Up side; rule = EndClosed; cells = cells_of m } ∷ [] }
+
+  -- a message that comes to the driver of a side's stream, which is the first place below the head
+  abbrev pub put_at_driver : Side → Spot → Message C → State C → Took C (State C)
+  put_at_driver side here m s =
+      let below = stream side s in
+      let t = driver_put side (across_of side s) (record here { at = 1 }) m below.driver.queue in
+      record {
+        state = record (with_stream side (with_driver_queue t.state below) s) { enabled = noted side places.Driver t.notes s.enabled };
+        sent = t.sent;
+        gone = t.gone;
+      }
+
+  -- a place where nothing stands: what comes up goes on to the head
+  abbrev pub passed_up : Spot → Message C → State C → Took C (State C)
+  passed_up here m s = record { state = s; sent = record { to = record here { at = 0 }; message = m } ∷ []; gone = [] }
+
+  -- on the way up, behind the head: the driver's place takes what was sent across
+  abbrev pub put_below : Way → Spot → Message C → State C → Took C (State C)
+  put_below Down here m s = put_at_driver here.side here m s
+  put_below Up here m s = if is_flush m.kind && here.at == suc MODULES then put_at_driver here.side here m s else passed_up here m s
+
+  -- a message that is put at a spot
+  abbrev pub put_in : Spot → Message C → State C → Took C (State C)
+  put_in here m s = if here.at == 0 then put_at_head here.side here m s else put_below here.way here m s
+
+  -- a message that is put at a spot, with all that it gives rise to
+  abbrev pub delivered : Spot → Message C → State C → Carried C (State C)
+  delivered to m s = carried put_in HOPS (record { to = to; message = m }) s
+
+  -- a flush of a side's stream: an M_FLUSH goes down from its head
+  abbrev pub flushed_on : Option Band → Side → FlushQueues → State C → Carried C (State C)
+  flushed_on band side what s = delivered (record { side = side; at = 1; way = Down }) (flush_message (flush_bytes (asked_of what band))) s
+
+-- two states with the same ends: which sides are open, the lock, the number of the next ioctl, and the books
+pub record SameEnds {C : Type 0} (s t : State C) : Type 0 where
+  pub master : t.master.opened ≡ s.master.opened
+  pub slave : t.slave.opened ≡ s.slave.opened
+  pub locked : t.locked ≡ s.locked
+  pub next_ioctl : t.next_ioctl ≡ s.next_ioctl
+  pub from_master : t.from_master ≡ s.from_master
+  pub from_slave : t.from_slave ≡ s.from_slave
