@@ -11,6 +11,7 @@ use Rattle.strm_types.specs.declared.events.Caller.{Caller}
 use Rattle.strm_types.specs.declared.events.Event.TheVariants.{OpenMaster, Unlock, OpenSlave, Shut, Push, Pop, Look, Flush, Write, Read}
 use Rattle.strm_types.specs.declared.events.FlushQueues.TheVariants as flushes
 use Rattle.strm_types.specs.declared.kinds.Band.{Band}
+use Rattle.strm_types.specs.declared.names.Dir.{Dir}
 use Rattle.strm_types.specs.declared.names.Dir.TheVariants.{MasterToSlave, SlaveToMaster}
 use Rattle.strm_types.specs.declared.names.ModuleName.TheVariants.{Ldterm, Ptem, Pckt}
 use Rattle.strm_types.specs.declared.names.Openness.{Openness}
@@ -18,7 +19,7 @@ use Rattle.strm_types.specs.declared.names.Openness.TheVariants.{Never, Open, Cl
 use Rattle.strm_types.specs.declared.names.Side.{Side}
 use Rattle.strm_types.specs.declared.names.Side.TheVariants.{Master, Slave}
 use Rattle.strm_types.specs.declared.refusals.Refusal.{Refusal}
-use Rattle.strm_types.specs.declared.refusals.Refusal.TheVariants.{Einval, Eagain, Enxio, Enosr, Erange, JournalFull}
+use Rattle.strm_types.specs.declared.refusals.Refusal.TheVariants.{Einval, Eagain, Ebadmsg, Enxio, Enosr, Erange, JournalFull}
 use Rattle.strm_types.specs.declared.rules.Rule.TheVariants as rules
 use Rattle.strm_types.specs.Books.{has_room}
 use Rattle.strm_types.specs.Calls.{Request, map_event, map_answer}
@@ -26,11 +27,14 @@ use Rattle.strm_types.specs.Cells.{plain}
 use Rattle.strm_types.specs.Flush.{is_data_kind}
 use Rattle.strm_types.specs.Journal.{content_max, entries_in}
 use Rattle.strm_types.specs.Kept.{came, gone}
+use Rattle.strm_types.specs.Deliver.{Fate, carried}
+use Rattle.strm_types.specs.declared.modes.ControlMode.TheVariants.{Discard}
+use Rattle.strm_types.specs.declared.modes.ReadMode.TheVariants.{MessageDiscard}
 use Rattle.strm_types.specs.Message.{Message, cells_of, size_of, is_held, is_high_priority, rank_of, band_of}
 use Rattle.strm_types.specs.Names.{driver_of, is_closed}
 use Rattle.strm_types.specs.Refused.{blocks_asked, blocks_taken, is_known, is_a_band, has_no_data, at_end, in_range, refused, turn_refused}
 use Rattle.strm_types.specs.State.{State, Stream}
-use Rattle.strm_types.proofs.Samples.{flow, queue, ordinary, proto, urgent, options}
+use Rattle.strm_types.proofs.Samples.{head_with, flow, queue, ordinary, proto, urgent, options}
 
 abbrev caller : Side → Caller
 caller side = record { side = side }
@@ -85,7 +89,7 @@ books-are-full-from-the-limit-on = refl
 -- states
 
 abbrev end : Openness → Bool → List (Message ℕ) → List (Message ℕ) → Stream ℕ
-end opened hung_up head driver = record { opened = opened; head = record { queue = queue head []; hung_up = hung_up }; driver = record { queue = queue driver (flow 9 2 false ∷ []) } }
+end opened hung_up head driver = record { opened = opened; head = head_with (queue head []) hung_up; driver = record { queue = queue driver (flow 9 2 false ∷ []) } }
 
 abbrev pair : Stream ℕ → Stream ℕ → Book → Book → State ℕ
 pair master slave from_master from_slave = record {
@@ -218,6 +222,15 @@ input-of-the-master-ends = refl
 pub input-of-the-slave-ends : map (λ hung_up. at_end Slave (pair (end Closed true [] []) (end Open hung_up [] []) (book 0 0) (book 0 0))) (true ∷ false ∷ []) ≡ true ∷ false ∷ []
 input-of-the-slave-ends = refl
 
+-- a read is refused for an M_PROTO that waits, also at the end of input, where else it gives nothing
+abbrev read_at_end : ℕ → Bool → List (Message ℕ) → Option Refusal
+read_at_end n hung_up ms = refused (pair (end Open false [] []) (end Open hung_up ms []) (book 0 0) (book 0 0)) [] (sizes 1 9) true (caller Slave) (Read n)
+
+pub reads-of-an-m-proto : read_at_end 1 false (proto ∷ []) ∷ read_at_end 1 true (proto ∷ []) ∷ read_at_end 0 false (proto ∷ []) ∷ read_at_end 1 false (ordinary [] ∷ proto ∷ []) ∷ read_at_end 1 false [] ∷ read_at_end 1 true [] ∷ []
+    ≡ Some Ebadmsg ∷ Some Ebadmsg ∷ None ∷ None ∷ Some Eagain ∷ None ∷ []
+unfolding is_held
+reads-of-an-m-proto = refl
+
 -- a read of an empty head waits for more, unless the input ends or it asks for none
 pub reads-at-the-end : map (λ s. refused s [] (sizes 1 9) true (caller Master) (Read 1)) (ending false Open [] ∷ ending false Closed (proto ∷ []) ∷ ending false Closed [] ∷ []) ≡ Some Eagain ∷ Some Eagain ∷ None ∷ []
 unfolding is_held
@@ -228,12 +241,24 @@ reads-at-the-end = refl
 abbrev held : State ℕ
 held = pair (end Open false (ordinary (1 ∷ []) ∷ []) (ordinary (2 ∷ []) ∷ [])) (end Open false (proto ∷ []) (ordinary (4 ∷ []) ∷ [])) (book 0 0) (book 0 0)
 
-pub reads-take-away : gone plain held (Called (caller Slave) (Read 2) Done) ∷ gone plain held (Called (caller Master) (Read 9) Done) ∷ [] ≡ (record { direction = MasterToSlave; rule = rules.Read; cells = 1 ∷ 2 ∷ [] } ∷ []) ∷ (record { direction = SlaveToMaster; rule = rules.Read; cells = 1 ∷ [] } ∷ []) ∷ []
+abbrev read_of : Dir → List ℕ → List ℕ → List ℕ → List (Fate ℕ)
+read_of dir given discarded dropped =
+    record { direction = dir; rule = rules.Read; cells = given }
+    ∷ record { direction = dir; rule = rules.RestDiscarded; cells = discarded }
+    ∷ record { direction = dir; rule = rules.ControlDropped; cells = dropped } ∷ []
+
+-- the same with the slave's head in RMSGD and RPROTDIS
+abbrev held_in_messages : State ℕ
+held_in_messages = record held { slave = record held.slave { head = record held.slave.head { read_mode = MessageDiscard; control_mode = Discard } } }
+
+-- an M_PROTO is refused, and nothing goes; in the modes of the head some is given, some discarded and some dropped
+pub reads-take-away : gone plain held (Called (caller Slave) (Read 2) Done) ∷ gone plain held (Called (caller Master) (Read 9) Done) ∷ gone plain held_in_messages (Called (caller Slave) (Read 2) Done) ∷ []
+    ≡ [] ∷ read_of SlaveToMaster (1 ∷ []) [] [] ∷ read_of MasterToSlave (3 ∷ 4 ∷ []) (5 ∷ []) (1 ∷ 2 ∷ []) ∷ []
 unfolding size_of cells_of rank_of is_high_priority
 reads-take-away = refl
 
 pub flush-takes-away : gone plain held (Called (caller Master) (Flush flushes.Write (band 2)) Done) ≡ record { direction = MasterToSlave; rule = rules.Flushed; cells = [] } ∷ record { direction = MasterToSlave; rule = rules.Flushed; cells = 1 ∷ 2 ∷ 3 ∷ 4 ∷ 5 ∷ [] } ∷ []
-unfolding size_of cells_of is_data_kind is_high_priority band_of
+unfolding carried size_of cells_of is_data_kind is_high_priority band_of
 flush-takes-away = refl
 
 pub close-takes-away : gone plain held (Called (caller Slave) Shut Done) ≡ record { direction = MasterToSlave; rule = rules.EndClosed; cells = 1 ∷ 2 ∷ 3 ∷ 4 ∷ 5 ∷ [] } ∷ []
@@ -241,6 +266,7 @@ unfolding size_of cells_of is_high_priority band_of
 close-takes-away = refl
 
 pub other-entries-take-nothing-away : map (λ e. gone plain held e) (Called (caller Slave) OpenSlave Done ∷ Called (caller Slave) Pop Done ∷ Called (caller Slave) (Write (97 ∷ [])) Done ∷ Turned (driver_of Master) Idle ∷ []) ≡ [] ∷ [] ∷ [] ∷ [] ∷ []
+unfolding carried is_held size_of cells_of rank_of is_high_priority band_of
 other-entries-take-nothing-away = refl
 
 pub other-entries-bring-nothing : map (λ e. came plain held e) (Called (caller Slave) Shut Done ∷ Called (caller Slave) (Flush flushes.Both None) Done ∷ Called (caller Slave) (Read 1) Done ∷ Turned (driver_of Master) Idle ∷ []) ≡ [] ∷ [] ∷ [] ∷ [] ∷ []

@@ -19,14 +19,15 @@ use Rattle.strm_types.specs.declared.rules.Rule.TheVariants as rules
 use Rattle.strm_types.specs.Books.{new_book}
 use Rattle.strm_types.specs.Calls.{called}
 use Rattle.strm_types.specs.Cells.{plain}
-use Rattle.strm_types.specs.Deliver.{Fate, Carried}
-use Rattle.strm_types.specs.Emptied.{of_data, of_all, stayed, cells_gone, emptied, queue_behind, writer_goes, head_emptied, driver_emptied, flushed_on, closed_at, hung_up_at, ended}
+use Rattle.strm_types.specs.Deliver.{Fate, Carried, carried}
+use Rattle.strm_types.specs.Emptied.{of_data, of_all, stayed, cells_gone, emptied, queue_behind, writer_goes, head_emptied, driver_emptied, closed_at, hung_up_at, ended}
 use Rattle.strm_types.specs.Flush.{is_data_kind}
+use Rattle.strm_types.specs.Puts.{flushed_on}
 use Rattle.strm_types.specs.Message.{Message, is_high_priority, band_of, size_of, cells_of}
 use Rattle.strm_types.specs.Names.{driver_of}
 use Rattle.strm_types.specs.Queue.{Queue, Flow, new_queue}
 use Rattle.strm_types.specs.State.{State, Stream}
-use Rattle.strm_types.proofs.Samples.{flow, queue, ordinary, proto, urgent, options}
+use Rattle.strm_types.proofs.Samples.{head_with, flow, queue, ordinary, proto, urgent, options}
 
 abbrev band : ℕ → Option Band
 band n = Some (record { 0 = n })
@@ -98,7 +99,7 @@ abbrev caller : Side → Caller
 caller side = record { side = side }
 
 abbrev end : Openness → Queue ℕ → Queue ℕ → Stream ℕ
-end opened head driver = record { opened = opened; head = record { queue = head; hung_up = false }; driver = record { queue = driver } }
+end opened head driver = record { opened = opened; head = head_with head false; driver = record { queue = driver } }
 
 abbrev pair : Stream ℕ → Stream ℕ → State ℕ
 pair master slave = record {
@@ -133,35 +134,35 @@ abbrev leads : State ℕ → List (Fate ℕ) → Carried ℕ (State ℕ)
 leads s gone = record { state = s; gone = gone }
 
 -- FLUSHW: the side's own driver, and then the head across
-pub flush-of-the-masters-writes : flushed_on (of_data None) Master Write (ones Open Open) ≡ leads (pair (end Open (one 1) none) (end Open none (one 4))) (down 2 ∷ down 3 ∷ [])
-unfolding is_data_kind size_of cells_of
+pub flush-of-the-masters-writes : flushed_on None Master Write (ones Open Open) ≡ leads (pair (end Open (one 1) none) (end Open none (one 4))) (down 2 ∷ down 3 ∷ [])
+unfolding carried is_data_kind size_of cells_of
 flush-of-the-masters-writes = refl
 
-pub flush-of-the-slaves-writes : flushed_on (of_data None) Slave Write (ones Open Open) ≡ leads (pair (end Open none (one 2)) (end Open (one 3) none)) (up 4 ∷ up 1 ∷ [])
-unfolding is_data_kind size_of cells_of
+pub flush-of-the-slaves-writes : flushed_on None Slave Write (ones Open Open) ≡ leads (pair (end Open none (one 2)) (end Open (one 3) none)) (up 4 ∷ up 1 ∷ [])
+unfolding carried is_data_kind size_of cells_of
 flush-of-the-slaves-writes = refl
 
 -- FLUSHR: the driver across, and then the side's own head
-pub flush-of-the-masters-reads : flushed_on (of_data None) Master Read (ones Open Open) ≡ leads (pair (end Open none (one 2)) (end Open (one 3) none)) (up 4 ∷ up 1 ∷ [])
-unfolding is_data_kind size_of cells_of
+pub flush-of-the-masters-reads : flushed_on None Master Read (ones Open Open) ≡ leads (pair (end Open none (one 2)) (end Open (one 3) none)) (up 4 ∷ up 1 ∷ [])
+unfolding carried is_data_kind size_of cells_of
 flush-of-the-masters-reads = refl
 
-pub flush-of-the-slaves-reads : flushed_on (of_data None) Slave Read (ones Open Open) ≡ leads (pair (end Open (one 1) none) (end Open none (one 4))) (down 2 ∷ down 3 ∷ [])
-unfolding is_data_kind size_of cells_of
+pub flush-of-the-slaves-reads : flushed_on None Slave Read (ones Open Open) ≡ leads (pair (end Open (one 1) none) (end Open none (one 4))) (down 2 ∷ down 3 ∷ [])
+unfolding carried is_data_kind size_of cells_of
 flush-of-the-slaves-reads = refl
 
 -- FLUSHRW: first what was written, then what is to be read
-pub flush-of-both : map (λ side. flushed_on (of_data None) side Both (ones Open Open)) (Master ∷ Slave ∷ []) ≡ leads (pair (end Open none none) (end Open none none)) (down 2 ∷ down 3 ∷ up 4 ∷ up 1 ∷ []) ∷ leads (pair (end Open none none) (end Open none none)) (up 4 ∷ up 1 ∷ down 2 ∷ down 3 ∷ []) ∷ []
-unfolding is_data_kind size_of cells_of
+pub flush-of-both : map (λ side. flushed_on None side Both (ones Open Open)) (Master ∷ Slave ∷ []) ≡ leads (pair (end Open none none) (end Open none none)) (down 2 ∷ down 3 ∷ up 4 ∷ up 1 ∷ []) ∷ leads (pair (end Open none none) (end Open none none)) (up 4 ∷ up 1 ∷ down 2 ∷ down 3 ∷ []) ∷ []
+unfolding carried is_data_kind size_of cells_of
 flush-of-both = refl
 
 -- what a driver sends up reaches no head of a side that isn't open
-pub flush-towards-a-side-that-is-closed : map (λ slave. flushed_on (of_data None) Master Write (ones Open slave)) (Never ∷ Closed ∷ []) ≡ leads (pair (end Open (one 1) none) (end Never (one 3) (one 4))) (down 2 ∷ []) ∷ leads (pair (end Open (one 1) none) (end Closed (one 3) (one 4))) (down 2 ∷ []) ∷ []
-unfolding is_data_kind size_of cells_of
+pub flush-towards-a-side-that-is-closed : map (λ slave. flushed_on None Master Write (ones Open slave)) (Never ∷ Closed ∷ []) ≡ leads (pair (end Open (one 1) none) (end Never (one 3) (one 4))) (down 2 ∷ []) ∷ leads (pair (end Open (one 1) none) (end Closed (one 3) (one 4))) (down 2 ∷ []) ∷ []
+unfolding carried is_data_kind size_of cells_of
 flush-towards-a-side-that-is-closed = refl
 
-pub flush-on-a-side-that-is-closed : flushed_on (of_data None) Slave Both (ones Open Closed) ≡ leads (pair (end Open none none) (end Closed (one 3) none)) (up 4 ∷ up 1 ∷ down 2 ∷ [])
-unfolding is_data_kind size_of cells_of
+pub flush-on-a-side-that-is-closed : flushed_on None Slave Both (ones Open Closed) ≡ leads (pair (end Open none none) (end Closed (one 3) none)) (up 4 ∷ up 1 ∷ down 2 ∷ [])
+unfolding carried is_data_kind size_of cells_of
 flush-on-a-side-that-is-closed = refl
 
 -- a flush of a band, as a call: nothing else goes, and nothing is told
@@ -173,7 +174,7 @@ pub flush-call : map (λ asked. called plain (caller Master) asked (pair banded 
     ∷ record { answer = Done; state = pair (end Open none (queue (options ∷ []) [])) (end Open none none) }
     ∷ record { answer = Done; state = pair banded (end Open none none) }
     ∷ []
-unfolding is_data_kind is_high_priority size_of cells_of
+unfolding carried is_data_kind is_high_priority size_of cells_of
 flush-call = refl
 
 -- pushes, pops and looks change nothing yet
@@ -202,8 +203,8 @@ unfolding is_high_priority band_of size_of cells_of
 flush-of-a-driver-enables-nothing = refl
 
 -- a writer in a band that is flushed, and one in a band that isn't
-pub flush-of-a-full-band : map (λ n. (flushed_on (of_data (band n)) Master Write (pair (end Open none none) (end Open full none))).state.enabled) (0 ∷ 1 ∷ []) ≡ (driver_of Master ∷ []) ∷ [] ∷ []
-unfolding is_data_kind is_high_priority band_of size_of cells_of
+pub flush-of-a-full-band : map (λ n. (flushed_on (band n) Master Write (pair (end Open none none) (end Open full none))).state.enabled) (0 ∷ 1 ∷ []) ≡ (driver_of Master ∷ []) ∷ [] ∷ []
+unfolding carried is_data_kind is_high_priority band_of size_of cells_of
 flush-of-a-full-band = refl
 
 -- closes
@@ -219,7 +220,7 @@ close-of-the-slave = refl
 -- Of the master its head goes, and what both drivers have, whatever the kinds. An open slave is hung up, and keeps what
 -- stands on its head.
 abbrev hung : Stream ℕ → Stream ℕ
-hung t = record t { head = record { queue = t.head.queue; hung_up = true } }
+hung t = record t { head = record t.head { hung_up = true } }
 
 pub close-of-the-master : closed_at Master (pair (end Open (one 1) (ends_with (options ∷ []))) (end Open (one 3) (ends_with (options ∷ proto ∷ [])))) ≡ leads (pair (end Closed (new_queue 5120 1024) none) (hung (end Open (one 3) none))) (fate rules.EndClosed SlaveToMaster (1 ∷ []) ∷ fate rules.EndClosed MasterToSlave (7 ∷ []) ∷ fate rules.EndClosed SlaveToMaster (7 ∷ 1 ∷ 2 ∷ 3 ∷ 4 ∷ 5 ∷ []) ∷ [])
 unfolding is_high_priority band_of size_of cells_of

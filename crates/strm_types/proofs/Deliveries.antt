@@ -1,5 +1,5 @@
 -- Deliveries in a pair, and with them flushes of a stream, lose no cell, and leave a side that isn't open nothing to be read.
-use Rattle.std.proofs.Common.{ℕ, ◌≡◌, ◌≤◌, ◌+◌, Bool, refl, arith}
+use Rattle.std.proofs.Common.{◌≡◌, ◌≤◌, ◌+◌, Bool, refl, arith}
 use Rattle.std.specs.Prelude.{Option}
 use Rattle.strm_types.specs.declared.events.FlushQueues.{FlushQueues}
 use Rattle.strm_types.specs.declared.kinds.Band.{Band}
@@ -7,7 +7,6 @@ use Rattle.strm_types.specs.declared.limits.TheConstants.{HOPS}
 use Rattle.strm_types.specs.declared.names.Side.{Side}
 use Rattle.strm_types.specs.declared.names.Way.TheVariants.{Down}
 use Rattle.strm_types.specs.declared.spots.Spot.{Spot}
-use Rattle.strm_types.specs.Deliver.{Carried}
 use Rattle.strm_types.specs.Flushing.{asked_of, flush_bytes, flush_message}
 use Rattle.strm_types.specs.Kept.{NothingUnread, state_weight}
 use Rattle.strm_types.specs.Message.{Message, weight_of}

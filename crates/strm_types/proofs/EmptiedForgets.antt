@@ -6,14 +6,12 @@ use Rattle.std.proofs.lemmas.List.Sums.{sum_by-cons}
 use Rattle.strm_types.specs.declared.kinds.MsgKind.{MsgKind}
 use Rattle.strm_types.specs.declared.names.Side.{Side}
 use Rattle.strm_types.specs.declared.names.Side.TheVariants.{Master, Slave}
-use Rattle.strm_types.specs.declared.events.FlushQueues.{FlushQueues}
-use Rattle.strm_types.specs.declared.events.FlushQueues.TheVariants.{Read, Write, Both}
 use Rattle.strm_types.specs.declared.rules.Rule.{Rule}
-use Rattle.strm_types.specs.declared.rules.Rule.TheVariants.{Flushed, EndClosed}
+use Rattle.strm_types.specs.declared.rules.Rule.TheVariants.{EndClosed}
 use Rattle.strm_types.specs.Deliver.{Fate, Carried}
 use Rattle.strm_types.specs.Emptied.{Choice, of_all, stayed, cells_gone, emptied, none_goes, queue_behind, writer_goes, head_emptied, driver_emptied, and_then, ended, hung_up_at, closed_at}
 use Rattle.strm_types.specs.Message.{Message, cells_of, size_of, map_message}
-use Rattle.strm_types.specs.Names.{other, driver_of, head_of, direction_of, before, is_open, enable_some}
+use Rattle.strm_types.specs.Names.{driver_of, head_of, direction_of, before, is_open, enable_some}
 use Rattle.strm_types.specs.Origins.{map_fate, map_carried}
 use Rattle.strm_types.specs.Queue.{Queue, bytes_of, relieved, relieves, map_messages, map_queue}
 use Rattle.strm_types.specs.State.{State, Stream, stream, with_stream, with_head_queue, with_driver_queue, map_stream, map_state}

@@ -1,10 +1,8 @@
 -- No step of a pair loses or makes a byte.
-use Rattle.std.proofs.Common.{ℕ, ◌≡◌, ◌+◌, Bool, true, false, cond, List, [], ◌∷◌, refl, sym, ap, subst, ◌∙◌, arith}
-use Rattle.std.specs.Prelude.{min, ◌==◌, ◌||◌, not, None, count_by}
-use Rattle.std.proofs.lemmas.Bool.Decides.{nat_tests}
+use Rattle.std.proofs.Common.{ℕ, ◌≡◌, ◌+◌, Bool, true, false, cond, List, [], refl, sym, ap, subst, ◌∙◌, arith}
+use Rattle.std.specs.Prelude.{min, not, None, count_by}
 use Rattle.strm_types.specs.declared.limits.TheConstants.{READ_MAX}
 use Rattle.strm_types.specs.declared.answers.Answer.TheVariants.{Bytes}
-use Rattle.strm_types.specs.declared.answers.Turn.{Turn}
 use Rattle.strm_types.specs.declared.entries.Entry.TheVariants.{Called, Turned}
 use Rattle.strm_types.specs.declared.events.Caller.{Caller}
 use Rattle.strm_types.specs.declared.events.Event.TheVariants.{OpenMaster, Unlock, OpenSlave, Shut, Push, Pop, Look, Flush, Write, Read}
@@ -13,24 +11,20 @@ use Rattle.strm_types.specs.declared.modes.ReadMode.{ReadMode}
 use Rattle.strm_types.specs.declared.names.Dir.{Dir}
 use Rattle.strm_types.specs.declared.names.Side.{Side}
 use Rattle.strm_types.specs.declared.names.Side.TheVariants.{Master, Slave}
-use Rattle.strm_types.specs.declared.names.Place.{Place}
-use Rattle.strm_types.specs.declared.names.Place.TheVariants.{Head, Ldterm, Driver}
-use Rattle.strm_types.specs.declared.names.QueueName.{QueueName}
 use Rattle.strm_types.specs.declared.refusals.Refusal.TheVariants.{Einval, Enxio}
 use Rattle.strm_types.specs.Cells.{Cells, cells_written, bytes_of}
 use Rattle.strm_types.specs.Names.{direction_from, direction_of, head_of, is_open}
-use Rattle.strm_types.specs.Message.{Message, size_of, band_of}
-use Rattle.strm_types.specs.Queue.{Queue, Flow, put_on, weight, left_with, relieved, with_writer_at}
-use Rattle.strm_types.specs.State.{State, Stream, stream, book, opening}
+use Rattle.strm_types.specs.Message.{Message}
+use Rattle.strm_types.specs.Queue.{Queue, weight, left_with, relieved}
+use Rattle.strm_types.specs.State.{State, stream, book, opening}
 use Rattle.strm_types.specs.Reads.{Drawn, head_draw, none_went, queue_drawn, read_fates, read_gone, read_lets_go, read_queue, takes_none}
 use Rattle.strm_types.specs.Calls.{Request, Reply, read_at, wrote, called}
-use Rattle.strm_types.specs.Turns.{turned}
 use Rattle.strm_types.specs.Journal.{PlainEntry}
 use Rattle.strm_types.specs.Refused.{or_else, unless, refused_at_once, refused_by_state}
 use Rattle.strm_types.specs.Step.{Step}
 use Rattle.strm_types.specs.Places.{weight_gone}
-use Rattle.strm_types.specs.Kept.{stream_weight, state_weight, NothingUnread, cells_taken, came, gone}
-use Rattle.strm_types.proofs.Weights.{weight-put, weight-take, weight-written, weight-read}
+use Rattle.strm_types.specs.Kept.{state_weight, NothingUnread, cells_taken, came, gone}
+use Rattle.strm_types.proofs.Weights.{weight-written}
 use Rattle.strm_types.proofs.EmptiedKeeps.{closed_at-keeps, closed_at-unread}
 use Rattle.strm_types.proofs.Deliveries.{flushed_on-keeps, flushed_on-unread}
 use Rattle.strm_types.proofs.ReadKeeps.{head_draw-keeps}

@@ -1,9 +1,8 @@
 -- Forgetting the origins of cells commutes with puts in a pair, with deliveries there, and with flushes of a stream.
-use Rattle.std.proofs.Common.{ℕ, suc, ◌≡◌, Bool, true, false, cond, List, [], ◌∷◌, map, refl, sym, ap, ◌∙◌}
+use Rattle.std.proofs.Common.{suc, ◌≡◌, Bool, true, false, cond, List, [], ◌∷◌, map, refl, sym, ap, ◌∙◌}
 use Rattle.std.specs.Prelude.{◌==◌, ◌&&◌, Option}
 use Rattle.strm_types.specs.declared.events.FlushQueues.{FlushQueues}
 use Rattle.strm_types.specs.declared.kinds.Band.{Band}
-use Rattle.strm_types.specs.declared.kinds.MsgKind.{MsgKind}
 use Rattle.strm_types.specs.declared.limits.TheConstants.{MODULES, HOPS}
 use Rattle.strm_types.specs.declared.names.Place.TheVariants as places
 use Rattle.strm_types.specs.declared.names.Side.{Side}
@@ -12,7 +11,7 @@ use Rattle.strm_types.specs.declared.names.Way.{Way}
 use Rattle.strm_types.specs.declared.names.Way.TheVariants.{Up, Down}
 use Rattle.strm_types.specs.declared.rules.Rule.TheVariants.{EndClosed}
 use Rattle.strm_types.specs.declared.spots.Spot.{Spot}
-use Rattle.strm_types.specs.Deliver.{Acted, Carried, Took}
+use Rattle.strm_types.specs.Deliver.{Acted, Took}
 use Rattle.strm_types.specs.Drivers.{driver_put}
 use Rattle.strm_types.specs.Flushing.{is_flush, asked_of, flush_bytes, flush_message}
 use Rattle.strm_types.specs.Heads.{head_put}

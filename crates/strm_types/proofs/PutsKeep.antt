@@ -1,8 +1,7 @@
 -- A put in a pair loses no cell, and leaves a side that isn't open nothing to be read.
-use Rattle.std.proofs.Common.{ℕ, suc, ◌≡◌, ◌+◌, Bool, true, false, cond, List, [], ◌∷◌, refl, arith}
+use Rattle.std.proofs.Common.{ℕ, suc, ◌≡◌, ◌+◌, Bool, true, false, cond, refl, arith}
 use Rattle.std.specs.Prelude.{◌==◌, ◌&&◌}
 use Rattle.strm_types.specs.declared.limits.TheConstants.{MODULES}
-use Rattle.strm_types.specs.declared.names.Openness.{Openness}
 use Rattle.strm_types.specs.declared.names.Side.{Side}
 use Rattle.strm_types.specs.declared.names.Side.TheVariants.{Master, Slave}
 use Rattle.strm_types.specs.declared.names.Way.{Way}
@@ -10,14 +9,12 @@ use Rattle.strm_types.specs.declared.names.Way.TheVariants.{Up, Down}
 use Rattle.strm_types.specs.declared.spots.Spot.{Spot}
 use Rattle.strm_types.specs.Deliver.{Took}
 use Rattle.strm_types.specs.Flushing.{is_flush}
-use Rattle.strm_types.specs.Heads.{head_put}
 use Rattle.strm_types.specs.Kept.{NothingUnread, state_weight}
 use Rattle.strm_types.specs.Message.{Message, weight_of}
 use Rattle.strm_types.specs.Names.{is_open}
 use Rattle.strm_types.specs.Places.{PutKeeps, weight_sent, weight_gone}
-use Rattle.strm_types.specs.Puts.{SameEnds, across_of, passed_up, put_at_driver, put_at_head, put_below, put_in}
-use Rattle.strm_types.specs.Queue.{Queue}
-use Rattle.strm_types.specs.State.{Head, State, stream}
+use Rattle.strm_types.specs.Puts.{SameEnds, across_of, put_at_driver, put_at_head, put_below, put_in}
+use Rattle.strm_types.specs.State.{State}
 use Rattle.strm_types.proofs.DeliveryHolds.{PutHolds}
 use Rattle.strm_types.proofs.PutWeights.{driver_put-keeps, head_put-keeps}
 use Rattle.strm_types.proofs.Weights.{weight-whole}

@@ -19,6 +19,7 @@ use Rattle.strm_types.specs.Message.{Message, data_message, band_of, size_of, ce
 use Rattle.strm_types.specs.Names.{driver_of}
 use Rattle.strm_types.specs.Queue.{new_queue}
 use Rattle.strm_types.specs.Books.{new_book}
+use Rattle.strm_types.proofs.Samples.{head_with}
 use Rattle.strm_types.specs.State.{State, opening, new_head, new_driver}
 use Rattle.strm_types.specs.Write.{chunk_count}
 use Rattle.strm_types.specs.Calls.{Request, payload_of, content_of}
@@ -121,7 +122,7 @@ state master slave locked = record {
   };
   slave = record {
     opened = slave;
-    head = record { queue = record (new_queue 5120 1024) { messages = ordinary [] ∷ [] }; hung_up = false };
+    head = head_with (record (new_queue 5120 1024) { messages = ordinary [] ∷ [] }) false;
     driver = new_driver;
   };
   locked = locked;
@@ -172,6 +173,7 @@ writing = refl
 
 -- a zero-length message stands at the slave's head, and nothing at the master's
 pub reading : answers (state Open Open false) Slave (Read 1) ∷ answers (state Open Open false) Master (Read 1) ∷ answers (state Open Open false) Master (Read 0) ∷ answers (state Closed Open false) Master (Read 0) ∷ [] ≡ at_last None ∷ at_last (Some Eagain) ∷ at_last None ∷ always Enxio ∷ []
+unfolding data_message
 reading = refl
 
 -- a write wants room for all its bytes, a read for as many as it may give
@@ -180,6 +182,7 @@ unfolding data_message band_of size_of cells_of is_high_priority
 room-for-the-bytes = refl
 
 pub room-for-the-answer : map (λ bytes. refused (state Open Open false) [] (sizes 0 1 bytes) true (caller Slave) (Read 7)) (7 ∷ 6 ∷ []) ≡ None ∷ Some JournalFull ∷ []
+unfolding data_message
 room-for-the-answer = refl
 
 -- turns: a queue that isn't enabled, before a full journal, before too few blocks
@@ -211,4 +214,5 @@ unfolding chunk_count
 pair-writes-with-33-blocks = refl
 
 pub pair-reads-without-blocks : call_refused (pair 0 0) (caller Slave) (Read 7) ≡ None
+unfolding data_message
 pair-reads-without-blocks = refl

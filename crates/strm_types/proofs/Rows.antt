@@ -10,6 +10,7 @@ use Rattle.strm_types.specs.Queue.{put, put_back}
 use Rattle.strm_types.specs.Names.{driver_of}
 use Rattle.strm_types.specs.State.{State, opening}
 use Rattle.strm_types.specs.Write.{chunk_count}
+use Rattle.strm_types.specs.Deliver.{carried}
 use Rattle.strm_types.specs.Turns.{turned}
 use Rattle.strm_types.specs.declared.events.Event.TheVariants.{OpenMaster, Unlock, OpenSlave, Write, Read}
 use Rattle.strm_types.specs.declared.answers.Answer.TheVariants.{Count, Bytes}
@@ -34,15 +35,15 @@ unfolding chunk_count data_message rank_of band_of size_of cells_of is_high_prio
 write-enables = refl
 
 pub turn-moves : (turned plain (driver_of Master) Idle after-write).turn ≡ Moved 3
-unfolding chunk_count data_message rank_of band_of size_of cells_of is_high_priority is_held
+unfolding carried chunk_count data_message rank_of band_of size_of cells_of is_high_priority is_held
 turn-moves = refl
 
 pub read-gives : (called plain (record { side = Slave }) (Read 10) (turned plain (driver_of Master) Idle after-write).state).answer ≡ Bytes (97 ∷ 98 ∷ 99 ∷ [])
-unfolding chunk_count data_message rank_of band_of size_of cells_of is_high_priority is_held
+unfolding carried chunk_count data_message rank_of band_of size_of cells_of is_high_priority is_held
 read-gives = refl
 
 pub second-turn-is-refused : (turned plain (driver_of Master) Idle after-write).state.enabled ≡ []
-unfolding chunk_count data_message rank_of band_of size_of cells_of is_high_priority is_held
+unfolding carried chunk_count data_message rank_of band_of size_of cells_of is_high_priority is_held
 second-turn-is-refused = refl
 
 -- 600 bytes: two chunks of 256 go, the third finds the band full; after a turn one more chunk may go
@@ -58,11 +59,11 @@ unfolding chunk_count data_message rank_of band_of size_of cells_of is_high_prio
 full-is-refused = refl
 
 pub turn-makes-room : (turned plain (driver_of Master) Idle after-long).turn ≡ Moved 256
-unfolding chunk_count data_message rank_of band_of size_of cells_of is_high_priority is_held
+unfolding carried chunk_count data_message rank_of band_of size_of cells_of is_high_priority is_held
 turn-makes-room = refl
 
 pub write-goes-on : (called plain (record { side = Master }) (Write (122 ∷ [])) (turned plain (driver_of Master) Idle after-long).state).answer ≡ Count 1
-unfolding chunk_count data_message rank_of band_of size_of cells_of is_high_priority is_held
+unfolding carried chunk_count data_message rank_of band_of size_of cells_of is_high_priority is_held
 write-goes-on = refl
 
 -- messages of four ranks, as they are put: "a" of band 0, "b" of band 1, "c" of high priority, "d" of band 1

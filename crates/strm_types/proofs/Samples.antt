@@ -3,7 +3,10 @@ use Rattle.std.proofs.Common.{ℕ, Bool, true, false, List, [], ◌∷◌}
 use Rattle.std.specs.Prelude.{None, Some}
 use Rattle.strm_types.specs.declared.kinds.MsgKind.TheVariants.{Data, Proto, Setopts, Pcproto}
 use Rattle.strm_types.specs.Message.{Message}
+use Rattle.strm_types.specs.declared.modes.ControlMode.TheVariants.{Refuse}
+use Rattle.strm_types.specs.declared.modes.ReadMode.TheVariants.{ByteStream}
 use Rattle.strm_types.specs.Queue.{Queue, Flow}
+use Rattle.strm_types.specs.State.{Head}
 
 -- an M_PROTO of band 2, an M_PCPROTO that names band 3, an M_SETOPTS of band 1 whose four bytes are no cells
 abbrev pub proto : Message ℕ
@@ -24,3 +27,7 @@ flow high low want_write = record { high = high; low = low; want_write = want_wr
 
 abbrev pub queue : List (Message ℕ) → List Flow → Queue ℕ
 queue messages flows = record { messages = messages; flows = flows; want_read = true; no_enable = false }
+
+-- a head in the modes of a new one
+abbrev pub head_with : Queue ℕ → Bool → Head ℕ
+head_with q hung_up = record { queue = q; read_mode = ByteStream; control_mode = Refuse; hung_up = hung_up }

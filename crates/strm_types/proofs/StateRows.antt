@@ -20,9 +20,10 @@ use Rattle.strm_types.specs.Queue.{Queue, Flow}
 use Rattle.strm_types.specs.Books.{new_book}
 use Rattle.strm_types.specs.State.{State, Stream, opening, new_stream, messages_in}
 use Rattle.strm_types.specs.Write.{chunk_count}
-use Rattle.strm_types.specs.Turns.{Served, TurnOutcome, driver_serves, turned, whole_turn}
+use Rattle.strm_types.specs.Turns.{TurnOutcome, driver_serves, turned, whole_turn}
+use Rattle.strm_types.specs.Deliver.{carried}
 use Rattle.strm_types.specs.Calls.{content_of, called}
-use Rattle.strm_types.proofs.Samples.{flow, queue, ordinary, proto, urgent}
+use Rattle.strm_types.proofs.Samples.{head_with, flow, queue, ordinary, proto, urgent}
 
 abbrev caller : Side → Caller
 caller side = record { side = side }
@@ -32,7 +33,7 @@ abbrev busy : List (Message ℕ) → List Flow → Queue ℕ
 busy messages flows = record { messages = messages; flows = flows; want_read = false; no_enable = false }
 
 abbrev end : Openness → Queue ℕ → Queue ℕ → Stream ℕ
-end opened head driver = record { opened = opened; head = record { queue = head; hung_up = false }; driver = record { queue = driver } }
+end opened head driver = record { opened = opened; head = head_with head false; driver = record { queue = driver } }
 
 -- a pair of these two streams, of which these queues are enabled
 abbrev pair : Stream ℕ → Stream ℕ → List QueueName → State ℕ
@@ -109,7 +110,7 @@ write-enables-its-driver = refl
 abbrev idle : TurnOutcome ℕ
 idle = turned plain (driver_of Master) Idle (pair (end Open (queue [] []) (busy [] (flow 9 2 false ∷ []))) idle_end (driver_of Master ∷ []))
 
-pub idle-turn-wants-to-be-read : idle ≡ record { turn = Idle; state = pair (end Open (queue [] []) (queue [] (flow 9 2 false ∷ []))) idle_end [] }
+pub idle-turn-wants-to-be-read : idle ≡ record { turn = Idle; state = pair (end Open (queue [] []) (queue [] (flow 9 2 false ∷ []))) idle_end []; gone = [] }
 idle-turn-wants-to-be-read = refl
 
 pub write-after-an-idle-turn-enables : (called plain (caller Master) (Write (97 ∷ [])) idle.state).state.enabled ≡ driver_of Master ∷ []
@@ -135,61 +136,61 @@ three = ordinary (97 ∷ []) ∷ ordinary (98 ∷ 99 ∷ []) ∷ []
 abbrev roomy : List Flow
 roomy = flow 9 2 false ∷ []
 
-pub turn-that-leaves-more-goes-last : turned plain (driver_of Slave) Idle (pair (end Open (queue [] roomy) (queue [] [])) (end Open (queue [] []) (queue three roomy)) (driver_of Slave ∷ driver_of Master ∷ [])) ≡ record { turn = Moved 1; state = pair (end Open (queue (ordinary (97 ∷ []) ∷ []) roomy) (queue [] [])) (end Open (queue [] []) (busy (ordinary (98 ∷ 99 ∷ []) ∷ []) roomy)) (driver_of Master ∷ driver_of Slave ∷ []) }
-unfolding rank_of band_of size_of cells_of is_high_priority is_held
+pub turn-that-leaves-more-goes-last : turned plain (driver_of Slave) Idle (pair (end Open (queue [] roomy) (queue [] [])) (end Open (queue [] []) (queue three roomy)) (driver_of Slave ∷ driver_of Master ∷ [])) ≡ record { turn = Moved 1; state = pair (end Open (queue (ordinary (97 ∷ []) ∷ []) roomy) (queue [] [])) (end Open (queue [] []) (busy (ordinary (98 ∷ 99 ∷ []) ∷ []) roomy)) (driver_of Master ∷ driver_of Slave ∷ []); gone = [] }
+unfolding carried rank_of band_of size_of cells_of is_high_priority is_held
 turn-that-leaves-more-goes-last = refl
 
 -- the last message: the queue wants to be read again, and isn't enabled
-pub turn-of-the-last-message : turned plain (driver_of Master) Idle (pair (end Open (queue [] []) (busy (ordinary (97 ∷ []) ∷ []) roomy)) (end Open (queue [] roomy) (queue [] [])) (driver_of Master ∷ [])) ≡ record { turn = Moved 1; state = pair (end Open (queue [] []) (queue [] roomy)) (end Open (queue (ordinary (97 ∷ []) ∷ []) roomy) (queue [] [])) [] }
-unfolding rank_of band_of size_of cells_of is_high_priority is_held
+pub turn-of-the-last-message : turned plain (driver_of Master) Idle (pair (end Open (queue [] []) (busy (ordinary (97 ∷ []) ∷ []) roomy)) (end Open (queue [] roomy) (queue [] [])) (driver_of Master ∷ [])) ≡ record { turn = Moved 1; state = pair (end Open (queue [] []) (queue [] roomy)) (end Open (queue (ordinary (97 ∷ []) ∷ []) roomy) (queue [] [])) []; gone = [] }
+unfolding carried rank_of band_of size_of cells_of is_high_priority is_held
 turn-of-the-last-message = refl
 
 -- What a turn of a driver with these messages and flows does, towards a head with one message of two bytes.
 
-abbrev serves : Openness → List (Message ℕ) → List Flow → List Flow → Served ℕ
-serves opened messages below above = driver_serves messages (end Open (queue [] []) (queue messages below)) (end opened (queue (ordinary (7 ∷ 8 ∷ []) ∷ []) above) (queue [] []))
+abbrev serves : Openness → List (Message ℕ) → List Flow → List Flow → TurnOutcome ℕ
+serves opened messages below above = driver_serves Master messages (pair (end Open (queue [] []) (queue messages below)) (end opened (queue (ordinary (7 ∷ 8 ∷ []) ∷ []) above) (queue [] [])) [])
 
-abbrev served : Turn → Openness → List (Message ℕ) → List Flow → List (Message ℕ) → List Flow → Bool → Served ℕ
-served turn opened messages below heads above want_read = record {
+abbrev served : Turn → Openness → List (Message ℕ) → List Flow → List (Message ℕ) → List Flow → Bool → List QueueName → TurnOutcome ℕ
+served turn opened messages below heads above want_read enabled = record {
   turn = turn;
-  from = end Open (queue [] []) (record { messages = messages; flows = below; want_read = want_read; no_enable = false });
-  to = end opened (queue heads above) (queue [] []);
+  state = pair (end Open (queue [] []) (record { messages = messages; flows = below; want_read = want_read; no_enable = false })) (end opened (queue heads above) (queue [] [])) enabled;
+  gone = [];
 }
 
-pub no-turn-towards-a-side-that-is-closed : map (λ opened. serves opened three roomy roomy) (Never ∷ Closed ∷ []) ≡ served Blocked Never three roomy (ordinary (7 ∷ 8 ∷ []) ∷ []) roomy false ∷ served Blocked Closed three roomy (ordinary (7 ∷ 8 ∷ []) ∷ []) roomy false ∷ []
+pub no-turn-towards-a-side-that-is-closed : map (λ opened. serves opened three roomy roomy) (Never ∷ Closed ∷ []) ≡ served Blocked Never three roomy (ordinary (7 ∷ 8 ∷ []) ∷ []) roomy false [] ∷ served Blocked Closed three roomy (ordinary (7 ∷ 8 ∷ []) ∷ []) roomy false [] ∷ []
 no-turn-towards-a-side-that-is-closed = refl
 
 -- two bytes at the mark of two: the head is full, and a writer waits there
-pub full-head-blocks : serves Open three roomy (flow 2 1 false ∷ []) ≡ served Blocked Open three roomy (ordinary (7 ∷ 8 ∷ []) ∷ []) (flow 2 1 true ∷ []) false
-unfolding band_of size_of cells_of is_high_priority is_held
+pub full-head-blocks : serves Open three roomy (flow 2 1 false ∷ []) ≡ served Blocked Open three roomy (ordinary (7 ∷ 8 ∷ []) ∷ []) (flow 2 1 true ∷ []) false []
+unfolding carried band_of size_of cells_of is_high_priority is_held
 full-head-blocks = refl
 
 -- a band of its own isn't full, and its own mark holds an M_PROTO back
 pub other-band-goes-on : (serves Open (proto ∷ []) [] (flow 2 1 false ∷ flow 2 1 false ∷ flow 1 0 false ∷ [])).turn ≡ Moved 5
-unfolding rank_of band_of size_of cells_of is_high_priority is_held
+unfolding carried rank_of band_of size_of cells_of is_high_priority is_held
 other-band-goes-on = refl
 
-pub full-band-blocks : (serves Open (proto ∷ []) [] (flow 2 1 false ∷ flow 2 1 false ∷ flow 0 0 false ∷ [])).to.head.queue.flows ≡ flow 2 1 false ∷ flow 2 1 false ∷ flow 0 0 true ∷ []
-unfolding band_of size_of cells_of is_high_priority is_held
+pub full-band-blocks : (serves Open (proto ∷ []) [] (flow 2 1 false ∷ flow 2 1 false ∷ flow 0 0 false ∷ [])).state.slave.head.queue.flows ≡ flow 2 1 false ∷ flow 2 1 false ∷ flow 0 0 true ∷ []
+unfolding carried band_of size_of cells_of is_high_priority is_held
 full-band-blocks = refl
 
 -- no flow control holds a message of high priority back; it goes before what stands there
-pub urgent-goes-on : serves Open (urgent ∷ three) roomy (flow 2 1 false ∷ []) ≡ served (Moved 1) Open three roomy (urgent ∷ ordinary (7 ∷ 8 ∷ []) ∷ []) (flow 2 1 false ∷ []) false
-unfolding rank_of band_of size_of cells_of is_high_priority is_held
+pub urgent-goes-on : serves Open (urgent ∷ three) roomy (flow 2 1 false ∷ []) ≡ served (Moved 1) Open three roomy (urgent ∷ ordinary (7 ∷ 8 ∷ []) ∷ []) (flow 2 1 false ∷ []) false (driver_of Master ∷ [])
+unfolding carried rank_of band_of size_of cells_of is_high_priority is_held
 urgent-goes-on = refl
 
 -- a turn lets writers of its own queue go at the low mark: two bytes are left, at the mark two and at one
-pub turn-relieves-its-queue : map (λ low. (serves Open three (flow 9 low true ∷ []) roomy).from.driver.queue.flows) (2 ∷ 1 ∷ []) ≡ (flow 9 2 false ∷ []) ∷ (flow 9 1 true ∷ []) ∷ []
-unfolding rank_of band_of size_of cells_of is_high_priority is_held
+pub turn-relieves-its-queue : map (λ low. (serves Open three (flow 9 low true ∷ []) roomy).state.master.driver.queue.flows) (2 ∷ 1 ∷ []) ≡ (flow 9 2 false ∷ []) ∷ (flow 9 1 true ∷ []) ∷ []
+unfolding carried rank_of band_of size_of cells_of is_high_priority is_held
 turn-relieves-its-queue = refl
 
 -- a zero-length message that goes on lets nobody go
-pub empty-turn-relieves-nobody : serves Open (ordinary [] ∷ []) (flow 9 2 true ∷ []) roomy ≡ served (Moved 0) Open [] (flow 9 2 true ∷ []) (ordinary (7 ∷ 8 ∷ []) ∷ ordinary [] ∷ []) roomy true
-unfolding rank_of band_of size_of cells_of is_high_priority is_held
+pub empty-turn-relieves-nobody : serves Open (ordinary [] ∷ []) (flow 9 2 true ∷ []) roomy ≡ served (Moved 0) Open [] (flow 9 2 true ∷ []) (ordinary (7 ∷ 8 ∷ []) ∷ ordinary [] ∷ []) roomy true []
+unfolding carried rank_of band_of size_of cells_of is_high_priority is_held
 empty-turn-relieves-nobody = refl
 
 -- queues with no service: nothing but that they aren't enabled any more
-pub other-turns-are-idle : map (λ name. turned plain name Idle (pair idle_end idle_end (head_of Slave ∷ record { side = Slave; place = Ldterm; way = Down } ∷ []))) (head_of Slave ∷ record { side = Slave; place = Ldterm; way = Down } ∷ []) ≡ record { turn = Idle; state = pair idle_end idle_end (record { side = Slave; place = Ldterm; way = Down } ∷ []) } ∷ record { turn = Idle; state = pair idle_end idle_end (head_of Slave ∷ []) } ∷ []
+pub other-turns-are-idle : map (λ name. turned plain name Idle (pair idle_end idle_end (head_of Slave ∷ record { side = Slave; place = Ldterm; way = Down } ∷ []))) (head_of Slave ∷ record { side = Slave; place = Ldterm; way = Down } ∷ []) ≡ record { turn = Idle; state = pair idle_end idle_end (record { side = Slave; place = Ldterm; way = Down } ∷ []); gone = [] } ∷ record { turn = Idle; state = pair idle_end idle_end (head_of Slave ∷ []); gone = [] } ∷ []
 other-turns-are-idle = refl
 
 pub whole-turns : map (λ name. whole_turn name (pair (waiting three) (waiting []) [])) (driver_of Master ∷ driver_of Slave ∷ head_of Master ∷ record { side = Slave; place = Ldterm; way = Down } ∷ []) ≡ Moved 1 ∷ Moved 0 ∷ Idle ∷ Idle ∷ []

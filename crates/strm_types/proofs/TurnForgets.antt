@@ -1,7 +1,7 @@
 -- Forgetting the origins of cells commutes with turns of the drivers.
 use Rattle.std.proofs.Common.{ℕ, ◌≡◌, Bool, true, false, cond, List, [], ◌∷◌, refl, sym, ap, ◌∙◌}
 use Rattle.std.specs.Prelude.{◌==◌, ◌&&◌, ◌||◌, not}
-use Rattle.strm_types.specs.declared.answers.Turn.TheVariants.{Moved, Blocked, Idle}
+use Rattle.strm_types.specs.declared.answers.Turn.TheVariants.{Moved, Blocked}
 use Rattle.strm_types.specs.declared.kinds.MsgKind.{MsgKind}
 use Rattle.strm_types.specs.declared.names.Side.{Side}
 use Rattle.strm_types.specs.declared.names.Side.TheVariants.{Master, Slave}
@@ -10,7 +10,7 @@ use Rattle.strm_types.specs.Message.{Message, size_of, band_of, is_held, map_mes
 use Rattle.strm_types.specs.Names.{before, driver_of, enable_if, enable_some, is_open, other}
 use Rattle.strm_types.specs.Origins.{map_carried}
 use Rattle.strm_types.specs.Puts.{delivered}
-use Rattle.strm_types.specs.Queue.{Queue, Flow, is_full, is_none_left, left_with, relieved, relieves, with_writer_at, map_messages, map_queue}
+use Rattle.strm_types.specs.Queue.{Queue, is_full, is_none_left, left_with, relieved, relieves, with_writer_at, map_messages, map_queue}
 use Rattle.strm_types.specs.State.{State, stream, with_stream, with_head_queue, map_stream, map_state}
 use Rattle.strm_types.specs.Turns.{TurnOutcome, blocked_at_head, driver_serves, driver_turned, held_back, is_stopped, map_turn_outcome, moved_across, stayed_put, turn_ended, turned_queue, up_across, with_driver}
 use Rattle.strm_types.proofs.EmptiedForgets.{stream-forgets}

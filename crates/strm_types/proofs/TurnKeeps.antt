@@ -1,6 +1,6 @@
 -- A turn loses no cell, and leaves a side that isn't open nothing to be read.
-use Rattle.std.proofs.Common.{ℕ, ◌≡◌, ◌+◌, Bool, true, false, cond, List, [], ◌∷◌, refl, sym, ap, ◌∙◌, arith}
-use Rattle.std.specs.Prelude.{◌==◌, ◌||◌, not}
+use Rattle.std.proofs.Common.{ℕ, ◌≡◌, ◌+◌, Bool, true, false, cond, List, [], ◌∷◌, refl, ap, arith}
+use Rattle.std.specs.Prelude.{◌==◌, not}
 use Rattle.strm_types.specs.declared.answers.Turn.{Turn}
 use Rattle.strm_types.specs.declared.names.Side.{Side}
 use Rattle.strm_types.specs.declared.names.Side.TheVariants.{Master, Slave}
@@ -15,7 +15,7 @@ use Rattle.strm_types.specs.Places.{weight_gone}
 use Rattle.strm_types.specs.Puts.{delivered}
 use Rattle.strm_types.specs.Queue.{Queue, left_with, relieved, weight}
 use Rattle.strm_types.specs.State.{State, stream}
-use Rattle.strm_types.specs.Turns.{TurnOutcome, blocked_at_head, driver_serves, driver_turned, held_back, is_stopped, moved_across, turned, turned_at, turned_queue, turn_ended, up_across, with_driver}
+use Rattle.strm_types.specs.Turns.{TurnOutcome, blocked_at_head, driver_serves, held_back, is_stopped, moved_across, turned, turned_at, turned_queue, turn_ended, up_across, with_driver}
 use Rattle.strm_types.proofs.Deliveries.{delivered-keeps, delivered-unread}
 use Rattle.strm_types.proofs.Weights.{weight-take}
 

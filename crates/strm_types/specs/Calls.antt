@@ -1,5 +1,5 @@
 -- The calls on a pair: what each one does where nothing refuses it.
-use Rattle.std.specs.Prelude.{ℕ, Bool, false, not, min, ◌==◌, ◌||◌, if◌then◌else◌, List, []}
+use Rattle.std.specs.Prelude.{ℕ, false, not, min, List, []}
 use denote.Ref.{Bor}
 use Rattle.strm_types.specs.declared.limits.TheConstants.{READ_MAX}
 use Rattle.strm_types.specs.declared.answers.Answer.{Answer}
@@ -12,7 +12,6 @@ use Rattle.strm_types.specs.declared.names.Side.TheVariants.{Master}
 use Rattle.strm_types.specs.declared.names.Openness.TheVariants.{Open}
 use Rattle.strm_types.specs.Cells.{Cells, cells_written, bytes_of}
 use Rattle.strm_types.specs.Names.{driver_of, head_of, direction_from, before, enable_if, enable_some}
-use Rattle.strm_types.specs.Queue.{Queue, left_with, relieved, relieves}
 use Rattle.strm_types.specs.State.{State, stream, with_stream, with_driver_queue, with_head_queue, new_head, book, with_book, map_state}
 use Rattle.strm_types.specs.Books.{with_written}
 use Rattle.strm_types.specs.Reads.{head_draw, read_queue, read_lets_go}

@@ -1,6 +1,6 @@
 -- Which refusal a call or a turn meets: the first whose condition holds, in this order. A side that isn't open; an
 -- argument; a book that is full; a full journal; too few free blocks; what the state says.
-use Rattle.std.specs.Prelude.{ℕ, Bool, true, false, not, ◌&&◌, ◌||◌, ◌==◌, nat_lt, nat_le, ◌+◌, ◌-◌, List, length, Option, None, Some}
+use Rattle.std.specs.Prelude.{ℕ, Bool, true, false, not, ◌&&◌, ◌||◌, nat_lt, nat_le, ◌+◌, ◌-◌, List, length, Option, None, Some}
 use Rattle.strm_types.specs.declared.limits.Config.{Config}
 use Rattle.strm_types.specs.declared.events.Caller.{Caller}
 use Rattle.strm_types.specs.declared.names.QueueName.{QueueName}

@@ -15,6 +15,7 @@ pub mod laws;
 mod limits;
 mod modes;
 mod names;
+pub mod put_laws;
 mod refusals;
 mod rules;
 mod spots;

@@ -1,0 +1,38 @@
+//! What follows from the definitions of puts in a pair (STREAMS Programming Guide, "Put Procedures"): at its heads, at its
+//! drivers, and at places where nothing stands. Each law is the contract of a function that does nothing, and holds of bytes and
+//! of bytes with their origin alike.
+
+ghost use Rattle.std.specs.Prelude.{◌≡◌, ◌<◌, ◌≤◌, Bool};
+ghost use Rattle.strm_types.specs.declared.limits.TheConstants.{HOPS};
+ghost use Rattle.strm_types.specs.declared.spots.Spot.{Spot};
+ghost use Rattle.strm_types.specs.Deliver.{Falls};
+ghost use Rattle.strm_types.specs.Kept.{NothingUnread, state_weight};
+ghost use Rattle.strm_types.specs.Message.{Message};
+ghost use Rattle.strm_types.specs.Origins.{PutsAgree};
+ghost use Rattle.strm_types.specs.Places.{PutKeeps};
+ghost use Rattle.strm_types.specs.Puts.{SameEnds, delivered, far, put_in};
+ghost use Rattle.strm_types.specs.State.{State, map_state};
+
+/// What a put sends on has less before it than what was put, wherever that was; and from the places of a stream, of which the
+/// driver's is the fourth below the head, no message has more before it than a delivery hands on.
+pub fn puts_fall<C>()
+    ensures fall { Falls {C = C} far put_in }
+    ensures within { (to : Spot) (m : Message C) → to.at ≤ 4 → far to m < HOPS }
+{}
+
+/// No put loses or makes a cell: of any cells, as many as before stand on the queues, are sent on, or have gone by a rule.
+pub fn puts_keep_cells<C>()
+    ensures { (p : C → Bool) → PutKeeps p (state_weight p) put_in }
+{}
+
+/// Puts do the same to cells and to what these are mapped to, as where their origins are forgotten.
+pub fn puts_forget_origins<C, D>()
+    ensures { (f : C → D) → PutsAgree f (map_state f) put_in put_in }
+{}
+
+/// No delivery opens or closes a side, unlocks the slave, numbers an ioctl or books a byte, and a side that isn't open has
+/// nothing for its readers behind one, where it had nothing before.
+pub fn deliveries_leave_the_ends<C>()
+    ensures same { (to : Spot) (m : Message C) (s : State C) → SameEnds s (delivered to m s).state }
+    ensures unread { (to : Spot) (m : Message C) (s : State C) → NothingUnread s → NothingUnread (delivered to m s).state }
+{}
