@@ -7,6 +7,7 @@ mod reading;
 mod standing;
 
 pub use head::{Head, Waiting};
+pub use reading::read;
 
 #[cfg(test)]
 mod tests;

@@ -193,7 +193,7 @@ fn tell(fates: &mut Fates, direction: Dir, given: usize, discarded: usize, dropp
 }
 
 /// Gives up to `n` bytes of the first messages, tells by which rules bytes go, and says whether a waiting writer is let go.
-pub(crate) fn read<B: Blocks>(
+pub fn read<B: Blocks>(
     store: &mut B,
     queue: &mut Queue,
     read: ReadMode,

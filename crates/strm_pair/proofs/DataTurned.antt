@@ -10,11 +10,13 @@ use Rattle.strm_types.specs.declared.names.QueueName.{QueueName}
 use Rattle.strm_types.specs.Deliver.{Carried}
 use Rattle.strm_types.specs.Heads.{is_doubled, is_pcproto}
 use Rattle.strm_types.specs.Message.{Message, has_parts, size_of, band_of}
-use Rattle.strm_types.specs.Names.{other, is_open, enable_some}
+use Rattle.strm_types.specs.Names.{other, driver_of, is_open, enable_if, enable_some}
 use Rattle.strm_types.specs.Puts.{delivered}
-use Rattle.strm_types.specs.Queue.{Queue, is_none_left, put_on}
-use Rattle.strm_types.specs.State.{State, stream, with_stream, with_head_queue}
-use Rattle.strm_types.specs.Turns.{TurnOutcome, up_across, is_stopped, driver_serves, driver_turned, moved_across}
+use Rattle.strm_types.specs.Queue.{Queue, is_none_left, left_with, put_on, relieved, relieves, with_writer_at}
+use Rattle.strm_queue.specs.Stored.{moved_on}
+use Rattle.strm_types.specs.State.{State, Stream, stream, with_stream, with_driver_queue, with_head_queue}
+use Rattle.strm_types.specs.declared.answers.Turn.{Turn}
+use Rattle.strm_types.specs.Turns.{TurnOutcome, up_across, is_stopped, held_back, with_driver, turn_ended, blocked_at_head, driver_serves, driver_turned, moved_across}
 use Rattle.strm_pair.specs.DataTurns as data
 use Rattle.strm_pair.specs.DataTurns.{data_turned}
 
@@ -34,3 +36,105 @@ delivered-data : (side : Side) (m : Message ℕ) (s : State ℕ) → has_parts m
     → delivered (up_across side) m s ≡ stands_there (other side) m s
 delivered-data Master m s parts kind opened = rw (opened, parts, not-doubled m s.slave.head.queue.messages kind) refl
 delivered-data Slave m s parts kind opened = rw (opened, parts, not-doubled m s.master.head.queue.messages kind) refl
+
+-- the state behind a turn that took an M_DATA message of this size, as both say it
+module _ (q : Queue ℕ) (rest : List (Message ℕ)) where
+  abbrev after : Queue ℕ
+  after = record q { messages = rest; want_read = is_none_left rest }
+
+  moved-messages : (zero : Bool) → (cond zero after (relieved after)).messages ≡ rest
+  moved-messages true = refl
+  moved-messages false = refl
+
+  flipped : (zero : Bool) → cond (not zero) (relieved after) after ≡ cond zero after (relieved after)
+  flipped true = refl
+  flipped false = refl
+
+abbrev by_side : Side → Queue ℕ → Stream ℕ → List QueueName → State ℕ → State ℕ
+by_side side from to names s = record (with_stream (other side) to (with_stream side (with_driver_queue from (stream side s)) s)) { enabled = names }
+
+module _ (side : Side) (m : Message ℕ) (rest : List (Message ℕ)) (s : State ℕ) where
+  abbrev from : Queue ℕ
+  from = (stream side s).driver.queue
+
+  abbrev above : Stream ℕ
+  above = stream (other side) s
+
+  abbrev taken : Bool → Queue ℕ
+  taken zero = cond zero (after from rest) (relieved (after from rest))
+
+  -- what the code's definition gives
+  abbrev gives : Bool → State ℕ
+  gives zero = by_side side (taken zero) (with_head_queue (put_on m above.head.queue) above) (enable_if (not (is_none_left rest)) (driver_of side) s.enabled) s
+
+  given : (zero : Bool) → by_side side (taken zero) (with_head_queue (put_on m above.head.queue) above) (enable_if (not (is_none_left (taken zero).messages)) (driver_of side) s.enabled) s ≡ gives zero
+  given zero = ap (λ (ms : List (Message ℕ)). by_side side (taken zero) (with_head_queue (put_on m above.head.queue) above) (enable_if (not (is_none_left ms)) (driver_of side) s.enabled) s) (moved-messages from rest zero)
+
+-- what the end of the turn gives, once the message stands there
+ended-data : (side : Side) (m : Message ℕ) (rest : List (Message ℕ)) (s : State ℕ) (zero : Bool) → (size_of m == 0) ≡ zero
+    → turn_ended side (size_of m) (stands_there (other side) m (with_driver side (left_with rest (stream side s).driver.queue) s)).state ≡ gives side m rest s zero
+ended-data Master m rest s zero is =
+    let q = after s.master.driver.queue rest in
+    let to = with_head_queue (put_on m s.slave.head.queue) s.slave in
+    let more = not (is_none_left rest) in
+    ap (λ (z : Bool). by_side Master (cond (not z) (relieved q) q) to (enable_if more (driver_of Master) (enable_some (not z && relieves q) None s.enabled)) s) is
+    ∙ ap (λ (names : List QueueName). by_side Master (cond (not zero) (relieved q) q) to (enable_if more (driver_of Master) names) s) (enable-none (not zero && relieves q) s.enabled)
+    ∙ ap (λ (p : Queue ℕ). by_side Master p to (enable_if more (driver_of Master) s.enabled) s) (flipped s.master.driver.queue rest zero)
+ended-data Slave m rest s zero is =
+    let q = after s.slave.driver.queue rest in
+    let to = with_head_queue (put_on m s.master.head.queue) s.master in
+    let more = not (is_none_left rest) in
+    ap (λ (z : Bool). by_side Slave (cond (not z) (relieved q) q) to (enable_if more (driver_of Slave) (enable_some (not z && relieves q) None s.enabled)) s) is
+    ∙ ap (λ (names : List QueueName). by_side Slave (cond (not zero) (relieved q) q) to (enable_if more (driver_of Slave) names) s) (enable-none (not zero && relieves q) s.enabled)
+    ∙ ap (λ (p : Queue ℕ). by_side Slave p to (enable_if more (driver_of Slave) s.enabled) s) (flipped s.slave.driver.queue rest zero)
+
+abbrev outcome : Turn → State ℕ → TurnOutcome ℕ
+outcome turn s = record { turn = turn; state = s; gone = [] }
+
+moved-data : (side : Side) (m : Message ℕ) (rest : List (Message ℕ)) (s : State ℕ) → has_parts m ≡ true → m.kind ≡ kinds.Data → is_open (stream (other side) s).opened ≡ true
+    → moved_across side m rest s ≡ outcome (Moved (size_of m)) (gives side m rest s (size_of m == 0))
+moved-data Master m rest s parts kind opened =
+    let before = with_driver Master (left_with rest s.master.driver.queue) s in
+    ap (λ (t : Carried ℕ (State ℕ)). record { turn = Moved (size_of m); state = turn_ended Master (size_of m) t.state; gone = t.gone }) (delivered-data Master m before parts kind opened)
+    ∙ ap (λ (t : State ℕ). outcome (Moved (size_of m)) t) (ended-data Master m rest s (size_of m == 0) refl)
+moved-data Slave m rest s parts kind opened =
+    let before = with_driver Slave (left_with rest s.slave.driver.queue) s in
+    ap (λ (t : Carried ℕ (State ℕ)). record { turn = Moved (size_of m); state = turn_ended Slave (size_of m) t.state; gone = t.gone }) (delivered-data Slave m before parts kind opened)
+    ∙ ap (λ (t : State ℕ). outcome (Moved (size_of m)) t) (ended-data Slave m rest s (size_of m == 0) refl)
+
+-- a queue whose first message, if there is one, is M_DATA
+abbrev pub StartsWithData : List (Message ℕ) → Type 0
+StartsWithData [] = Unit {0}
+StartsWithData (m ∷ rest) = (has_parts m ≡ true) × (m.kind ≡ kinds.Data)
+
+abbrev same_as : data.TurnedTo → TurnOutcome ℕ
+same_as t = outcome t.turn t.state
+
+abbrev turned_from : Side → State ℕ → data.Served → TurnOutcome ℕ
+turned_from side s served =
+    outcome served.turn (record (with_stream (other side) served.to (with_stream side served.from s)) {
+      enabled = enable_if (data.goes_on served.turn served.from.driver.queue) (driver_of side) s.enabled;
+    })
+
+serves-data : (side : Side) (ms : List (Message ℕ)) (s : State ℕ) → StartsWithData ms → driver_serves side ms s ≡ turned_from side s (data.driver_serves ms (stream side s) (stream (other side) s))
+serves-data Master [] s is = refl
+serves-data Slave [] s is = refl
+serves-data Master (m ∷ rest) s is = at (is_open s.slave.opened) (is_stopped m s.slave.head.queue) refl
+  where
+    at : (o st : Bool) → is_open s.slave.opened ≡ o
+        → cond (not o) (outcome Blocked (with_driver Master (held_back s.master.driver.queue) s)) (cond st (outcome Blocked (blocked_at_head Master m (with_driver Master (held_back s.master.driver.queue) s))) (moved_across Master m rest s))
+        ≡ turned_from Master s (cond (not o) (record { turn = Blocked; from = with_driver_queue (held_back s.master.driver.queue) s.master; to = s.slave }) (cond st (record { turn = Blocked; from = with_driver_queue (held_back s.master.driver.queue) s.master; to = with_head_queue (record s.slave.head.queue { flows = with_writer_at (band_of m) s.slave.head.queue.flows }) s.slave }) (record { turn = Moved (size_of m); from = with_driver_queue (moved_on (size_of m) rest s.master.driver.queue) s.master; to = with_head_queue (put_on m s.slave.head.queue) s.slave })))
+    at false st opened = refl
+    at true true opened = refl
+    at true false opened = moved-data Master m rest s is.0 is.1 opened ∙ ap (λ (t : State ℕ). outcome (Moved (size_of m)) t) (sym (given Master m rest s (size_of m == 0)))
+serves-data Slave (m ∷ rest) s is = at (is_open s.master.opened) (is_stopped m s.master.head.queue) refl
+  where
+    at : (o st : Bool) → is_open s.master.opened ≡ o
+        → cond (not o) (outcome Blocked (with_driver Slave (held_back s.slave.driver.queue) s)) (cond st (outcome Blocked (blocked_at_head Slave m (with_driver Slave (held_back s.slave.driver.queue) s))) (moved_across Slave m rest s))
+        ≡ turned_from Slave s (cond (not o) (record { turn = Blocked; from = with_driver_queue (held_back s.slave.driver.queue) s.slave; to = s.master }) (cond st (record { turn = Blocked; from = with_driver_queue (held_back s.slave.driver.queue) s.slave; to = with_head_queue (record s.master.head.queue { flows = with_writer_at (band_of m) s.master.head.queue.flows }) s.master }) (record { turn = Moved (size_of m); from = with_driver_queue (moved_on (size_of m) rest s.slave.driver.queue) s.slave; to = with_head_queue (put_on m s.master.head.queue) s.master })))
+    at false st opened = refl
+    at true true opened = refl
+    at true false opened = moved-data Slave m rest s is.0 is.1 opened ∙ ap (λ (t : State ℕ). outcome (Moved (size_of m)) t) (sym (given Slave m rest s (size_of m == 0)))
+
+pub turned-data : (side : Side) (s : State ℕ) → StartsWithData (stream side s).driver.queue.messages → driver_turned side s ≡ same_as (data_turned side s)
+turned-data side s is = serves-data side (stream side s).driver.queue.messages s is

@@ -1,4 +1,3 @@
-pub mod TakenFirst
 pub mod Peeked
 pub mod Passed
 pub mod Sides
@@ -8,7 +7,6 @@ pub mod Steps
 pub mod Shown
 pub mod DataLemmas
 pub mod DataQueues
-pub mod DataRead
 pub mod StreamLemmas
 pub mod JournalLemmas
 mod PlainWrites

@@ -1,4 +1,3 @@
-pub mod Reads
 pub mod DataTurns
 pub mod Streams
 pub mod Journals

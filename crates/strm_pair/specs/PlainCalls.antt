@@ -1,14 +1,14 @@
 -- Writes and reads of plain bytes, which have no origin to give or to forget.
-use Rattle.std.specs.Prelude.{ℕ, min, ◌==◌, ◌||◌, if◌then◌else◌, List, []}
+use Rattle.std.specs.Prelude.{ℕ, min, List}
 use Rattle.strm_types.specs.declared.limits.TheConstants.{READ_MAX}
 use Rattle.strm_types.specs.declared.names.Side.{Side}
 use Rattle.strm_types.specs.declared.answers.Answer.TheVariants.{Count, Bytes}
-use Rattle.strm_types.specs.Names.{driver_of, head_of, before, direction_from, enable_if, enable_some}
+use Rattle.strm_types.specs.Names.{driver_of, head_of, before, direction_from, direction_of, enable_if, enable_some}
 use Rattle.strm_types.specs.State.{State, stream, with_stream, with_driver_queue, with_head_queue, book, with_book}
 use Rattle.strm_types.specs.Books.{with_written}
-use Rattle.strm_types.specs.Queue.{is_none_left}
-use Rattle.strm_types.specs.Calls.{Outcome, queue_after, lets_go}
-use Rattle.strm_types.specs.Head.{head_read}
+use Rattle.strm_types.specs.Calls.{Outcome}
+use Rattle.strm_types.specs.Deliver.{Fate}
+use Rattle.strm_types.specs.Reads.{head_draw, read_queue, read_lets_go, read_gone}
 use Rattle.strm_types.specs.Write.{written}
 
 -- a write of these bytes on a side's stream
@@ -25,20 +25,21 @@ wrote_plain side bytes s =
       };
     }
 
--- a read of up to n bytes, which are some, on a side's stream whose head isn't empty
-abbrev pub read_some : Side → ℕ → State ℕ → Outcome ℕ
-read_some side n s =
-    let above = stream side s in
-    let taken = head_read (min n READ_MAX) above.head.queue.messages in
-    record {
-      answer = Bytes taken.given;
-      state = record (with_stream side (with_head_queue (queue_after taken above.head.queue) above) s) {
-        enabled = enable_some (lets_go taken above.head.queue) (before (head_of side)) s.enabled;
-      };
-    }
-
 -- a read of up to n bytes on a side's stream
 abbrev pub read_plain : Side → ℕ → State ℕ → Outcome ℕ
 read_plain side n s =
-    if n == 0 || is_none_left (stream side s).head.queue.messages then record { answer = Bytes []; state = s }
-    else read_some side n s
+    let above = stream side s in
+    let h = above.head in
+    let most = min n READ_MAX in
+    record {
+      answer = Bytes (head_draw h.read_mode h.control_mode most h.queue.messages).given;
+      state = record (with_stream side (with_head_queue (read_queue h.read_mode h.control_mode most h.queue) above) s) {
+        enabled = enable_some (read_lets_go h.read_mode h.control_mode most h.queue) (before (head_of side)) s.enabled;
+      };
+    }
+
+-- what goes by it
+abbrev pub read_lets : Side → ℕ → State ℕ → List (Fate ℕ)
+read_lets side n s =
+    let h = (stream side s).head in
+    read_gone (direction_of (head_of side)) h.read_mode h.control_mode (min n READ_MAX) h.queue.messages

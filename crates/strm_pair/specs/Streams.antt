@@ -1,16 +1,18 @@
 -- What the two streams stand for, beside their store.
 use Rattle.std.specs.Prelude.{ℕ, ◌≡◌, ◌≢◌, ◌+◌, []}
+use Rattle.strm_types.specs.declared.modes.ReadMode.TheVariants.{ByteStream}
+use Rattle.strm_types.specs.declared.modes.ControlMode.TheVariants.{Refuse}
 use Rattle.strm_types.specs.State.{Stream}
 use Rattle.strm_pair.specs.DataTurns.{Served, driver_serves}
 use Rattle.strm_blocks.specs.Blocks.{StoreValue, list_at}
 use Rattle.strm_pair.specs.declared.ends.End.{End}
 use Rattle.strm_queue.specs.Stored.{queue_in, messages_on, IsReady, IsDataQueue, KeepsBoth}
 
--- the plain stream of a side
+-- the plain stream of a side, whose readers read in the modes of a new head
 abbrev pub stream_in : StoreValue → End → Stream ℕ
 stream_in s e = record {
   opened = e.opened;
-  head = record { queue = queue_in s e.head; hung_up = e.hung_up };
+  head = record { queue = queue_in s e.head; read_mode = ByteStream; control_mode = Refuse; hung_up = e.hung_up };
   driver = record { queue = queue_in s e.driver };
 }
 

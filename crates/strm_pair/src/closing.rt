@@ -4,8 +4,9 @@ ghost use Rattle.std.specs.Prelude.{◌≡◌, false};
 ghost use Rattle.strm_types.specs.Queue.{new_queue};
 ghost use Rattle.strm_queue.specs.declared.limits.TheConstants.{HEAD_HIGH, HEAD_LOW};
 ghost use Rattle.strm_queue.specs.Stored.{queue_in, IsReady, Keeps};
-ghost use Rattle.strm_types.specs.Emptied.{head_behind, driver_behind, head_emptied, driver_emptied, reached, write_flushed, read_flushed, flushed_on, closed_at};
+ghost use Rattle.strm_types.specs.Emptied.{head_behind, driver_behind, head_emptied, driver_emptied, closed_at};
 ghost use Rattle.strm_types.specs.Deliver.{tallied};
+ghost use Rattle.strm_types.specs.FlushEffect.{reached, write_flushed, read_flushed, flush_effect};
 ghost use Rattle.strm_queue.specs.Choices.{choice_of, IsChoice};
 
 use crate::ends::End;
@@ -176,10 +177,10 @@ impl Streams {
         requires held { AreHeld (B.value store.old) self.old }
         requires valid { IsChoice chosen }
         ensures state { state_in (B.value store.new) self.new
-            ≡ (flushed_on (choice_of chosen) side what (state_in (B.value store.old) self.old)).state }
+            ≡ (flush_effect (choice_of chosen) side what (state_in (B.value store.old) self.old)).state }
         ensures held { AreHeld (B.value store.new) self.new }
         ensures pool { SamePool (B.value store.old) (B.value store.new) }
-        ensures told { told.new ≡ tallied (flushed_on (choice_of chosen) side what
+        ensures told { told.new ≡ tallied (flush_effect (choice_of chosen) side what
             (state_in (B.value store.old) self.old)).gone told.old }
     {
         match what {

@@ -8,7 +8,6 @@ mod journal;
 mod looking;
 mod pair;
 mod passing;
-mod reading;
 mod refusals;
 mod sending;
 mod streams;

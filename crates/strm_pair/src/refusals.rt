@@ -127,7 +127,9 @@ impl Streams {
             Side::Slave => self.slave.hung_up,
             Side::Master => {
                 self.master.hung_up
-                    || (self.slave.opened.is_closed() && self.slave.driver.is_empty(store))
+                    || (self.slave.opened.is_closed()
+                        && self.slave.driver.is_empty(store)
+                        && self.master.head.is_empty(store))
             }
         }
     }

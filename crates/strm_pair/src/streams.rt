@@ -15,18 +15,18 @@ ghost use Rattle.strm_types.specs.Write.{chunk_count};
 ghost use Rattle.strm_types.specs.Journal.{reply_in, answer_len, content_max};
 ghost use Rattle.strm_blocks.specs.Blocks.{StoreValue, free_m, free_d, empty_store};
 ghost use Rattle.strm_pair.specs.Streams.{IsBlank, IsSide, stream_in};
-ghost use Rattle.strm_pair.specs.PlainCalls.{wrote_plain, read_some, read_plain};
+ghost use Rattle.strm_pair.specs.PlainCalls.{wrote_plain, read_plain, read_lets};
 
 use crate::ends::End;
 use crate::passing::{goes_on, serve};
-use crate::reading::read;
 use crate::sending::send;
 use strm_blocks::Blocks;
 use strm_frame::Enabled;
+use strm_head::read;
 use strm_queue::emptying::Chosen;
 use strm_queue::{Flush, HEAD_HIGH, HEAD_LOW, OTHER_HIGH, OTHER_LOW, Queue};
 use strm_types::{
-    Answer, Book, Caller, Event, Fates, Openness, Place, QueueName, READ_MAX, ReadBytes, Rule,
+    Answer, Book, Caller, Event, Fates, Openness, Place, QueueName, READ_MAX, ReadBytes, ReadMode,
     Side, Turn, chunk_count,
 };
 
@@ -123,30 +123,8 @@ impl Streams {
         down.taken
     }
 
-    // Reads up to `n` bytes, which are some, from a side's head into `out`.
-    fn read_some<B: Blocks>(&mut self, store: &mut B, side: Side, n: u32, out: &mut ReadBytes)
-        requires held { AreHeld (B.value store.old) self.old }
-        requires some { 0 < n }
-        requires fresh { out.old.items ≡ [] }
-        ensures answer { Bytes out.new.items ≡ (read_some side n (state_in (B.value store.old) self.old)).answer }
-        ensures most { length out.new.items ≤ min n READ_MAX }
-        ensures state { state_in (B.value store.new) self.new
-            ≡ (read_some side n (state_in (B.value store.old) self.old)).state }
-        ensures held { AreHeld (B.value store.new) self.new }
-        ensures pool { SamePool (B.value store.old) (B.value store.new) }
-    {
-        let wanted = (n as usize).min(READ_MAX);
-        let goes = match side {
-            Side::Master => read(store, &mut self.master.head, wanted, out),
-            Side::Slave => read(store, &mut self.slave.head, wanted, out),
-        };
-        if goes {
-            self.enabled.enable_found(side.head().before());
-        }
-    }
-
-    /// Reads up to `n` bytes from a side's head into `out`: nothing where it is empty.
-    pub fn read<B: Blocks>(&mut self, store: &mut B, side: Side, n: u32, out: &mut ReadBytes)
+    /// Reads up to `n` bytes from a side's head into `out`, and tells by which rule they go.
+    pub fn read<B: Blocks>(&mut self, store: &mut B, side: Side, n: u32, out: &mut ReadBytes, told: &mut Fates)
         requires held { AreHeld (B.value store.old) self.old }
         requires fresh { out.old.items ≡ [] }
         ensures answer { Bytes out.new.items ≡ (read_plain side n (state_in (B.value store.old) self.old)).answer }
@@ -155,9 +133,17 @@ impl Streams {
             ≡ (read_plain side n (state_in (B.value store.old) self.old)).state }
         ensures held { AreHeld (B.value store.new) self.new }
         ensures pool { SamePool (B.value store.old) (B.value store.new) }
+        ensures told { told.new ≡ tallied (read_lets side n (state_in (B.value store.old) self.old)) told.old }
     {
-        if n > 0 && !self.end(side).head.is_empty(store) {
-            self.read_some(store, side, n, out);
+        let wanted = (n as usize).min(READ_MAX);
+        let mode = ReadMode::ByteStream;
+        let direction = side.head().direction();
+        let goes = match side {
+            Side::Master => read(store, &mut self.master.head, mode, wanted, out, direction, told),
+            Side::Slave => read(store, &mut self.slave.head, mode, wanted, out, direction, told),
+        };
+        if goes {
+            self.enabled.enable_found(side.head().before());
         }
     }
 
@@ -210,10 +196,8 @@ impl Streams {
             Event::Push { .. } | Event::Pop | Event::Look => Answer::Done,
             Event::Write { bytes } => Answer::Count(self.write(store, caller.side, bytes)),
             Event::Read { n } => {
-                self.read(store, caller.side, *n, out);
-                let given = out.len();
-                told.tell(caller.side.head().direction(), Rule::Read, given);
-                Answer::Bytes(given)
+                self.read(store, caller.side, *n, out, told);
+                Answer::Bytes(out.len())
             }
         }
     }
@@ -251,6 +235,7 @@ impl Streams {
             ≡ (turned plain name result (state_in (B.value store.old) self.old)).state }
         ensures held { AreHeld (B.value store.new) self.new }
         ensures pool { SamePool (B.value store.old) (B.value store.new) }
+        ensures none_gone { (turned plain name result (state_in (B.value store.old) self.old)).gone ≡ [] }
     {
         self.enabled.remove(name);
         match name.place {

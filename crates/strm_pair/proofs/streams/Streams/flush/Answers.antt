@@ -1,5 +1,5 @@
 -- Both sides of a flush, one after the other.
-use Rattle.strm_types.specs.Emptied.{write_flushed, read_flushed}
+use Rattle.strm_types.specs.FlushEffect.{write_flushed, read_flushed}
 use Rattle.strm_pair.specs.Pairs.{state_in}
 use Rattle.strm_queue.specs.Choices.{choice_of}
 use Rattle.strm_pair.proofs.Reaching.{then-state, then-told}

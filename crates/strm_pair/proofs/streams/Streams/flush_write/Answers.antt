@@ -2,7 +2,8 @@
 use Rattle.std.proofs.Common.{ap, ◌∙◌}
 use Rattle.strm_types.specs.declared.rules.Rule.TheVariants.{Flushed}
 use Rattle.strm_types.specs.Deliver.{tallied}
-use Rattle.strm_types.specs.Emptied.{driver_emptied, reached}
+use Rattle.strm_types.specs.Emptied.{driver_emptied}
+use Rattle.strm_types.specs.FlushEffect.{reached}
 use Rattle.strm_types.specs.Names.{other}
 use Rattle.strm_pair.specs.Pairs.{state_in}
 use Rattle.strm_queue.specs.Choices.{choice_of}
