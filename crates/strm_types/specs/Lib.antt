@@ -23,6 +23,7 @@ pub mod Ioctls
 pub mod Drivers
 pub mod Heads
 pub mod Puts
+pub mod FlushEffect
 pub mod Calls
 pub mod Refused
 pub mod Journal
