@@ -8,6 +8,7 @@ mod answers;
 mod books;
 mod entries;
 mod events;
+pub mod flush_laws;
 mod flushing;
 pub mod head_laws;
 mod ioctls;
