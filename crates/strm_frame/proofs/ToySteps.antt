@@ -11,7 +11,10 @@ use Rattle.strm_types.specs.Message.{Message}
 use Rattle.strm_types.specs.declared.kinds.MsgKind.TheVariants as kinds
 use Rattle.strm_blocks.specs.Blocks.{StoreValue}
 use Rattle.strm_msg.specs.Made.{MadeOf, copies_of, pieces}
-use Rattle.strm_frame.specs.Hands.{CanPut}
+use Rattle.strm_frame.specs.declared.parcels.Sent.{Sent}
+use Rattle.strm_frame.specs.Outboxes.{parcels_in, cost_of}
+use Rattle.strm_frame.specs.Serves.{later_cost}
+use Rattle.strm_frame.specs.Hands.{CanPut, HasRoom}
 use Rattle.strm_frame.proofs.Handing.{alone-can}
 use Rattle.strm_frame.specs.Toys.{is_flush, onward, far_at, counts}
 
@@ -50,3 +53,10 @@ pub made-alone : (s t : StoreValue) (i : ℕ) (bytes : List ℕ) → s.hand ≡ 
 made-alone s t i bytes none m =
     let chain = copies_of m.made.numbers (pieces kinds.Data 0 bytes) in
     alone-can t i chain (λ _. 0) (ap (λ v. v.hand) m.made.after ∙ ap (λ h. record { name = i; chain = chain } ∷ h) none) (λ j. refl)
+
+-- nothing is sent, and no call follows
+pub no-room : {M : Type 0} (name : M → ℕ) (s : StoreValue) (cost : Spot → Message ℕ → ℕ) (turn_cost : Spot → Bool → ℕ) (here : Spot) (all : List (Sent M)) → all ≡ [] → HasRoom s (later_cost cost turn_cost here false (parcels_in name s all))
+unfolding cost_of parcels_in
+no-room name s cost turn_cost here all none =
+    let e = ap (λ xs. cost_of cost (parcels_in name s xs)) none in
+    record { mblks = omega arith; dblks = omega arith }

@@ -8,6 +8,7 @@ use Rattle.strm_types.specs.declared.names.Way.TheVariants.{Up, Down}
 use Rattle.strm_types.specs.declared.spots.Spot.{Spot}
 use Rattle.strm_types.specs.Message.{Message}
 use Rattle.strm_types.specs.Deliver.{Took, Acted, toward}
+use Rattle.strm_types.specs.Service.{Serving}
 
 abbrev pub is_flush : MsgKind → Bool
 is_flush Flush = true
@@ -49,3 +50,7 @@ counts to m n =
 -- how far it is to the top
 abbrev pub upward : {C : Type 0} → Spot → Message C → ℕ
 upward to m = to.at
+
+-- a service procedure that has nothing to do
+abbrev pub idle : {C P : Type 0} → P → Serving C P
+idle p = record { acted = record { state = p; notes = []; sent = []; gone = [] }; bytes = 0; again = false }
