@@ -10,12 +10,14 @@ use Rattle.std.proofs.lemmas.Bool.Decides.{nat_tests}
 use Rattle.strm_types.specs.Message.{Message}
 use Rattle.strm_types.specs.declared.kinds.MsgKind.TheVariants as kinds
 use Rattle.strm_blocks.specs.Blocks.{StoreValue}
+use Rattle.strm_queue.specs.declared.queue.Queue.{Queue}
+use Rattle.strm_queue.specs.Stored.{Changes}
 use Rattle.strm_msg.specs.Made.{MadeOf, copies_of, pieces}
 use Rattle.strm_frame.specs.declared.parcels.Sent.{Sent}
 use Rattle.strm_frame.specs.Outboxes.{parcels_in, cost_of}
 use Rattle.strm_frame.specs.Serves.{later_cost}
-use Rattle.strm_frame.specs.Hands.{CanPut, HasRoom}
-use Rattle.strm_frame.proofs.Handing.{alone-can}
+use Rattle.strm_frame.specs.Hands.{once, OnlyOwn, CanPut, HasRoom}
+use Rattle.strm_frame.proofs.Handing.{alone-can, once-apart}
 use Rattle.strm_frame.specs.Toys.{is_flush, onward, far_at, counts}
 
 -- a message that comes up, turned or not
@@ -60,3 +62,10 @@ unfolding cost_of parcels_in
 no-room name s cost turn_cost here all none =
     let e = ap (λ xs. cost_of cost (parcels_in name s xs)) none in
     record { mblks = omega arith; dblks = omega arith }
+
+-- nothing but the queue's own list changes
+pub own-list : (s t : StoreValue) (q q' : Queue) → Changes s t q q' → OnlyOwn s t (once q.list) (once q'.list)
+own-list s t q q' is = record {
+  lists = λ k none. is.others k (λ e. once-apart q.list k none (sym e));
+  owns_same = λ k. ap (λ l. once l k) is.list;
+}

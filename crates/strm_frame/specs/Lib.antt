@@ -4,3 +4,4 @@ pub mod Serves
 pub mod Stacks
 pub mod StackLaws
 pub mod Toys
+pub mod ToyLaws

@@ -29,7 +29,7 @@ fn is_flush(kind: MsgKind) -> bool
 }
 
 // Which way a message goes on.
-fn onward(kind: MsgKind, way: Way) -> Way
+pub fn onward(kind: MsgKind, way: Way) -> Way
     ensures { result ≡ onward kind way }
 {
     match way {

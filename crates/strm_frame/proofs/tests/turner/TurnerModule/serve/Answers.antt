@@ -1,7 +1,4 @@
 -- Nothing is done.
-use Rattle.std.proofs.Common.{ℕ, ◌≤◌, ◌+◌, [], refl, arith}
-use Rattle.strm_blocks.proofs.Laws.{free_m-is}
-use Rattle.strm_frame.specs.Hands.{HasRoom}
 use Rattle.strm_frame.specs.Toys.{far, nothing}
 use Rattle.strm_frame.proofs.Handing.{still-hands, none-hands, none-chains, none-lower, no-parts}
 use Rattle.strm_frame.proofs.ToySteps.{no-room}
