@@ -11,7 +11,7 @@ use Rattle.strm_types.specs.declared.spots.Spot.{Spot}
 use Rattle.strm_frame.specs.declared.parcels.Sent.{Sent}
 use Rattle.strm_types.specs.Deliver.{Parcel, AreLower}
 use Rattle.strm_msg.specs.Messages.{IsChain}
-use Rattle.strm_frame.specs.Hands.{once, CanPut, Hands, SameFor, HasRoom, Spends}
+use Rattle.strm_frame.specs.Hands.{once, CanPut, Handles, Hands, SameFor, HasRoom, Spends}
 use Rattle.strm_frame.specs.Outboxes.{times_sent, parcels_in, parcel_in, AreChains, cost_of}
 
 same-name : (i : ℕ) → eqb i i ≡ true
@@ -49,6 +49,10 @@ times-without i j (h ∷ hand) some =
           let more = ih (omega arith) in
           rw miss (omega arith))
     ]
+
+-- nothing changed in hand
+pub still-hands : (s : StoreValue) (keeps : ℕ → ℕ) → Handles s s (λ _. 0) keeps keeps (λ _. 0)
+still-hands s keeps = record { counts = λ i. refl; others = λ i gone kept some. refl }
 
 pub freed-hands : (s : StoreValue) (i : ℕ) (keeps : ℕ → ℕ) → IsStore s → CanPut s i keeps → Hands s (dropped s i) i keeps keeps (λ _. 0)
 freed-hands s i keeps st can =
@@ -179,9 +183,9 @@ module _ {M : Type 0} (name : M → ℕ) where
   no-parts s all none = ap (parcels_in name s) none
 
   -- nothing is sent
-  pub none-hands : (s0 s : StoreValue) (m : ℕ) (kept keeps : ℕ → ℕ) (all : List (Sent M)) → all ≡ [] → Hands s0 s m kept keeps (λ _. 0) → Hands s0 s m kept keeps (λ i. times_sent name i all)
+  pub none-hands : (s0 s : StoreValue) (gone kept keeps : ℕ → ℕ) (all : List (Sent M)) → all ≡ [] → Handles s0 s gone kept keeps (λ _. 0) → Handles s0 s gone kept keeps (λ i. times_sent name i all)
   unfolding times_sent
-  none-hands s0 s m kept keeps all none put = record {
+  none-hands s0 s gone kept keeps all none put = record {
     counts = λ i. let c = put.counts i in let e = ap (times_sent name i) none in omega arith;
     others = put.others;
   }

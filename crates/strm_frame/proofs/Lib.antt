@@ -2,4 +2,6 @@ pub mod Handing
 pub mod Shifting
 pub mod Turns
 pub mod Beside
+pub mod Nearest
+pub mod Emptiness
 pub mod ToySteps

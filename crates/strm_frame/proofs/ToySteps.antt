@@ -10,9 +10,14 @@ use Rattle.std.proofs.lemmas.Bool.Decides.{nat_tests}
 use Rattle.strm_types.specs.Message.{Message}
 use Rattle.strm_types.specs.declared.kinds.MsgKind.TheVariants as kinds
 use Rattle.strm_blocks.specs.Blocks.{StoreValue}
+use Rattle.strm_queue.specs.declared.queue.Queue.{Queue}
+use Rattle.strm_queue.specs.Stored.{Changes}
 use Rattle.strm_msg.specs.Made.{MadeOf, copies_of, pieces}
-use Rattle.strm_frame.specs.Hands.{CanPut}
-use Rattle.strm_frame.proofs.Handing.{alone-can}
+use Rattle.strm_frame.specs.declared.parcels.Sent.{Sent}
+use Rattle.strm_frame.specs.Outboxes.{parcels_in, cost_of}
+use Rattle.strm_frame.specs.Serves.{later_cost}
+use Rattle.strm_frame.specs.Hands.{once, OnlyOwn, CanPut, HasRoom}
+use Rattle.strm_frame.proofs.Handing.{alone-can, once-apart}
 use Rattle.strm_frame.specs.Toys.{is_flush, onward, far_at, counts}
 
 -- a message that comes up, turned or not
@@ -50,3 +55,17 @@ pub made-alone : (s t : StoreValue) (i : ℕ) (bytes : List ℕ) → s.hand ≡ 
 made-alone s t i bytes none m =
     let chain = copies_of m.made.numbers (pieces kinds.Data 0 bytes) in
     alone-can t i chain (λ _. 0) (ap (λ v. v.hand) m.made.after ∙ ap (λ h. record { name = i; chain = chain } ∷ h) none) (λ j. refl)
+
+-- nothing is sent, and no call follows
+pub no-room : {M : Type 0} (name : M → ℕ) (s : StoreValue) (cost : Spot → Message ℕ → ℕ) (turn_cost : Spot → Bool → ℕ) (here : Spot) (all : List (Sent M)) → all ≡ [] → HasRoom s (later_cost cost turn_cost here false (parcels_in name s all))
+unfolding cost_of parcels_in
+no-room name s cost turn_cost here all none =
+    let e = ap (λ xs. cost_of cost (parcels_in name s xs)) none in
+    record { mblks = omega arith; dblks = omega arith }
+
+-- nothing but the queue's own list changes
+pub own-list : (s t : StoreValue) (q q' : Queue) → Changes s t q q' → OnlyOwn s t (once q.list) (once q'.list)
+own-list s t q q' is = record {
+  lists = λ k none. is.others k (λ e. once-apart q.list k none (sym e));
+  owns_same = λ k. ap (λ l. once l k) is.list;
+}

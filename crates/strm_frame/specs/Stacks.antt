@@ -1,5 +1,5 @@
 -- The modules of a stream, beside a store.
-use Rattle.std.specs.Prelude.{ℕ, ◌≤◌, List, sum_by}
+use Rattle.std.specs.Prelude.{ℕ, ◌≤◌, ◌<◌, List, sum_by, Option, None, Some}
 use Rattle.std.specs.List.{AllByRecursion}
 use Rattle.strm_blocks.specs.Blocks.{StoreValue}
 
@@ -11,3 +11,8 @@ all_of f xs k = sum_by (λ x. f x k) xs
 pub record AreHeld {X : Type 0} (IsHeld : StoreValue → X → Type 0) (owns : X → ℕ → ℕ) (s : StoreValue) (xs : List X) : Type 0 where
   pub each : AllByRecursion (IsHeld s) xs
   pub apart : (k : ℕ) → all_of owns xs k ≤ 1
+
+-- a place is that of one of so many modules, where it is one: from 1 up
+abbrev pub IsPlace : ℕ → Option ℕ → Type 0
+IsPlace many None = Unit {0}
+IsPlace many (Some place) = (0 < place) × (place ≤ many)

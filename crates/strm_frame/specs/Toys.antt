@@ -1,13 +1,17 @@
 -- What the toys of the tests do.
-use Rattle.std.specs.Prelude.{ℕ, ◌+◌, ◌-◌, ◌%◌, ◌^◌, ◌==◌, if◌then◌else◌, Bool, true, false, [], ◌∷◌}
+use Rattle.std.specs.Prelude.{ℕ, List, Option, None, Some, ◌+◌, ◌-◌, ◌%◌, ◌^◌, ◌==◌, if◌then◌else◌, Bool, true, false, [], ◌∷◌}
 use Rattle.strm_types.specs.declared.kinds.MsgKind.{MsgKind}
 use Rattle.strm_types.specs.declared.kinds.MsgKind.TheVariants.{Flush}
 use Rattle.strm_types.specs.declared.names.ModuleName.{ModuleName}
 use Rattle.strm_types.specs.declared.names.Way.{Way}
 use Rattle.strm_types.specs.declared.names.Way.TheVariants.{Up, Down}
 use Rattle.strm_types.specs.declared.spots.Spot.{Spot}
+use Rattle.strm_types.specs.declared.spots.Note.{Note}
+use Rattle.strm_types.specs.declared.spots.Note.TheVariants.{Room}
+use Rattle.strm_types.specs.Queue.{Queue}
 use Rattle.strm_types.specs.Message.{Message}
 use Rattle.strm_types.specs.Deliver.{Took, Acted, toward}
+use Rattle.strm_types.specs.Service.{Serving}
 
 abbrev pub is_flush : MsgKind → Bool
 is_flush Flush = true
@@ -31,9 +35,9 @@ abbrev pub nothing : {C : Type 0} → Spot → Message C → ℕ
 nothing here m = 0
 
 -- the next message of a module that turns flushes
-abbrev pub turns : {C : Type 0} → Spot → Message C → ModuleName → Acted C ModuleName
-turns here m name = record {
-  state = name;
+abbrev pub turns : {C P : Type 0} → Spot → Message C → P → Acted C P
+turns here m p = record {
+  state = p;
   notes = [];
   sent = record { to = toward (onward m.kind here.way) here; message = m } ∷ [];
   gone = [];
@@ -49,3 +53,24 @@ counts to m n =
 -- how far it is to the top
 abbrev pub upward : {C : Type 0} → Spot → Message C → ℕ
 upward to m = to.at
+
+-- a service procedure that has nothing to do
+abbrev pub idle : {C P : Type 0} → P → Serving C P
+idle p = record { acted = record { state = p; notes = []; sent = []; gone = [] }; bytes = 0; again = false }
+
+-- a module with a write queue
+pub record Stock : Type 0 where
+  pub name : ModuleName
+  pub queue : Queue ℕ
+
+abbrev pub stock_queue : Way → Stock → Option (Queue ℕ)
+stock_queue Up p = None
+stock_queue Down p = Some p.queue
+
+abbrev pub with_stock : Way → Queue ℕ → Stock → Stock
+with_stock Up q p = p
+with_stock Down q p = record p { queue = q }
+
+-- that queues before it have room again
+abbrev pub room_notes : Bool → List Note
+room_notes room = if room then Room Down ∷ [] else []

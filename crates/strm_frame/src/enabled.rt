@@ -2,10 +2,11 @@
 
 ghost use Rattle.std.specs.Prelude.{◌≡◌, [], length};
 ghost use Rattle.strm_types.specs.Names.{is_enabled, enable, enable_if, enable_found, without};
+ghost use Rattle.strm_types.specs.Modules.{without_module};
 
 use arrayvec::ArrayVec;
 use std::marker::Model;
-use strm_types::QueueName;
+use strm_types::{ModuleName, QueueName, Side, Way};
 
 /// The enabled queues, in order of enabling, each once. Contracts see their names as a list.
 #[derive(Drop)]
@@ -87,5 +88,23 @@ impl Enabled {
             }
         }
         self.names = rest;
+    }
+
+    /// Takes the queues of a module off the list, read and write, that is taken off a side's stream itself.
+    pub fn forget(&mut self, side: Side, name: ModuleName)
+        ensures { self.new ≡ without_module side name self.old }
+    {
+        if let Some(place) = name.place() {
+            self.remove(QueueName {
+                side,
+                place,
+                way: Way::Up,
+            });
+            self.remove(QueueName {
+                side,
+                place,
+                way: Way::Down,
+            });
+        }
     }
 }

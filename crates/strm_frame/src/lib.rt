@@ -6,6 +6,11 @@ mod enabled;
 mod modules;
 mod parcels;
 mod places;
+mod popping;
+mod queues;
+mod room;
+mod service;
+mod serving;
 mod stack;
 
 pub use carrying::deliver;
@@ -13,6 +18,8 @@ pub use enabled::Enabled;
 pub use modules::{Acts, Module};
 pub use parcels::{Outbox, Sent};
 pub use places::Stations;
+pub use queues::{clear_queue, end_queue_turn};
+pub use service::{Asks, Served, TurnEnd};
 pub use stack::Stream;
 
 #[cfg(test)]

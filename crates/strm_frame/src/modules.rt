@@ -1,20 +1,28 @@
 //! What may stand on a stream between its head and its driver.
 
-ghost use Rattle.std.specs.Prelude.{ℕ, ◌≡◌, ◌<◌, ◌≤◌};
+ghost use Rattle.std.specs.Prelude.{ℕ, ◌≡◌, ◌<◌, ◌≤◌, length, Bool, List, Option};
 ghost use Rattle.strm_types.specs.declared.names.ModuleName.{ModuleName};
+ghost use Rattle.strm_types.specs.declared.names.Way.{Way};
 ghost use Rattle.strm_types.specs.declared.spots.Spot.{Spot};
 ghost use Rattle.strm_types.specs.Message.{Message};
-ghost use Rattle.strm_types.specs.declared.limits.TheConstants.{MODULES};
+ghost use Rattle.strm_types.specs.declared.limits.TheConstants.{BANDS, MODULES};
 ghost use Rattle.strm_types.specs.Deliver.{Acted, AreLower, tallied};
+ghost use Rattle.strm_types.specs.Queue.{Queue, bytes_of};
+ghost use Rattle.strm_types.specs.ModuleQueues.{has_queue, messages_at, full_at, waits, queue_changed};
+ghost use Rattle.strm_types.specs.Service.{Serving, turn_ended, end_relieves, has_more, cleared};
 ghost use Rattle.strm_blocks.specs.Blocks.{StoreValue, in_hand};
 ghost use Rattle.strm_msg.specs.Messages.{IsChain};
 ghost use Rattle.strm_frame.specs.Outboxes.{message_in, sent_of, times_sent, parcels_in, AreChains, cost_of};
-ghost use Rattle.strm_frame.specs.Hands.{CanPut, Hands, SamePool, SameOwn, OnlyOwn, HasRoom, Spends};
+ghost use Rattle.strm_queue.specs.Stored.{FreesBlocks};
+ghost use Rattle.strm_frame.specs.declared.service.Asks.{Asks};
+ghost use Rattle.strm_frame.specs.Serves.{IsBand, SameHand, later_cost};
+ghost use Rattle.strm_frame.specs.Hands.{AreIn, CanPut, Handles, Hands, SamePool, SameOwn, OnlyOwn, HasRoom, Spends};
 
 use crate::parcels::Outbox;
+use crate::service::{Asks, Served, TurnEnd};
 use arrayvec::ArrayVec;
 use strm_blocks::Blocks;
-use strm_types::{Fates, ModuleName, Note, Spot};
+use strm_types::{Band, Fates, ModuleName, Note, Rule, Side, Spot, Way};
 
 /// What a put at a module does, in this order: its queues come onto the enabled list, or those before them do, and messages
 /// are sent on.
@@ -47,11 +55,34 @@ pub trait Module<B: Blocks>: Drop {
     /// What a message does that is put here.
     ghost puts: { Spot → Message ℕ → Plain → Acted ℕ Plain };
 
+    /// Its queue of a way, where it has one: `Up` is its read queue, `Down` its write queue.
+    ghost queue_of: { Way → Plain → Option (Queue ℕ) };
+
+    /// The same module with another queue of a way, where it has one.
+    ghost with_queue: { Way → Queue ℕ → Plain → Plain };
+
+    /// Its unfinished line of input, and the same module without it.
+    ghost line_of: { Plain → List ℕ };
+
+    ghost without_line: { Plain → Plain };
+
+    /// What the first message of its queue of a way asks before it goes on.
+    ghost asks: { Way → Plain → Asks };
+
+    /// What a call of its service procedure does: the first one of a turn (false), and one more in the same turn (true).
+    ghost serves: { Spot → Bool → Plain → Serving ℕ Plain };
+
     /// How often a message can be handed on at most that is put here, with all that it gives rise to.
     ghost height: { Spot → Message ℕ → ℕ };
 
     /// How many blocks of each kind a message takes at most that is put here, with all that it gives rise to.
     ghost cost: { Spot → Message ℕ → ℕ };
+
+    /// How often a message can be handed on, less one, that its service procedure sends.
+    ghost turn_height: { Spot → ℕ };
+
+    /// How many blocks of each kind a call of its service procedure takes at most, the first one of a turn or one more.
+    ghost turn_cost: { Spot → Bool → ℕ };
 
     /// Its name.
     fn name(&self) -> ModuleName
@@ -85,6 +116,103 @@ pub trait Module<B: Blocks>: Drop {
             (cost here (message_in (B.value store.old) (B.name message)))
             (cost_of cost (parcels_in B.name (B.value store.new) (sent_of result.sent))) }
         ensures pool { SamePool (B.value store.old) (B.value store.new) };
+
+    /// Whether it has a queue of a way, with a service procedure.
+    fn has_queue(&self, way: Way) -> bool
+        ensures { (s : StoreValue) → result ≡ has_queue queue_of way (plain s self.now) };
+
+    /// Whether a band of its queue of a way is full. Without such a queue it isn't.
+    fn is_full(&self, store: &B, way: Way, band: Band) -> bool
+        requires held { IsHeld (B.value store.now) self.now }
+        requires band { band.0 < BANDS }
+        ensures { result ≡ full_at queue_of way band.0 (plain (B.value store.now) self.now) };
+
+    /// How many messages stand on its queue of a way, and how many bytes they have; nothing without such a queue.
+    fn sizes(&self, store: &B, way: Way) -> (usize, usize)
+        requires held { IsHeld (B.value store.now) self.now }
+        ensures messages { result.0 ≡ length (messages_at queue_of way (plain (B.value store.now) self.now)) }
+        ensures bytes { result.1 ≡ bytes_of (messages_at queue_of way (plain (B.value store.now) self.now)) };
+
+    /// Has a writer of a band wait at its queue of a way, until there is room again: want-write is set there.
+    fn let_wait(&mut self, way: Way, band: Band)
+        requires band { band.0 < BANDS }
+        ensures state { (s : StoreValue) →
+            plain s self.new ≡ waits queue_of with_queue way band.0 (plain s self.old) }
+        ensures held { (s : StoreValue) → IsHeld s self.old → IsHeld s self.new }
+        ensures owns { (k : ℕ) → owns self.new k ≡ owns self.old k }
+        ensures keeps { (i : ℕ) → keeps self.new i ≡ keeps self.old i };
+
+    /// What the first message of its queue of a way asks before it goes on. It has a queue that way.
+    fn asks(&self, store: &B, way: Way) -> Asks
+        requires held { IsHeld (B.value store.now) self.now }
+        ensures asks { result ≡ asks way (plain (B.value store.now) self.now) }
+        ensures band { IsBand result };
+
+    /// Treats the first message of its queue of a way: `srv(9E)`. `again` is for one more call in the same turn, once all
+    /// is delivered that the last one sent.
+    fn serve(&mut self, store: &mut B, here: Spot, again: bool, told: &mut Fates) -> Served<B::Mp>
+        requires held { IsHeld (B.value store.old) self.old }
+        requires kept { AreIn (B.value store.old) (λ _. 0) (keeps self.old) }
+        requires room { HasRoom (B.value store.old) (turn_cost here again) }
+        requires inside { 0 < here.at }
+        requires small { here.at ≤ MODULES }
+        ensures state { let s = B.value store.old in
+            plain (B.value store.new) self.new ≡ (serves here again (plain s self.old)).acted.state }
+        ensures notes { let s = B.value store.old in
+            result.acts.notes.items ≡ (serves here again (plain s self.old)).acted.notes }
+        ensures sent { let s = B.value store.old in
+            parcels_in B.name (B.value store.new) (sent_of result.acts.sent) ≡
+            (serves here again (plain s self.old)).acted.sent }
+        ensures told { let s = B.value store.old in
+            told.new ≡ tallied (serves here again (plain s self.old)).acted.gone told.old }
+        ensures bytes { let s = B.value store.old in result.bytes ≡ (serves here again (plain s self.old)).bytes }
+        ensures again { let s = B.value store.old in result.again ≡ (serves here again (plain s self.old)).again }
+        ensures held { IsHeld (B.value store.new) self.new }
+        ensures own { OnlyOwn (B.value store.old) (B.value store.new) (owns self.old) (owns self.new) }
+        ensures chains { AreChains B.name (B.value store.new) (sent_of result.acts.sent) }
+        ensures falls { AreLower height (turn_height here)
+            (parcels_in B.name (B.value store.new) (sent_of result.acts.sent)) }
+        ensures hands { Handles (B.value store.old) (B.value store.new) (λ _. 0) (keeps self.old) (keeps self.new)
+            (λ i. times_sent B.name i (sent_of result.acts.sent)) }
+        ensures room { HasRoom (B.value store.new) (later_cost cost turn_cost here result.again
+            (parcels_in B.name (B.value store.new) (sent_of result.acts.sent))) }
+        ensures pool { SamePool (B.value store.old) (B.value store.new) };
+
+    /// Ends a turn of its queue of a way, when all is delivered that was sent: want-read is set where the queue is empty and
+    /// cleared where it isn't. Where the turn took bytes, waiting writers are let go. A turn that treated nothing ends so
+    /// too, as its queue is empty or its first message may not go on.
+    fn end_turn(&mut self, store: &B, way: Way, took: bool) -> TurnEnd
+        requires held { IsHeld (B.value store.now) self.old }
+        ensures state { let s = B.value store.now in
+            plain s self.new ≡ queue_changed queue_of with_queue way (turn_ended took) (plain s self.old) }
+        ensures room { result.room ≡ end_relieves queue_of took way (plain (B.value store.now) self.old) }
+        ensures more { result.more ≡ has_more queue_of way (plain (B.value store.now) self.old) }
+        ensures held { IsHeld (B.value store.now) self.new }
+        ensures owns { (k : ℕ) → owns self.new k ≡ owns self.old k }
+        ensures keeps { (i : ℕ) → keeps self.new i ≡ keeps self.old i };
+
+    /// Lets all go that stands on its queues and in its line, before the module is taken off a side's stream. The bytes go by
+    /// a rule. It tells which queues before its own have room again.
+    fn clear(
+        &mut self,
+        store: &mut B,
+        side: Side,
+        rule: Rule,
+        told: &mut Fates,
+    ) -> ArrayVec<Note, 4>
+        requires held { IsHeld (B.value store.old) self.old }
+        requires rests { (i : ℕ) → keeps self.old i ≡ 0 }
+        ensures state { let s = B.value store.old in plain (B.value store.new) self.new ≡
+            (cleared queue_of with_queue line_of without_line side rule (plain s self.old)).state }
+        ensures notes { let s = B.value store.old in result.items ≡
+            (cleared queue_of with_queue line_of without_line side rule (plain s self.old)).notes }
+        ensures told { let s = B.value store.old in told.new ≡
+            tallied (cleared queue_of with_queue line_of without_line side rule (plain s self.old)).gone told.old }
+        ensures held { IsHeld (B.value store.new) self.new }
+        ensures rests { (i : ℕ) → keeps self.new i ≡ 0 }
+        ensures own { OnlyOwn (B.value store.old) (B.value store.new) (owns self.old) (owns self.new) }
+        ensures hand { SameHand (B.value store.old) (B.value store.new) }
+        ensures frees { FreesBlocks (B.value store.old) (B.value store.new) };
 
     /// It stands for the same, and fits, wherever its own lists are the same and what it keeps in hand is.
     ghost frame: { (s t : StoreValue) (x : Self) → SameOwn s t (owns x) (keeps x) → IsHeld s x →

@@ -14,10 +14,12 @@ pub mod Deliver
 pub mod Reads
 pub mod Gets
 pub mod Modules
+pub mod ModuleQueues
 pub mod Places
 pub mod Origins
 pub mod Turns
 pub mod Emptied
+pub mod Service
 pub mod Flushing
 pub mod Ioctls
 pub mod Drivers

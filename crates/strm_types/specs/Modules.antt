@@ -3,10 +3,23 @@ use Rattle.std.specs.Prelude.{ℕ, zero, suc, Bool, ◌&&◌, not, nat_lt, List,
 use Rattle.std.specs.List.{list_any}
 use Rattle.strm_types.specs.declared.limits.TheConstants.{MODULES}
 use Rattle.strm_types.specs.declared.names.ModuleName.{ModuleName}
+use Rattle.strm_types.specs.declared.names.Place.{Place}
+use Rattle.strm_types.specs.declared.names.QueueName.{QueueName}
+use Rattle.strm_types.specs.declared.names.Side.{Side}
+use Rattle.strm_types.specs.declared.names.Way.TheVariants.{Up, Down}
 use Rattle.strm_types.specs.declared.spots.Spot.{Spot}
 use Rattle.strm_types.specs.Message.{Message}
-use Rattle.strm_types.specs.Names.{same_module}
+use Rattle.strm_types.specs.Names.{same_module, place_of, without}
 use Rattle.strm_types.specs.Deliver.{Acted}
+
+-- the names of queues without those of a module that is taken off a side's stream
+abbrev pub without_place : Side → Option Place → List QueueName → List QueueName
+without_place side None names = names
+without_place side (Some place) names =
+    without (record { side = side; place = place; way = Down }) (without (record { side = side; place = place; way = Up }) names)
+
+abbrev pub without_module : Side → ModuleName → List QueueName → List QueueName
+without_module side name names = without_place side (place_of name) names
 
 module _ {P : Type 0} (name_of : P → ModuleName) where
   -- a module of this name stands there
@@ -22,13 +35,24 @@ module _ {P : Type 0} (name_of : P → ModuleName) where
   top_name [] = None
   top_name (p ∷ ps) = Some (name_of p)
 
-module _ {C P : Type 0} (puts : Spot → Message C → P → Acted C P) where
-  -- A message put at one of the modules, counted from the top, from 0. The others stay.
-  abbrev pub put_among : ℕ → Spot → Message C → List P → Acted C (List P)
-  put_among i to m [] = record { state = []; notes = []; sent = []; gone = [] }
-  put_among zero to m (p ∷ ps) =
-      let t = puts to m p in
+-- One of several modules changes, counted from the top, from 0. The others stay.
+abbrev pub change_among : {P : Type 0} → (P → P) → ℕ → List P → List P
+change_among change i [] = []
+change_among change zero (p ∷ ps) = change p ∷ ps
+change_among change (suc i) (p ∷ ps) = p ∷ change_among change i ps
+
+module _ {C P : Type 0} (acts : P → Acted C P) where
+  -- One of several modules acts, counted from the top, from 0. The others stay.
+  abbrev pub act_among : ℕ → List P → Acted C (List P)
+  act_among i [] = record { state = []; notes = []; sent = []; gone = [] }
+  act_among zero (p ∷ ps) =
+      let t = acts p in
       record { state = t.state ∷ ps; notes = t.notes; sent = t.sent; gone = t.gone }
-  put_among (suc i) to m (p ∷ ps) =
-      let t = put_among i to m ps in
+  act_among (suc i) (p ∷ ps) =
+      let t = act_among i ps in
       record { state = p ∷ t.state; notes = t.notes; sent = t.sent; gone = t.gone }
+
+module _ {C P : Type 0} (puts : Spot → Message C → P → Acted C P) where
+  -- a message put at one of the modules
+  abbrev pub put_among : ℕ → Spot → Message C → List P → Acted C (List P)
+  put_among i to m ps = act_among (puts to m) i ps

@@ -3,10 +3,10 @@
 ghost use Rattle.std.specs.Prelude.{◌≡◌};
 ghost use Rattle.strm_frame.specs.Toys.{is_flush, onward};
 
-use crate::{Acts, Module, Outbox, Sent};
+use crate::{Acts, Asks, Module, Outbox, Sent, Served, TurnEnd};
 use arrayvec::ArrayVec;
 use strm_blocks::Blocks;
-use strm_types::{Fates, ModuleName, MsgKind, Spot, Way};
+use strm_types::{Band, Fates, ModuleName, MsgKind, Note, Rule, Side, Spot, Way};
 
 #[derive(Drop)]
 pub struct Turner {
@@ -29,7 +29,7 @@ fn is_flush(kind: MsgKind) -> bool
 }
 
 // Which way a message goes on.
-fn onward(kind: MsgKind, way: Way) -> Way
+pub fn onward(kind: MsgKind, way: Way) -> Way
     ensures { result ≡ onward kind way }
 {
     match way {
@@ -40,9 +40,10 @@ fn onward(kind: MsgKind, way: Way) -> Way
 }
 
 impl<B: Blocks> Module<B> for Turner {
-    ghost use Rattle.std.specs.Prelude.{refl};
+    ghost use Rattle.std.specs.Prelude.{refl, None, []};
     ghost use Rattle.strm_types.specs.declared.names.ModuleName.{ModuleName};
-    ghost use Rattle.strm_frame.specs.Toys.{turns, far, nothing};
+    ghost use Rattle.strm_frame.specs.Toys.{turns, far, nothing, idle};
+    ghost use Rattle.strm_frame.specs.declared.service.Asks.TheVariants.{Empty};
 
     ghost Plain = { ModuleName };
 
@@ -57,6 +58,22 @@ impl<B: Blocks> Module<B> for Turner {
     ghost keeps = { λ x i. 0 };
 
     ghost puts = { turns };
+
+    ghost queue_of = { λ way p. None };
+
+    ghost with_queue = { λ way q p. p };
+
+    ghost line_of = { λ p. [] };
+
+    ghost without_line = { λ p. p };
+
+    ghost asks = { λ way p. Empty };
+
+    ghost serves = { λ here again p. idle p };
+
+    ghost turn_height = { λ here. 0 };
+
+    ghost turn_cost = { λ here again. 0 };
 
     ghost height = { far };
 
@@ -76,6 +93,58 @@ impl<B: Blocks> Module<B> for Turner {
                 message,
             }),
         }
+    }
+
+    fn has_queue(&self, _way: Way) -> bool {
+        false
+    }
+
+    fn is_full(&self, _store: &B, _way: Way, _band: Band) -> bool {
+        false
+    }
+
+    fn sizes(&self, _store: &B, _way: Way) -> (usize, usize) {
+        (0, 0)
+    }
+
+    fn let_wait(&mut self, _way: Way, _band: Band) {}
+
+    fn asks(&self, _store: &B, _way: Way) -> Asks {
+        Asks::Empty
+    }
+
+    fn serve(
+        &mut self,
+        _store: &mut B,
+        _here: Spot,
+        _again: bool,
+        _told: &mut Fates,
+    ) -> Served<B::Mp> {
+        Served {
+            acts: Acts {
+                notes: ArrayVec::new(),
+                sent: Outbox::none(),
+            },
+            bytes: 0,
+            again: false,
+        }
+    }
+
+    fn end_turn(&mut self, _store: &B, _way: Way, _took: bool) -> TurnEnd {
+        TurnEnd {
+            room: false,
+            more: false,
+        }
+    }
+
+    fn clear(
+        &mut self,
+        _store: &mut B,
+        _side: Side,
+        _rule: Rule,
+        _told: &mut Fates,
+    ) -> ArrayVec<Note, 4> {
+        ArrayVec::new()
     }
 
     ghost frame = { λ s t x same held. (refl, held) };

@@ -2,8 +2,9 @@
 use Rattle.std.proofs.Common.{get_or, map, refl, sym, ap, ◌∙◌}
 use Rattle.std.proofs.Math.ListN.{set}
 use Rattle.strm_types.specs.Deliver.{tallied}
+use Rattle.strm_frame.specs.Hands.{once}
 use Rattle.strm_frame.specs.Outboxes.{message_in, sent_of, times_sent}
-use Rattle.strm_frame.proofs.Beside.{put-state, put-sent, put-notes, put-gone, row-plain, row-held}
+use Rattle.strm_frame.proofs.Beside.{act-state, act-sent, act-notes, act-gone, row-plain, row-held}
 use Rattle.strm_frame.proofs.stack.put_among.Goals as goal
 
 pub returns-clause-state : goal.returns-clause-state
@@ -18,30 +19,30 @@ returns-clause-state g c =
     let y = c.put.new.self in
     let e = c.put.ensures in
     let xs = c.args.modules.now in
-    row-plain w.plain w.IsHeld w.owns w.keeps g.met.M.Module.frame s t n x d y (λ i. times_sent g.B.Blocks.name i (sent_of c.put.result.sent)) c.audit.ensures e.own e.hands e.pool xs c.args.at c.requires.within refl c.requires.held c.requires.can_put e.held
+    row-plain w.plain w.IsHeld w.owns w.keeps g.met.M.Module.frame s t (once n) x d y (λ i. times_sent g.B.Blocks.name i (sent_of c.put.result.sent)) c.audit.ensures e.own e.hands e.pool xs c.args.at c.requires.within refl c.requires.held c.requires.can_put e.held
     ∙ ap (λ p. set (map (w.plain s) xs) c.args.at p) e.state
-    ∙ sym (put-state w.puts c.args.to m (w.plain s) xs c.args.at x d c.requires.within refl)
+    ∙ sym (act-state (w.puts c.args.to m) (w.plain s) xs c.args.at x d c.requires.within refl)
 
 pub returns-clause-sent : goal.returns-clause-sent
 returns-clause-sent g c =
     let s = g.B.Blocks.value c.args.store.now in
     let m = message_in s (g.B.Blocks.name c.args.message) in
     let w = g.M.Module in
-    c.put.ensures.sent ∙ sym (put-sent w.puts c.args.to m (w.plain s) c.args.modules.now c.args.at (get_or c.args.modules.now c.args.at c.index-modules-at.result) c.index-modules-at.result c.requires.within refl)
+    c.put.ensures.sent ∙ sym (act-sent (w.puts c.args.to m) (w.plain s) c.args.modules.now c.args.at (get_or c.args.modules.now c.args.at c.index-modules-at.result) c.index-modules-at.result c.requires.within refl)
 
 pub returns-clause-notes : goal.returns-clause-notes
 returns-clause-notes g c =
     let s = g.B.Blocks.value c.args.store.now in
     let m = message_in s (g.B.Blocks.name c.args.message) in
     let w = g.M.Module in
-    c.put.ensures.notes ∙ sym (put-notes w.puts c.args.to m (w.plain s) c.args.modules.now c.args.at (get_or c.args.modules.now c.args.at c.index-modules-at.result) c.index-modules-at.result c.requires.within refl)
+    c.put.ensures.notes ∙ sym (act-notes (w.puts c.args.to m) (w.plain s) c.args.modules.now c.args.at (get_or c.args.modules.now c.args.at c.index-modules-at.result) c.index-modules-at.result c.requires.within refl)
 
 pub returns-clause-told : goal.returns-clause-told
 returns-clause-told g c =
     let s = g.B.Blocks.value c.args.store.now in
     let m = message_in s (g.B.Blocks.name c.args.message) in
     let w = g.M.Module in
-    c.put.ensures.told ∙ ap (λ fates. tallied fates c.args.told.now) (sym (put-gone w.puts c.args.to m (w.plain s) c.args.modules.now c.args.at (get_or c.args.modules.now c.args.at c.index-modules-at.result) c.index-modules-at.result c.requires.within refl))
+    c.put.ensures.told ∙ ap (λ fates. tallied fates c.args.told.now) (sym (act-gone (w.puts c.args.to m) (w.plain s) c.args.modules.now c.args.at (get_or c.args.modules.now c.args.at c.index-modules-at.result) c.index-modules-at.result c.requires.within refl))
 
 pub returns-clause-held : goal.returns-clause-held
 returns-clause-held g c =
@@ -49,4 +50,4 @@ returns-clause-held g c =
     let t = g.B.Blocks.value c.put.new.store in
     let w = g.M.Module in
     let e = c.put.ensures in
-    row-held w.plain w.IsHeld w.owns w.keeps g.met.M.Module.frame s t (g.B.Blocks.name c.args.message) (get_or c.args.modules.now c.args.at c.index-modules-at.result) c.index-modules-at.result c.put.new.self (λ i. times_sent g.B.Blocks.name i (sent_of c.put.result.sent)) c.audit.ensures e.own e.hands e.pool c.args.modules.now c.args.at c.requires.within refl c.requires.held c.requires.can_put e.held
+    row-held w.plain w.IsHeld w.owns w.keeps g.met.M.Module.frame s t (once (g.B.Blocks.name c.args.message)) (get_or c.args.modules.now c.args.at c.index-modules-at.result) c.index-modules-at.result c.put.new.self (λ i. times_sent g.B.Blocks.name i (sent_of c.put.result.sent)) c.audit.ensures e.own e.hands e.pool c.args.modules.now c.args.at c.requires.within refl c.requires.held c.requires.can_put e.held

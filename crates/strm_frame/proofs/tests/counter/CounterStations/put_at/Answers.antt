@@ -4,6 +4,7 @@ use Rattle.std.proofs.lemmas.Bool.Decides.{nat_tests}
 use Rattle.strm_types.specs.declared.names.Way.TheVariants.{Up}
 use Rattle.strm_types.specs.declared.spots.Spot.{Spot}
 use Rattle.strm_types.specs.Deliver.{Parcel, Took}
+use Rattle.strm_frame.specs.Hands.{once}
 use Rattle.strm_frame.specs.Outboxes.{message_in}
 use Rattle.strm_frame.specs.Toys.{upward, nothing, counts}
 use Rattle.strm_frame.proofs.Handing.{can-in_hand, freed-hands, freed-spends, none-hands, none-spends, none-chains, none-lower, no-parts, one-parts, one-chains, one-lower, one-hands, one-spends}
@@ -28,7 +29,7 @@ pub returns-then-to-eq0-clause-hands : goal.returns-then-to-eq0-clause-hands
 returns-then-to-eq0-clause-hands g c =
     let s = g.B.Blocks.value c.args.store.now in
     let n = g.B.Blocks.name c.args.message in
-    none-hands g.B.Blocks.name _ _ n (λ _. 0) _ _ c.none.ensures (rw c.free.ensures (freed-hands s n (λ _. 0) c.audit.ensures c.requires.can_put))
+    none-hands g.B.Blocks.name _ _ (once n) (λ _. 0) _ _ c.none.ensures (rw c.free.ensures (freed-hands s n (λ _. 0) c.audit.ensures c.requires.can_put))
 
 pub returns-then-to-eq0-clause-spends : goal.returns-then-to-eq0-clause-spends
 returns-then-to-eq0-clause-spends g c =

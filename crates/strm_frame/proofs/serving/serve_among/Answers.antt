@@ -1,0 +1,96 @@
+-- One module acts, and the others stand for the same.
+use Rattle.std.proofs.Common.{get_or, map, refl, sym, ap, ◌∙◌}
+use Rattle.std.proofs.Math.ListN.{set}
+use Rattle.strm_types.specs.Deliver.{tallied}
+use Rattle.strm_frame.specs.Outboxes.{sent_of, times_sent}
+use Rattle.strm_frame.proofs.Beside.{act-state, act-sent, act-notes, act-gone, said-of, part-can, row-plain, row-held, row-hands}
+use Rattle.strm_frame.proofs.serving.serve_among.Goals as goal
+
+pub returns-clause-state : goal.returns-clause-state
+returns-clause-state g c =
+    let s = g.B.Blocks.value c.args.store.now in
+    let w = g.M.Module in
+    let d = c.index-modules-at.result in
+    let xs = c.args.modules.now in
+    let t = g.B.Blocks.value c.serve.new.store in
+    let i = c.args.at in
+    let x = get_or xs i d in
+    let y = c.serve.new.self in
+    let e = c.serve.ensures in
+    row-plain w.plain w.IsHeld w.owns w.keeps g.met.M.Module.frame s t (λ _. 0) x d y (λ j. times_sent g.B.Blocks.name j (sent_of c.serve.result.acts.sent)) c.audit.ensures e.own e.hands e.pool xs i c.requires.within refl c.requires.held c.requires.kept e.held
+    ∙ ap (λ p. set (map (w.plain s) xs) i p) e.state
+    ∙ sym (act-state (λ p. (w.serves c.args.here c.args.again p).acted) (w.plain s) xs i x d c.requires.within refl)
+
+pub returns-clause-sent : goal.returns-clause-sent
+returns-clause-sent g c =
+    let s = g.B.Blocks.value c.args.store.now in
+    let w = g.M.Module in
+    let d = c.index-modules-at.result in
+    let xs = c.args.modules.now in
+    c.serve.ensures.sent ∙ sym (act-sent (λ p. (w.serves c.args.here c.args.again p).acted) (w.plain s) xs c.args.at (get_or xs c.args.at d) d c.requires.within refl)
+
+pub returns-clause-notes : goal.returns-clause-notes
+returns-clause-notes g c =
+    let s = g.B.Blocks.value c.args.store.now in
+    let w = g.M.Module in
+    let d = c.index-modules-at.result in
+    let xs = c.args.modules.now in
+    c.serve.ensures.notes ∙ sym (act-notes (λ p. (w.serves c.args.here c.args.again p).acted) (w.plain s) xs c.args.at (get_or xs c.args.at d) d c.requires.within refl)
+
+pub returns-clause-told : goal.returns-clause-told
+returns-clause-told g c =
+    let s = g.B.Blocks.value c.args.store.now in
+    let w = g.M.Module in
+    let d = c.index-modules-at.result in
+    let xs = c.args.modules.now in
+    c.serve.ensures.told ∙ ap (λ fates. tallied fates c.args.told.now) (sym (act-gone (λ p. (w.serves c.args.here c.args.again p).acted) (w.plain s) xs c.args.at (get_or xs c.args.at d) d c.requires.within refl))
+
+pub returns-clause-bytes : goal.returns-clause-bytes
+returns-clause-bytes g c =
+    let s = g.B.Blocks.value c.args.store.now in
+    let w = g.M.Module in
+    let d = c.index-modules-at.result in
+    let xs = c.args.modules.now in
+    c.serve.ensures.bytes ∙ sym (said-of (w.plain s) (λ p. (w.serves c.args.here c.args.again p).bytes) xs c.args.at (get_or xs c.args.at d) d _ c.requires.within refl)
+
+pub returns-clause-again : goal.returns-clause-again
+returns-clause-again g c =
+    let s = g.B.Blocks.value c.args.store.now in
+    let w = g.M.Module in
+    let d = c.index-modules-at.result in
+    let xs = c.args.modules.now in
+    c.serve.ensures.again ∙ sym (said-of (w.plain s) (λ p. (w.serves c.args.here c.args.again p).again) xs c.args.at (get_or xs c.args.at d) d _ c.requires.within refl)
+
+pub returns-clause-held : goal.returns-clause-held
+returns-clause-held g c =
+    let s = g.B.Blocks.value c.args.store.now in
+    let w = g.M.Module in
+    let d = c.index-modules-at.result in
+    let xs = c.args.modules.now in
+    let t = g.B.Blocks.value c.serve.new.store in
+    let i = c.args.at in
+    let x = get_or xs i d in
+    let y = c.serve.new.self in
+    let e = c.serve.ensures in
+    row-held w.plain w.IsHeld w.owns w.keeps g.met.M.Module.frame s t (λ _. 0) x d y (λ j. times_sent g.B.Blocks.name j (sent_of c.serve.result.acts.sent)) c.audit.ensures e.own e.hands e.pool xs i c.requires.within refl c.requires.held c.requires.kept e.held
+
+pub returns-clause-hands : goal.returns-clause-hands
+returns-clause-hands g c =
+    let s = g.B.Blocks.value c.args.store.now in
+    let w = g.M.Module in
+    let d = c.index-modules-at.result in
+    let xs = c.args.modules.now in
+    let t = g.B.Blocks.value c.serve.new.store in
+    let i = c.args.at in
+    let x = get_or xs i d in
+    let y = c.serve.new.self in
+    let e = c.serve.ensures in
+    row-hands w.plain w.IsHeld w.owns w.keeps g.met.M.Module.frame s t (λ _. 0) x d y (λ j. times_sent g.B.Blocks.name j (sent_of c.serve.result.acts.sent)) c.audit.ensures e.own e.hands e.pool xs i c.requires.within refl c.requires.held c.requires.kept e.held
+
+pub serve-requires-clause-kept : goal.serve-requires-clause-kept
+serve-requires-clause-kept g c =
+    let s = g.B.Blocks.value c.args.store.now in
+    let w = g.M.Module in
+    let d = c.index-modules-at.result in
+    let xs = c.args.modules.now in
+    part-can w.keeps s (λ _. 0) xs c.args.at (get_or xs c.args.at d) d c.requires.within refl c.requires.kept

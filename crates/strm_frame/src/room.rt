@@ -1,0 +1,208 @@
+//! Room past a place of a stream, by the queues of its modules (canputnext(9F), bcanput(9F); STREAMS Programming Guide,
+//! "Flow Control"). Places count from the head's, 0, over the modules from the top; the first module's place is 1.
+
+ghost use Rattle.std.specs.Prelude.{ℕ, ◌≡◌, ◌<◌, ◌≤◌, ◌-◌, false, [], length, map, slice_index_or};
+ghost use Rattle.strm_types.specs.declared.limits.TheConstants.{BANDS};
+ghost use Rattle.strm_types.specs.Queue.{bytes_of};
+ghost use Rattle.strm_types.specs.Modules.{change_among};
+ghost use Rattle.strm_types.specs.ModuleQueues.{at_place, messages_at, full_at, waits, place_below, place_above, place_past, place_before, can_pass, room_at, waits_at, waits_past};
+ghost use Rattle.strm_blocks.specs.Blocks.{StoreValue};
+ghost use Rattle.strm_frame.specs.Stacks.{all_of, AreHeld, IsPlace};
+
+use crate::modules::Module;
+use crate::stack::Stream;
+use strm_blocks::Blocks;
+use strm_types::{Band, Way};
+
+// The nearest of these modules below a place that has a queue of a way.
+fn place_below<B: Blocks, M: Module<B>>(modules: &[M], way: Way, at: usize) -> Option<usize>
+    ensures place { (s : StoreValue) → result ≡ place_below M.queue_of way at (map (M.plain s) modules.now) }
+    ensures inside { IsPlace (length modules.now) result }
+{
+    for index in at..modules.len() {
+        if modules[index].has_queue(way) {
+            return Some(index + 1);
+        }
+    }
+    None
+}
+
+// The nearest of these modules above a place that has a queue of a way.
+fn place_above<B: Blocks, M: Module<B>>(modules: &[M], way: Way, at: usize) -> Option<usize>
+    ensures place { (s : StoreValue) → result ≡ place_above M.queue_of way at (map (M.plain s) modules.now) }
+    ensures inside { IsPlace (length modules.now) result }
+{
+    let mut last = None;
+    for index in 0..modules.len() {
+        if index + 1 < at && modules[index].has_queue(way) {
+            last = Some(index + 1);
+        }
+    }
+    last
+}
+
+// Whether a band of a queue is full, of one of several modules, counted from 0.
+fn is_full_among<B: Blocks, M: Module<B>>(
+    store: &B,
+    modules: &[M],
+    at: usize,
+    way: Way,
+    band: Band,
+) -> bool
+    requires within { at < length modules.now }
+    requires held { AreHeld M.IsHeld M.owns (B.value store.now) modules.now }
+    requires band { band.0 < BANDS }
+    ensures { result ≡ slice_index_or (map (full_at M.queue_of way band.0) (map (M.plain (B.value store.now)) modules.now))
+        at false }
+{
+    modules[at].is_full(store, way, band)
+}
+
+// Whether a band of a queue has room at a place, where there is one.
+fn room_at<B: Blocks, M: Module<B>>(
+    store: &B,
+    modules: &[M],
+    place: Option<usize>,
+    way: Way,
+    band: Band,
+) -> Option<bool>
+    requires place { IsPlace (length modules.now) place }
+    requires held { AreHeld M.IsHeld M.owns (B.value store.now) modules.now }
+    requires band { band.0 < BANDS }
+    ensures { result ≡ room_at M.queue_of way band.0 (map (M.plain (B.value store.now)) modules.now) place }
+{
+    match place {
+        Some(place) => Some(!is_full_among(store, modules, place - 1, way, band)),
+        None => None,
+    }
+}
+
+// Has a writer of a band wait at a queue of one of several modules, counted from 0.
+fn let_wait_among<B: Blocks, M: Module<B>>(modules: &mut [M], at: usize, way: Way, band: Band)
+    requires within { at < length modules.old }
+    requires band { band.0 < BANDS }
+    ensures length { length modules.new ≡ length modules.old }
+    ensures state { (s : StoreValue) → map (M.plain s) modules.new ≡
+        change_among (waits M.queue_of M.with_queue way band.0) at (map (M.plain s) modules.old) }
+    ensures held { (s : StoreValue) → AreHeld M.IsHeld M.owns s modules.old → AreHeld M.IsHeld M.owns s modules.new }
+    ensures keeps { (i : ℕ) → all_of M.keeps modules.new i ≡ all_of M.keeps modules.old i }
+{
+    modules[at].let_wait(way, band);
+}
+
+// The same at a place, where there is one.
+fn let_wait_at<B: Blocks, M: Module<B>>(
+    modules: &mut [M],
+    place: Option<usize>,
+    way: Way,
+    band: Band,
+)
+    requires place { IsPlace (length modules.old) place }
+    requires band { band.0 < BANDS }
+    ensures length { length modules.new ≡ length modules.old }
+    ensures state { (s : StoreValue) → map (M.plain s) modules.new ≡
+        waits_at M.queue_of M.with_queue way band.0 (map (M.plain s) modules.old) place }
+    ensures held { (s : StoreValue) → AreHeld M.IsHeld M.owns s modules.old → AreHeld M.IsHeld M.owns s modules.new }
+    ensures keeps { (i : ℕ) → all_of M.keeps modules.new i ≡ all_of M.keeps modules.old i }
+{
+    match place {
+        Some(place) => let_wait_among(modules, place - 1, way, band),
+        None => {}
+    }
+}
+
+// How much stands on a queue of one of several modules, counted from 0.
+fn sizes_among<B: Blocks, M: Module<B>>(
+    store: &B,
+    modules: &[M],
+    at: usize,
+    way: Way,
+) -> (usize, usize)
+    requires within { at < length modules.now }
+    requires held { AreHeld M.IsHeld M.owns (B.value store.now) modules.now }
+    ensures messages { result.0 ≡ length (slice_index_or (map (messages_at M.queue_of way)
+        (map (M.plain (B.value store.now)) modules.now)) at []) }
+    ensures bytes { result.1 ≡ bytes_of (slice_index_or (map (messages_at M.queue_of way)
+        (map (M.plain (B.value store.now)) modules.now)) at []) }
+{
+    modules[at].sizes(store, way)
+}
+
+impl<M: Default + Drop> Stream<M> {
+    /// The place of the nearest module past a place that has a queue, as messages of a way go; None where no module there
+    /// has one, so that what stands behind the modules is next.
+    pub fn place_past<B: Blocks>(&self, way: Way, at: usize) -> Option<usize>
+    where
+        M: Module<B>,
+        ensures place { (s : StoreValue) → result ≡
+            place_past M.queue_of way at (map (M.plain s) self.now.modules.items) }
+        ensures inside { IsPlace (length self.now.modules.items) result }
+    {
+        match way {
+            Way::Down => place_below(self.modules.as_slice(), way, at),
+            Way::Up => place_above(self.modules.as_slice(), way, at),
+        }
+    }
+
+    /// The place of the nearest module before a place that has a queue, as messages of a way go: the queue that is
+    /// enabled when there is room again at the place ("back-enabling"). None where no module there has one.
+    pub fn place_before<B: Blocks>(&self, way: Way, at: usize) -> Option<usize>
+    where
+        M: Module<B>,
+        ensures place { (s : StoreValue) → result ≡
+            place_before M.queue_of way at (map (M.plain s) self.now.modules.items) }
+        ensures inside { IsPlace (length self.now.modules.items) result }
+    {
+        match way {
+            Way::Down => place_above(self.modules.as_slice(), way, at),
+            Way::Up => place_below(self.modules.as_slice(), way, at),
+        }
+    }
+
+    /// Whether a message of a band may go on past a place, as messages of a way go: whether that band isn't full of the
+    /// nearest queue there (canputnext(9F), bcanput(9F)). None where no module there has a queue, so that what stands
+    /// behind the modules is asked. Nobody waits for room by this.
+    pub fn can_pass<B: Blocks>(&self, store: &B, way: Way, band: Band, at: usize) -> Option<bool>
+    where
+        M: Module<B>,
+        requires held { AreHeld M.IsHeld M.owns (B.value store.now) self.now.modules.items }
+        requires band { band.0 < BANDS }
+        ensures { result ≡ can_pass M.queue_of way band.0 at
+            (map (M.plain (B.value store.now)) self.now.modules.items) }
+    {
+        let place = self.place_past(way, at);
+        room_at(store, self.modules.as_slice(), place, way, band)
+    }
+
+    /// Has a service procedure wait for room in a band of the nearest queue past a place, as messages of a way go:
+    /// want-write is set there. Nothing where no module there has a queue.
+    pub fn let_wait_past<B: Blocks>(&mut self, way: Way, band: Band, at: usize)
+    where
+        M: Module<B>,
+        requires { band.0 < BANDS }
+        ensures length { length self.new.modules.items ≡ length self.old.modules.items }
+        ensures state { (s : StoreValue) → map (M.plain s) self.new.modules.items ≡
+            waits_past M.queue_of M.with_queue way band.0 at (map (M.plain s) self.old.modules.items) }
+        ensures held { (s : StoreValue) → AreHeld M.IsHeld M.owns s self.old.modules.items →
+            AreHeld M.IsHeld M.owns s self.new.modules.items }
+        ensures keeps { (i : ℕ) → all_of M.keeps self.new.modules.items i ≡ all_of M.keeps self.old.modules.items i }
+    {
+        let place = self.place_past(way, at);
+        let_wait_at(self.modules.as_mut_slice(), place, way, band);
+    }
+
+    /// How many messages stand on a queue of the module at a place, and how many bytes they have; nothing without one.
+    pub fn sizes<B: Blocks>(&self, store: &B, place: usize, way: Way) -> (usize, usize)
+    where
+        M: Module<B>,
+        requires inside { 0 < place }
+        requires within { place ≤ length self.now.modules.items }
+        requires held { AreHeld M.IsHeld M.owns (B.value store.now) self.now.modules.items }
+        ensures messages { result.0 ≡ length (at_place (messages_at M.queue_of way) [] place
+            (map (M.plain (B.value store.now)) self.now.modules.items)) }
+        ensures bytes { result.1 ≡ bytes_of (at_place (messages_at M.queue_of way) [] place
+            (map (M.plain (B.value store.now)) self.now.modules.items)) }
+    {
+        sizes_among(store, self.modules.as_slice(), place - 1, way)
+    }
+}

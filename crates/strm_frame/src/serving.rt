@@ -1,0 +1,185 @@
+//! Turns of the modules' queues on a stream (srv(9E); STREAMS Programming Guide, "Service Procedures"). The layer above asks
+//! what the first message asks, and whether there is room past the place; it serves, delivers what was sent, and ends the
+//! turn.
+
+ghost use Rattle.std.specs.Prelude.{ℕ, ◌≡◌, ◌<◌, ◌≤◌, ◌-◌, false, length, map, slice_index_or};
+ghost use Rattle.strm_types.specs.declared.limits.TheConstants.{MODULES};
+ghost use Rattle.strm_types.specs.Deliver.{AreLower, tallied};
+ghost use Rattle.strm_types.specs.Modules.{change_among, act_among};
+ghost use Rattle.strm_types.specs.ModuleQueues.{at_place, queue_changed};
+ghost use Rattle.strm_types.specs.Service.{Serving, turn_ended, end_relieves, has_more};
+ghost use Rattle.strm_frame.specs.declared.service.Asks.TheVariants.{Empty};
+ghost use Rattle.strm_frame.specs.Hands.{AreIn, Handles, SamePool, HasRoom};
+ghost use Rattle.strm_frame.specs.Outboxes.{sent_of, times_sent, parcels_in, AreChains};
+ghost use Rattle.strm_frame.specs.Serves.{IsBand, later_cost};
+ghost use Rattle.strm_frame.specs.Stacks.{all_of, AreHeld};
+
+use crate::modules::Module;
+use crate::service::{Asks, Served, TurnEnd};
+use crate::stack::Stream;
+use strm_blocks::Blocks;
+use strm_types::{Fates, Spot, Way};
+
+// What the first message asks, of one of several modules, counted from 0.
+fn asks_among<B: Blocks, M: Module<B>>(store: &B, modules: &[M], at: usize, way: Way) -> Asks
+    requires within { at < length modules.now }
+    requires held { AreHeld M.IsHeld M.owns (B.value store.now) modules.now }
+    ensures asks { result ≡ slice_index_or (map (M.asks way) (map (M.plain (B.value store.now)) modules.now)) at Empty }
+    ensures band { IsBand result }
+{
+    modules[at].asks(store, way)
+}
+
+// Ends a turn, of one of several modules, counted from 0.
+fn end_turn_among<B: Blocks, M: Module<B>>(
+    store: &B,
+    modules: &mut [M],
+    at: usize,
+    way: Way,
+    took: bool,
+) -> TurnEnd
+    requires within { at < length modules.old }
+    requires held { AreHeld M.IsHeld M.owns (B.value store.now) modules.old }
+    ensures length { length modules.new ≡ length modules.old }
+    ensures state { let s = B.value store.now in map (M.plain s) modules.new ≡
+        change_among (queue_changed M.queue_of M.with_queue way (turn_ended took)) at (map (M.plain s) modules.old) }
+    ensures room { result.room ≡ slice_index_or (map (end_relieves M.queue_of took way)
+        (map (M.plain (B.value store.now)) modules.old)) at false }
+    ensures more { result.more ≡ slice_index_or (map (has_more M.queue_of way)
+        (map (M.plain (B.value store.now)) modules.old)) at false }
+    ensures held { AreHeld M.IsHeld M.owns (B.value store.now) modules.new }
+    ensures keeps { (i : ℕ) → all_of M.keeps modules.new i ≡ all_of M.keeps modules.old i }
+{
+    modules[at].end_turn(store, way, took)
+}
+
+// Treats the first message, of one of several modules, counted from 0.
+fn serve_among<B: Blocks, M: Module<B>>(
+    store: &mut B,
+    modules: &mut [M],
+    at: usize,
+    here: Spot,
+    again: bool,
+    told: &mut Fates,
+) -> Served<B::Mp>
+    requires within { at < length modules.old }
+    requires held { AreHeld M.IsHeld M.owns (B.value store.old) modules.old }
+    requires kept { AreIn (B.value store.old) (λ _. 0) (all_of M.keeps modules.old) }
+    requires room { HasRoom (B.value store.old) (M.turn_cost here again) }
+    requires inside { 0 < here.at }
+    requires small { here.at ≤ MODULES }
+    ensures length { length modules.new ≡ length modules.old }
+    ensures state { let s = B.value store.old in map (M.plain (B.value store.new)) modules.new ≡
+        (act_among (λ p. (M.serves here again p).acted) at (map (M.plain s) modules.old)).state }
+    ensures notes { let s = B.value store.old in result.acts.notes.items ≡
+        (act_among (λ p. (M.serves here again p).acted) at (map (M.plain s) modules.old)).notes }
+    ensures sent { let s = B.value store.old in parcels_in B.name (B.value store.new) (sent_of result.acts.sent) ≡
+        (act_among (λ p. (M.serves here again p).acted) at (map (M.plain s) modules.old)).sent }
+    ensures told { let s = B.value store.old in told.new ≡
+        tallied (act_among (λ p. (M.serves here again p).acted) at (map (M.plain s) modules.old)).gone told.old }
+    ensures bytes { let s = B.value store.old in result.bytes ≡
+        slice_index_or (map (λ p. (M.serves here again p).bytes) (map (M.plain s) modules.old)) at 0 }
+    ensures again { let s = B.value store.old in result.again ≡
+        slice_index_or (map (λ p. (M.serves here again p).again) (map (M.plain s) modules.old)) at false }
+    ensures held { AreHeld M.IsHeld M.owns (B.value store.new) modules.new }
+    ensures chains { AreChains B.name (B.value store.new) (sent_of result.acts.sent) }
+    ensures falls { AreLower M.height (M.turn_height here)
+        (parcels_in B.name (B.value store.new) (sent_of result.acts.sent)) }
+    ensures hands { Handles (B.value store.old) (B.value store.new) (λ _. 0) (all_of M.keeps modules.old)
+        (all_of M.keeps modules.new) (λ i. times_sent B.name i (sent_of result.acts.sent)) }
+    ensures room { HasRoom (B.value store.new) (later_cost M.cost M.turn_cost here result.again
+        (parcels_in B.name (B.value store.new) (sent_of result.acts.sent))) }
+    ensures pool { SamePool (B.value store.old) (B.value store.new) }
+{
+    store.audit();
+    modules[at].serve(store, here, again, told)
+}
+
+impl<M: Default + Drop> Stream<M> {
+    /// What the first message asks of a module's queue of a way, at a place.
+    pub fn asks<B: Blocks>(&self, store: &B, place: usize, way: Way) -> Asks
+    where
+        M: Module<B>,
+        requires inside { 0 < place }
+        requires within { place ≤ length self.now.modules.items }
+        requires held { AreHeld M.IsHeld M.owns (B.value store.now) self.now.modules.items }
+        ensures asks { result ≡ at_place (M.asks way) Empty place
+            (map (M.plain (B.value store.now)) self.now.modules.items) }
+        ensures band { IsBand result }
+    {
+        asks_among(store, self.modules.as_slice(), place - 1, way)
+    }
+
+    /// Calls the service procedure of a module's queue, at a place: `srv(9E)`. `again` is for one more call in the same turn,
+    /// once all is delivered that the last one sent.
+    pub fn serve<B: Blocks>(
+        &mut self,
+        store: &mut B,
+        here: Spot,
+        again: bool,
+        told: &mut Fates,
+    ) -> Served<B::Mp>
+    where
+        M: Module<B>,
+        requires inside { 0 < here.at }
+        requires within { here.at ≤ length self.old.modules.items }
+        requires held { AreHeld M.IsHeld M.owns (B.value store.old) self.old.modules.items }
+        requires kept { AreIn (B.value store.old) (λ _. 0) (all_of M.keeps self.old.modules.items) }
+        requires room { HasRoom (B.value store.old) (M.turn_cost here again) }
+        ensures length { length self.new.modules.items ≡ length self.old.modules.items }
+        ensures state { let s = B.value store.old in map (M.plain (B.value store.new)) self.new.modules.items ≡
+            (act_among (λ p. (M.serves here again p).acted) (here.at - 1) (map (M.plain s) self.old.modules.items)).state }
+        ensures notes { let s = B.value store.old in result.acts.notes.items ≡
+            (act_among (λ p. (M.serves here again p).acted) (here.at - 1) (map (M.plain s) self.old.modules.items)).notes }
+        ensures sent { let s = B.value store.old in parcels_in B.name (B.value store.new) (sent_of result.acts.sent) ≡
+            (act_among (λ p. (M.serves here again p).acted) (here.at - 1) (map (M.plain s) self.old.modules.items)).sent }
+        ensures told { let s = B.value store.old in told.new ≡ tallied
+            (act_among (λ p. (M.serves here again p).acted) (here.at - 1) (map (M.plain s) self.old.modules.items)).gone
+            told.old }
+        ensures bytes { let s = B.value store.old in result.bytes ≡
+            at_place (λ p. (M.serves here again p).bytes) 0 here.at (map (M.plain s) self.old.modules.items) }
+        ensures again { let s = B.value store.old in result.again ≡
+            at_place (λ p. (M.serves here again p).again) false here.at (map (M.plain s) self.old.modules.items) }
+        ensures held { AreHeld M.IsHeld M.owns (B.value store.new) self.new.modules.items }
+        ensures chains { AreChains B.name (B.value store.new) (sent_of result.acts.sent) }
+        ensures falls { AreLower M.height (M.turn_height here)
+            (parcels_in B.name (B.value store.new) (sent_of result.acts.sent)) }
+        ensures hands { Handles (B.value store.old) (B.value store.new) (λ _. 0)
+            (all_of M.keeps self.old.modules.items) (all_of M.keeps self.new.modules.items)
+            (λ i. times_sent B.name i (sent_of result.acts.sent)) }
+        ensures room { HasRoom (B.value store.new) (later_cost M.cost M.turn_cost here result.again
+            (parcels_in B.name (B.value store.new) (sent_of result.acts.sent))) }
+        ensures pool { SamePool (B.value store.old) (B.value store.new) }
+    {
+        serve_among(
+            store,
+            self.modules.as_mut_slice(),
+            here.at - 1,
+            here,
+            again,
+            told,
+        )
+    }
+
+    /// Ends a turn of a module's queue of a way, at a place, when all is delivered that was sent. `took` says whether bytes
+    /// were taken from it.
+    pub fn end_turn<B: Blocks>(&mut self, store: &B, place: usize, way: Way, took: bool) -> TurnEnd
+    where
+        M: Module<B>,
+        requires inside { 0 < place }
+        requires within { place ≤ length self.old.modules.items }
+        requires held { AreHeld M.IsHeld M.owns (B.value store.now) self.old.modules.items }
+        ensures length { length self.new.modules.items ≡ length self.old.modules.items }
+        ensures state { let s = B.value store.now in map (M.plain s) self.new.modules.items ≡
+            change_among (queue_changed M.queue_of M.with_queue way (turn_ended took)) (place - 1)
+            (map (M.plain s) self.old.modules.items) }
+        ensures room { result.room ≡ at_place (end_relieves M.queue_of took way) false place
+            (map (M.plain (B.value store.now)) self.old.modules.items) }
+        ensures more { result.more ≡ at_place (has_more M.queue_of way) false place
+            (map (M.plain (B.value store.now)) self.old.modules.items) }
+        ensures held { AreHeld M.IsHeld M.owns (B.value store.now) self.new.modules.items }
+        ensures keeps { (i : ℕ) → all_of M.keeps self.new.modules.items i ≡ all_of M.keeps self.old.modules.items i }
+    {
+        end_turn_among(store, self.modules.as_mut_slice(), place - 1, way, took)
+    }
+}

@@ -1,0 +1,169 @@
+//! A module with a write queue, which the tests fill. It sends each M_FLUSH that comes up down again, and passes all else.
+
+ghost use Rattle.std.specs.Prelude.{◌≡◌};
+ghost use Rattle.strm_frame.specs.Toys.{room_notes};
+
+use crate::tests::turner::onward;
+use crate::{Acts, Asks, Module, Outbox, Sent, Served, TurnEnd, clear_queue, end_queue_turn};
+use arrayvec::ArrayVec;
+use strm_blocks::Blocks;
+use strm_queue::Queue;
+use strm_queue::standing::{is_full, sizes};
+use strm_types::{Band, Fates, ModuleName, Note, Rule, Side, Spot, Way};
+
+#[derive(Drop)]
+pub struct Stock {
+    pub name: ModuleName,
+    pub queue: Queue,
+}
+
+impl Default for Stock {
+    fn default() -> Stock {
+        Stock {
+            name: ModuleName::Ptem,
+            queue: Queue::new(0, 1, 0),
+        }
+    }
+}
+
+// That queues before it have room again.
+fn room_notes(room: bool) -> ArrayVec<Note, 4>
+    ensures { result.items ≡ room_notes room }
+{
+    let mut notes = ArrayVec::new();
+    if room {
+        notes.push(Note::Room(Way::Down));
+    }
+    notes
+}
+
+impl<B: Blocks> Module<B> for Stock {
+    ghost use Rattle.std.specs.Prelude.{[]};
+    ghost use Rattle.strm_queue.specs.Stored.{IsReady};
+    ghost use Rattle.strm_frame.specs.Hands.{once};
+    ghost use Rattle.strm_frame.specs.Toys.{turns, far, nothing, idle, stock_queue, with_stock};
+    ghost use Rattle.strm_frame.specs.ToyLaws.{stock_in, stock-frame};
+    ghost use Rattle.strm_frame.specs.declared.service.Asks.TheVariants.{Empty};
+
+    ghost Plain = { Rattle.strm_frame.specs.Toys.Stock };
+
+    ghost plain = { λ s x. stock_in s x.name x.queue };
+
+    ghost name_of = { λ p. p.name };
+
+    ghost IsHeld = { λ s x. IsReady s x.queue };
+
+    ghost owns = { λ x. once x.queue.list };
+
+    ghost keeps = { λ x i. 0 };
+
+    ghost puts = { turns };
+
+    ghost queue_of = { stock_queue };
+
+    ghost with_queue = { with_stock };
+
+    ghost line_of = { λ p. [] };
+
+    ghost without_line = { λ p. p };
+
+    ghost asks = { λ way p. Empty };
+
+    ghost serves = { λ here again p. idle p };
+
+    ghost turn_height = { λ here. 0 };
+
+    ghost turn_cost = { λ here again. 0 };
+
+    ghost height = { far };
+
+    ghost cost = { nothing };
+
+    fn name(&self) -> ModuleName {
+        self.name
+    }
+
+    fn put(&mut self, store: &mut B, here: Spot, message: B::Mp, _told: &mut Fates) -> Acts<B::Mp> {
+        store.audit();
+        let kind = store.kind(&message, 0);
+        Acts {
+            notes: ArrayVec::new(),
+            sent: Outbox::one(Sent {
+                to: here.toward(onward(kind, here.way)),
+                message,
+            }),
+        }
+    }
+
+    fn has_queue(&self, way: Way) -> bool {
+        match way {
+            Way::Up => false,
+            Way::Down => true,
+        }
+    }
+
+    fn is_full(&self, store: &B, way: Way, band: Band) -> bool {
+        match way {
+            Way::Up => false,
+            Way::Down => is_full(store, &self.queue, band),
+        }
+    }
+
+    fn sizes(&self, store: &B, way: Way) -> (usize, usize) {
+        match way {
+            Way::Up => (0, 0),
+            Way::Down => sizes(store, &self.queue),
+        }
+    }
+
+    fn let_wait(&mut self, way: Way, band: Band) {
+        match way {
+            Way::Up => {}
+            Way::Down => self.queue.let_wait(band),
+        }
+    }
+
+    fn asks(&self, _store: &B, _way: Way) -> Asks {
+        Asks::Empty
+    }
+
+    fn serve(
+        &mut self,
+        _store: &mut B,
+        _here: Spot,
+        _again: bool,
+        _told: &mut Fates,
+    ) -> Served<B::Mp> {
+        Served {
+            acts: Acts {
+                notes: ArrayVec::new(),
+                sent: Outbox::none(),
+            },
+            bytes: 0,
+            again: false,
+        }
+    }
+
+    fn end_turn(&mut self, store: &B, way: Way, took: bool) -> TurnEnd {
+        match way {
+            Way::Up => TurnEnd {
+                room: false,
+                more: false,
+            },
+            Way::Down => end_queue_turn(store, &mut self.queue, took),
+        }
+    }
+
+    fn clear(
+        &mut self,
+        store: &mut B,
+        side: Side,
+        rule: Rule,
+        told: &mut Fates,
+    ) -> ArrayVec<Note, 4> {
+        let room = clear_queue(store, &mut self.queue, side.direction(), rule, told);
+        room_notes(room)
+    }
+
+    ghost frame = { λ s t x same held. stock-frame s t x.name x.queue (λ _. 0) same held };
+}
