@@ -15,6 +15,7 @@ import datetime
 import glob
 import os
 import resource
+import statistics
 import subprocess
 import sys
 import time
@@ -110,6 +111,12 @@ def named_edits(crate, processes):
     return [(names[i] if i < len(names) else "(once more, from nothing)", p.seconds) for i, p in enumerate(processes)]
 
 
+def row_of(name, lines, proof, tests, tried, edits, count):
+    rate = (proof + tests) / 60 / max(lines, 1) * 1000
+    half = statistics.median(edits) if edits else 0
+    return f"| {name} | {lines} | {proof:.0f} | {tests:.0f} | {rate:.1f} | {count} | {tried:.0f} | {tried / max(count, 1):.0f} | {half:.0f} |"
+
+
 def table(status, seen, wall, used, closing):
     parts = collections.defaultdict(list)
     for process in seen:
@@ -117,16 +124,18 @@ def table(status, seen, wall, used, closing):
     commit = subprocess.run(["git", "rev-parse", "--short", "HEAD"], capture_output=True, text=True).stdout.strip()
     yield f"`rt ci` on {commit}, {datetime.date.today()}, {os.cpu_count()} cores: {closing}; {minutes(wall)} of wall, {minutes(used)} of CPU (min:s)."
     yield ""
-    yield "| Crate | Lines of source | Proof, CPU s | Tests, CPU s | a 1000 lines, CPU min | Edits | CPU s | an edit |"
-    yield "|---|---|---|---|---|---|---|---|"
-    dearest = []
+    yield "| Crate | Lines of source | Proof, CPU s | Tests, CPU s | a 1000 lines, CPU min | Edits | CPU s | an edit | the middle one |"
+    yield "|---|---|---|---|---|---|---|---|---|"
+    dearest, rows = [], []
     for crate in crates():
-        proof, tests, tried = (sum(p.seconds for p in parts[crate, part]) for part in ("proof", "tests", "edits"))
-        lines, edits = lines_of(crate), named_edits(crate, parts[crate, "edits"])
-        count = len(edits_of(crate))
+        edits = named_edits(crate, parts[crate, "edits"])
+        used_by = [sum(p.seconds for p in parts[crate, part]) for part in ("proof", "tests", "edits")]
+        rows.append((crate, lines_of(crate), *used_by, [seconds for _, seconds in edits], len(edits_of(crate))))
         dearest += [(seconds, crate, name) for name, seconds in edits]
-        rate = (proof + tests) / 60 / max(lines, 1) * 1000
-        yield f"| {crate} | {lines} | {proof:.0f} | {tests:.0f} | {rate:.1f} | {count} | {tried:.0f} | {tried / max(count, 1):.0f} |"
+    sums = [sum(row[at] for row in rows) for at in (1, 2, 3, 4)]
+    rows.append(("all", *sums, [seconds for row in rows for seconds in row[5]], sum(row[6] for row in rows)))
+    for row in rows:
+        yield row_of(*row)
     yield ""
     yield "The five dearest edits (a crate's first edit also pays for its first check):"
     yield ""

@@ -1,8 +1,5 @@
 //! The commands of a script.
 
-ghost use Rattle.std.specs.Prelude.{◌≡◌};
-ghost use Rattle.strm_types.specs.Calls.{request, map_event};
-
 use strm_types::{Event, FlushQueues, QueueName, Side};
 
 /// A command, as a line of a script gives it.
@@ -35,29 +32,6 @@ pub enum Command {
     Show {
         side: Side,
     },
-}
-
-/// A call over its bytes where they stand.
-pub fn lent(event: &Event<Vec<u8>>) -> Event<&[u8]>
-    ensures { request result ≡ map_event (λ bytes. bytes.items) event.now }
-{
-    match event {
-        Event::OpenMaster => Event::OpenMaster,
-        Event::Unlock => Event::Unlock,
-        Event::OpenSlave => Event::OpenSlave,
-        Event::Shut => Event::Shut,
-        Event::Push { name } => Event::Push { name: *name },
-        Event::Pop => Event::Pop,
-        Event::Look => Event::Look,
-        Event::Flush { what, band } => Event::Flush {
-            what: *what,
-            band: *band,
-        },
-        Event::Write { bytes } => Event::Write {
-            bytes: bytes.as_slice(),
-        },
-        Event::Read { n } => Event::Read { n: *n },
-    }
 }
 
 /// What a line of a script says.

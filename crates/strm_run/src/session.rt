@@ -11,7 +11,7 @@ ghost use Rattle.strm_run.specs.Plain.{plain};
 ghost use Rattle.strm_run.specs.Outcomes.{LeadsTo, Leads};
 
 use crate::answers::{Line, QueueSize};
-use crate::commands::{Command, lent};
+use crate::commands::Command;
 use std::alloc::{AllocError, Global};
 use strm_blocks::TableStore;
 use strm_pair::Pair;
@@ -182,7 +182,7 @@ fn on_pair(pair: &mut Pair<TableStore>, command: &Command, out: &mut ReadBytes) 
 {
     match command {
         Command::Open { blocks: _ } => refused(Refusal::Einval),
-        Command::Call { side, event } => call(pair, *side, &lent(event), out),
+        Command::Call { side, event } => call(pair, *side, &event.lend(), out),
         Command::Flush { side, what, band } => flush(pair, *side, *what, *band, out),
         Command::Turn { name } => turn(pair, *name),
         Command::Run { turns } => run(pair, *turns),

@@ -1,6 +1,7 @@
 //! Scripts run from memory to memory: the titled scenes of `scripts`, and readers, writers and lines that no scene can
 //! show.
 
+mod no_memory;
 mod scripts;
 
 use crate::script::{ScriptEnd, ScriptStatus, run_script};

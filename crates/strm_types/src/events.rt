@@ -92,3 +92,28 @@ impl<'a> Event<&'a [u8]> {
         }
     }
 }
+
+impl Event<Vec<u8>> {
+    /// The call over its bytes where they stand.
+    pub fn lend(&self) -> Event<&[u8]>
+        ensures { request result ≡ map_event (λ bytes. bytes.items) self.now }
+    {
+        match self {
+            Event::OpenMaster => Event::OpenMaster,
+            Event::Unlock => Event::Unlock,
+            Event::OpenSlave => Event::OpenSlave,
+            Event::Shut => Event::Shut,
+            Event::Push { name } => Event::Push { name: *name },
+            Event::Pop => Event::Pop,
+            Event::Look => Event::Look,
+            Event::Flush { what, band } => Event::Flush {
+                what: *what,
+                band: *band,
+            },
+            Event::Write { bytes } => Event::Write {
+                bytes: bytes.as_slice(),
+            },
+            Event::Read { n } => Event::Read { n: *n },
+        }
+    }
+}

@@ -1,4 +1,4 @@
-use Rattle.std.proofs.Common.{◌∙◌, ap, refl, true, false, unsigned_abs}
+use Rattle.std.proofs.Common.{◌∙◌, ap, refl, true, false, unsigned_abs, rules}
 use Rattle.std.proofs.lemmas.Int.{to_z-of_z}
 use Rattle.strm_msg.specs.Adjusted.{end_of}
 use Rattle.strm_msg.proofs.AdjustingStore.{IsAdjusted, refused-is, trimmed-is, adjusted-nothing, adjusted-left, adjusted-blocks, adjusted-free_m, adjusted-free_d}
@@ -20,6 +20,9 @@ returns-then-run-size-clause-answer g c = let so = refused g c in so.answer_is
 
 pub returns-then-run-size-clause-trimmed : goal.returns-then-run-size-clause-trimmed
 returns-then-run-size-clause-trimmed g c = let so = refused g c in so.after
+
+pub returns-then-run-size-clause-left : goal.returns-then-run-size-clause-left
+returns-then-run-size-clause-left g c = search rules steps 30000
 
 pub returns-clause-answer : goal.returns-clause-answer
 returns-clause-answer g c = let so = carried g c in so.answer_is

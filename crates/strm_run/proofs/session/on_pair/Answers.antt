@@ -36,7 +36,7 @@ makes bytes side event asked found old new e h =
 
 pub returns-in-Call : goal.returns-in-Call
 unfolding answered
-returns-in-Call c = known _ _ _ _ _ _ c.in-Call.is (makes _ _ _ _ _ _ _ c.lent.ensures c.call.ensures)
+returns-in-Call c = known _ _ _ _ _ _ c.in-Call.is (makes _ _ _ _ _ _ _ c.lend.ensures c.call.ensures)
 
 pub returns-in-Turn : goal.returns-in-Turn
 unfolding answered
