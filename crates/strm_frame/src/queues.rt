@@ -5,7 +5,7 @@ ghost use Rattle.std.specs.Prelude.{◌≡◌, not, length};
 ghost use Rattle.strm_types.specs.Emptied.{of_all, cells_gone, queue_behind, writer_goes};
 ghost use Rattle.strm_types.specs.Rules.{told_more};
 ghost use Rattle.strm_types.specs.Service.{turn_ended, turn_relieves};
-ghost use Rattle.strm_types.specs.Turns.{is_none_left};
+ghost use Rattle.strm_types.specs.Queue.{is_none_left};
 ghost use Rattle.strm_queue.specs.Stored.{queue_in, messages_on, IsReady, Changes, FreesBlocks};
 
 use crate::service::TurnEnd;

@@ -4,3 +4,4 @@ pub mod Made
 pub mod Putting
 pub mod Read
 pub mod Taken
+pub mod Tested

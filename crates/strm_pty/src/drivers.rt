@@ -126,17 +126,17 @@ fn put_any<B: Blocks>(
     }
 }
 
-/// Puts a message in hand at the driver of `here.side`, which comes down to it, or up from the other side's driver, and says what
-/// it does: `put(9E)`. `queue` is the driver's own, and `across` tells of the other side.
+/// Puts a message in hand at the driver of `here.side`, which comes down to it, or up from the other side's driver,
+/// and says what it does: `put(9E)`. `queue` is the driver's own, and `across` tells of the other side.
 ///
-/// A message that crosses is queued, from where it will go up the other side's stream. Once the master is closed it is freed, and
-/// its bytes are told as of the end that was closed. An M_FLUSH empties the driver's own queue for FLUSHW, and goes on to the readers
-/// across, and to the other driver for FLUSHR. An M_IOCTL with a number other than 0 that nobody across can answer is answered with
-/// M_IOCNAK, EINVAL. All others are freed.
+/// A message that crosses is queued, and from there it will go up the other side's stream. Once the master is
+/// closed it is freed, and its bytes are told as of the end that was closed. An M_FLUSH empties the driver's own
+/// queue for FLUSHW and goes on to the readers across, and for FLUSHR it goes to the other driver. An M_IOCTL with
+/// a number other than 0 that nobody across can answer is answered with M_IOCNAK, EINVAL. All others are freed.
 ///
-/// It takes at most as many blocks of each kind as `driver_cost` says: two for an M_FLUSH that comes down, one for one that comes
-/// across and for an M_IOCTL, none for others. The cost is a step for each block of the message, and for an M_FLUSH for each on the
-/// queue.
+/// It takes at most as many blocks of each kind as `driver_cost` says: two for an M_FLUSH that comes down, one for
+/// one that comes across and for an M_IOCTL, none for others. The cost is a step for each block of the message, and
+/// for an M_FLUSH for each on the queue.
 pub fn put<B: Blocks>(
     store: &mut B,
     queue: &mut Queue,
@@ -162,8 +162,8 @@ pub fn put<B: Blocks>(
         parcels_in B.name (B.value store.new) (sent_of result.sent) ≡
         (driver_put here.side across here (message_in s (B.name message)) (queue_in s queue.old)).sent }
     ensures told { let s = B.value store.old in
-        told.new ≡
-        tallied (driver_put here.side across here (message_in s (B.name message)) (queue_in s queue.old)).gone told.old }
+        told.new ≡ tallied
+        (driver_put here.side across here (message_in s (B.name message)) (queue_in s queue.old)).gone told.old }
     ensures only { OnlyQueue (B.value store.old) (B.value store.new) queue.old queue.new }
     ensures chains { AreChains B.name (B.value store.new) (sent_of result.sent) }
     ensures hands { Hands (B.value store.old) (B.value store.new) (B.name message) (λ _. 0) (λ _. 0)

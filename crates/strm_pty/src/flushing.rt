@@ -2,7 +2,8 @@
 
 ghost use Rattle.std.specs.Prelude.{◌≡◌, ◌&&◌, true, false, if◌then◌else◌};
 ghost use Rattle.std.specs.Option.{option_to_list};
-ghost use Rattle.strm_types.specs.Drivers.{bottom_across, driver_across, own_flushed, freed, reader_flush, flush_down, flush_across};
+ghost use Rattle.strm_types.specs.Drivers.{bottom_across, driver_across, own_flushed, freed};
+ghost use Rattle.strm_types.specs.Drivers.{reader_flush, flush_down, flush_across};
 ghost use Rattle.strm_types.specs.Flush.{is_data_kind};
 ghost use Rattle.strm_types.specs.Flushing.{asked_by};
 ghost use Rattle.strm_types.specs.Refused.{is_a_band};

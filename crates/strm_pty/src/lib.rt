@@ -1,5 +1,5 @@
-//! The drivers at the bottom of both streams of a pseudoterminal, on a queue each and over any store of blocks: what a put
-//! at one does (ptm(7D), pts(7D); put(9E)).
+//! The drivers at the bottom of both streams of a pseudoterminal, on a queue each and over any store of blocks: what a
+//! put at one does (ptm(7D), pts(7D); put(9E)).
 #![tactic(auto)]
 
 mod answering;
@@ -9,3 +9,6 @@ mod making;
 mod taking;
 
 pub use drivers::put;
+
+#[cfg(test)]
+mod tests;

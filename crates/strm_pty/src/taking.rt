@@ -42,8 +42,8 @@ pub(crate) fn let_go<B: Blocks>(store: &mut B, message: B::Mp) -> Acts<B::Mp>
     }
 }
 
-/// Puts a message on the driver's queue, from which it will go up the other side's stream. Once the master is closed it is
-/// freed, and its bytes are told.
+/// Puts a message on the driver's queue, from which it will go up the other side's stream. Once the master is closed it
+/// is freed, and its bytes are told.
 pub(crate) fn take_in<B: Blocks>(
     store: &mut B,
     queue: &mut Queue,

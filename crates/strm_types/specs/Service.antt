@@ -11,7 +11,7 @@ use Rattle.strm_types.specs.Emptied.{of_all, cells_gone, queue_behind, writer_go
 use Rattle.strm_types.specs.ModuleQueues.{messages_at}
 use Rattle.strm_types.specs.Names.{direction_at}
 use Rattle.strm_types.specs.Queue.{Queue, relieved, relieves}
-use Rattle.strm_types.specs.Turns.{is_none_left}
+use Rattle.strm_types.specs.Queue.{is_none_left}
 
 -- What one call of a service procedure does: what a put does, how many bytes of the first message were treated, and
 -- whether it is to be called again in the same turn, once what it sent is delivered.
