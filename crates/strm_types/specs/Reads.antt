@@ -168,8 +168,12 @@ module _ {C : Type 0} where
       ∷ record { direction = dir; rule = rules.RestDiscarded; cells = d.discarded }
       ∷ record { direction = dir; rule = rules.ControlDropped; cells = d.dropped } ∷ []
 
+  -- what goes by a read of up to n cells: nothing where it has nothing to take
+  abbrev pub read_gone : Dir → ReadMode → ControlMode → ℕ → List (Message C) → List (Fate C)
+  read_gone dir read control n q = if takes_none control n q then [] else read_fates dir (head_draw read control n q)
+
   abbrev pub read_told : Dir → ReadMode → ControlMode → ℕ → List (Message C) → Fates → Fates
-  read_told dir read control n q fates = if takes_none control n q then fates else tallied (read_fates dir (head_draw read control n q)) fates
+  read_told dir read control n q fates = tallied (read_gone dir read control n q) fates
 
   -- these cells are the first ones of what one of the messages offers
   pub record OfOneMessage (control : ControlMode) (n : ℕ) (q : List (Message C)) (given : List C) : Type 0 where
