@@ -22,3 +22,4 @@ pub mod PulledRows
 pub mod Pulling
 pub mod Sharing
 pub mod Taking
+pub mod Retyping

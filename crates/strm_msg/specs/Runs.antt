@@ -1,5 +1,5 @@
 -- Blocks of one kind at an end of a message (adjmsg(9F), msgpullup(9F)).
-use Rattle.std.specs.Prelude.{ℕ, Bool, ◌==◌, List, reverse, take_while}
+use Rattle.std.specs.Prelude.{Bool, ◌==◌, List, reverse, take_while}
 use Rattle.strm_types.specs.declared.kinds.MsgKind.{MsgKind}
 use Rattle.strm_types.specs.Kinds.{kind_number}
 use Rattle.strm_blocks.specs.Blocks.{Block, block_at}
