@@ -119,6 +119,7 @@ impl Head {
         ensures went { result ≡ read_lets_go self.old.read_mode Refuse n (queue_in (B.value store.old) self.old.queue) }
         ensures told { fates.new ≡ read_told direction self.old.read_mode Refuse n (messages_on (B.value store.old) self.old.queue.list) fates.old }
         ensures keeps { Keeps (B.value store.old) (B.value store.new) self.old.queue self.new.queue }
+        ensures ready { IsHeadQueue (B.value store.new) self.new.queue }
         ensures modes { self.new ≡ record self.old { queue = self.new.queue } }
     {
         reading::read(

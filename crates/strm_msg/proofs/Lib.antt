@@ -23,3 +23,4 @@ pub mod PulledRows
 pub mod Pulling
 pub mod Sharing
 pub mod Taking
+pub mod Retyping

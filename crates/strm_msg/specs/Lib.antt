@@ -5,3 +5,4 @@ pub mod Taken
 pub mod Messages
 pub mod Runs
 pub mod Adjusted
+pub mod Retyped

@@ -15,6 +15,7 @@ pub use adjust::adjmsg;
 pub use bytes::{first_bytes, from_bytes};
 pub use copies::{copymsg, dupmsg};
 pub use data::take_data;
+pub use kinds::set_kinds;
 pub use pulls::{NotPulled, pullup};
 pub use sizes::{booked_size, control_len, data_len, message_size, msgdsize};
 

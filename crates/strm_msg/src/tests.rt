@@ -2,10 +2,10 @@
 
 mod rows;
 
-use crate::{from_bytes, message_size};
+use crate::{control_len, data_len, from_bytes, message_size, set_kinds};
 use rows::{Call, Case, Seen, Wanted, plays, plays_on_a_copy};
 use std::test::Fail;
-use strm_blocks::TableStore;
+use strm_blocks::{Blocks, TableStore};
 use strm_types::{Band, MsgKind, Refusal};
 
 // Bytes that are all alike.
@@ -220,4 +220,16 @@ const AT_MOST_A_BLOCK: Case<'static> = Case {
 #[test]
 fn at_most_a_data_block_is_joined(rt: HostRuntime) -> Result<(), Fail> {
     plays(&rt, rt.alloc(), 4, 4, &AT_MOST_A_BLOCK)
+}
+
+#[test]
+fn blocks_of_control_become_data(rt: HostRuntime) -> Result<(), Fail> {
+    let mut store = TableStore::new(rt.alloc(), 4, 4)?;
+    let message = from_bytes(&mut store, MsgKind::Proto, Band(3), X300)?;
+    let count = store.blocks(&message);
+    set_kinds(&mut store, &message, count, MsgKind::Data);
+    assert!(rt; control_len(&store, &message) == None);
+    assert!(rt; data_len(&store, &message) == Some(300));
+    assert!(rt; store.band(&message) == Band(3));
+    Ok(())
 }

@@ -168,7 +168,7 @@ module _ {C : Type 0} where
       ∷ record { direction = dir; rule = rules.RestDiscarded; cells = d.discarded }
       ∷ record { direction = dir; rule = rules.ControlDropped; cells = d.dropped } ∷ []
 
-  -- what goes by a read, if it takes anything
+  -- what goes by a read of up to n cells: nothing where it has nothing to take
   abbrev pub read_gone : Dir → ReadMode → ControlMode → ℕ → List (Message C) → List (Fate C)
   read_gone dir read control n q = if takes_none control n q then [] else read_fates dir (head_draw read control n q)
 
