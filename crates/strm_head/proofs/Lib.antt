@@ -3,3 +3,4 @@ pub mod Seen
 pub mod FirstSeen
 pub mod Gathers
 pub mod Told
+mod Coming

@@ -1,6 +1,6 @@
 //! A stream head.
 
-ghost use Rattle.std.specs.Prelude.{◌≡◌, ◌≤◌, [], length};
+ghost use Rattle.std.specs.Prelude.{◌≡◌, ◌≤◌, [], length, false};
 ghost use Rattle.strm_types.specs.Reads.{read_refusal, head_draw, read_queue, read_lets_go, read_told};
 ghost use Rattle.strm_types.specs.Gets.{get_refusal};
 ghost use Rattle.strm_queue.specs.Stored.{messages_on, queue_in, IsHeadQueue, Keeps};
@@ -19,6 +19,8 @@ pub struct Head {
     pub queue: Queue,
     pub read_mode: ReadMode,
     pub control_mode: ControlMode,
+    /// Whether an M_HANGUP came up, as the other end is gone.
+    pub hung_up: bool,
 }
 
 /// What waits for readers (streamio(7I): I_NREAD): how many bytes the data part of the first message has, and how many
@@ -35,11 +37,13 @@ impl Head {
         ensures queue { result.queue ≡ queue }
         ensures read_mode { result.read_mode ≡ ByteStream }
         ensures control_mode { result.control_mode ≡ Refuse }
+        ensures hung_up { result.hung_up ≡ false }
     {
         Head {
             queue,
             read_mode: ReadMode::ByteStream,
             control_mode: ControlMode::Refuse,
+            hung_up: false,
         }
     }
 

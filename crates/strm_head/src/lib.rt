@@ -3,10 +3,12 @@
 #![tactic(auto)]
 
 mod head;
+mod putting;
 mod reading;
 mod standing;
 
 pub use head::{Head, Waiting};
+pub use putting::Came;
 pub use reading::read;
 
 #[cfg(test)]

@@ -1,18 +1,20 @@
-//! Reads of a head in each read mode, with answers worked out by hand.
+//! Reads of a head in each read mode, and what comes up to it, with answers worked out by hand.
 
 ghost use Rattle.std.specs.Prelude.{◌≡◌, ◌≤◌, [], length};
 ghost use Rattle.strm_blocks.specs.Blocks.{list_at};
 ghost use Rattle.strm_queue.specs.Stored.{IsHeadQueue};
 ghost use Rattle.strm_types.specs.declared.modes.ControlMode.TheVariants.{Refuse};
 
-use crate::{Head, Waiting};
+use crate::{Came, Head, Waiting};
 use std::alloc::Global;
 use std::process::Abort;
 use std::test::Fail;
 use strm_blocks::{Blocks, TableStore};
 use strm_msg::from_bytes;
 use strm_queue::{HEAD_HIGH, HEAD_LOW, Queue};
-use strm_types::{Band, Dir, Fates, MsgKind, ReadBytes, ReadMode, Refusal};
+use strm_types::{
+    Band, Dir, Fates, FlushAsked, MsgKind, ReadBytes, ReadMode, Refusal, Side, Spot, Way,
+};
 
 // A new head on an empty list.
 fn fresh<B: Blocks>(store: &B) -> Head
@@ -138,5 +140,121 @@ fn empty_head_waits(rt: HostRuntime) -> Result<(), Fail> {
     let head = fresh(&store);
     assert_eq!(&rt; head.read_refusal(&store, false, 1), Some(Refusal::Eagain));
     assert_eq!(&rt; head.read_refusal(&store, true, 1), None);
+    Ok(())
+}
+
+// The head of the slave's stream.
+const HERE: Spot = Spot {
+    side: Side::Slave,
+    at: 0,
+    way: Way::Up,
+};
+
+const NOTHING: Came = Came {
+    lets_go: false,
+    down: None,
+};
+
+// A message of band 0 with these bytes comes up, where blocks are free.
+fn comes<B: Blocks>(
+    store: &mut B,
+    head: &mut Head,
+    message: (MsgKind, &[u8]),
+    told: &mut Fates,
+) -> Came
+    requires ready { IsHeadQueue (B.value store.old) head.old.queue }
+    requires small { length message.1.now ≤ 256 }
+    ensures { IsHeadQueue (B.value store.new) head.new.queue }
+{
+    let Ok(message) = store.alloc_with(message.0, Band(0), message.1) else {
+        return NOTHING;
+    };
+    head.put(store, HERE, message, told)
+}
+
+// What is seen of a head behind a put: what the put handed back, how many bytes were flushed and how many went as those of a
+// second M_PCPROTO, how many messages wait, and whether the other end is gone.
+type Seen = (Came, u64, u64, usize, bool);
+
+// Lets a message come up to a head at which another one stands, and looks at what is seen then.
+fn answers(
+    rt: &impl Abort,
+    alloc: Global,
+    stands: (MsgKind, &[u8]),
+    message: (MsgKind, &[u8]),
+    wanted: Seen,
+) -> Result<(), Fail>
+    requires stands { length stands.1.now ≤ 256 }
+    requires message { length message.1.now ≤ 256 }
+{
+    let mut store = TableStore::new(alloc, 10, 10)?;
+    let mut head = fresh(&store);
+    let mut fates = Fates::none();
+    let first = comes(&mut store, &mut head, stands, &mut fates);
+    assert_eq!(rt; first, NOTHING);
+    let came = comes(&mut store, &mut head, message, &mut fates);
+    assert_eq!(rt; came, wanted.0);
+    assert_eq!(rt; fates.from_master[12], wanted.1);
+    assert_eq!(rt; fates.from_master[15], wanted.2);
+    assert_eq!(rt; head.nread(&store).messages, wanted.3);
+    assert_eq!(rt; head.hung_up, wanted.4);
+    Ok(())
+}
+
+// What goes down again for FLUSHW.
+fn turned(band: Option<Band>) -> Came {
+    Came {
+        lets_go: false,
+        down: Some(FlushAsked {
+            for_read: false,
+            for_write: true,
+            band,
+        }),
+    }
+}
+
+#[test]
+fn control_messages_are_obeyed(rt: HostRuntime) -> Result<(), Fail> {
+    let rows: [(MsgKind, &[u8], Seen); 7] = [
+        (MsgKind::Flush, b"\x01", (NOTHING, 5, 0, 0, false)),
+        (MsgKind::Flush, b"\x02", (turned(None), 0, 0, 1, false)),
+        (MsgKind::Flush, b"\x03", (turned(None), 5, 0, 0, false)),
+        (
+            MsgKind::Flush,
+            b"\x07\x00",
+            (turned(Some(Band(0))), 5, 0, 0, false),
+        ),
+        (
+            MsgKind::Flush,
+            b"\x07\x02",
+            (turned(Some(Band(2))), 0, 0, 1, false),
+        ),
+        (MsgKind::Hangup, b"", (NOTHING, 0, 0, 1, true)),
+        (MsgKind::Ctl, b"x", (NOTHING, 0, 0, 1, false)),
+    ];
+    for (kind, bytes, wanted) in rows {
+        answers(
+            &rt,
+            rt.alloc(),
+            (MsgKind::Data, b"hello"),
+            (kind, bytes),
+            wanted,
+        )?;
+    }
+    Ok(())
+}
+
+#[test]
+fn one_pcproto_waits_at_most(rt: HostRuntime) -> Result<(), Fail> {
+    let rows: [(MsgKind, MsgKind, u64, usize); 4] = [
+        (MsgKind::Pcproto, MsgKind::Pcproto, 3, 1),
+        (MsgKind::Pcproto, MsgKind::Data, 0, 2),
+        (MsgKind::Proto, MsgKind::Pcproto, 0, 2),
+        (MsgKind::Proto, MsgKind::Proto, 0, 2),
+    ];
+    for (stands, kind, doubled, messages) in rows {
+        let wanted = (NOTHING, 0, doubled, messages, false);
+        answers(&rt, rt.alloc(), (stands, b"ab"), (kind, b"cde"), wanted)?;
+    }
     Ok(())
 }

@@ -1,5 +1,6 @@
 -- A turn of a driver whose first message is M_DATA takes it straight to the other side's head, as its delivery does.
-use Rattle.std.proofs.Common.{ℕ, suc, ◌≡◌, Bool, true, false, cond, List, [], ◌∷◌, eqb, refl, sym, ap, ◌∙◌}
+use Rattle.std.proofs.Common.{ℕ, suc, ◌≡◌, ◌++◌, Bool, true, false, cond, List, [], ◌∷◌, map, refl, sym, ap, ◌∙◌}
+use Rattle.std.specs.List.{AllByRecursion}
 use Rattle.std.specs.Prelude.{not, ◌&&◌, ◌==◌, Option, None}
 use Rattle.strm_types.specs.declared.kinds.MsgKind.{MsgKind}
 use Rattle.strm_types.specs.declared.kinds.MsgKind.TheVariants as kinds
@@ -7,17 +8,32 @@ use Rattle.strm_types.specs.declared.answers.Turn.TheVariants.{Moved, Blocked, I
 use Rattle.strm_types.specs.declared.names.Side.{Side}
 use Rattle.strm_types.specs.declared.names.Side.TheVariants.{Master, Slave}
 use Rattle.strm_types.specs.declared.names.QueueName.{QueueName}
-use Rattle.strm_types.specs.Deliver.{Carried}
-use Rattle.strm_types.specs.Heads.{is_doubled, is_pcproto}
-use Rattle.strm_types.specs.Message.{Message, has_parts, size_of, band_of}
-use Rattle.strm_types.specs.Names.{other, driver_of, is_open, enable_if, enable_some}
-use Rattle.strm_types.specs.Puts.{delivered}
+use Rattle.strm_types.specs.declared.names.Place.{Place}
+use Rattle.strm_types.specs.declared.names.Place.TheVariants as places
+use Rattle.strm_types.specs.Cells.{plain}
+use Rattle.strm_types.specs.declared.names.Way.TheVariants.{Up}
+use Rattle.strm_types.specs.declared.rules.Rule.TheVariants.{Doubled, EndClosed}
+use Rattle.strm_types.specs.declared.spots.Spot.{Spot}
+use Rattle.strm_types.specs.Deliver.{Acted, Took, Carried, in_turn, carried}
+use Rattle.strm_types.specs.Heads.{is_doubled, waits_for_readers, obeyed, head_put}
+use Rattle.strm_types.specs.Message.{Message, has_parts, cells_of, size_of, band_of}
+use Rattle.strm_types.specs.Names.{other, driver_of, is_open, direction_at, enable_if, enable_some, without}
+use Rattle.strm_types.specs.Puts.{noted, put_at_head, put_in, delivered}
 use Rattle.strm_types.specs.Queue.{Queue, is_none_left, left_with, put_on, relieved, relieves, with_writer_at}
 use Rattle.strm_queue.specs.Stored.{moved_on}
-use Rattle.strm_types.specs.State.{State, Stream, stream, with_stream, with_driver_queue, with_head_queue}
+use Rattle.strm_types.specs.State.{State, Stream, Head, stream, with_stream, with_driver_queue, with_head_queue}
 use Rattle.strm_types.specs.declared.answers.Turn.{Turn}
-use Rattle.strm_types.specs.Turns.{TurnOutcome, up_across, is_stopped, held_back, with_driver, turn_ended, blocked_at_head, driver_serves, driver_turned, moved_across}
-use Rattle.strm_pair.specs.DataTurns as data
+use Rattle.strm_types.specs.Turns.{TurnOutcome, up_across, is_stopped, held_back, with_driver, turn_ended, blocked_at_head, driver_serves, driver_turned, moved_across, turned_at, turned}
+use Rattle.strm_types.specs.Flush.{is_data_kind}
+use Rattle.strm_blocks.specs.Blocks.{Block, StoreValue, block_at, list_at}
+use Rattle.strm_msg.specs.Messages.{message_of, IsChain}
+use Rattle.strm_msg.proofs.Chains.{kind-is}
+use Rattle.strm_msg.proofs.MadePlain.{parts-same}
+use Rattle.strm_queue.specs.Stored.{HoldsData}
+use Rattle.strm_pair.specs.declared.streams.Streams.{Streams}
+use Rattle.strm_pair.specs.Pairs.{state_in, AreHeld}
+use Rattle.strm_pair.proofs.DataQueues.{first-data}
+use Rattle.strm_pair.specs.DataTurns as direct
 use Rattle.strm_pair.specs.DataTurns.{data_turned}
 
 enable-none : (c : Bool) (names : List QueueName) → enable_some c None names ≡ names
@@ -32,10 +48,40 @@ not-doubled m ms is = rw is refl
 abbrev stands_there : Side → Message ℕ → State ℕ → Carried ℕ (State ℕ)
 stands_there side m s = record { state = with_stream side (with_head_queue (put_on m (stream side s).head.queue) (stream side s)) s; gone = [] }
 
+-- a head takes it in
+abbrev taken_up : Message ℕ → Head ℕ → Acted ℕ (Head ℕ)
+taken_up m h = record { state = record h { queue = put_on m h.queue }; notes = []; sent = []; gone = [] }
+
+head-data : (here : Spot) (m : Message ℕ) (h : Head ℕ) → has_parts m ≡ true → m.kind ≡ kinds.Data → head_put here m h ≡ taken_up m h
+head-data here m h parts kind =
+    ap (λ (b : Bool). cond b (waits_for_readers here m h) (obeyed here m h)) parts
+    ∙ ap (λ (b : Bool). cond b (record (taken_up m h) { state = h; gone = record { direction = direction_at Up here.side; rule = Doubled; cells = cells_of m } ∷ [] }) (taken_up m h)) (not-doubled m h.queue.messages kind)
+
+-- what a put at an open head leads to, by what the head does
+abbrev at_head : Side → State ℕ → Acted ℕ (Head ℕ) → Took ℕ (State ℕ)
+at_head side s t = record {
+  state = record (with_stream side (record (stream side s) { head = t.state }) s) { enabled = noted side places.Head t.notes s.enabled };
+  sent = t.sent;
+  gone = t.gone;
+}
+
+put-data : (side : Side) (here : Spot) (m : Message ℕ) (s : State ℕ) → has_parts m ≡ true → m.kind ≡ kinds.Data → is_open (stream side s).opened ≡ true → put_at_head side here m s ≡ at_head side s (taken_up m (stream side s).head)
+put-data side here m s parts kind opened =
+    ap (λ (o : Bool). cond o (at_head side s (head_put here m (stream side s).head)) (record { state = s; sent = []; gone = record { direction = direction_at Up side; rule = EndClosed; cells = cells_of m } ∷ [] })) opened
+    ∙ ap (at_head side s) (head-data here m (stream side s).head parts kind)
+
+-- what carrying leads to, by what the first put does
+abbrev carried_from : ℕ → Took ℕ (State ℕ) → Carried ℕ (State ℕ)
+carried_from hops t = let u = in_turn (carried put_in hops) t.sent t.state in record { state = u.state; gone = t.gone ++ u.gone }
+
+carried-next : (hops : ℕ) (to : Spot) (m : Message ℕ) (s : State ℕ) → carried put_in (suc hops) (record { to = to; message = m }) s ≡ carried_from hops (put_in to m s)
+unfolding carried
+carried-next hops to m s = refl
+
 delivered-data : (side : Side) (m : Message ℕ) (s : State ℕ) → has_parts m ≡ true → m.kind ≡ kinds.Data → is_open (stream (other side) s).opened ≡ true
     → delivered (up_across side) m s ≡ stands_there (other side) m s
-delivered-data Master m s parts kind opened = rw (opened, parts, not-doubled m s.slave.head.queue.messages kind) refl
-delivered-data Slave m s parts kind opened = rw (opened, parts, not-doubled m s.master.head.queue.messages kind) refl
+delivered-data Master m s parts kind opened = carried-next 15 (up_across Master) m s ∙ ap (carried_from 15) (put-data Slave (up_across Master) m s parts kind opened)
+delivered-data Slave m s parts kind opened = carried-next 15 (up_across Slave) m s ∙ ap (carried_from 15) (put-data Master (up_across Slave) m s parts kind opened)
 
 -- the state behind a turn that took an M_DATA message of this size, as both say it
 module _ (q : Queue ℕ) (rest : List (Message ℕ)) where
@@ -107,16 +153,16 @@ abbrev pub StartsWithData : List (Message ℕ) → Type 0
 StartsWithData [] = Unit {0}
 StartsWithData (m ∷ rest) = (has_parts m ≡ true) × (m.kind ≡ kinds.Data)
 
-abbrev same_as : data.TurnedTo → TurnOutcome ℕ
+abbrev same_as : direct.TurnedTo → TurnOutcome ℕ
 same_as t = outcome t.turn t.state
 
-abbrev turned_from : Side → State ℕ → data.Served → TurnOutcome ℕ
+abbrev turned_from : Side → State ℕ → direct.Served → TurnOutcome ℕ
 turned_from side s served =
     outcome served.turn (record (with_stream (other side) served.to (with_stream side served.from s)) {
-      enabled = enable_if (data.goes_on served.turn served.from.driver.queue) (driver_of side) s.enabled;
+      enabled = enable_if (direct.goes_on served.turn served.from.driver.queue) (driver_of side) s.enabled;
     })
 
-serves-data : (side : Side) (ms : List (Message ℕ)) (s : State ℕ) → StartsWithData ms → driver_serves side ms s ≡ turned_from side s (data.driver_serves ms (stream side s) (stream (other side) s))
+serves-data : (side : Side) (ms : List (Message ℕ)) (s : State ℕ) → StartsWithData ms → driver_serves side ms s ≡ turned_from side s (direct.driver_serves ms (stream side s) (stream (other side) s))
 serves-data Master [] s is = refl
 serves-data Slave [] s is = refl
 serves-data Master (m ∷ rest) s is = at (is_open s.slave.opened) (is_stopped m s.slave.head.queue) refl
@@ -138,3 +184,24 @@ serves-data Slave (m ∷ rest) s is = at (is_open s.master.opened) (is_stopped m
 
 pub turned-data : (side : Side) (s : State ℕ) → StartsWithData (stream side s).driver.queue.messages → driver_turned side s ≡ same_as (data_turned side s)
 turned-data side s is = serves-data side (stream side s).driver.queue.messages s is
+
+data-parts : (kind : MsgKind) → kind ≡ kinds.Data → is_data_kind kind ≡ true
+unfolding is_data_kind
+data-parts kind is = rw is refl
+
+-- the first message of a queue that holds M_DATA alone
+starts : (q : List (List Block)) → AllByRecursion IsChain q → HoldsData q → StartsWithData (map message_of q)
+starts [] chains holds = tt
+starts (chain ∷ q) chains holds =
+    let kind = first-data chain q (chain ∷ q) holds refl in
+    (parts-same chain chains.0 ∙ data-parts (block_at 0 chain).kind kind, kind-is chain ∙ kind)
+
+pub driver-starts : (s : StoreValue) (p : Streams) (names : List QueueName) → AreHeld s p → (side : Side) → StartsWithData (stream side (record (state_in s p) { enabled = names })).driver.queue.messages
+driver-starts s p names held Master = starts (list_at s p.master.driver.list) held.master.driver.ready.messages.chains held.master.driver.data_only
+driver-starts s p names held Slave = starts (list_at s p.slave.driver.list) held.slave.driver.ready.messages.chains held.slave.driver.data_only
+
+pub turn-is : (s : State ℕ) (name : QueueName) (turn : Turn) → name.place ≡ places.Driver → StartsWithData (stream name.side (record s { enabled = without name s.enabled })).driver.queue.messages
+    → turned plain name turn s ≡ same_as (data_turned name.side (record s { enabled = without name s.enabled }))
+turn-is s name turn is first =
+    let t : State ℕ = record s { enabled = without name s.enabled } in
+    ap (λ (place : Place). turned_at plain place name.side turn t) is ∙ turned-data name.side t first

@@ -2,6 +2,8 @@
 use Rattle.std.proofs.Common.{◌∙◌, ℕ, refl, sym, ap, rules}
 use Rattle.strm_types.specs.State.{with_head_queue, with_driver_queue}
 use Rattle.strm_types.specs.declared.answers.Turn.TheVariants.{Moved}
+use Rattle.strm_types.specs.declared.modes.ReadMode.TheVariants.{ByteStream}
+use Rattle.strm_types.specs.declared.modes.ControlMode.TheVariants.{Refuse}
 use Rattle.strm_pair.specs.DataTurns.{Served, driver_serves}
 use Rattle.strm_blocks.specs.Blocks.{list_at}
 use Rattle.strm_queue.specs.Stored.{queue_in, messages_on}
@@ -52,7 +54,7 @@ returns-clause-from g c =
     let rest = messages_on new k in
     let goes = seen-moves s k c.in-Some.first c.in-Some.ensures to.head.queue c.is_stopped.result c.is_stopped.ensures c.if-is_stopped.false a.message rest a.first in
     let e = serves-moved a.message rest from to (sym c.is_open.ensures ∙ c.if-not-is_open.false) goes in
-    ap (λ q. record { opened = f.opened; head = record { queue = q; hung_up = f.hung_up }; driver = record { queue = queue_in new c.advance.new.from } }) (queue-same s new f.head (a.keeps.others f.head.list c.requires.head_beside c.requires.head_across))
+    ap (λ q. record { opened = f.opened; head = record { queue = q; read_mode = ByteStream; control_mode = Refuse; hung_up = f.hung_up }; driver = record { queue = queue_in new c.advance.new.from } }) (queue-same s new f.head (a.keeps.others f.head.list c.requires.head_beside c.requires.head_across))
     ∙ ap (λ q. with_driver_queue q from) a.moved
     ∙ sym (ap (λ (t : Served). t.from) (ap (λ ms. driver_serves ms from to) a.first ∙ e))
 
@@ -68,7 +70,7 @@ returns-clause-to g c =
     let rest = messages_on new k in
     let goes = seen-moves s k c.in-Some.first c.in-Some.ensures to.head.queue c.is_stopped.result c.is_stopped.ensures c.if-is_stopped.false a.message rest a.first in
     let e = serves-moved a.message rest from to (sym c.is_open.ensures ∙ c.if-not-is_open.false) goes in
-    ap (λ q. record { opened = h.opened; head = record { queue = queue_in new c.advance.new.to; hung_up = h.hung_up }; driver = record { queue = q } }) (queue-same s new h.driver (a.keeps.others h.driver.list c.requires.driver_across c.requires.driver_beside))
+    ap (λ q. record { opened = h.opened; head = record { queue = queue_in new c.advance.new.to; read_mode = ByteStream; control_mode = Refuse; hung_up = h.hung_up }; driver = record { queue = q } }) (queue-same s new h.driver (a.keeps.others h.driver.list c.requires.driver_across c.requires.driver_beside))
     ∙ ap (λ q. with_head_queue q to) a.put
     ∙ sym (ap (λ (t : Served). t.to) (ap (λ ms. driver_serves ms from to) a.first ∙ e))
 

@@ -1,5 +1,6 @@
 -- A turn that isn't refused is a step, and the journal gains it.
-use Rattle.std.proofs.Common.{◌≡◌, ◌∙◌, ap, sym, refl, subst, rules}
+use Rattle.std.proofs.Common.{ℕ, ◌≡◌, ◌∙◌, List, ap, sym, refl, subst, rules}
+use Rattle.strm_types.specs.Deliver.{Fate, tallied}
 use Rattle.std.specs.Prelude.{None}
 use Rattle.strm_types.specs.declared.limits.TheConstants.{TURN_BLOCKS}
 use Rattle.strm_types.specs.declared.entries.Entry.TheVariants.{Turned}
@@ -29,7 +30,7 @@ invariant_of-self g c =
       answered = sym c.turn-turn.ensures.turn;
       leads = refl;
     })
-    c.turn-turn.ensures.state c.turn-turn.ensures.held c.turn-turn.ensures.pool refl c.add_turn.ensures.added c.add_turn.ensures.most_entries c.add_turn.ensures.most_bytes
+    c.turn-turn.ensures.state c.turn-turn.ensures.held c.turn-turn.ensures.pool (sym (ap (λ (gs : List (Fate ℕ)). tallied gs p.fates) c.turn-turn.ensures.none_gone)) c.add_turn.ensures.added c.add_turn.ensures.most_entries c.add_turn.ensures.most_bytes
 
 pub returns-clause-adds : goal.returns-clause-adds
 returns-clause-adds g c =
@@ -51,7 +52,7 @@ returns-clause-adds g c =
     (record {
       journal = c.add_turn.ensures.added;
       step = step-shown s new p.streams q entry c.turn-turn.ensures.state taken;
-      fates = refl;
+      fates = sym (ap (λ (gs : List (Fate ℕ)). tallied gs p.fates) c.turn-turn.ensures.none_gone);
       base = refl;
       limits = refl;
     })

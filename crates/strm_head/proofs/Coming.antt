@@ -1,0 +1,118 @@
+-- What becomes of a message that comes up to a head, by its kind.
+use Rattle.std.proofs.Common.{ℕ, ◌≡◌, Bool, true, false, cond, List, [], ◌∷◌, length, map, refl, sym, ap, subst, ◌∙◌, arith}
+use Rattle.std.specs.Prelude.{not, ◌&&◌, ◌||◌}
+use Rattle.std.specs.List.{list_any}
+use Rattle.strm_types.specs.declared.kinds.MsgKind.{MsgKind}
+use Rattle.strm_types.specs.declared.names.Way.TheVariants.{Up}
+use Rattle.strm_types.specs.declared.rules.Rule.TheVariants.{Doubled}
+use Rattle.strm_types.specs.declared.spots.Spot.{Spot}
+use Rattle.strm_types.specs.Deliver.{Acted}
+use Rattle.strm_types.specs.Flush.{is_data_kind}
+use Rattle.strm_types.specs.Flushing.{is_flush, asked_by}
+use Rattle.strm_types.specs.Heads.{is_pcproto, is_hangup, passed_by, is_doubled, waits_for_readers, flush_up, obeyed, head_put}
+use Rattle.strm_types.specs.Message.{Message, cells_of}
+use Rattle.strm_types.specs.Names.{direction_at}
+use Rattle.strm_types.specs.Queue.{put_on}
+use Rattle.strm_types.specs.State.{Head}
+use Rattle.strm_blocks.specs.Blocks.{Block, StoreValue, IsInHand, block_at, dropped, names_of}
+use Rattle.strm_blocks.specs.Outcomes.{peek_of, told}
+use Rattle.strm_blocks.specs.declared.asked.Peek.{Peek}
+use Rattle.strm_blocks.proofs.Laws.{total-dropped, used-is, references-is, free_m-is, free_d-more}
+use Rattle.strm_msg.specs.Bytes.{bytes_of}
+use Rattle.strm_msg.specs.Messages.{message_of, IsChain}
+use Rattle.strm_msg.proofs.Chains.{kind-is}
+use Rattle.strm_msg.proofs.MadePlain.{parts-same, plain-is}
+use Rattle.strm_queue.specs.Stored.{FreesBlocks}
+use Rattle.strm_head.specs.declared.putting.Urgent.{Urgent}
+
+-- whether an M_PCPROTO stands among some messages
+abbrev any_urgent : List (Message ℕ) → Bool
+any_urgent ms = list_any (λ (m : Message ℕ). is_pcproto m.kind) ms
+
+-- a visitor that stops at an M_PCPROTO sees whether there is one
+abbrev one_more : Urgent → Peek → Urgent
+one_more v p = record { found = is_pcproto p.kind }
+
+abbrev seen_in : Bool → List (List Block) → Urgent
+seen_in found q = told one_more (λ v. not v.found) (record { found = found }) (map peek_of q)
+
+pub finds-urgent : (q : List (List Block)) → (seen_in false q).found ≡ any_urgent (map message_of q)
+finds-urgent [] = refl
+finds-urgent (chain ∷ q) =
+    at (is_pcproto (block_at 0 chain).kind) (finds-urgent q) ∙ ap (λ k. is_pcproto k || any_urgent (map message_of q)) (sym (kind-is chain))
+  where
+    at : (b : Bool) → (seen_in false q).found ≡ any_urgent (map message_of q)
+        → (cond (not b) (seen_in b q) (record { found = b })).found ≡ (b || any_urgent (map message_of q))
+    at true ih = refl
+    at false ih = ih
+
+-- no fewer blocks are free where a message in hand is freed
+dropped-frees : (s : StoreValue) (i : ℕ) → IsInHand s i → FreesBlocks s (dropped s i)
+dropped-frees s i is = record {
+  mblks = omega (arith, free_m-is s, free_m-is (dropped s i), used-is s, used-is (dropped s i), total-dropped length s i is);
+  dblks = free_d-more s (dropped s i) refl (λ d. omega (arith, references-is s d, references-is (dropped s i) d, total-dropped (names_of d) s i is));
+}
+
+pub freed-frees : (s t : StoreValue) (i : ℕ) → IsInHand s i → t ≡ dropped s i → FreesBlocks s t
+freed-frees s t i here is = subst (λ v. FreesBlocks s v) (sym is) (dropped-frees s i here)
+
+pub frees-both : (s t u : StoreValue) → FreesBlocks s t → FreesBlocks t u → FreesBlocks s u
+frees-both s t u first second = record {
+  mblks = omega (arith, first.mblks, second.mblks);
+  dblks = omega (arith, first.dblks, second.dblks);
+}
+
+module _ (here : Spot) (chain : List Block) (h : Head ℕ) where
+  abbrev m : Message ℕ
+  m = message_of chain
+
+  -- a message waits, but for a second M_PCPROTO
+  abbrev doubled : Acted ℕ (Head ℕ)
+  doubled = record (passed_by h) { gone = record { direction = direction_at Up here.side; rule = Doubled; cells = cells_of m } ∷ [] }
+
+  abbrev waiting : Acted ℕ (Head ℕ)
+  waiting = passed_by (record h { queue = put_on m h.queue })
+
+  pub no-pcproto : is_pcproto (block_at 0 chain).kind ≡ false → is_doubled m h.queue.messages ≡ false
+  no-pcproto is = ap (λ v. v && any_urgent h.queue.messages) (ap is_pcproto (kind-is chain) ∙ is)
+
+  pub a-pcproto : (b : Bool) → is_pcproto (block_at 0 chain).kind ≡ true → any_urgent h.queue.messages ≡ b → is_doubled m h.queue.messages ≡ b
+  a-pcproto b is there = ap (λ v. v && any_urgent h.queue.messages) (ap is_pcproto (kind-is chain) ∙ is) ∙ there
+
+  pub goes-doubled : is_doubled m h.queue.messages ≡ true → waits_for_readers here m h ≡ doubled
+  goes-doubled is = ap (λ v. cond v doubled waiting) is
+
+  pub waits-there : is_doubled m h.queue.messages ≡ false → waits_for_readers here m h ≡ waiting
+  waits-there is = ap (λ v. cond v doubled waiting) is
+
+  -- no waiting writer is let go, and nothing goes down
+  pub waits-notes : (waits_for_readers here m h).notes ≡ []
+  waits-notes = elim (is_doubled m h.queue.messages) as (λ v. (cond v doubled waiting).notes ≡ []) [ true ↦ refl | false ↦ refl ]
+
+  pub waits-sent : (waits_for_readers here m h).sent ≡ []
+  waits-sent = elim (is_doubled m h.queue.messages) as (λ v. (cond v doubled waiting).sent ≡ []) [ true ↦ refl | false ↦ refl ]
+
+  -- what a put does, by the kind of the first block
+  module _ (one : IsChain chain) where
+    pub data-comes : is_data_kind (block_at 0 chain).kind ≡ true → head_put here m h ≡ waits_for_readers here m h
+    data-comes is = ap (λ v. cond v (waits_for_readers here m h) (obeyed here m h)) (parts-same chain one ∙ is)
+
+    pub other-comes : is_data_kind (block_at 0 chain).kind ≡ false → head_put here m h ≡ obeyed here m h
+    other-comes is = ap (λ v. cond v (waits_for_readers here m h) (obeyed here m h)) (parts-same chain one ∙ is)
+
+    abbrev hung : MsgKind → Acted ℕ (Head ℕ)
+    hung k = passed_by (record h { hung_up = h.hung_up || is_hangup k })
+
+    pub flush-comes : is_data_kind (block_at 0 chain).kind ≡ false → is_flush (block_at 0 chain).kind ≡ true
+        → head_put here m h ≡ flush_up here (asked_by (bytes_of chain)) h
+    flush-comes none is =
+        other-comes none
+        ∙ ap (λ v. cond v (flush_up here (asked_by m.plain) h) (hung m.kind)) (ap is_flush (kind-is chain) ∙ is)
+        ∙ ap (λ (x : Message ℕ). flush_up here (asked_by x.plain) h) (plain-is chain none)
+
+    pub rest-comes : is_data_kind (block_at 0 chain).kind ≡ false → is_flush (block_at 0 chain).kind ≡ false
+        → head_put here m h ≡ hung (block_at 0 chain).kind
+    rest-comes none is =
+        other-comes none
+        ∙ ap (λ v. cond v (flush_up here (asked_by m.plain) h) (hung m.kind)) (ap is_flush (kind-is chain) ∙ is)
+        ∙ ap hung (kind-is chain)

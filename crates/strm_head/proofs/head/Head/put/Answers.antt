@@ -1,0 +1,134 @@
+-- What a message does at a head, by its kind.
+use Rattle.std.proofs.Common.{ℕ, ◌≡◌, Bool, sym, ap, ◌∙◌}
+use Rattle.std.specs.Prelude.{◌||◌}
+use Rattle.strm_types.specs.declared.flushing.FlushAsked.{FlushAsked}
+use Rattle.strm_types.specs.Deliver.{Acted, tallied}
+use Rattle.strm_types.specs.Flush.{is_data_kind}
+use Rattle.strm_types.specs.Flushing.{is_flush}
+use Rattle.strm_types.specs.Heads.{is_hangup, waits_for_readers, flush_up, head_put, passed_by}
+use Rattle.strm_types.specs.State as state
+use Rattle.strm_blocks.specs.Blocks.{StoreValue, block_at, in_hand}
+use Rattle.strm_msg.specs.Messages.{message_of}
+use Rattle.strm_head.specs.Heads.{head_in}
+use Rattle.strm_head.proofs.Coming.{data-comes, flush-comes, rest-comes, waits-notes, waits-sent, freed-frees, frees-both}
+use Rattle.strm_head.proofs.head.Head.put.Given as given
+use Rattle.strm_head.proofs.head.Head.put.Goals.{then-self, else-self}
+use Rattle.strm_head.proofs.head.Head.put.Goals as goal
+
+-- M_DATA, M_PROTO and M_PCPROTO
+abbrev waits : (g : given.Over) → goal.After-take_in g → Acted ℕ (state.Head ℕ)
+waits g c =
+    let s = g.B.Blocks.value c.args.store.now in
+    waits_for_readers c.args.here (message_of (in_hand s (g.B.Blocks.name c.args.message))) (head_in s c.args.self.now)
+
+abbrev put-data : (g : given.Over) → goal.After-take_in g → Acted ℕ (state.Head ℕ)
+put-data g c =
+    let s = g.B.Blocks.value c.args.store.now in
+    head_put c.args.here (message_of (in_hand s (g.B.Blocks.name c.args.message))) (head_in s c.args.self.now)
+
+data-is : (g : given.Over) (c : goal.After-take_in g) → put-data g c ≡ waits g c
+data-is g c =
+    let s = g.B.Blocks.value c.args.store.now in
+    let chain = in_hand s (g.B.Blocks.name c.args.message) in
+    data-comes c.args.here chain (head_in s c.args.self.now) c.requires.chain
+    (sym (ap is_data_kind c.kind-kind.ensures) ∙ sym c.is_data_kind.ensures ∙ c.if-is_data_kind.true)
+
+pub returns-then-is_data_kind-clause-state : goal.returns-then-is_data_kind-clause-state
+returns-then-is_data_kind-clause-state g c = c.take_in.ensures.state ∙ sym (ap (λ (a : Acted ℕ (state.Head ℕ)). a.state) (data-is g c))
+
+pub returns-then-is_data_kind-clause-notes : goal.returns-then-is_data_kind-clause-notes
+returns-then-is_data_kind-clause-notes g c =
+    let s = g.B.Blocks.value c.args.store.now in
+    sym (ap (λ (a : Acted ℕ (state.Head ℕ)). a.notes) (data-is g c)
+    ∙ waits-notes c.args.here (in_hand s (g.B.Blocks.name c.args.message)) (head_in s c.args.self.now))
+
+pub returns-then-is_data_kind-clause-sent : goal.returns-then-is_data_kind-clause-sent
+returns-then-is_data_kind-clause-sent g c =
+    let s = g.B.Blocks.value c.args.store.now in
+    sym (ap (λ (a : Acted ℕ (state.Head ℕ)). a.sent) (data-is g c)
+    ∙ waits-sent c.args.here (in_hand s (g.B.Blocks.name c.args.message)) (head_in s c.args.self.now))
+
+pub returns-then-is_data_kind-clause-told : goal.returns-then-is_data_kind-clause-told
+returns-then-is_data_kind-clause-told g c = c.take_in.ensures.told ∙ sym (ap (λ (a : Acted ℕ (state.Head ℕ)). tallied a.gone c.args.told.now) (data-is g c))
+
+-- M_FLUSH
+abbrev flushed : (g : given.Over) (c : goal.After-obey g) → StoreValue → FlushAsked → Acted ℕ (state.Head ℕ)
+flushed g c t asked = flush_up c.args.here asked (head_in t c.args.self.now)
+
+abbrev put-flush : (g : given.Over) → goal.After-obey g → Acted ℕ (state.Head ℕ)
+put-flush g c =
+    let s = g.B.Blocks.value c.args.store.now in
+    head_put c.args.here (message_of (in_hand s (g.B.Blocks.name c.args.message))) (head_in s c.args.self.now)
+
+flush-is : (g : given.Over) (c : goal.After-obey g) → flushed g c (g.B.Blocks.value c.free.new.self) c.asked-asked.result ≡ put-flush g c
+flush-is g c =
+    let s = g.B.Blocks.value c.args.store.now in
+    let chain = in_hand s (g.B.Blocks.name c.args.message) in
+    ap (λ t. flushed g c t c.asked-asked.result) c.free.ensures
+    ∙ ap (λ a. flushed g c s a) c.asked-asked.ensures.asked
+    ∙ sym (flush-comes c.args.here chain (head_in s c.args.self.now) c.requires.chain
+    (sym (ap is_data_kind c.kind-kind.ensures) ∙ sym c.is_data_kind.ensures ∙ c.if-is_data_kind.false)
+    (sym (ap is_flush c.kind-kind.ensures) ∙ sym c.is_flush.ensures ∙ c.if-is_flush.true))
+
+pub returns-then-is_flush-clause-state : goal.returns-then-is_flush-clause-state
+returns-then-is_flush-clause-state g c = c.obey.ensures.state ∙ ap (λ (a : Acted ℕ (state.Head ℕ)). a.state) (flush-is g c)
+
+pub returns-then-is_flush-clause-notes : goal.returns-then-is_flush-clause-notes
+returns-then-is_flush-clause-notes g c = c.obey.ensures.notes ∙ ap (λ (a : Acted ℕ (state.Head ℕ)). a.notes) (flush-is g c)
+
+pub returns-then-is_flush-clause-sent : goal.returns-then-is_flush-clause-sent
+returns-then-is_flush-clause-sent g c = c.obey.ensures.sent ∙ ap (λ (a : Acted ℕ (state.Head ℕ)). a.sent) (flush-is g c)
+
+pub returns-then-is_flush-clause-told : goal.returns-then-is_flush-clause-told
+returns-then-is_flush-clause-told g c = c.obey.ensures.told ∙ ap (λ (a : Acted ℕ (state.Head ℕ)). tallied a.gone c.args.told.now) (flush-is g c)
+
+pub returns-then-is_flush-clause-frees : goal.returns-then-is_flush-clause-frees
+returns-then-is_flush-clause-frees g c =
+    let s = g.B.Blocks.value c.args.store.now in
+    let t = g.B.Blocks.value c.free.new.self in
+    frees-both s t (g.B.Blocks.value c.obey.new.store) (freed-frees s t (g.B.Blocks.name c.args.message) c.requires.in_hand c.free.ensures) c.obey.ensures.frees
+
+-- M_HANGUP and all others
+abbrev put-rest : (g : given.Over) → goal.After-free-2 g → Acted ℕ (state.Head ℕ)
+put-rest g c =
+    let s = g.B.Blocks.value c.args.store.now in
+    head_put c.args.here (message_of (in_hand s (g.B.Blocks.name c.args.message))) (head_in s c.args.self.now)
+
+abbrev hung : (g : given.Over) (c : goal.After-free-2 g) → StoreValue → Bool → Acted ℕ (state.Head ℕ)
+hung g c t up = passed_by (record (head_in t c.args.self.now) { hung_up = up })
+
+hung-is : (g : given.Over) (c : goal.After-free-2 g) → let s = g.B.Blocks.value c.args.store.now in
+    c.if-self.self ≡ (c.args.self.now.hung_up || is_hangup (block_at 0 (in_hand s (g.B.Blocks.name c.args.message))).kind)
+hung-is g c =
+    let s = g.B.Blocks.value c.args.store.now in
+    let kind = (block_at 0 (in_hand s (g.B.Blocks.name c.args.message))).kind in
+    elim c.if-self.branch [
+      | then-self w ↦ w.self-is ∙ w.if-self.true ∙ sym (ap (λ v. v || is_hangup kind) w.if-self.true)
+      | else-self w ↦ w.self-is ∙ w.is_hangup-self.ensures ∙ ap is_hangup c.kind-kind.ensures ∙ sym (ap (λ v. v || is_hangup kind) w.if-self.false)
+    ]
+
+rest-is : (g : given.Over) (c : goal.After-free-2 g) → hung g c (g.B.Blocks.value c.free-2.new.self) c.if-self.self ≡ put-rest g c
+rest-is g c =
+    let s = g.B.Blocks.value c.args.store.now in
+    let chain = in_hand s (g.B.Blocks.name c.args.message) in
+    ap (λ t. hung g c t c.if-self.self) c.free-2.ensures
+    ∙ ap (λ up. hung g c s up) (hung-is g c)
+    ∙ sym (rest-comes c.args.here chain (head_in s c.args.self.now) c.requires.chain
+    (sym (ap is_data_kind c.kind-kind.ensures) ∙ sym c.is_data_kind.ensures ∙ c.if-is_data_kind.false)
+    (sym (ap is_flush c.kind-kind.ensures) ∙ sym c.is_flush.ensures ∙ c.if-is_flush.false))
+
+pub returns-clause-state : goal.returns-clause-state
+returns-clause-state g c = ap (λ (a : Acted ℕ (state.Head ℕ)). a.state) (rest-is g c)
+
+pub returns-clause-notes : goal.returns-clause-notes
+returns-clause-notes g c = ap (λ (a : Acted ℕ (state.Head ℕ)). a.notes) (rest-is g c)
+
+pub returns-clause-sent : goal.returns-clause-sent
+returns-clause-sent g c = ap (λ (a : Acted ℕ (state.Head ℕ)). a.sent) (rest-is g c)
+
+pub returns-clause-told : goal.returns-clause-told
+returns-clause-told g c = ap (λ (a : Acted ℕ (state.Head ℕ)). tallied a.gone c.args.told.now) (rest-is g c)
+
+pub returns-clause-frees : goal.returns-clause-frees
+returns-clause-frees g c =
+    freed-frees (g.B.Blocks.value c.args.store.now) (g.B.Blocks.value c.free-2.new.self) (g.B.Blocks.name c.args.message) c.requires.in_hand c.free-2.ensures
