@@ -1,10 +1,10 @@
 -- A turn of a driver whose first message is M_DATA takes it straight to the other side's head, as its delivery does.
 use Rattle.std.proofs.Common.{ℕ, suc, ◌≡◌, ◌++◌, Bool, true, false, cond, List, [], ◌∷◌, map, refl, sym, ap, ◌∙◌}
 use Rattle.std.specs.List.{AllByRecursion}
-use Rattle.std.specs.Prelude.{not, ◌&&◌, ◌==◌, Option, None}
+use Rattle.std.specs.Prelude.{not, ◌&&◌, ◌==◌, None}
 use Rattle.strm_types.specs.declared.kinds.MsgKind.{MsgKind}
 use Rattle.strm_types.specs.declared.kinds.MsgKind.TheVariants as kinds
-use Rattle.strm_types.specs.declared.answers.Turn.TheVariants.{Moved, Blocked, Idle}
+use Rattle.strm_types.specs.declared.answers.Turn.TheVariants.{Moved, Blocked}
 use Rattle.strm_types.specs.declared.names.Side.{Side}
 use Rattle.strm_types.specs.declared.names.Side.TheVariants.{Master, Slave}
 use Rattle.strm_types.specs.declared.names.QueueName.{QueueName}

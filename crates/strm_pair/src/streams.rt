@@ -124,7 +124,14 @@ impl Streams {
     }
 
     /// Reads up to `n` bytes from a side's head into `out`, and tells by which rule they go.
-    pub fn read<B: Blocks>(&mut self, store: &mut B, side: Side, n: u32, out: &mut ReadBytes, told: &mut Fates)
+    pub fn read<B: Blocks>(
+        &mut self,
+        store: &mut B,
+        side: Side,
+        n: u32,
+        out: &mut ReadBytes,
+        told: &mut Fates,
+    )
         requires held { AreHeld (B.value store.old) self.old }
         requires fresh { out.old.items ≡ [] }
         ensures answer { Bytes out.new.items ≡ (read_plain side n (state_in (B.value store.old) self.old)).answer }
@@ -139,8 +146,24 @@ impl Streams {
         let mode = ReadMode::ByteStream;
         let direction = side.head().direction();
         let goes = match side {
-            Side::Master => read(store, &mut self.master.head, mode, wanted, out, direction, told),
-            Side::Slave => read(store, &mut self.slave.head, mode, wanted, out, direction, told),
+            Side::Master => read(
+                store,
+                &mut self.master.head,
+                mode,
+                wanted,
+                out,
+                direction,
+                told,
+            ),
+            Side::Slave => read(
+                store,
+                &mut self.slave.head,
+                mode,
+                wanted,
+                out,
+                direction,
+                told,
+            ),
         };
         if goes {
             self.enabled.enable_found(side.head().before());

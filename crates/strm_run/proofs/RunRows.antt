@@ -4,6 +4,7 @@ use Rattle.std.specs.Prelude.{codes, Option, None, Some}
 use Rattle.std.specs.Fmt.{decimal}
 use Rattle.std.specs.List.{concat}
 use Rattle.strm_types.specs.Message.{data_message, is_held, rank_of, band_of, size_of, cells_of, is_high_priority}
+use Rattle.strm_types.specs.Deliver.{carried}
 use Rattle.strm_types.specs.Flush.{is_data_kind}
 use Rattle.strm_types.specs.Write.{chunk_count}
 use Rattle.strm_run.specs.Script.{Open, digit_of}
@@ -56,56 +57,56 @@ pair-is-made-once = refl
 
 -- a whole script: what the master writes, the slave reads; turns end where none is enabled
 pub bytes-go-through : told_from 1 [] None (codes "open" ∷ codes "unlock" ∷ codes "slave" ∷ codes "turn m.drv.w" ∷ codes "write m \"a\"" ∷ codes "write m \"b\"" ∷ codes "run 0" ∷ codes "run 1" ∷ codes "run 9" ∷ codes "read s 9" ∷ codes "read s 9" ∷ []) ≡ wrote (codes "ok" ∷ codes "ok" ∷ codes "ok" ∷ codes "err EINVAL" ∷ (codes "ok " ++ decimal 1) ∷ (codes "ok " ++ decimal 1) ∷ (codes "ran " ++ decimal 0) ∷ (codes "ran " ++ decimal 1) ∷ (codes "ran " ++ decimal 1) ∷ (codes "data " ++ decimal 2 ++ codes " " ++ codes "\"ab\"") ∷ codes "err EAGAIN" ∷ []) None
-unfolding told_from reading command_in open_in named_in write_in read_in turn_in run_in number_in number_from digit_of text_in text_from side_in place_in way_in queue_in answered by_open by_call call_of by_run turns_of by_turn turn_of line_text chunk_count data_message rank_of band_of size_of cells_of is_high_priority is_held
+unfolding told_from reading command_in open_in named_in write_in read_in turn_in run_in number_in number_from digit_of text_in text_from side_in place_in way_in queue_in answered by_open by_call call_of by_run turns_of by_turn turn_of line_text chunk_count data_message rank_of band_of size_of cells_of is_high_priority is_held is_data_kind carried
 bytes-go-through = refl
 
 -- the other way, by turns: towards a slave that isn't open a turn is blocked, and its opening enables the queue again
 pub turns-are-told : told_from 1 [] None (codes "open" ∷ codes "write m \"a\"" ∷ codes "turn m.drv.w" ∷ codes "turn m.drv.w" ∷ codes "unlock" ∷ codes "slave" ∷ codes "turn m.drv.w" ∷ codes "write s \"b\"" ∷ codes "turn s.drv.w" ∷ codes "read m 9" ∷ []) ≡ wrote (codes "ok" ∷ (codes "ok " ++ decimal 1) ∷ codes "blocked" ∷ codes "err EINVAL" ∷ codes "ok" ∷ codes "ok" ∷ (codes "ok " ++ decimal 1) ∷ (codes "ok " ++ decimal 1) ∷ (codes "ok " ++ decimal 1) ∷ (codes "data " ++ decimal 1 ++ codes " " ++ codes "\"b\"") ∷ []) None
-unfolding told_from reading command_in open_in named_in write_in read_in turn_in run_in number_in number_from digit_of text_in text_from side_in place_in way_in queue_in answered by_open by_call call_of by_turn turn_of line_text chunk_count data_message rank_of band_of size_of cells_of is_high_priority is_held
+unfolding told_from reading command_in open_in named_in write_in read_in turn_in run_in number_in number_from digit_of text_in text_from side_in place_in way_in queue_in answered by_open by_call call_of by_turn turn_of line_text chunk_count data_message rank_of band_of size_of cells_of is_high_priority is_held is_data_kind carried
 turns-are-told = refl
 
 -- An account: what asks for no blocks has enough of them. A write and turns that get too few are refused by ENOSR and
 -- count nothing, and the first such line is the short one.
 pub account-of-blocks : told_from 1 (TooFew ∷ TooFew ∷ TooFew ∷ TooFew ∷ Enough ∷ TooFew ∷ Enough ∷ TooFew ∷ []) None (codes "open" ∷ codes "unlock" ∷ codes "slave" ∷ codes "write m \"a\"" ∷ codes "write m \"a\"" ∷ codes "run 9" ∷ codes "run 9" ∷ codes "read s 1" ∷ codes "write s \"b\"" ∷ []) ≡ wrote (codes "ok" ∷ codes "ok" ∷ codes "ok" ∷ codes "err ENOSR" ∷ (codes "ok " ++ decimal 1) ∷ (codes "ran " ++ decimal 0) ∷ (codes "ran " ++ decimal 1) ∷ (codes "data " ++ decimal 1 ++ codes " " ++ codes "\"a\"") ∷ (codes "ok " ++ decimal 1) ∷ []) (Some 4)
-unfolding told_from reading command_in open_in named_in write_in read_in turn_in run_in number_in number_from digit_of text_in text_from side_in place_in way_in queue_in answered by_open by_call call_of by_run turns_of by_turn turn_of line_text chunk_count data_message rank_of band_of size_of cells_of is_high_priority is_held
+unfolding told_from reading command_in open_in named_in write_in read_in turn_in run_in number_in number_from digit_of text_in text_from side_in place_in way_in queue_in answered by_open by_call call_of by_run turns_of by_turn turn_of line_text chunk_count data_message rank_of band_of size_of cells_of is_high_priority is_held is_data_kind carried
 account-of-blocks = refl
 
 -- turns that get too few make their line the short one, and a turn too; turns before them count
 pub short-lines-of-turns : map (λ account. (told_from 1 account None (codes "open" ∷ codes "unlock" ∷ codes "slave" ∷ codes "write m \"a\"" ∷ codes "write s \"b\"" ∷ codes "run 9" ∷ codes "turn s.drv.w" ∷ [])).short) ((Enough ∷ Enough ∷ Enough ∷ Enough ∷ Enough ∷ TooFew ∷ Enough ∷ []) ∷ (Enough ∷ Enough ∷ Enough ∷ Enough ∷ Enough ∷ Enough ∷ TooFew ∷ []) ∷ []) ≡ Some 6 ∷ Some 6 ∷ []
-unfolding told_from reading command_in open_in named_in write_in read_in turn_in run_in number_in number_from digit_of text_in text_from side_in place_in way_in queue_in answered by_open by_call call_of by_run turns_of by_turn turn_of line_text chunk_count data_message rank_of band_of size_of cells_of is_high_priority is_held
+unfolding told_from reading command_in open_in named_in write_in read_in turn_in run_in number_in number_from digit_of text_in text_from side_in place_in way_in queue_in answered by_open by_call call_of by_run turns_of by_turn turn_of line_text chunk_count data_message rank_of band_of size_of cells_of is_high_priority is_held is_data_kind carried
 short-lines-of-turns = refl
 
 -- the second of two turns gets too few: one is counted, and the queue stays enabled for a turn
 pub turns-before-a-short-one-count : told_from 1 (Enough ∷ Enough ∷ Enough ∷ Enough ∷ Enough ∷ Enough ∷ TooFew ∷ TooFew ∷ []) None (codes "open" ∷ codes "unlock" ∷ codes "slave" ∷ codes "write m \"a\"" ∷ codes "write s \"b\"" ∷ codes "run 9" ∷ codes "turn s.drv.w" ∷ codes "turn s.drv.w" ∷ codes "read m 1" ∷ []) ≡ wrote (codes "ok" ∷ codes "ok" ∷ codes "ok" ∷ (codes "ok " ++ decimal 1) ∷ (codes "ok " ++ decimal 1) ∷ (codes "ran " ++ decimal 1) ∷ codes "err ENOSR" ∷ (codes "ok " ++ decimal 1) ∷ (codes "data " ++ decimal 1 ++ codes " " ++ codes "\"b\"") ∷ []) (Some 6)
-unfolding told_from reading command_in open_in named_in write_in read_in turn_in run_in number_in number_from digit_of text_in text_from side_in place_in way_in queue_in answered by_open by_call call_of by_run turns_of by_turn turn_of line_text chunk_count data_message rank_of band_of size_of cells_of is_high_priority is_held
+unfolding told_from reading command_in open_in named_in write_in read_in turn_in run_in number_in number_from digit_of text_in text_from side_in place_in way_in queue_in answered by_open by_call call_of by_run turns_of by_turn turn_of line_text chunk_count data_message rank_of band_of size_of cells_of is_high_priority is_held is_data_kind carried
 turns-before-a-short-one-count = refl
 
 -- commands on a stream before a pair is there
 pub streams-want-a-pair : told_from 1 [] None (codes "close m" ∷ codes "push m ldterm" ∷ codes "pop m" ∷ codes "look s" ∷ codes "flush m r" ∷ codes "flush m r 256" ∷ codes "show m" ∷ []) ≡ wrote (codes "err ENXIO" ∷ codes "err ENXIO" ∷ codes "err ENXIO" ∷ codes "err ENXIO" ∷ codes "err ENXIO" ∷ codes "err ENXIO" ∷ codes "err ENXIO" ∷ []) None
-unfolding told_from reading command_in open_in named_in write_in read_in turn_in run_in stream_in sided_call_in push_in flush_in show_in side_alone module_in is_name flush_queues_in band_in number_in number_from digit_of text_in text_from side_in place_in way_in queue_in answered by_open by_call by_flush by_show call_of by_run turns_of by_turn turn_of line_text chunk_count data_message rank_of band_of size_of cells_of is_high_priority is_held
+unfolding told_from reading command_in open_in named_in write_in read_in turn_in run_in stream_in sided_call_in push_in flush_in show_in side_alone module_in is_name flush_queues_in band_in number_in number_from digit_of text_in text_from side_in place_in way_in queue_in answered by_open by_call by_flush by_show call_of by_run turns_of by_turn turn_of line_text chunk_count data_message rank_of band_of size_of cells_of is_high_priority is_held is_data_kind carried
 streams-want-a-pair = refl
 
 -- a band above 255 is refused before the call is made, and so on a stream that isn't open; what stands is told of that too
 pub bands-and-sizes-of-a-closed-stream : told_from 1 [] None (codes "open" ∷ codes "flush s r 256" ∷ codes "flush s r 255" ∷ codes "flush m r 4294967295" ∷ codes "flush m r 8" ∷ codes "flush m r 7" ∷ codes "show s" ∷ []) ≡ wrote (codes "ok" ∷ codes "err EINVAL" ∷ codes "err ENXIO" ∷ codes "err EINVAL" ∷ codes "err EINVAL" ∷ codes "ok" ∷ stands (codes "show s") 0 0 0 0 ∷ []) None
-unfolding told_from reading command_in open_in named_in write_in read_in turn_in run_in stream_in sided_call_in push_in flush_in show_in side_alone module_in is_name flush_queues_in band_in number_in number_from digit_of text_in text_from side_in place_in way_in queue_in answered by_open by_call by_flush by_show call_of by_run turns_of by_turn turn_of line_text chunk_count data_message rank_of band_of size_of cells_of is_high_priority is_held
+unfolding told_from reading command_in open_in named_in write_in read_in turn_in run_in stream_in sided_call_in push_in flush_in show_in side_alone module_in is_name flush_queues_in band_in number_in number_from digit_of text_in text_from side_in place_in way_in queue_in answered by_open by_call by_flush by_show call_of by_run turns_of by_turn turn_of line_text chunk_count data_message rank_of band_of size_of cells_of is_high_priority is_held is_data_kind carried
 bands-and-sizes-of-a-closed-stream = refl
 
 -- what a side's queues have before a turn and behind it, each its messages and then its bytes
 pub sizes-are-told : told_from 1 [] None (codes "open" ∷ codes "unlock" ∷ codes "slave" ∷ codes "write m \"ab\"" ∷ codes "write m \"c\"" ∷ codes "show m" ∷ codes "show s" ∷ codes "run 9" ∷ codes "show m" ∷ codes "show s" ∷ []) ≡ wrote (codes "ok" ∷ codes "ok" ∷ codes "ok" ∷ (codes "ok " ++ decimal 2) ∷ (codes "ok " ++ decimal 1) ∷ stands (codes "show m") 0 0 2 3 ∷ stands (codes "show s") 0 0 0 0 ∷ (codes "ran " ++ decimal 2) ∷ stands (codes "show m") 0 0 0 0 ∷ stands (codes "show s") 2 3 0 0 ∷ []) None
-unfolding told_from reading command_in open_in named_in write_in read_in turn_in run_in stream_in sided_call_in push_in flush_in show_in side_alone module_in is_name flush_queues_in band_in number_in number_from digit_of text_in text_from side_in place_in way_in queue_in answered by_open by_call by_flush by_show call_of by_run turns_of by_turn turn_of line_text chunk_count data_message rank_of band_of size_of cells_of is_high_priority is_held
+unfolding told_from reading command_in open_in named_in write_in read_in turn_in run_in stream_in sided_call_in push_in flush_in show_in side_alone module_in is_name flush_queues_in band_in number_in number_from digit_of text_in text_from side_in place_in way_in queue_in answered by_open by_call by_flush by_show call_of by_run turns_of by_turn turn_of line_text chunk_count data_message rank_of band_of size_of cells_of is_high_priority is_held is_data_kind carried
 sizes-are-told = refl
 
 -- a flush takes what is on its way, and another queue's isn't touched
 pub flush-takes-bytes : told_from 1 [] None (codes "open" ∷ codes "unlock" ∷ codes "slave" ∷ codes "write m \"ab\"" ∷ codes "write s \"c\"" ∷ codes "flush m w" ∷ codes "show m" ∷ codes "show s" ∷ []) ≡ wrote (codes "ok" ∷ codes "ok" ∷ codes "ok" ∷ (codes "ok " ++ decimal 2) ∷ (codes "ok " ++ decimal 1) ∷ codes "ok" ∷ stands (codes "show m") 0 0 0 0 ∷ stands (codes "show s") 0 0 1 1 ∷ []) None
-unfolding told_from reading command_in open_in named_in write_in read_in turn_in run_in stream_in sided_call_in push_in flush_in show_in side_alone module_in is_name flush_queues_in band_in number_in number_from digit_of text_in text_from side_in place_in way_in queue_in answered by_open by_call by_flush by_show call_of by_run turns_of by_turn turn_of line_text chunk_count data_message rank_of band_of size_of cells_of is_high_priority is_held is_data_kind
+unfolding told_from reading command_in open_in named_in write_in read_in turn_in run_in stream_in sided_call_in push_in flush_in show_in side_alone module_in is_name flush_queues_in band_in number_in number_from digit_of text_in text_from side_in place_in way_in queue_in answered by_open by_call by_flush by_show call_of by_run turns_of by_turn turn_of line_text chunk_count data_message rank_of band_of size_of cells_of is_high_priority is_held is_data_kind carried
 flush-takes-bytes = refl
 
 -- no module is known yet
 pub no-module-is-known : told_from 1 [] None (codes "open" ∷ codes "look m" ∷ codes "pop m" ∷ codes "push m ldterm" ∷ codes "push m foo" ∷ []) ≡ wrote (codes "ok" ∷ codes "err EINVAL" ∷ codes "err EINVAL" ∷ codes "err EINVAL" ∷ codes "err EINVAL" ∷ []) None
-unfolding told_from reading command_in open_in named_in write_in read_in turn_in run_in stream_in sided_call_in push_in flush_in show_in side_alone module_in is_name flush_queues_in band_in number_in number_from digit_of text_in text_from side_in place_in way_in queue_in answered by_open by_call by_flush by_show call_of by_run turns_of by_turn turn_of line_text chunk_count data_message rank_of band_of size_of cells_of is_high_priority is_held
+unfolding told_from reading command_in open_in named_in write_in read_in turn_in run_in stream_in sided_call_in push_in flush_in show_in side_alone module_in is_name flush_queues_in band_in number_in number_from digit_of text_in text_from side_in place_in way_in queue_in answered by_open by_call by_flush by_show call_of by_run turns_of by_turn turn_of line_text chunk_count data_message rank_of band_of size_of cells_of is_high_priority is_held is_data_kind carried
 no-module-is-known = refl
 
 -- an account: a look asks for no blocks, and a close that gets too few is refused
 pub account-of-closes : told_from 1 (TooFew ∷ TooFew ∷ TooFew ∷ []) None (codes "open" ∷ codes "show m" ∷ codes "close m" ∷ []) ≡ wrote (codes "ok" ∷ stands (codes "show m") 0 0 0 0 ∷ codes "err ENOSR" ∷ []) (Some 3)
-unfolding told_from reading command_in open_in named_in write_in read_in turn_in run_in stream_in sided_call_in push_in flush_in show_in side_alone module_in is_name flush_queues_in band_in number_in number_from digit_of text_in text_from side_in place_in way_in queue_in answered by_open by_call by_flush by_show call_of by_run turns_of by_turn turn_of line_text chunk_count data_message rank_of band_of size_of cells_of is_high_priority is_held
+unfolding told_from reading command_in open_in named_in write_in read_in turn_in run_in stream_in sided_call_in push_in flush_in show_in side_alone module_in is_name flush_queues_in band_in number_in number_from digit_of text_in text_from side_in place_in way_in queue_in answered by_open by_call by_flush by_show call_of by_run turns_of by_turn turn_of line_text chunk_count data_message rank_of band_of size_of cells_of is_high_priority is_held is_data_kind carried
 account-of-closes = refl

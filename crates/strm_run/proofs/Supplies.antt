@@ -1,17 +1,21 @@
 -- Events that get the blocks that they ask for: none of them is short.
-use Rattle.std.proofs.Common.{◌≡◌, ℕ, zero, suc, Bool, true, false, List, [], ◌∷◌, Option, None, Some, Result, Ok, Err, refl, sym, ap, ◌∙◌, slice_get, inl, inr, unwrap_or, nat_le, ◌&&◌}
+use Rattle.std.proofs.Common.{◌≡◌, ℕ, zero, suc, Bool, true, false, cond, List, [], ◌∷◌, Option, None, Some, Result, Ok, Err, refl, sym, ap, ◌∙◌, slice_get, inl, inr, unwrap_or, nat_le, ◌&&◌}
 use Rattle.std.proofs.lemmas.Bool.{cases_Bool}
 use Rattle.strm_types.specs.declared.answers.Turn.{Turn}
 use Rattle.strm_types.specs.declared.events.Caller.{Caller}
 use Rattle.strm_types.specs.declared.names.QueueName.{QueueName}
 use Rattle.strm_types.specs.declared.refusals.Refusal.{Refusal}
-use Rattle.strm_types.specs.declared.refusals.Refusal.TheVariants.{Einval, Eagain, Enxio, Erange, JournalFull}
+use Rattle.strm_types.specs.declared.refusals.Refusal.TheVariants.{Einval, Eagain, Ebadmsg, Enxio, Erange, JournalFull}
 use Rattle.strm_types.specs.declared.names.Side.{Side}
 use Rattle.strm_types.specs.declared.events.FlushQueues.{FlushQueues}
-use Rattle.strm_types.specs.State.{State}
+use Rattle.std.specs.Prelude.{◌==◌}
+use Rattle.strm_types.specs.declared.modes.ControlMode.{ControlMode}
+use Rattle.strm_types.specs.Message.{Message}
+use Rattle.strm_types.specs.Reads.{finds_none, starts_refused, read_refusal}
+use Rattle.strm_types.specs.State.{State, stream}
 use Rattle.strm_types.specs.declared.events.Event.TheVariants as calls
 use Rattle.strm_types.specs.Calls.{Request}
-use Rattle.strm_types.specs.Refused.{or_else, unless, refused_at_once, refused_by_state}
+use Rattle.strm_types.specs.Refused.{or_else, unless, at_end, refused_at_once, refused_by_state}
 use Rattle.strm_run.specs.Script.{Command, Open, Call, Flush, Turn as TurnOf, Run, Show}
 use Rattle.strm_run.specs.ScriptReading.{Reading, Silent, Malformed, Spoken, reading}
 use Rattle.strm_run.specs.ScriptRun as script
@@ -50,6 +54,18 @@ at_once-want s caller (calls.Flush what band) =
 at_once-want s caller (calls.Write cells) = or_else-want _ _ (unless-want _ Enxio refl) (unless-want _ Erange refl)
 at_once-want s caller (calls.Read n) = unless-want _ Enxio refl
 
+-- a read is refused for what stands there
+read-want : (control : ControlMode) (end : Bool) (n : ℕ) (q : List (Message ℕ)) → is_want (read_refusal control end n q) ≡ false
+unfolding is_want
+read-want control end n q = at (n == 0) (finds_none control q) end (starts_refused control q)
+  where
+    at : (zero none end bad : Bool) → is_want (cond zero None (cond none (cond end None (Some Eagain)) (cond bad (Some Ebadmsg) None))) ≡ false
+    at true none end bad = refl
+    at false true true bad = refl
+    at false true false bad = refl
+    at false false end true = refl
+    at false false end false = refl
+
 by_state-want : (s : State ℕ) (caller : Caller) (asked : Request) → is_want (refused_by_state s caller asked) ≡ false
 by_state-want s caller calls.OpenMaster = unless-want _ Einval refl
 by_state-want s caller calls.Unlock = none-want
@@ -60,7 +76,7 @@ by_state-want s caller calls.Pop = unless-want false Einval refl
 by_state-want s caller calls.Look = unless-want false Einval refl
 by_state-want s caller (calls.Flush what band) = none-want
 by_state-want s caller (calls.Write cells) = unless-want _ Eagain refl
-by_state-want s caller (calls.Read n) = unless-want _ Eagain refl
+by_state-want s caller (calls.Read n) = let h = (stream caller.side s).head in read-want h.control_mode (at_end caller.side s) n h.queue.messages
 
 pub call_happens-short : (o : Option Refusal) (p : PlainPair) (caller : Caller) (asked : Request) → is_short (call_happens o p caller asked).answer ≡ is_want o
 unfolding is_want

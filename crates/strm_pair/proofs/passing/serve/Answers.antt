@@ -1,5 +1,5 @@
 -- The first message goes, unless flow control stops it at the head.
-use Rattle.std.proofs.Common.{◌∙◌, ℕ, refl, sym, ap, rules}
+use Rattle.std.proofs.Common.{◌∙◌, refl, sym, ap, rules}
 use Rattle.strm_types.specs.State.{with_head_queue, with_driver_queue}
 use Rattle.strm_types.specs.declared.answers.Turn.TheVariants.{Moved}
 use Rattle.strm_types.specs.declared.modes.ReadMode.TheVariants.{ByteStream}

@@ -1,5 +1,5 @@
 -- A driver whose messages are M_DATA takes its first one straight to the other side's head, as its delivery does.
-use Rattle.std.proofs.Common.{ℕ, ◌≡◌, List, ap, sym, ◌∙◌}
+use Rattle.std.proofs.Common.{ℕ, List, ap, sym, ◌∙◌}
 use Rattle.strm_types.specs.declared.names.QueueName.{QueueName}
 use Rattle.strm_types.specs.Names.{without}
 use Rattle.strm_types.specs.Turns.{TurnOutcome}
