@@ -1,13 +1,12 @@
 pub mod Peeked
-pub mod Passed
 pub mod Sides
+pub mod PutsCost
+pub mod PutSteps
+pub mod TurnSteps
 pub mod FreeBlocks
-pub mod DataTurned
 pub mod Steps
 pub mod Shown
 pub mod DataLemmas
-pub mod DataQueues
-pub mod StreamLemmas
 pub mod JournalLemmas
 mod PlainWrites
 mod Refusing

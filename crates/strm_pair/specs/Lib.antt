@@ -1,4 +1,7 @@
-pub mod DataTurns
+pub mod Costs
+pub mod PutBy
+pub mod Took
+pub mod Framing
 pub mod Streams
 pub mod Journals
 pub mod Pairs

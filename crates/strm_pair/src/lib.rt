@@ -7,10 +7,11 @@ mod ends;
 mod journal;
 mod looking;
 mod pair;
-mod passing;
+mod putting;
 mod refusals;
 mod sending;
 mod streams;
+mod turning;
 
 pub use pair::{Pair, Recorded};
 

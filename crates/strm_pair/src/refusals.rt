@@ -1,16 +1,15 @@
 //! What a call is refused for, by the streams alone.
 
-ghost use Rattle.std.specs.Prelude.{ℕ, ◌≡◌, ◌+◌, ◌≤◌, ◌<◌, ◌^◌, ◌&&◌, ◌||◌, ◌==◌, not};
+ghost use Rattle.std.specs.Prelude.{ℕ, ◌≡◌, ◌+◌, ◌≤◌, ◌<◌, ◌^◌};
 ghost use Rattle.strm_types.specs.Calls.{request};
 ghost use Rattle.strm_types.specs.Journal.{content_max};
-ghost use Rattle.strm_types.specs.Refused.{refused_at_once, refused_by_state, blocks_asked, unless, or_else, in_range, goes_down, at_end, has_no_data, is_known, is_a_band};
-ghost use Rattle.strm_types.specs.Reads.{read_refusal};
-ghost use Rattle.strm_types.specs.declared.modes.ControlMode.TheVariants.{Refuse};
+ghost use Rattle.strm_types.specs.Refused.{refused_at_once, refused_by_state, blocks_asked, unless, or_else, in_range, goes_down, at_end, is_known, is_a_band};
 ghost use Rattle.strm_types.specs.declared.refusals.Refusal.TheVariants.{Enxio, Erange};
 ghost use Rattle.strm_types.specs.Names.{is_open};
 ghost use Rattle.strm_types.specs.State.{stream};
 
 use crate::ends::End;
+use crate::looking::has_no_data;
 use crate::streams::Streams;
 use strm_blocks::Blocks;
 use strm_queue::standing::is_full;
@@ -78,13 +77,6 @@ pub(crate) fn content_most(event: &Event<&[u8]>) -> usize
     }
 }
 
-// Whether a read may go on: it asks for nothing, or something stands there, or the input is at its end.
-fn may_read(n: u32, is_empty: bool, at_end: bool) -> bool
-    ensures { result ≡ (n == 0 || (not is_empty || at_end)) }
-{
-    n == 0 || !is_empty || at_end
-}
-
 impl Streams {
     ghost use Rattle.strm_blocks.specs.Blocks.{StoreValue};
     ghost use Rattle.strm_pair.specs.Streams.{stream_in};
@@ -114,7 +106,7 @@ impl Streams {
         ensures { (s : StoreValue) → result ≡ unless (goes_down side (state_in s self.now)) Enxio }
     {
         let end = self.end(side);
-        unless(end.opened.is_open() && !end.hung_up, Refusal::Enxio)
+        unless(end.opened.is_open() && !end.head.hung_up, Refusal::Enxio)
     }
 
     /// ERANGE where the books of a direction are full.
@@ -127,37 +119,20 @@ impl Streams {
         )
     }
 
-    // Whether nothing of the slave's stands anywhere for the master's readers.
-    fn is_drained<B: Blocks>(&self, store: &B) -> bool
-        requires { AreHeld (B.value store.now) self.now }
-        ensures { let s = state_in (B.value store.now) self.now in
-            result ≡ (has_no_data s.slave.driver.queue.messages && has_no_data s.master.head.queue.messages) }
-    {
-        self.slave.driver.is_empty(store) && self.master.head.is_empty(store)
-    }
-
     // Whether a side's head is at the end of its input, where nothing is to be read there.
     fn is_at_end<B: Blocks>(&self, store: &B, side: Side) -> bool
         requires { AreHeld (B.value store.now) self.now }
         ensures { result ≡ at_end side (state_in (B.value store.now) self.now) }
     {
         match side {
-            Side::Slave => self.slave.hung_up,
+            Side::Slave => self.slave.head.hung_up,
             Side::Master => {
-                self.master.hung_up || (self.slave.opened.is_closed() && self.is_drained(store))
+                self.master.head.hung_up
+                    || (self.slave.opened.is_closed()
+                        && has_no_data(store, &self.slave.driver)
+                        && has_no_data(store, &self.master.head.queue))
             }
         }
-    }
-
-    // EAGAIN for a read where nothing stands at a side's head and the input isn't at its end.
-    fn read_refusal<B: Blocks>(&self, store: &B, side: Side, n: u32) -> Option<Refusal>
-        requires { AreHeld (B.value store.now) self.now }
-        ensures { let s = state_in (B.value store.now) self.now in
-            result ≡ read_refusal Refuse (at_end side s) n (stream side s).head.queue.messages }
-    {
-        let is_empty = self.end(side).head.is_empty(store);
-        let at_end = self.is_at_end(store, side);
-        unless(may_read(n, is_empty, at_end), Refusal::Eagain)
     }
 
     /// What a call is refused for before all else: its side, and then its arguments.
@@ -211,7 +186,12 @@ impl Streams {
                     Refusal::Eagain,
                 )
             }
-            Event::Read { n } => self.read_refusal(store, caller.side, *n),
+            Event::Read { n } => {
+                let at_end = self.is_at_end(store, caller.side);
+                self.end(caller.side)
+                    .head
+                    .read_refusal(store, at_end, *n as usize)
+            }
             Event::Pop | Event::Look => Some(Refusal::Einval),
             Event::Unlock | Event::Shut | Event::Push { .. } | Event::Flush { .. } => None,
         }

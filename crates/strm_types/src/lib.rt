@@ -30,8 +30,8 @@ pub use flushing::FlushAsked;
 pub use ioctls::Ioc;
 pub use kinds::{Band, MsgKind};
 pub use limits::{
-    BANDS, BLOCK_SIZE, CHANGE_BLOCKS, CLOSE_BLOCKS, Config, HIGH_PRIORITY_RANK, LISTS, MODULES,
-    READ_MAX, TURN_BLOCKS, WRITE_BLOCKS, chunk_count,
+    BANDS, BLOCK_SIZE, CHANGE_BLOCKS, CLOSE_BLOCKS, Config, HIGH_PRIORITY_RANK, HOPS, LISTS,
+    MODULES, READ_MAX, TURN_BLOCKS, WRITE_BLOCKS, chunk_count,
 };
 pub use modes::{ControlMode, ReadMode, Wanted};
 pub use names::{Dir, ModuleName, Openness, Place, QueueName, Side, Way, line};

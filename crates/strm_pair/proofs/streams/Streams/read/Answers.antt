@@ -1,20 +1,39 @@
--- A head's queue holds M_DATA alone, which readers may read.
-use Rattle.strm_pair.proofs.DataQueues.{head-queue}
-use Rattle.strm_pair.proofs.Sides.{head-kept, slave-head-kept}
+use Rattle.std.proofs.Common.{rules, ℕ, ◌≡◌, ◌+◌, ◌≤◌, ◌<◌, true, [], length, min, None, ◌-◌, ◌*◌, ◌/◌, ◌%◌, Bool, false, nat_eq, nat_lt, List, ◌∷◌, ◌++◌, slice_index_or, slice_set, bit_and, bit_or, Fits, w8, w32, w64, Bor, MutBor}
+use Rattle.strm_types.specs.Cells.{plain}
+use Rattle.strm_types.specs.State.{opening, new_stream}
+use Rattle.strm_types.specs.declared.answers.Answer.TheVariants.{Count, Bytes}
+use Rattle.strm_types.specs.Calls.{Reply, called, request, opened_slave}
+use Rattle.strm_types.specs.declared.entries.Entry.TheVariants.{Called}
+use Rattle.strm_types.specs.Deliver.{tallied}
+use Rattle.strm_types.specs.Kept.{gone}
+use Rattle.strm_types.specs.Turns.{turned}
+use Rattle.strm_types.specs.declared.limits.TheConstants.{TURN_BLOCKS}
+use Rattle.strm_frame.specs.Hands.{HasRoom}
+use Rattle.strm_types.specs.Refused.{blocks_asked, in_range, refused_at_once}
+use Rattle.strm_types.specs.Write.{chunk_count}
+use Rattle.strm_types.specs.Journal.{reply_in, answer_len, content_max}
+use Rattle.strm_blocks.specs.Blocks.{StoreValue, free_m, free_d, empty_store}
+use Rattle.strm_pair.specs.Streams.{IsBlank, IsSide, stream_in}
+use Rattle.strm_pair.specs.PlainCalls.{wrote_plain, read_plain, read_lets}
+use Rattle.strm_pair.specs.Pairs.{state_in, AreHeld, SamePool}
 use Rattle.strm_pair.proofs.streams.Streams.read.Goals as goal
-use Rattle.strm_pair.proofs.streams.Streams.read.Goals.{in-Master, in-Slave}
 
-pub read-goes-requires-clause-ready : goal.read-goes-requires-clause-ready
-read-goes-requires-clause-ready g c = head-queue (g.B.Blocks.value c.args.store.now) c.args.self.now.master.head c.requires.held.master.head
+-- src/streams.rt:139:29
+pub read-goes-requires-clause-mode : goal.read-goes-requires-clause-mode
+read-goes-requires-clause-mode g c = ?
 
-pub read-goes-requires-in-Slave-clause-ready : goal.read-goes-requires-in-Slave-clause-ready
-read-goes-requires-in-Slave-clause-ready g c = head-queue (g.B.Blocks.value c.args.store.now) c.args.self.now.slave.head c.requires.held.slave.head
+-- src/streams.rt:140:28
+pub read-goes-requires-in-Slave-clause-mode : goal.read-goes-requires-in-Slave-clause-mode
+read-goes-requires-in-Slave-clause-mode g c = ?
 
-pub returns-then-goes-clause-held : goal.returns-then-goes-clause-held
-returns-then-goes-clause-held g c =
-    let s = g.B.Blocks.value c.args.store.now in
-    let p = c.args.self.now in
-    elim c.match-side.branch [
-      | in-Master w ↦ rw (w.self-is, w.store-is) (head-kept s (g.B.Blocks.value w.read-goes.new.store) p w.read-goes.new.queue c.requires.held w.read-goes.ensures.keeps)
-      | in-Slave w ↦ rw (w.self-is, w.store-is) (slave-head-kept s (g.B.Blocks.value w.read-goes-in-Slave.new.store) p w.read-goes-in-Slave.new.queue c.requires.held w.read-goes-in-Slave.ensures.keeps)
-    ]
+-- src/streams.rt:125:5
+pub returns-clause-answer : goal.returns-clause-answer
+returns-clause-answer g c = ?
+
+-- src/streams.rt:125:5
+pub returns-clause-state : goal.returns-clause-state
+returns-clause-state g c = ?
+
+-- src/streams.rt:125:5
+pub returns-clause-told : goal.returns-clause-told
+returns-clause-told g c = ?
