@@ -1,9 +1,9 @@
 //! What a head gives its readers, in each read mode and control mode (read(2), streamio(7I): I_SRDOPT).
 
-ghost use Rattle.std.specs.Prelude.{◌≡◌, ◌<◌, ◌≤◌, ◌+◌, ◌++◌, ◌-◌, ℕ, Bool, true, false, [], length, take, drop};
+ghost use Rattle.std.specs.Prelude.{◌≡◌, ◌<◌, ◌≤◌, ◌+◌, ◌++◌, ◌-◌, ℕ, Bool, true, false, not, [], length, take, drop};
 ghost use Rattle.std.specs.Bool.{OnTrue, OnFalse};
 ghost use Rattle.strm_types.specs.Deliver.{tallied};
-ghost use Rattle.strm_types.specs.Reads.{Drawn, wanted_after, head_draw, read_queue, read_lets_go, read_fates, read_told};
+ghost use Rattle.strm_types.specs.Reads.{Drawn, wanted_after, head_draw, none_went, read_queue, read_lets_go, read_fates, read_told};
 ghost use Rattle.strm_blocks.specs.Blocks.{IsInHand, in_hand};
 ghost use Rattle.strm_msg.specs.Bytes.{bytes_of};
 ghost use Rattle.strm_queue.specs.Stored.{queue_in, messages_on, SameFlags, IsHeadQueue, Keeps};
@@ -233,6 +233,14 @@ fn tell(fates: &mut Fates, direction: Dir, given: usize, discarded: usize, dropp
     fates.tell(direction, Rule::ControlDropped, dropped);
 }
 
+// Whether bytes went by a read: so many were given, discarded and dropped.
+fn went(given: usize, discarded: usize, dropped: usize) -> bool
+    ensures { (d : Drawn ℕ) → length d.given ≡ given → length d.discarded ≡ discarded → length d.dropped ≡ dropped →
+        none_went d ≡ not result }
+{
+    given > 0 || discarded > 0 || dropped > 0
+}
+
 /// Gives up to `n` bytes of the first messages, tells by which rules bytes go, and says whether a waiting writer is let go.
 /// Bytes that leave the queue and are neither given nor discarded are those of control parts.
 pub fn read<B: Blocks>(
@@ -264,5 +272,5 @@ pub fn read<B: Blocks>(
     let discarded = gather(store, queue, read, control, n, out);
     let dropped = before - total(store, queue) - out.len() - discarded;
     tell(fates, direction, out.len(), discarded, dropped);
-    (!out.is_empty() || discarded > 0 || dropped > 0) && relieve(queue)
+    went(out.len(), discarded, dropped) && relieve(queue)
 }
