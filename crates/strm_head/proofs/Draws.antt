@@ -9,7 +9,7 @@ use Rattle.strm_types.specs.declared.modes.ReadMode.TheVariants.{ByteStream, Mes
 use Rattle.strm_types.specs.declared.modes.ControlMode.{ControlMode}
 use Rattle.strm_types.specs.Message.{Message, cells_of}
 use Rattle.strm_types.specs.Queue.{put_back}
-use Rattle.strm_types.specs.Reads.{Drawn, drawn, stopped, front_of, shown, offered, rest_after, control_gone, is_passed, is_refused, no_cells, wanted_after}
+use Rattle.strm_types.specs.Reads.{Drawn, stopped, front_of, shown, offered, rest_after, control_gone, is_passed, is_refused, no_cells, wanted_after}
 use Rattle.strm_head.specs.Drawing.{but_dropped, drawn_on, discards, first_goes, more_behind, Stepped}
 use Rattle.strm_head.proofs.Passed.{taken_of, drawn-taken, not-passed, not-refused, not-empty}
 

@@ -8,7 +8,7 @@ use Rattle.strm_types.specs.declared.modes.ControlMode.{ControlMode}
 use Rattle.strm_types.specs.declared.modes.ControlMode.TheVariants.{Refuse, Data, Discard}
 use Rattle.strm_types.specs.Message.{Message}
 use Rattle.strm_types.specs.Reads.{Drawn, drawn, stopped, emptied_of, front_of, and_more, all_cells, control_gone, shown, offered, is_passed, is_refused, no_cells, wanted_after}
-use Rattle.strm_head.specs.Drawing.{but_dropped, drawn_on, behind_passed, first_passed, first_goes, goes}
+use Rattle.strm_head.specs.Drawing.{but_dropped, drawn_on, behind_passed, first_passed, first_goes}
 
 or-true : (b : Bool) → (b || true) ≡ true
 or-true true = refl

@@ -1,5 +1,5 @@
 -- The chain of a message that is read, and of what is left of it, are those of the plain messages.
-use Rattle.std.proofs.Common.{ℕ, ◌≡◌, ◌≤◌, ◌<◌, ◌-◌, ◌⊎◌, inl, inr, Bool, true, false, cond, List, [], ◌∷◌, ◌++◌, length, drop, refl, sym, ap, subst, ◌∙◌, arith, append-nil, length-append}
+use Rattle.std.proofs.Common.{ℕ, ◌≡◌, ◌≤◌, ◌<◌, ◌-◌, inl, inr, Bool, true, false, cond, List, [], ◌∷◌, ◌++◌, length, drop, refl, sym, ap, subst, ◌∙◌, arith, append-nil, length-append}
 use Rattle.std.specs.Prelude.{None, Some, ◌==◌, nat_le, take_while, unwrap_or, Option}
 use Rattle.std.specs.List.{AllByRecursion}
 use Rattle.std.proofs.Math.Seq.{take-append_seam, drop-append_seam}
@@ -8,12 +8,10 @@ use Rattle.std.proofs.lemmas.List.{drop_all, length-drop, nil_from_length}
 use Rattle.std.proofs.lemmas.List.Sums.{take_while-cons}
 use Rattle.strm_types.specs.declared.kinds.MsgKind.{MsgKind}
 use Rattle.strm_types.specs.declared.kinds.MsgKind.TheVariants as kinds
-use Rattle.strm_types.specs.declared.modes.ControlMode.{ControlMode}
-use Rattle.strm_types.specs.declared.modes.ControlMode.TheVariants.{Refuse, Data, Discard}
 use Rattle.strm_types.specs.Flush.{is_data_kind}
 use Rattle.strm_types.specs.Kinds.{is_control_kind, kind_number}
-use Rattle.strm_types.specs.Message.{Message, part, cells_of, band_of, is_high_priority}
-use Rattle.strm_types.specs.Reads.{part_left, rest_with, rest_after, shown, offered}
+use Rattle.strm_types.specs.Message.{Message, part, band_of, is_high_priority}
+use Rattle.strm_types.specs.Reads.{part_left, rest_with, rest_after}
 use Rattle.strm_types.proofs.Drawing.{drop-join}
 use Rattle.strm_blocks.specs.Blocks.{Block, block_at, trimmed_head}
 use Rattle.strm_msg.specs.Adjusted.{trimmed_by, trimmed_front, without_head}
@@ -26,7 +24,7 @@ use Rattle.strm_msg.proofs.AdjustingBytes.{bytes-append, trimmed-heads}
 use Rattle.strm_msg.proofs.Chains.{control-none, control-front, data-all, data-behind, data-control, data-or-control}
 use Rattle.strm_msg.proofs.Chains.{data_in, data-shown}
 use Rattle.strm_msg.proofs.Retyping.{retyped-length, retyped-bytes}
-use Rattle.strm_head.specs.Parted.{shown_chain, joined_chain, rest_chain}
+use Rattle.strm_head.specs.Parted.{joined_chain, rest_chain}
 use Rattle.strm_head.proofs.Seen.{parts-shown}
 
 -- blocks of one kind

@@ -1,5 +1,5 @@
 -- What a queue's first message leaves once it is freed, or put back changed.
-use Rattle.std.proofs.Common.{ℕ, ◌≡◌, ◌<◌, Bool, true, false, List, ◌∷◌, length, map, sym, ap, subst, ◌∙◌, arith, length-set, cond}
+use Rattle.std.proofs.Common.{ℕ, ◌≡◌, ◌<◌, Bool, true, false, List, length, map, sym, ap, subst, ◌∙◌, arith, length-set, cond}
 use Rattle.strm_types.specs.declared.kinds.MsgKind.{MsgKind}
 use Rattle.strm_types.specs.declared.kinds.MsgKind.TheVariants as kinds
 use Rattle.strm_types.specs.Flush.{counted_band}

@@ -1,14 +1,12 @@
 -- The chain of a message of which a read takes bytes is that of what the plain message shows to it.
-use Rattle.std.proofs.Common.{ℕ, ◌≡◌, ◌≤◌, ◌<◌, ◌-◌, ◌⊎◌, inl, inr, true, min, List, [], ◌∷◌, ◌++◌, length, take, drop, refl, sym, ap, subst, ◌∙◌, arith}
-use Rattle.std.specs.Prelude.{None}
+use Rattle.std.proofs.Common.{ℕ, ◌≡◌, ◌≤◌, ◌<◌, ◌-◌, inl, inr, true, min, List, [], ◌∷◌, ◌++◌, length, take, drop, refl, sym, ap, subst, ◌∙◌, arith}
 use Rattle.std.proofs.lemmas.List.{drop_all, take-append-drop}
 use Rattle.strm_types.specs.declared.kinds.MsgKind.{MsgKind}
-use Rattle.strm_types.specs.declared.kinds.MsgKind.TheVariants as kinds
 use Rattle.strm_types.specs.declared.modes.ControlMode.{ControlMode}
 use Rattle.strm_types.specs.declared.modes.ControlMode.TheVariants.{Refuse, Data, Discard}
 use Rattle.strm_types.specs.Flush.{is_data_kind}
 use Rattle.strm_types.specs.Kinds.{is_control_kind}
-use Rattle.strm_types.specs.Message.{Message, part, cells_of, band_of, is_high_priority}
+use Rattle.strm_types.specs.Message.{Message, part, cells_of, is_high_priority}
 use Rattle.strm_types.specs.Reads.{rest_with, rest_after, shown, offered}
 use Rattle.strm_blocks.specs.Blocks.{Block, block_at, trimmed_head}
 use Rattle.strm_msg.specs.Adjusted.{trimmed_by, without_head}

@@ -1,14 +1,10 @@
 -- The run of blocks at the front has the bytes of the control part, and under the other modes all stays.
-use Rattle.std.proofs.Common.{◌≡◌, ◌≤◌, ◌∙◌, sym, ap, subst, length, refl}
+use Rattle.std.proofs.Common.{◌≤◌, ◌∙◌, sym, ap, subst, length}
 use Rattle.std.specs.Prelude.{unwrap_or}
-use Rattle.strm_types.specs.declared.modes.ControlMode.{ControlMode}
-use Rattle.strm_types.specs.declared.modes.ControlMode.TheVariants.{Refuse, Data, Discard}
 use Rattle.strm_blocks.specs.Blocks.{in_hand, changed}
-use Rattle.strm_msg.specs.Adjusted.{without_head}
 use Rattle.strm_msg.specs.Bytes.{bytes_of, control_blocks}
 use Rattle.strm_msg.specs.Runs.{front_run}
 use Rattle.strm_msg.proofs.Hands.{changed-same}
-use Rattle.strm_head.specs.Parted.{shown_chain}
 use Rattle.strm_head.proofs.Resting.{part-length}
 use Rattle.strm_head.proofs.Showing.{control-has, shown-all}
 use Rattle.strm_head.proofs.parts.show.Goals as goal

@@ -1,9 +1,9 @@
 -- Each message that goes is one that is passed over.
-use Rattle.std.proofs.Common.{◌≡◌, ◌∙◌, true, drop, length, sym, ap, subst, arith}
-use Rattle.strm_queue.specs.Stored.{messages_on, Keeps}
-use Rattle.strm_queue.proofs.Kept.{head-kept, keeps-both, flags-both, keeps-none}
+use Rattle.std.proofs.Common.{◌≡◌, ◌∙◌, true, drop, sym, ap, subst}
+use Rattle.strm_queue.specs.Stored.{messages_on}
+use Rattle.strm_queue.proofs.Kept.{head-kept, keeps-both, flags-both}
 use Rattle.strm_head.specs.Drawing.{behind_passed, first_passed}
-use Rattle.strm_head.proofs.Passed.{passed-gone, passed-less, none-passed}
+use Rattle.strm_head.proofs.Passed.{passed-gone, none-passed}
 use Rattle.strm_head.proofs.reading.drop_passed.Goals as goal
 
 pub drop_first-requires : goal.drop_first-requires

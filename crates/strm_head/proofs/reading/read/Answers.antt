@@ -1,5 +1,5 @@
 -- Where there is nothing to take nothing is given, and what went but was neither given nor discarded was dropped.
-use Rattle.std.proofs.Common.{ℕ, ◌≡◌, ◌∙◌, ◌+◌, ◌-◌, ◌++◌, true, false, not, length, refl, sym, ap, subst, arith}
+use Rattle.std.proofs.Common.{ℕ, ◌≡◌, ◌∙◌, ◌++◌, true, false, not, length, refl, sym, ap, arith}
 use Rattle.strm_types.specs.Queue.{relieved, relieves}
 use Rattle.strm_types.specs.Reads.{Drawn, head_draw, none_went}
 use Rattle.strm_types.proofs.ReadRefuses.{takes-none}

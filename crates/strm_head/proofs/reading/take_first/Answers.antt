@@ -1,9 +1,8 @@
 -- The first message gives its bytes, and is freed or put back with what it has left.
-use Rattle.std.proofs.Common.{◌-◌, ◌≡◌, ◌∙◌, ◌++◌, ◌∷◌, ◌<◌, true, false, map, length, take, min, sym, ap, subst, arith}
+use Rattle.std.proofs.Common.{◌-◌, ◌≡◌, ◌∙◌, ◌++◌, ◌<◌, true, false, map, length, take, min, sym, ap, subst, arith}
 use Rattle.std.specs.Bool.{OnTrue, OnFalse}
 use Rattle.strm_types.specs.Queue as plain
 use Rattle.strm_types.specs.Flush.{is_data_kind, counted_band}
-use Rattle.strm_types.specs.Message.{Message}
 use Rattle.strm_types.specs.Reads.{offered}
 use Rattle.strm_blocks.specs.Blocks.{placed, dropped, put_back, in_hand, list_at, block_at}
 use Rattle.strm_msg.specs.Bytes.{bytes_of}
