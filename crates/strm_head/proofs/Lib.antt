@@ -4,3 +4,9 @@ pub mod FirstSeen
 pub mod Gathers
 pub mod Told
 mod Coming
+pub mod Rests
+pub mod Taking
+pub mod Pieces
+pub mod Took
+pub mod Found
+pub mod Sent

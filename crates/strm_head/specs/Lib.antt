@@ -1,3 +1,5 @@
 pub mod Seen
 pub mod Drawing
 pub mod Heads
+pub mod Getting
+pub mod Sending

@@ -1,6 +1,6 @@
 -- Control bytes that are taken off a message, and what holds of a chain still whose blocks have less.
-use Rattle.std.proofs.Common.{ℕ, suc, ◌≡◌, ◌≤◌, ◌<◌, ◌+◌, ◌-◌, min, pos, Bool, true, false, cond, List, [], ◌∷◌, ◌++◌, length, map, take, drop, refl, sym, ap, subst, ◌∙◌, arith, inl, inr, append-nil}
-use Rattle.std.specs.Prelude.{nat_le, take_while}
+use Rattle.std.proofs.Common.{ℕ, ◌≡◌, ◌≤◌, ◌-◌, min, pos, Bool, true, false, cond, List, [], ◌∷◌, ◌++◌, length, map, take, drop, refl, sym, ap, subst, ◌∙◌, arith, inl, inr, append-nil}
+use Rattle.std.specs.Prelude.{take_while}
 use Rattle.std.specs.List.{AllByRecursion}
 use Rattle.std.proofs.Math.Seq.{take-append_seam, drop-append_seam}
 use Rattle.std.proofs.lemmas.Bool.{le-leb}
@@ -13,7 +13,7 @@ use Rattle.strm_types.specs.Flush.{is_data_kind}
 use Rattle.strm_types.specs.Kinds.{is_control_kind, is_body_kind, kind_number}
 use Rattle.strm_types.specs.Message.{is_high_priority}
 use Rattle.strm_blocks.specs.Blocks.{Block, block_at, trimmed_head}
-use Rattle.strm_msg.specs.Adjusted.{trimmed_by, without_head, without_bytes, has_bytes, trimmed, adjusted}
+use Rattle.strm_msg.specs.Adjusted.{trimmed_by, without_head, without_bytes, adjusted}
 use Rattle.strm_msg.specs.Bytes.{bytes_of, control_blocks, control_bytes, data_blocks, data_bytes}
 use Rattle.strm_msg.specs.Messages.{AreData, IsParted, IsChain}
 use Rattle.strm_msg.specs.Runs.{same_kind, front_run}
@@ -228,7 +228,7 @@ module _ (n : ℕ) (chain : List Block) (one : IsChain chain) (has : n ≤ lengt
   at-front f = ap (λ v. cond v (without_head n chain) chain) (le-leb n (length (bytes_of (front_run chain))) (omega (arith, f.run, has))) ∙ f.cut
 
 -- where no control part stands at the front there is none to trim
-no-control : (chain : List Block) → is_control_kind (block_at 0 chain).kind ≡ false → control_bytes chain ≡ []
+pub no-control : (chain : List Block) → is_control_kind (block_at 0 chain).kind ≡ false → control_bytes chain ≡ []
 no-control [] is = refl
 no-control (b ∷ chain) is = ap (λ (xs : List Block). bytes_of xs) (control-blocks-cons b chain ∙ ap (λ v. cond v (b ∷ control_blocks chain) []) is)
 
