@@ -1,5 +1,5 @@
 -- How much of a part a get gives, by the blocks of the part.
-use Rattle.std.proofs.Common.{ℕ, ◌≡◌, ◌≤◌, min, Bool, List, [], ◌∷◌, length, take, Option, None, Some, refl, sym, ap, ◌∙◌, arith, unwrap_or, inl, inr}
+use Rattle.std.proofs.Common.{ℕ, ◌≡◌, min, Bool, List, [], ◌∷◌, length, take, Option, Some, refl, sym, ap, ◌∙◌, arith, unwrap_or, inl, inr}
 use Rattle.std.specs.Prelude.{nat_lt, option_map}
 use Rattle.std.proofs.lemmas.Bool.{cases_lt}
 use Rattle.std.proofs.lemmas.List.{length-take, take_all}

@@ -1,9 +1,9 @@
 -- What is left of a message of which a get took some bytes, as its chain of blocks and by the definition.
-use Rattle.std.proofs.Common.{ℕ, suc, ◌≡◌, ◌≤◌, ◌<◌, ◌+◌, ◌-◌, min, Bool, true, false, cond, List, [], ◌∷◌, ◌++◌, length, map, take, drop, Option, None, Some, refl, sym, ap, subst, ◌∙◌, arith, inl, inr, append-nil}
+use Rattle.std.proofs.Common.{ℕ, ◌≡◌, ◌<◌, min, Bool, true, false, cond, List, [], ◌∷◌, ◌++◌, length, map, drop, None, Some, refl, sym, ap, subst, ◌∙◌, arith, inl, inr, append-nil}
 use Rattle.std.specs.Prelude.{nat_lt, ◌||◌}
 use Rattle.std.specs.List.{AllByRecursion}
 use Rattle.std.proofs.lemmas.Bool.Decides.{nat_tests}
-use Rattle.std.proofs.lemmas.List.{length-append, length-drop, drop_all, nil_from_length}
+use Rattle.std.proofs.lemmas.List.{length-drop, nil_from_length}
 use Rattle.strm_types.specs.declared.kinds.MsgKind.{MsgKind}
 use Rattle.strm_types.specs.declared.kinds.MsgKind.TheVariants as kinds
 use Rattle.strm_types.specs.Flush.{is_data_kind}
@@ -13,13 +13,13 @@ use Rattle.strm_types.specs.Reads.{rest_with}
 use Rattle.strm_blocks.specs.Blocks.{Block, block_at}
 use Rattle.strm_msg.specs.Adjusted.{without_bytes}
 use Rattle.strm_msg.specs.Bytes.{bytes_of, control_blocks, control_bytes, data_blocks, data_bytes}
-use Rattle.strm_msg.specs.Messages.{message_of, part_of, AreData, IsChain}
+use Rattle.strm_msg.specs.Messages.{message_of, part_of, IsChain}
 use Rattle.strm_msg.specs.Retyped.{retyped}
-use Rattle.strm_msg.specs.Taken.{without_control, without_data}
+use Rattle.strm_msg.specs.Taken.{without_control}
 use Rattle.strm_msg.proofs.Chains.{data_in, control-front, data-behind, data-or-control, data-control}
 use Rattle.strm_msg.proofs.Retyping.{retyped-bytes, data-chain, data-message}
 use Rattle.strm_msg.proofs.Taking.{data-without, control-without, drop-least}
-use Rattle.strm_msg.proofs.Cutting.{control-cut, data-cut, cut-keeps, data-keeps, alike-kind, alike-band, alike-length, alike-chain, bytes-parts, no-control}
+use Rattle.strm_msg.proofs.Cutting.{control-cut, data-cut, cut-keeps, data-keeps, alike-kind, alike-band, alike-chain, bytes-parts, no-control}
 use Rattle.strm_head.specs.Getting.{cut_by, rest_left}
 
 -- a message of the three kinds with parts

@@ -1,6 +1,6 @@
 -- A message that was made of a control part, a data part or both is the one that was asked for.
-use Rattle.std.proofs.Common.{ℕ, suc, ◌≡◌, ◌≤◌, ◌<◌, ◌+◌, Bool, true, false, cond, List, [], ◌∷◌, ◌++◌, length, Option, None, Some, refl, sym, ap, subst, ◌∙◌, arith, append-nil}
-use Rattle.std.specs.Prelude.{nat_le, nat_lt, not, ◌||◌}
+use Rattle.std.proofs.Common.{ℕ, ◌≡◌, ◌≤◌, ◌<◌, Bool, true, false, cond, List, [], ◌∷◌, ◌++◌, length, Option, None, Some, refl, sym, ap, subst, ◌∙◌, arith, append-nil}
+use Rattle.std.specs.Prelude.{nat_le, nat_lt, ◌||◌}
 use Rattle.std.proofs.lemmas.Bool.Decides.{nat_tests}
 use Rattle.strm_types.specs.declared.kinds.MsgKind.{MsgKind}
 use Rattle.strm_types.specs.declared.kinds.MsgKind.TheVariants as kinds
@@ -11,11 +11,13 @@ use Rattle.strm_types.specs.Flush.{is_data_kind}
 use Rattle.strm_types.specs.Kinds.{is_control_kind}
 use Rattle.strm_types.specs.Message.{Message, part, is_high_priority}
 use Rattle.strm_types.specs.PutMsg.{put_band, put_message, put_blocks, put_refusal, is_no_prio, is_too_long}
-use Rattle.strm_blocks.specs.Blocks.{Block, StoreValue, in_hand, held, block_at, filled_block, copy_of, free_m, free_d}
+use Rattle.strm_blocks.specs.Blocks.{Block, StoreValue, in_hand, held, dropped, changed, filled_block, copy_of, free_m, free_d}
+use Rattle.strm_blocks.specs.Outcomes.{Copied}
 use Rattle.strm_blocks.proofs.Laws.{in_hand-held}
 use Rattle.strm_msg.specs.Bytes.{control_blocks, data_blocks}
 use Rattle.strm_msg.specs.Made.{Made, copies_of}
 use Rattle.strm_msg.specs.Messages.{message_of, part_of, AreData, IsChain}
+use Rattle.strm_msg.proofs.Making.{Made-one, Made-more}
 use Rattle.strm_msg.proofs.Chains.{control-front, data-behind, control-none, data-all, data-control}
 use Rattle.strm_head.specs.Sending.{control_kind, Sends}
 use Rattle.strm_head.proofs.Rests.{parted}
@@ -200,3 +202,50 @@ module _ (old new : StoreValue) (i : ℕ) where
       sends old new i (d ∷ []) (copy_of c.0 d ∷ []) (put_message (Band band) None (Some body)) made c.1
       (with-data band.0 c.0 low body)
       (data-shown band.0 c.0 low body)
+
+-- the same by what stands in memory
+module _ (prio : Prio) (control body : Option (List ℕ)) (none : put_refusal prio control body ≡ None) where
+  refused-same : (c b : Option (List ℕ)) → control ≡ c → body ≡ b → put_refusal prio c b ≡ None
+  refused-same c b c_is b_is = subst (λ y. put_refusal prio c y ≡ None) b_is (subst (λ x. put_refusal prio x body ≡ None) c_is none)
+
+  sent-same : (old new : StoreValue) (i : ℕ) (c b : Option (List ℕ)) → control ≡ c → body ≡ b → Sends old new i (put_message prio c b) (put_blocks c b) → Sends old new i (put_message prio control body) (put_blocks control body)
+  sent-same old new i c b c_is b_is sent =
+      subst (λ x. Sends old new i (put_message prio x body) (put_blocks x body)) (sym c_is) (subst (λ y. Sends old new i (put_message prio c y) (put_blocks c y)) (sym b_is) sent)
+
+  module _ (old mid : StoreValue) (i band : ℕ) (band_is : band ≡ put_band prio) where
+    first-made : (bytes : List ℕ) (kind : MsgKind) → kind ≡ control_kind prio → Copied old mid i (filled_block kind band bytes) → Made old mid i (filled_block (control_kind prio) (put_band prio) bytes ∷ [])
+    first-made bytes kind kind_is copied =
+        Made-one (subst (λ b. Copied old mid i (filled_block (control_kind prio) b bytes)) band_is (subst (λ k. Copied old mid i (filled_block k band bytes)) kind_is copied))
+
+    pub made-data : (bytes : List ℕ) → control ≡ None → body ≡ Some bytes → Copied old mid i (filled_block kinds.Data band bytes) → Sends old mid i (put_message prio control body) (put_blocks control body)
+    made-data bytes c_is b_is copied =
+        sent-same old mid i None (Some bytes) c_is b_is
+        (sends-data old mid i prio bytes (refused-same None (Some bytes) c_is b_is) (Made-one (subst (λ b. Copied old mid i (filled_block kinds.Data b bytes)) band_is copied)))
+
+    pub made-control : (bytes : List ℕ) (kind : MsgKind) → control ≡ Some bytes → body ≡ None → kind ≡ control_kind prio → Copied old mid i (filled_block kind band bytes)
+        → Sends old mid i (put_message prio control body) (put_blocks control body)
+    made-control bytes kind c_is b_is kind_is copied =
+        sent-same old mid i (Some bytes) None c_is b_is
+        (sends-control old mid i prio bytes (refused-same (Some bytes) None c_is b_is) (first-made bytes kind kind_is copied))
+
+    module _ (bytes data_bytes : List ℕ) (kind : MsgKind) (c_is : control ≡ Some bytes) (b_is : body ≡ Some data_bytes) (kind_is : kind ≡ control_kind prio) (copied : Copied old mid i (filled_block kind band bytes)) where
+      -- there is room for the second block
+      pub second-room_m : put_blocks control body ≤ free_m old → 0 < free_m mid
+      second-room_m room =
+          let made = first-made bytes kind kind_is copied in
+          let two : put_blocks control body ≡ 2 = ap (λ x. put_blocks x body) c_is ∙ ap (put_blocks (Some bytes)) b_is in
+          omega (arith, made.room_m, two, room)
+
+      pub second-room_d : put_blocks control body ≤ free_d old → 0 < free_d mid
+      second-room_d room =
+          let made = first-made bytes kind kind_is copied in
+          let two : put_blocks control body ≡ 2 = ap (λ x. put_blocks x body) c_is ∙ ap (put_blocks (Some bytes)) b_is in
+          omega (arith, made.room_d, two, room)
+
+      pub made-both : (hung new : StoreValue) (j r : ℕ) → Copied mid hung j (filled_block kinds.Data band data_bytes) → r ≡ i → new ≡ changed (dropped hung j) i (in_hand hung i ++ in_hand hung j)
+          → Sends old new r (put_message prio control body) (put_blocks control body)
+      made-both hung new j r second r_is linked =
+          let both = Made-more (first-made bytes kind kind_is copied) (subst (λ b. Copied mid hung j (filled_block kinds.Data b data_bytes)) band_is second) linked in
+          subst (λ n. Sends old new n (put_message prio control body) (put_blocks control body)) (sym r_is)
+          (sent-same old new i (Some bytes) (Some data_bytes) c_is b_is
+          (sends-both old new i prio bytes data_bytes (refused-same (Some bytes) (Some data_bytes) c_is b_is) both))

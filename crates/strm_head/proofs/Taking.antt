@@ -1,5 +1,5 @@
 -- What a get takes of a queue's first message, and what is there then.
-use Rattle.std.proofs.Common.{ℕ, ◌≡◌, ◌<◌, ◌≢◌, Bool, true, false, cond, if◌then◌else◌, List, [], ◌∷◌, length, map, refl, sym, ap, subst, ◌∙◌, arith, length-set}
+use Rattle.std.proofs.Common.{ℕ, ◌≡◌, ◌<◌, Bool, true, false, cond, if◌then◌else◌, List, ◌∷◌, length, map, refl, sym, ap, subst, ◌∙◌, arith, length-set}
 use Rattle.strm_types.specs.declared.kinds.MsgKind.{MsgKind}
 use Rattle.strm_types.specs.declared.kinds.MsgKind.TheVariants as kinds
 use Rattle.strm_types.specs.Message.{Message}
@@ -14,7 +14,7 @@ use Rattle.strm_queue.specs.Flows.{plain_flows}
 use Rattle.strm_queue.specs.Kept.{AreCounted}
 use Rattle.strm_queue.specs.Stored.{queue_in, messages_on, Holds, IsReady, Keeps}
 use Rattle.strm_queue.proofs.Gotten.{left, off, chain-is}
-use Rattle.strm_queue.proofs.Holding.{first-chain, first-holds, rest-messages, rest-holds, put_back-messages, put_back-holds}
+use Rattle.strm_queue.proofs.Holding.{first-holds, rest-messages, rest-holds, put_back-messages, put_back-holds}
 use Rattle.strm_queue.proofs.Placed.{Landed, landed, landed-again, keeps-landed, changed-held}
 use Rattle.strm_head.specs.Getting.{put_rest}
 

@@ -14,7 +14,7 @@ use Rattle.strm_queue.specs.declared.queue.Queue.{Queue}
 use Rattle.strm_queue.specs.Flows.{plain_flows}
 use Rattle.strm_queue.specs.Kept as kept
 use Rattle.strm_queue.specs.Kept.{AreCounted}
-use Rattle.strm_queue.specs.Stored.{queue_in, messages_on, HoldsReadable, IsHeadQueue, Keeps}
+use Rattle.strm_queue.specs.Stored.{messages_on, HoldsReadable, IsHeadQueue, Keeps}
 use Rattle.strm_queue.proofs.Chains.{chain-low}
 use Rattle.strm_queue.proofs.Gotten.{left, chain-is, before}
 use Rattle.strm_queue.proofs.Holding.{first-chain, first-holds}
@@ -23,7 +23,7 @@ use Rattle.strm_head.specs.declared.getting.Gotten.{Gotten}
 use Rattle.strm_head.specs.declared.getting.Piece.{Piece}
 use Rattle.strm_head.specs.Getting.{cut_by, rest_left, put_rest, prio_at, Gives, TakesFirst}
 use Rattle.strm_head.proofs.Pieces.{given-is, count-is, more-is, taken-is}
-use Rattle.strm_head.proofs.Rests.{parted, control-is, body-is, rest-one, rest-kind, rest-asked}
+use Rattle.strm_head.proofs.Rests.{parted, rest-one, rest-kind, rest-asked}
 use Rattle.strm_head.proofs.Taking.{list_left, cut-held, held-chain, rest-landed, messages-left, left-keeps, queue-left}
 
 -- what is taken of the first of some messages

@@ -76,7 +76,12 @@ fn piece_of(len: Option<usize>, most: usize) -> Piece
 }
 
 // Takes the first so many bytes off a message's control part into an empty buffer.
-fn take_control_into<B: Blocks>(store: &mut B, message: &B::Mp, count: usize, out: &mut ArrayVec<u8, 4096>)
+fn take_control_into<B: Blocks>(
+    store: &mut B,
+    message: &B::Mp,
+    count: usize,
+    out: &mut ArrayVec<u8, 4096>,
+)
     requires in_hand { IsInHand (B.value store.old) (B.name message.now) }
     requires chain { IsChain (in_hand (B.value store.old) (B.name message.now)) }
     requires has { count ≤ length (control_bytes (in_hand (B.value store.old) (B.name message.now))) }
@@ -147,13 +152,7 @@ fn prio_of<B: Blocks>(store: &B, message: &B::Mp) -> Prio
 
 // Puts back what is left of a message whose bytes were taken, where bytes of its control part or of its data part are left, and
 // frees it where none are.
-fn put_rest<B: Blocks>(
-    store: &mut B,
-    queue: &mut Queue,
-    message: B::Mp,
-    control: bool,
-    body: bool,
-)
+fn put_rest<B: Blocks>(store: &mut B, queue: &mut Queue, message: B::Mp, control: bool, body: bool)
     requires counted { AreCounted queue.old.flows (list_at (B.value store.old) queue.old.list) }
     requires in_hand { IsInHand (B.value store.old) (B.name message) }
     requires band { band_of (rest_left control body (in_hand (B.value store.old) (B.name message))) < BANDS }

@@ -1,5 +1,5 @@
 -- A message has the kind and the band of its first block.
-use Rattle.std.proofs.Common.{◌∙◌, ◌≡◌, ℕ, Bool, cond, ap, sym}
+use Rattle.std.proofs.Common.{◌∙◌, ℕ, Bool, cond, ap, sym}
 use Rattle.strm_types.specs.declared.modes.Prio.{Prio}
 use Rattle.strm_types.specs.declared.modes.Prio.TheVariants.{High, Band}
 use Rattle.strm_types.specs.Message.{is_high_priority}

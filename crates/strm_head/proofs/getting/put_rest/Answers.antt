@@ -5,7 +5,6 @@ use Rattle.strm_blocks.specs.Blocks.{IsInHand, in_hand, list_at, placed, dropped
 use Rattle.strm_msg.proofs.Hands.{changed-chain, changed-in_hand, dropped-changed}
 use Rattle.strm_queue.specs.Kept.{band_of}
 use Rattle.strm_head.specs.Getting.{rest_left, put_rest}
-use Rattle.strm_head.proofs.getting.put_rest.Given as given
 use Rattle.strm_head.proofs.getting.put_rest.Goals.{else-not-control-via-then-not-control+else-not-body, else-not-control-via-else-not-control}
 use Rattle.strm_head.proofs.getting.put_rest.Goals as goal
 
