@@ -1,16 +1,30 @@
 -- Where a get finds the message that it asks for.
-use Rattle.std.proofs.Common.{ℕ, ◌≡◌, ◌+◌, Bool, true, false, cond, not, List, [], ◌∷◌, length, refl, sym, ap, subst, ◌∙◌, arith, length-append}
+use Rattle.std.specs.Prelude.{◌&&◌}
+use Rattle.std.proofs.Common.{ℕ, ◌≡◌, ◌<◌, ◌+◌, Bool, true, false, cond, not, List, [], ◌∷◌, length, refl, sym, ap, subst, ◌∙◌, arith, length-append}
 use Rattle.strm_types.specs.declared.modes.Wanted.{Wanted}
 use Rattle.strm_types.specs.declared.names.Dir.{Dir}
 use Rattle.strm_types.specs.declared.rules.Rule.TheVariants.{Read}
 use Rattle.strm_types.specs.declared.rules.Fates.{Fates}
 use Rattle.strm_types.specs.Deliver.{tallied}
 use Rattle.strm_types.specs.Gets.{Got, is_wanted, got_none, parts_of, head_get}
-use Rattle.strm_types.specs.GetQueues.{gets_none, cells_got, get_told}
+use Rattle.strm_types.specs.GetQueues.{gets_none, cells_got, none_got, queue_got, writer_let_go, get_queue, get_lets_go, get_told}
 use Rattle.strm_types.specs.Message.{Message, part}
+use Rattle.strm_types.specs.Queue.{Queue, left_with, relieved, relieves}
+use Rattle.strm_types.specs.Reads.{no_cells}
 use Rattle.strm_types.specs.Rules.{told_more}
 use Rattle.strm_head.specs.declared.getting.Gotten.{Gotten}
 use Rattle.strm_head.specs.Getting.{Gives}
+
+-- whether no cells are in two lists
+none-cells : (xs ys : List ℕ) → length xs + length ys ≡ 0 → (no_cells xs && no_cells ys) ≡ true
+none-cells [] [] is = refl
+none-cells [] (y ∷ ys) is = absurd (omega (arith, is))
+none-cells (x ∷ xs) ys is = absurd (omega (arith, is))
+
+some-got : (xs ys : List ℕ) → 0 < length xs + length ys → (no_cells xs && no_cells ys) ≡ false
+some-got [] [] is = absurd (omega (arith, is))
+some-got [] (y ∷ ys) is = refl
+some-got (x ∷ xs) ys is = refl
 
 module _ (wanted : Wanted) (cmax dmax : ℕ) where
   pub record Found (q : List (Message ℕ)) : Type 0 where
@@ -41,6 +55,34 @@ module _ (wanted : Wanted) (cmax dmax : ℕ) where
       at : (v : Bool) (g : Got ℕ) → cond v fates (told_more dir Read (length (cells_got g)) fates) ≡ tallied (cond v [] (record { direction = dir; rule = Read; cells = cells_got g } ∷ [])) fates
       at true g = refl
       at false g = refl
+
+  -- and the queue behind it: its waiting writers are let go where bytes went
+  module _ (q : Queue ℕ) (g : Got ℕ) (is : g ≡ head_get wanted cmax dmax q.messages) (some : gets_none wanted q.messages ≡ false) where
+    abbrev got : Got ℕ
+    got = head_get wanted cmax dmax q.messages
+
+    queue-is : (v : Bool) → none_got g ≡ v → cond v (left_with g.left q) (relieved (left_with g.left q)) ≡ get_queue wanted cmax dmax q
+    queue-is v none =
+        ap (λ (x : Got ℕ). cond v (left_with x.left q) (relieved (left_with x.left q))) is
+        ∙ sym (ap (λ u. cond u q (queue_got got q)) some ∙ ap (λ u. cond u (left_with got.left q) (relieved (left_with got.left q))) (ap none_got (sym is) ∙ none))
+
+    went-is : (v : Bool) → none_got g ≡ v → cond v false (relieves (left_with g.left q)) ≡ get_lets_go wanted cmax dmax q
+    went-is v none =
+        ap (λ (x : Got ℕ). cond v false (relieves (left_with x.left q))) is
+        ∙ sym (ap (λ u. cond u false (writer_let_go got q)) some ∙ ap (λ u. cond u false (relieves (left_with got.left q))) (ap none_got (sym is) ∙ none))
+
+    module _ (count : ℕ) (count_is : count ≡ length (part g.control) + length (part g.body)) where
+      pub queue-goes : 0 < count → relieved (left_with g.left q) ≡ get_queue wanted cmax dmax q
+      queue-goes went = queue-is false (some-got (part g.control) (part g.body) (omega (arith, count_is, went)))
+
+      pub queue-waits : count ≡ 0 → left_with g.left q ≡ get_queue wanted cmax dmax q
+      queue-waits none = queue-is true (none-cells (part g.control) (part g.body) (omega (arith, count_is, none)))
+
+      pub went-goes : 0 < count → relieves (left_with g.left q) ≡ get_lets_go wanted cmax dmax q
+      went-goes went = went-is false (some-got (part g.control) (part g.body) (omega (arith, count_is, went)))
+
+      pub went-waits : count ≡ 0 → false ≡ get_lets_go wanted cmax dmax q
+      went-waits none = went-is true (none-cells (part g.control) (part g.body) (omega (arith, count_is, none)))
 
 -- what was taken is what the get gives, whether a writer is let go or not
 pub gives-found : (first result : Gotten) (control body : List ℕ) (g h : Got ℕ) → result.control ≡ first.control → result.body ≡ first.body → result.prio ≡ first.prio

@@ -259,7 +259,8 @@ pub fn getmsg<B: Blocks>(
         return NOTHING;
     }
     let mut got = take_first(store, queue, cmax, dmax, control, body);
-    fates.tell(direction, Rule::Read, control.len() + body.len());
-    got.lets_go = (!control.is_empty() || !body.is_empty()) && relieve(queue);
+    let count = control.len() + body.len();
+    fates.tell(direction, Rule::Read, count);
+    got.lets_go = count > 0 && relieve(queue);
     got
 }
