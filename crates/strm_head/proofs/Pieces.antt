@@ -1,12 +1,13 @@
 -- How much of a part a get gives, by the blocks of the part.
-use Rattle.std.proofs.Common.{ℕ, ◌≡◌, min, Bool, List, [], ◌∷◌, length, take, Option, Some, refl, sym, ap, ◌∙◌, arith, unwrap_or, inl, inr}
+use Rattle.std.proofs.Common.{ℕ, ◌≡◌, ◌≤◌, min, Bool, List, [], ◌∷◌, ◌++◌, length, append-nil, take, drop, Option, Some, refl, sym, ap, ◌∙◌, arith, unwrap_or, inl, inr}
 use Rattle.std.specs.Prelude.{nat_lt, option_map}
 use Rattle.std.proofs.lemmas.Bool.{cases_lt}
-use Rattle.std.proofs.lemmas.List.{length-take, take_all}
+use Rattle.std.proofs.lemmas.List.{length-take, length-take-le, take_all, drop_all}
 use Rattle.strm_types.specs.Message.{part}
 use Rattle.strm_blocks.specs.Blocks.{Block}
 use Rattle.strm_msg.specs.Bytes.{bytes_of, length_of_part}
 use Rattle.strm_msg.specs.Messages.{part_of}
+use Rattle.strm_msg.specs.Taken.{filled}
 
 -- bytes that are taken by the lesser number
 take-least : (k n : ℕ) (xs : List ℕ) → n ≡ min k (length xs) → take n xs ≡ take k xs
@@ -45,3 +46,16 @@ module _ (most : ℕ) (blocks : List Block) (len : Option ℕ) (len_is : len ≡
 -- the bytes that are given
 pub taken-is : (most count : ℕ) (blocks : List Block) (bytes : List ℕ) → count ≡ min most (length (bytes_of blocks)) → bytes ≡ take count (bytes_of blocks) → bytes ≡ part (option_map (take most) (part_of blocks))
 taken-is most count blocks bytes is so = so ∙ take-least most count (bytes_of blocks) is ∙ taken-part most blocks
+
+-- an empty buffer that was given room for so many bytes, which were then written
+pub written-whole : (items slice buffer bytes : List ℕ) (count : ℕ) → slice ≡ items → length items ≡ count → count ≤ length bytes → buffer ≡ filled slice bytes
+    → take (length items) (buffer ++ drop (length buffer) items) ≡ take count bytes
+written-whole items slice buffer bytes count slice_is long has is =
+    let all : filled items bytes ≡ take count bytes =
+    ap (λ xs. take (length items) bytes ++ xs) (drop_all (length bytes) items (omega (arith, long, has))) ∙ append-nil (take (length items) bytes) ∙ ap (λ n. take n bytes) long in
+    let whole : buffer ≡ take count bytes = is ∙ ap (λ xs. filled xs bytes) slice_is ∙ all in
+    let same : length buffer ≡ count = ap length whole ∙ length-take-le count bytes has in
+    ap (λ xs. take (length items) (buffer ++ xs)) (drop_all (length buffer) items (omega (arith, same, long)))
+    ∙ ap (take (length items)) (append-nil buffer)
+    ∙ take_all (length items) buffer (omega (arith, same, long))
+    ∙ whole

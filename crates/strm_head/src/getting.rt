@@ -8,18 +8,18 @@ ghost use Rattle.strm_types.specs.Message.{Message, part};
 ghost use Rattle.strm_blocks.specs.Blocks.{IsInHand, in_hand, list_at, changed};
 ghost use Rattle.strm_msg.specs.Bytes.{control_bytes, data_bytes, control_blocks, data_blocks, length_of_part};
 ghost use Rattle.strm_msg.specs.Messages.{message_of, IsChain};
-ghost use Rattle.strm_msg.specs.Taken.{without_control};
+ghost use Rattle.strm_msg.specs.Taken.{without_control, without_data};
 ghost use Rattle.strm_queue.specs.Flows.{plain_flows};
 ghost use Rattle.strm_queue.specs.Kept.{AreCounted, band_of};
 ghost use Rattle.strm_queue.specs.Queues.{OnlyCounts};
 ghost use Rattle.strm_queue.specs.Stored.{queue_in, messages_on, IsHeadQueue, Keeps};
 ghost use Rattle.strm_head.specs.Getting.{cut_by, rest_left, put_rest, prio_at, Gives, TakesFirst};
 
-use crate::reading::{grow, take_into};
+use crate::reading::grow;
 use crate::standing::get_refusal;
 use arrayvec::ArrayVec;
 use strm_blocks::Blocks;
-use strm_msg::{control_len, data_len, set_kinds, take_control};
+use strm_msg::{control_len, data_len, set_kinds, take_control, take_data};
 use strm_queue::Queue;
 use strm_queue::standing::relieve;
 use strm_types::{BANDS, Band, Dir, Fates, MsgKind, Prio, Rule, Wanted};
@@ -95,6 +95,25 @@ fn take_control_into<B: Blocks>(
     take_control(store, message, out.as_mut_slice());
 }
 
+// Takes the first so many bytes off a message's data part into an empty buffer.
+fn take_data_into<B: Blocks>(
+    store: &mut B,
+    message: &B::Mp,
+    count: usize,
+    out: &mut ArrayVec<u8, 4096>,
+)
+    requires in_hand { IsInHand (B.value store.old) (B.name message.now) }
+    requires has { count ≤ length (data_bytes (in_hand (B.value store.old) (B.name message.now))) }
+    requires room { count ≤ 4096 }
+    requires fresh { out.old.items ≡ [] }
+    ensures given { out.new.items ≡ take count (data_bytes (in_hand (B.value store.old) (B.name message.now))) }
+    ensures trimmed { let chain = in_hand (B.value store.old) (B.name message.now) in
+        B.value store.new ≡ changed (B.value store.old) (B.name message.now) (without_data count chain) }
+{
+    grow(out, count);
+    take_data(store, message, out.as_mut_slice());
+}
+
 // Takes so many bytes off the parts of a message into empty buffers.
 fn take_parts<B: Blocks>(
     store: &mut B,
@@ -118,7 +137,7 @@ fn take_parts<B: Blocks>(
         B.value store.new ≡ changed (B.value store.old) (B.name message.now) (cut_by count data_count chain) }
 {
     take_control_into(store, message, count, control);
-    take_into(store, message, data_count, body);
+    take_data_into(store, message, data_count, body);
 }
 
 // Makes a message whose bytes were taken what is left of it: the blocks of a part of which nothing is left get the kind of the

@@ -45,12 +45,7 @@ pub(crate) fn grow(out: &mut ArrayVec<u8, 4096>, count: usize)
 }
 
 // Takes the first so many data bytes off a message, and adds them to what a read gives.
-pub(crate) fn take_into<B: Blocks>(
-    store: &mut B,
-    message: &B::Mp,
-    count: usize,
-    out: &mut ArrayVec<u8, 4096>,
-)
+fn take_into<B: Blocks>(store: &mut B, message: &B::Mp, count: usize, out: &mut ArrayVec<u8, 4096>)
     requires in_hand { IsInHand (B.value store.old) (B.name message.now) }
     requires has { count ≤ length (data_bytes (in_hand (B.value store.old) (B.name message.now))) }
     requires room { length out.old.items + count ≤ 4096 }
