@@ -7,3 +7,9 @@ pub mod Showing
 pub mod Gathers
 pub mod Told
 mod Coming
+pub mod Rests
+pub mod Taking
+pub mod Pieces
+pub mod Took
+pub mod Found
+pub mod Sent

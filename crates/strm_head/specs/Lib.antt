@@ -2,3 +2,5 @@ pub mod Seen
 pub mod Drawing
 pub mod Parted
 pub mod Heads
+pub mod Getting
+pub mod Sending

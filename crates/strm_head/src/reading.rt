@@ -32,7 +32,7 @@ const LAST: Step = Step {
 };
 
 // Adds so many bytes to what a read gives, which are to be written over.
-fn grow(out: &mut ArrayVec<u8, 4096>, count: usize)
+pub(crate) fn grow(out: &mut ArrayVec<u8, 4096>, count: usize)
     requires { length out.old.items + count ≤ 4096 }
     ensures front { take (length out.old.items) out.new.items ≡ out.old.items }
     ensures long { length out.new.items ≡ length out.old.items + count }

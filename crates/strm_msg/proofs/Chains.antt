@@ -93,7 +93,7 @@ unfolding is_data_kind
 data-kind k is = rw is refl
 
 -- a control kind is no body kind
-control-body : (k : MsgKind) → is_control_kind k ≡ true → is_body_kind k ≡ false
+pub control-body : (k : MsgKind) → is_control_kind k ≡ true → is_body_kind k ≡ false
 unfolding is_control_kind is_body_kind
 control-body kinds.Data is = absurd (cc)
 control-body _ is = refl

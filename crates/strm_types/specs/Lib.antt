@@ -13,6 +13,8 @@ pub mod Rules
 pub mod Deliver
 pub mod Reads
 pub mod Gets
+pub mod GetQueues
+pub mod PutMsg
 pub mod Modules
 pub mod ModuleQueues
 pub mod Places

@@ -30,10 +30,10 @@ pub use flushing::FlushAsked;
 pub use ioctls::Ioc;
 pub use kinds::{Band, MsgKind};
 pub use limits::{
-    BANDS, BLOCK_SIZE, CHANGE_BLOCKS, CLOSE_BLOCKS, Config, HIGH_PRIORITY_RANK, HOPS, LISTS,
-    MODULES, READ_MAX, TURN_BLOCKS, WRITE_BLOCKS, chunk_count,
+    BANDS, BLOCK_SIZE, CHANGE_BLOCKS, CLOSE_BLOCKS, CONTROL_MAX, Config, DATA_MAX,
+    HIGH_PRIORITY_RANK, HOPS, LISTS, MODULES, READ_MAX, TURN_BLOCKS, WRITE_BLOCKS, chunk_count,
 };
-pub use modes::{ControlMode, ReadMode, Wanted};
+pub use modes::{ControlMode, Mode, Prio, ReadMode, Wanted};
 pub use names::{Dir, ModuleName, Openness, Place, QueueName, Side, Way, line};
 pub use refusals::{NoMemory, Refusal};
 pub use rules::{Fates, RULES, Rule};

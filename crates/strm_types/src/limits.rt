@@ -24,7 +24,12 @@ pub const HOPS: usize = 16;
 /// The most bytes that one read gives.
 pub const READ_MAX: usize = 4096;
 
-/// How many blocks of each kind have to be free for a write, beside those that it takes.
+/// The most bytes of the control part and of the data part that one putmsg(2) sends.
+pub const CONTROL_MAX: usize = 64;
+
+pub const DATA_MAX: usize = 256;
+
+/// How many blocks of each kind have to be free for a write or a putmsg(2), beside those that it takes.
 pub const WRITE_BLOCKS: usize = 32;
 
 /// How many blocks of each kind have to be free for a turn of a driver.

@@ -1,4 +1,4 @@
-//! The modes of a stream head, and what a getmsg(2) asks for.
+//! The modes of a stream head, what a getmsg(2) asks for, and what a putmsg(2) sends.
 
 use crate::kinds::Band;
 
@@ -24,6 +24,14 @@ pub enum ControlMode {
     Discard,
 }
 
+/// One mode of a stream head that I_SRDOPT of streamio(7I) sets: how reads end, or what they do with control parts. The other
+/// one stays.
+#[derive(Clone, Copy, Debug, PartialEq, Eq)]
+pub enum Mode {
+    Read(ReadMode),
+    Control(ControlMode),
+}
+
 /// Which message a getmsg(2) or getpmsg(2) takes: the first one, if it is of this kind.
 #[derive(Clone, Copy, Debug, PartialEq, Eq)]
 pub enum Wanted {
@@ -32,5 +40,13 @@ pub enum Wanted {
     /// One of high priority.
     High,
     /// One of high priority, or of at least this band.
+    Band(Band),
+}
+
+/// The priority of a message that a putmsg(2) or putpmsg(2) sends, or that a getmsg(2) or getpmsg(2) gives: high (RS_HIPRI,
+/// MSG_HIPRI), or a band from 0 to 7 (MSG_BAND).
+#[derive(Clone, Copy, Debug, PartialEq, Eq)]
+pub enum Prio {
+    High,
     Band(Band),
 }
