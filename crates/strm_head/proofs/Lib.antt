@@ -6,7 +6,7 @@ pub mod Returned
 pub mod Showing
 pub mod Gathers
 pub mod Told
-mod Coming
+pub mod Coming
 pub mod Rests
 pub mod Taking
 pub mod Pieces

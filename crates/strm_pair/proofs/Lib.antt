@@ -3,6 +3,7 @@ pub mod Sides
 pub mod PutsCost
 pub mod PutSteps
 pub mod TurnSteps
+pub mod ReadSteps
 pub mod FreeBlocks
 pub mod Steps
 pub mod Shown

@@ -135,7 +135,7 @@ module _ (s t : StoreValue) (first : ℕ) (e : End) (is : IsSide s first e) wher
     head-stream = ap (λ d. record { opened = e.opened; head = head_in t h; driver = record { queue = d } }) (queue-same s t e.driver driver-beside)
 
 -- a stream that was closed has the same driver
-pub as-side : (t : StoreValue) (first : ℕ) (e e' : End) → e'.driver ≡ e.driver → IsSide t first (record e { head = e'.head }) → IsSide t first e'
+as-side : (t : StoreValue) (first : ℕ) (e e' : End) → e'.driver ≡ e.driver → IsSide t first (record e { head = e'.head }) → IsSide t first e'
 as-side t first e e' same is = record {
   head_list = is.head_list;
   driver_list = ap (λ d. d.list) same ∙ is.driver_list;
@@ -230,3 +230,14 @@ driver-is s p Slave = refl
 pub head-is : (s : StoreValue) (p : Streams) (side : Side) → (stream side (state_in s p)).head ≡ head_in s (end_at side p).head
 head-is s p Master = refl
 head-is s p Slave = refl
+
+-- a side whose head's queue was emptied, and whose driver stays
+pub master-renewed : (s t : StoreValue) (p : Streams) (e : End) → AreBeside s p → e.driver ≡ p.master.driver → Keeps s t p.master.head.queue e.head.queue → AreBeside t (with_end Master e p)
+master-renewed s t p e beside same keeps =
+    let all = head-changed s t p beside Master e.head (only-kept s t p.master.head.queue e.head.queue keeps) (readable-kept s t p.master.head.queue e.head.queue beside.master.head keeps) in
+    record { master = as-side t 0 p.master e same all.master; slave = all.slave }
+
+pub slave-renewed : (s t : StoreValue) (p : Streams) (e : End) → AreBeside s p → e.driver ≡ p.slave.driver → Keeps s t p.slave.head.queue e.head.queue → AreBeside t (with_end Slave e p)
+slave-renewed s t p e beside same keeps =
+    let all = head-changed s t p beside Slave e.head (only-kept s t p.slave.head.queue e.head.queue keeps) (readable-kept s t p.slave.head.queue e.head.queue beside.slave.head keeps) in
+    record { master = all.master; slave = as-side t 4 p.slave e same all.slave }

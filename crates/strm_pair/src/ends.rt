@@ -1,7 +1,7 @@
 //! One side's stream.
 
 ghost use Rattle.std.specs.Prelude.{◌≡◌};
-ghost use Rattle.strm_types.specs.declared.names.Openness.TheVariants.{Closed};
+ghost use Rattle.strm_types.specs.declared.names.Openness.TheVariants.{Open, Closed};
 ghost use Rattle.strm_types.specs.State.{new_head};
 ghost use Rattle.strm_queue.specs.Stored.{IsReady, Keeps};
 ghost use Rattle.strm_head.specs.Heads.{head_in};
@@ -20,8 +20,8 @@ pub(crate) struct End {
 }
 
 impl End {
-    /// Makes the head as new, with nothing on its queue.
-    pub fn renew_head<B: Blocks>(&mut self, store: &mut B)
+    // Makes the head as new, with nothing on its queue.
+    fn renew_head<B: Blocks>(&mut self, store: &mut B)
         requires { IsReady (B.value store.old) self.old.head.queue }
         ensures head { head_in (B.value store.new) self.new.head ≡ new_head }
         ensures opened { self.new.opened ≡ self.old.opened }
@@ -31,6 +31,18 @@ impl End {
         store.audit();
         self.head.queue.flushq(store, Flush::All);
         self.head = Head::new(Queue::new(self.head.queue.list, HEAD_HIGH, HEAD_LOW));
+    }
+
+    /// Opens the stream, with a head as new.
+    pub fn open<B: Blocks>(&mut self, store: &mut B)
+        requires { IsReady (B.value store.old) self.old.head.queue }
+        ensures head { head_in (B.value store.new) self.new.head ≡ new_head }
+        ensures opened { self.new.opened ≡ Open }
+        ensures driver { self.new.driver ≡ self.old.driver }
+        ensures keeps { Keeps (B.value store.old) (B.value store.new) self.old.head.queue self.new.head.queue }
+    {
+        self.opened = Openness::Open;
+        self.renew_head(store);
     }
 
     /// Closes the stream, with a head as new.

@@ -82,9 +82,7 @@ impl Streams {
         ensures held { AreHeld (B.value store.new) self.new }
         ensures pool { SamePool (B.value store.old) (B.value store.new) }
     {
-        store.audit();
-        self.slave.opened = Openness::Open;
-        self.slave.renew_head(store);
+        self.slave.open(store);
         if !self.master.driver.is_empty(store) {
             self.enabled.enable(Side::Master.driver());
         }

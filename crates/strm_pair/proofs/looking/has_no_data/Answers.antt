@@ -1,11 +1,13 @@
-use Rattle.std.proofs.Common.{rules, ℕ, ◌≡◌, ◌<◌, length, ◌+◌, ◌-◌, ◌*◌, ◌≤◌, ◌/◌, ◌%◌, Bool, true, false, nat_eq, nat_lt, List, [], ◌∷◌, ◌++◌, slice_index_or, slice_set, bit_and, bit_or, Fits, w8, w32, w64, Bor, MutBor}
+-- A visitor sees whether there is one.
+use Rattle.std.proofs.Common.{refl, ap, ◌∙◌}
+use Rattle.std.specs.Prelude.{not}
 use Rattle.strm_types.specs.Message.{is_held}
-use Rattle.strm_types.specs.Queue.{bytes_of}
-use Rattle.strm_types.specs.Refused.{has_no_data}
-use Rattle.strm_queue.specs.Stored.{messages_on}
-use Rattle.strm_pair.specs.Shows.{count_at, full_at, messages_at}
+use Rattle.strm_blocks.specs.Blocks.{list_at}
+use Rattle.strm_head.proofs.Coming.{finds-kind}
+use Rattle.strm_pair.specs.declared.looking.Ordinary.{Ordinary}
 use Rattle.strm_pair.proofs.looking.has_no_data.Goals as goal
 
--- src/looking.rt:36:1
 pub returns : goal.returns
-returns g c = ?
+returns g c =
+    ap not (ap (λ (v : Ordinary). v.found) c.visit.ensures
+    ∙ finds-kind (λ (v : Ordinary). v.found) (λ b. record { found = b }) (λ b. refl) is_held (list_at (g.B.Blocks.value c.args.store.now) c.args.queue.now.list))
