@@ -24,11 +24,8 @@ use Rattle.strm_pair.proofs.Sides.{driver-changed, driver-state, head-changed, h
 use Rattle.strm_types.specs.declared.names.Place.TheVariants as places
 use Rattle.strm_types.specs.declared.names.QueueName.{QueueName}
 use Rattle.strm_types.specs.declared.names.Side.{Side}
-use Rattle.strm_types.specs.declared.names.Side.TheVariants.{Master, Slave}
 use Rattle.strm_types.specs.declared.names.Way.TheVariants.{Up, Down}
 use Rattle.strm_types.specs.declared.rules.Fates.{Fates}
-use Rattle.strm_types.specs.declared.spots.Note.{Note}
-use Rattle.strm_types.specs.declared.spots.Note.TheVariants.{Room}
 use Rattle.strm_types.specs.declared.spots.Spot.{Spot}
 use Rattle.strm_types.specs.Deliver.{Acted, Parcel, Took, tallied}
 use Rattle.strm_types.specs.Flushing.{is_flush, asked_by}
@@ -43,7 +40,7 @@ use Rattle.strm_msg.specs.Messages.{IsChain}
 use Rattle.strm_head.specs.Heads.{notes_of, sent_down}
 use Rattle.strm_frame.specs.declared.parcels.Sent.{Sent}
 use Rattle.strm_frame.specs.Hands.{once, HasRoom, Shifts}
-use Rattle.strm_frame.specs.Outboxes.{message_in, times_sent, parcel_in, parcels_in, AreChains}
+use Rattle.strm_frame.specs.Outboxes.{message_in, times_sent, parcels_in, AreChains}
 use Rattle.strm_frame.proofs.Handing.{one-parts, one-chains}
 use Rattle.strm_frame.proofs.Shifting.{shifts-both, shifts-as}
 use Rattle.strm_pty.specs.Does.{Makes, Swaps}
@@ -64,13 +61,16 @@ not-turned here m h is = at (has_parts m)
   where
     asked : Bool → List (Parcel ℕ) → List (Parcel ℕ)
     asked b ps = cond b ps []
+
     round : (flush write : Bool) (ps : List (Parcel ℕ)) → (flush && write) ≡ false → flush ≡ true → asked write ps ≡ []
     round true false ps none some = refl
     round true true ps none some = absurd (cc)
     round false write ps none some = absurd (cc)
+
     obeys : (flush : Bool) → is_flush m.kind ≡ flush → (cond flush (flush_up here (asked_by m.plain) h) (passed_by (record h { hung_up = h.hung_up || is_hangup m.kind }))).sent ≡ []
     obeys false known = refl
     obeys true known = round (is_flush m.kind) (asked_by m.plain).for_write _ is known
+
     at : (parts : Bool) → (cond parts (waits_for_readers here m h) (obeyed here m h)).sent ≡ []
     at true = sent-nothing (Head ℕ) (is_doubled m h.queue.messages) _ _ refl refl
     at false = obeys (is_flush m.kind) refl
@@ -152,7 +152,7 @@ module _ (side : Side) (s t : StoreValue) (p : Streams) (h : heads.Head) (i : �
   came-by q is store can beside opened state notes sent told changes readable frees q_is =
       let st = state_in s p in
       let here : put_at_head to.side to m st ≡ at_head side st Did =
-          open-is to.side to m st opened ∙ ap (λ sd. at_head sd st (head_put to m (stream sd st).head)) is ∙ ap (λ x. at_head side st (head_put to m x)) (head-is s p side) in
+      open-is to.side to m st opened ∙ ap (λ sd. at_head sd st (head_put to m (stream sd st).head)) is ∙ ap (λ x. at_head side st (head_put to m x)) (head-is s p side) in
       let there : q ≡ behind = q_is ∙ ap (λ sd. record (with_end side (record (end_at side p) { head = h }) p) { enabled = enable_some lets_go (before (head_of sd)) p.enabled }) is in
       subst (λ w. CameBy s t p q i (sent_down to down) f f' w) (sym here)
       (subst (λ x. CameBy s t p x i (sent_down to down) f f' (at_head side st Did)) (sym there) (came-at store can beside state notes sent told changes readable frees))
@@ -188,9 +188,9 @@ module _ {M : Type 0} (name : M → ℕ) where
       let names = noted to.side places.Driver acts.notes.items p.enabled in
       let low = cost-low to.way m.kind in
       let here : at_driver side st did ≡ put_at_driver to.side to m st =
-          ap (λ x. at_driver side st (driver_put to.side x (record to { at = 1 }) m (queue_in s (end_at side p).driver))) across_is
-          ∙ ap (λ x. at_driver side st (driver_put to.side (across_of to.side st) (record to { at = 1 }) m x)) (sym (driver-is s p side))
-          ∙ ap (λ sd. at_driver sd st (driver_put to.side (across_of to.side st) (record to { at = 1 }) m (stream sd st).driver.queue)) (sym is) in
+      ap (λ x. at_driver side st (driver_put to.side x (record to { at = 1 }) m (queue_in s (end_at side p).driver))) across_is
+      ∙ ap (λ x. at_driver side st (driver_put to.side (across_of to.side st) (record to { at = 1 }) m x)) (sym (driver-is s p side))
+      ∙ ap (λ sd. at_driver sd st (driver_put to.side (across_of to.side st) (record to { at = 1 }) m (stream sd st).driver.queue)) (sym is) in
       subst (λ w. PutBy name s t p q i (below_takes to.way true) (sent_of acts.sent) f f' w) here
       (record {
         state = ap (λ x. state_in t x) q_is

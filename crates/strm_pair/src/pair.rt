@@ -274,9 +274,7 @@ impl<B: Blocks + Drop> Pair<B> {
         if let Some(refusal) = self.turn_refusal(name) {
             return Err(refusal);
         }
-        let turn = self
-            .streams
-            .turn(&mut self.store, name, &mut self.fates);
+        let turn = self.streams.turn(&mut self.store, name, &mut self.fates);
         self.journal.add_turn(name, turn);
         Ok(turn)
     }

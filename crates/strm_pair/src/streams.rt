@@ -120,7 +120,14 @@ impl Streams {
     }
 
     /// Reads up to `n` bytes from a side's head into `out`, as its modes say.
-    pub fn read<B: Blocks>(&mut self, store: &mut B, side: Side, n: u32, out: &mut ReadBytes, told: &mut Fates)
+    pub fn read<B: Blocks>(
+        &mut self,
+        store: &mut B,
+        side: Side,
+        n: u32,
+        out: &mut ReadBytes,
+        told: &mut Fates,
+    )
         requires held { AreHeld (B.value store.old) self.old }
         requires fresh { out.old.items ≡ [] }
         ensures answer { Bytes out.new.items ≡ (read_plain side n (state_in (B.value store.old) self.old)).answer }
