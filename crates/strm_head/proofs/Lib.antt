@@ -1,6 +1,9 @@
 pub mod Draws
 pub mod Seen
-pub mod FirstSeen
+pub mod Passed
+pub mod Resting
+pub mod Returned
+pub mod Showing
 pub mod Gathers
 pub mod Told
 mod Coming

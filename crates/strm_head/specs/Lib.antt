@@ -1,3 +1,4 @@
 pub mod Seen
 pub mod Drawing
+pub mod Parted
 pub mod Heads

@@ -102,8 +102,8 @@ impl Head {
         }
     }
     /// Gives up to `n` bytes of what waits, tells by which rules bytes of the direction go, and says whether a waiting writer
-    /// is let go. Where `read_refusal` refuses the read, or there is nothing to take, nothing changes. RPROTNORM alone: under
-    /// the other control modes nothing reads yet.
+    /// is let go. Where `read_refusal` refuses the read, or there is nothing to take, nothing changes. The cost is a step for
+    /// each block of the messages that are taken or passed over, and of the first one that stays.
     pub fn read<B: Blocks>(
         &mut self,
         store: &mut B,
@@ -113,15 +113,14 @@ impl Head {
         fates: &mut Fates,
     ) -> bool
         requires ready { IsHeadQueue (B.value store.old) self.old.queue }
-        requires mode { self.old.control_mode ≡ Refuse }
         requires most { n ≤ READ_MAX }
         requires fresh { out.old.items ≡ [] }
-        ensures given { out.new.items ≡ (head_draw self.old.read_mode Refuse n (messages_on (B.value store.old) self.old.queue.list)).given }
+        ensures given { out.new.items ≡ (head_draw self.old.read_mode self.old.control_mode n (messages_on (B.value store.old) self.old.queue.list)).given }
         ensures most_given { length out.new.items ≤ n }
         ensures queue { queue_in (B.value store.new) self.new.queue
-            ≡ read_queue self.old.read_mode Refuse n (queue_in (B.value store.old) self.old.queue) }
-        ensures went { result ≡ read_lets_go self.old.read_mode Refuse n (queue_in (B.value store.old) self.old.queue) }
-        ensures told { fates.new ≡ read_told direction self.old.read_mode Refuse n (messages_on (B.value store.old) self.old.queue.list) fates.old }
+            ≡ read_queue self.old.read_mode self.old.control_mode n (queue_in (B.value store.old) self.old.queue) }
+        ensures went { result ≡ read_lets_go self.old.read_mode self.old.control_mode n (queue_in (B.value store.old) self.old.queue) }
+        ensures told { fates.new ≡ read_told direction self.old.read_mode self.old.control_mode n (messages_on (B.value store.old) self.old.queue.list) fates.old }
         ensures keeps { Keeps (B.value store.old) (B.value store.new) self.old.queue self.new.queue }
         ensures ready { IsHeadQueue (B.value store.new) self.new.queue }
         ensures modes { self.new ≡ record self.old { queue = self.new.queue } }
@@ -130,6 +129,7 @@ impl Head {
             store,
             &mut self.queue,
             self.read_mode,
+            self.control_mode,
             n,
             out,
             direction,

@@ -3,6 +3,7 @@
 #![tactic(auto)]
 
 mod head;
+mod parts;
 mod putting;
 mod reading;
 mod standing;

@@ -11,7 +11,7 @@ mod kinds;
 mod pulls;
 mod sizes;
 
-pub use adjust::adjmsg;
+pub use adjust::{adjmsg, trim_front};
 pub use bytes::{first_bytes, from_bytes};
 pub use copies::{copymsg, dupmsg};
 pub use data::take_data;
