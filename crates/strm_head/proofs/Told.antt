@@ -26,6 +26,17 @@ pub told-some : (dir : Dir) (read : ReadMode) (control : ControlMode) (n : ℕ) 
     → tallied (read_fates dir (head_draw read control n q)) fates ≡ read_told dir read control n q fates
 told-some dir read control n q fates is = ap (λ b. tallied (cond b [] (read_fates dir (head_draw read control n q))) fates) (sym is)
 
+-- where there is nothing to take
+pub told-none : (dir : Dir) (read : ReadMode) (control : ControlMode) (n : ℕ) (q : List (Message ℕ)) (fates : Fates) → takes_none control n q ≡ true → read_told dir read control n q fates ≡ fates
+told-none dir read control n q fates is = ap (λ b. tallied (cond b [] (read_fates dir (head_draw read control n q))) fates) is
+
+module _ (read : ReadMode) (control : ControlMode) (n : ℕ) (q : plain.Queue ℕ) (none : takes_none control n q.messages ≡ true) where
+  pub queue-none : read_queue read control n q ≡ q
+  queue-none = ap (λ b. cond b q (queue_drawn (head_draw read control n q.messages) q)) none
+
+  pub goes-none : read_lets_go read control n q ≡ false
+  goes-none = ap (λ b. cond b false (writer_goes (head_draw read control n q.messages) q)) none
+
 -- where there is something to take, by whether bytes went
 module _ (read : ReadMode) (control : ControlMode) (n : ℕ) (q : plain.Queue ℕ) (v : Bool) (some : takes_none control n q.messages ≡ false) (gone : none_went (head_draw read control n q.messages) ≡ v) where
   pub queue-some : read_queue read control n q ≡ cond v (left_with (head_draw read control n q.messages).left q) (relieved (left_with (head_draw read control n q.messages).left q))
