@@ -74,7 +74,7 @@ sizes-are (chain ∷ q) all =
     omega (arith, size-is m (plain-none chain all.0), sizes-are q all.1, sum_by-cons (λ (x : Message ℕ). size_of x) m ms, sum_by-cons (λ (x : Message ℕ). weight_of (λ c. true) x) m ms)
 
 -- what a read takes, and what it leaves, are the bytes that stood there
-pub bytes-gone : (read : ReadMode) (control : ControlMode) (n : ℕ) (q left : List (List Block)) → HoldsReadable q → HoldsReadable left → map message_of left ≡ (head_draw read control n (map message_of q)).left
+bytes-gone : (read : ReadMode) (control : ControlMode) (n : ℕ) (q left : List (List Block)) → HoldsReadable q → HoldsReadable left → map message_of left ≡ (head_draw read control n (map message_of q)).left
     → length (head_draw read control n (map message_of q)).given + (length (head_draw read control n (map message_of q)).discarded + (length (head_draw read control n (map message_of q)).dropped + bytes_of (map message_of left))) ≡ bytes_of (map message_of q)
 bytes-gone read control n q left readable still is =
     let d = head_draw read control n (map message_of q) in
