@@ -1,5 +1,5 @@
 -- What a queue's first message leaves once it is freed, or put back changed.
-use Rattle.std.proofs.Common.{ℕ, ◌≡◌, ◌<◌, Bool, true, false, List, length, map, sym, ap, subst, ◌∙◌, arith, length-set, cond}
+use Rattle.std.proofs.Common.{ℕ, ◌≡◌, ◌<◌, Bool, true, false, List, length, map, refl, sym, ap, subst, ◌∙◌, arith, length-set, cond}
 use Rattle.strm_types.specs.declared.kinds.MsgKind.{MsgKind}
 use Rattle.strm_types.specs.declared.kinds.MsgKind.TheVariants as kinds
 use Rattle.strm_types.specs.Flush.{counted_band}
@@ -11,8 +11,9 @@ use Rattle.strm_blocks.proofs.Laws.{dropped-held, in_hand-held}
 use Rattle.strm_msg.specs.Messages.{message_of, IsChain, AreMessages}
 use Rattle.strm_msg.proofs.Chains.{put_back-chains}
 use Rattle.strm_queue.specs.declared.queue.Queue.{Queue}
+use Rattle.strm_queue.specs.Flows.{plain_flows}
 use Rattle.strm_queue.specs.Kept.{AreCounted}
-use Rattle.strm_queue.specs.Stored.{messages_on, Holds, IsReady, Keeps}
+use Rattle.strm_queue.specs.Stored.{messages_on, Holds, IsReady, Keeps, SameFlags}
 use Rattle.strm_queue.proofs.Holding.{put_back-messages, put_back-holds, first-holds, rest-messages, rest-holds}
 use Rattle.strm_queue.proofs.Gotten.{left, off, chain-is, behind}
 use Rattle.strm_queue.proofs.Placed.{Landed, landed-again, keeps-landed, put-back-on, changed-held}
@@ -67,3 +68,11 @@ band-within chain one = at (is_high_priority (block_at 0 chain).kind)
     at : (b : Bool) → cond b 0 (block_at 0 chain).band < 8
     at true = omega arith
     at false = one.low
+
+-- where nothing is taken all stays
+pub flags-none : (q : Queue) → SameFlags q q
+flags-none q = record { flows = refl; want_read = λ cleared. cleared; no_enable = refl }
+
+-- a message that was taken leaves the flags but want-read
+pub flags-taken : (q p : Queue) → plain_flows p.flows ≡ plain_flows q.flows → p.want_read ≡ false → p.no_enable ≡ q.no_enable → SameFlags q p
+flags-taken q p flows cleared no_enable = record { flows = flows; want_read = λ was. cleared; no_enable = no_enable }

@@ -157,7 +157,7 @@ module _ (chain : List Block) (one : IsChain chain) (k : MsgKind) (kind : (block
   }
 
 module _ (chain : List Block) (one : IsChain chain) (readable : is_data_kind (block_at 0 chain).kind ≡ true) where
-  pub all-cells : cells_of (message_of chain) ≡ bytes_of chain
+  all-cells : cells_of (message_of chain) ≡ bytes_of chain
   all-cells = elim (data-or-control (block_at 0 chain).kind readable) [
     | inl m_data ↦ data-cells chain one (one.all_data m_data)
     | inr control ↦ both-cells chain one (block_at 0 chain).kind refl control (one.parted control)

@@ -26,6 +26,17 @@ pub told-some : (dir : Dir) (read : ReadMode) (control : ControlMode) (n : ℕ) 
     → tallied (read_fates dir (head_draw read control n q)) fates ≡ read_told dir read control n q fates
 told-some dir read control n q fates is = ap (λ b. tallied (cond b [] (read_fates dir (head_draw read control n q))) fates) (sym is)
 
+-- where there is nothing to take
+pub told-none : (dir : Dir) (read : ReadMode) (control : ControlMode) (n : ℕ) (q : List (Message ℕ)) (fates : Fates) → takes_none control n q ≡ true → read_told dir read control n q fates ≡ fates
+told-none dir read control n q fates is = ap (λ b. tallied (cond b [] (read_fates dir (head_draw read control n q))) fates) is
+
+module _ (read : ReadMode) (control : ControlMode) (n : ℕ) (q : plain.Queue ℕ) (none : takes_none control n q.messages ≡ true) where
+  pub queue-none : read_queue read control n q ≡ q
+  queue-none = ap (λ b. cond b q (queue_drawn (head_draw read control n q.messages) q)) none
+
+  pub goes-none : read_lets_go read control n q ≡ false
+  goes-none = ap (λ b. cond b false (writer_goes (head_draw read control n q.messages) q)) none
+
 -- where there is something to take, by whether bytes went
 module _ (read : ReadMode) (control : ControlMode) (n : ℕ) (q : plain.Queue ℕ) (v : Bool) (some : takes_none control n q.messages ≡ false) (gone : none_went (head_draw read control n q.messages) ≡ v) where
   pub queue-some : read_queue read control n q ≡ cond v (left_with (head_draw read control n q.messages).left q) (relieved (left_with (head_draw read control n q.messages).left q))
@@ -63,7 +74,7 @@ sizes-are (chain ∷ q) all =
     omega (arith, size-is m (plain-none chain all.0), sizes-are q all.1, sum_by-cons (λ (x : Message ℕ). size_of x) m ms, sum_by-cons (λ (x : Message ℕ). weight_of (λ c. true) x) m ms)
 
 -- what a read takes, and what it leaves, are the bytes that stood there
-pub bytes-gone : (read : ReadMode) (control : ControlMode) (n : ℕ) (q left : List (List Block)) → HoldsReadable q → HoldsReadable left → map message_of left ≡ (head_draw read control n (map message_of q)).left
+bytes-gone : (read : ReadMode) (control : ControlMode) (n : ℕ) (q left : List (List Block)) → HoldsReadable q → HoldsReadable left → map message_of left ≡ (head_draw read control n (map message_of q)).left
     → length (head_draw read control n (map message_of q)).given + (length (head_draw read control n (map message_of q)).discarded + (length (head_draw read control n (map message_of q)).dropped + bytes_of (map message_of left))) ≡ bytes_of (map message_of q)
 bytes-gone read control n q left readable still is =
     let d = head_draw read control n (map message_of q) in

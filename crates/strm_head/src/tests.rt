@@ -5,7 +5,6 @@ mod gets;
 ghost use Rattle.std.specs.Prelude.{◌≡◌, ◌≤◌, [], length};
 ghost use Rattle.strm_blocks.specs.Blocks.{list_at};
 ghost use Rattle.strm_queue.specs.Stored.{IsHeadQueue};
-ghost use Rattle.strm_types.specs.declared.modes.ControlMode.TheVariants.{Refuse};
 
 use crate::{Came, Head, Waiting};
 use std::alloc::Global;
@@ -15,14 +14,14 @@ use strm_blocks::{Blocks, TableStore};
 use strm_msg::from_bytes;
 use strm_queue::{HEAD_HIGH, HEAD_LOW, Queue};
 use strm_types::{
-    Band, Dir, Fates, FlushAsked, MsgKind, ReadBytes, ReadMode, Refusal, Side, Spot, Way,
+    Band, ControlMode, Dir, Fates, FlushAsked, MsgKind, ReadBytes, ReadMode, Refusal, Side, Spot,
+    Wanted, Way,
 };
 
 // A new head on an empty list.
 fn fresh<B: Blocks>(store: &B) -> Head
     requires { list_at (B.value store.now) 3 ≡ [] }
-    ensures ready { IsHeadQueue (B.value store.now) result.queue }
-    ensures mode { result.control_mode ≡ Refuse }
+    ensures { IsHeadQueue (B.value store.now) result.queue }
 {
     let _ = store;
     Head::new(Queue::new(3, HEAD_HIGH, HEAD_LOW))
@@ -257,6 +256,143 @@ fn one_pcproto_waits_at_most(rt: HostRuntime) -> Result<(), Fail> {
     for (stands, kind, doubled, messages) in rows {
         let wanted = (NOTHING, 0, doubled, messages, false);
         answers(&rt, rt.alloc(), (stands, b"ab"), (kind, b"cde"), wanted)?;
+    }
+    Ok(())
+}
+
+// An M_PCPROTO with a control part and a data part comes up, where blocks are free.
+fn comes_with<B: Blocks>(
+    store: &mut B,
+    head: &mut Head,
+    control: &[u8],
+    body: &[u8],
+    told: &mut Fates,
+)
+    requires ready { IsHeadQueue (B.value store.old) head.old.queue }
+    requires small { length control.now ≤ 256 }
+    requires small_body { length body.now ≤ 256 }
+    ensures { IsHeadQueue (B.value store.new) head.new.queue }
+{
+    let Ok(front) = store.alloc_with(MsgKind::Pcproto, Band(0), control) else {
+        return;
+    };
+    let Ok(behind) = store.alloc_with(MsgKind::Data, Band(0), body) else {
+        store.free(front);
+        return;
+    };
+    let message = store.link(front, behind);
+    head.put(store, HERE, message, told);
+}
+
+// What is seen of a read: what is given, how many bytes are discarded and how many dropped, how many bytes the first data part
+// that is left has and how many messages are left, and whether the first is of high priority.
+type Taken<'a> = (&'a [u8], u64, u64, (usize, usize), bool);
+
+// Reads where an M_PCPROTO of "ab" and "cd" stands, an M_PROTO of "x" without a data part, and an M_DATA of "ef".
+fn reads_parts(
+    rt: &impl Abort,
+    alloc: Global,
+    modes: (ReadMode, ControlMode),
+    n: usize,
+    wanted: Taken,
+) -> Result<(), Fail>
+    requires { n ≤ 4096 }
+{
+    let mut store = TableStore::new(alloc, 10, 10)?;
+    let mut head = fresh(&store);
+    let mut fates = Fates::none();
+    comes_with(&mut store, &mut head, b"ab", b"cd", &mut fates);
+    comes(&mut store, &mut head, (MsgKind::Proto, b"x"), &mut fates);
+    comes(&mut store, &mut head, (MsgKind::Data, b"ef"), &mut fates);
+    head.set_read_mode(modes.0);
+    head.set_control_mode(modes.1);
+    let mut out = ReadBytes::new();
+    head.read(&mut store, n, &mut out, Dir::MasterToSlave, &mut fates);
+    assert_eq!(rt; out.as_slice(), wanted.0);
+    assert_eq!(rt; fates.from_master[0], wanted.0.len() as u64);
+    assert_eq!(rt; fates.from_master[13], wanted.1);
+    assert_eq!(rt; fates.from_master[14], wanted.2);
+    let left = head.nread(&store);
+    assert_eq!(rt; (left.first, left.messages), wanted.3);
+    assert_eq!(rt;
+        head.get_refusal(&store, Wanted::High, false).is_none(),
+        wanted.4
+    );
+    Ok(())
+}
+
+#[test]
+fn control_parts_are_read_by_their_mode(rt: HostRuntime) -> Result<(), Fail> {
+    let rows: [(ReadMode, ControlMode, usize, Taken); 11] = [
+        (
+            ReadMode::ByteStream,
+            ControlMode::Refuse,
+            3,
+            (b"", 0, 0, (2, 3), true),
+        ),
+        (
+            ReadMode::ByteStream,
+            ControlMode::Data,
+            1,
+            (b"a", 0, 0, (2, 3), true),
+        ),
+        (
+            ReadMode::ByteStream,
+            ControlMode::Data,
+            3,
+            (b"abc", 0, 0, (1, 3), false),
+        ),
+        (
+            ReadMode::ByteStream,
+            ControlMode::Data,
+            6,
+            (b"abcdxe", 0, 0, (1, 1), false),
+        ),
+        (
+            ReadMode::MessageKeep,
+            ControlMode::Data,
+            9,
+            (b"abcd", 0, 0, (0, 2), false),
+        ),
+        (
+            ReadMode::MessageDiscard,
+            ControlMode::Data,
+            1,
+            (b"a", 3, 0, (0, 2), false),
+        ),
+        (
+            ReadMode::ByteStream,
+            ControlMode::Discard,
+            1,
+            (b"c", 0, 2, (1, 3), false),
+        ),
+        (
+            ReadMode::ByteStream,
+            ControlMode::Discard,
+            2,
+            (b"cd", 0, 2, (0, 2), false),
+        ),
+        (
+            ReadMode::ByteStream,
+            ControlMode::Discard,
+            3,
+            (b"cde", 0, 3, (1, 1), false),
+        ),
+        (
+            ReadMode::MessageKeep,
+            ControlMode::Discard,
+            9,
+            (b"cd", 0, 2, (0, 2), false),
+        ),
+        (
+            ReadMode::MessageDiscard,
+            ControlMode::Discard,
+            1,
+            (b"c", 1, 2, (0, 2), false),
+        ),
+    ];
+    for (read, control, n, wanted) in rows {
+        reads_parts(&rt, rt.alloc(), (read, control), n, wanted)?;
     }
     Ok(())
 }

@@ -1,3 +1,4 @@
+-- The bytes of the buffer behind what stands in it are written over.
 use Rattle.std.proofs.Common.{arith}
 use Rattle.std.proofs.lemmas.Grind.{common_steps}
 use Rattle.strm_head.proofs.reading.copy_into.Goals as goal

@@ -1,10 +1,11 @@
 -- What is passed over goes where a message is taken behind, and else all stay.
 use Rattle.std.proofs.Common.{◌≡◌, ◌∙◌, true, sym, ap, subst}
 use Rattle.strm_queue.specs.Stored.{messages_on}
-use Rattle.strm_queue.proofs.Kept.{head-kept, keeps-both, flags-both}
+use Rattle.strm_queue.proofs.Kept.{head-kept, keeps-both, keeps-none, flags-both}
 use Rattle.strm_head.specs.Drawing.{drawn_on, Stepped, behind_passed, first_goes}
 use Rattle.strm_head.proofs.Draws.{stays, stepped-from}
 use Rattle.strm_head.proofs.Passed.{drawn-behind, all-stay}
+use Rattle.strm_head.proofs.Returned.{flags-none}
 use Rattle.strm_head.proofs.reading.draw_first.Goals as goal
 
 pub returns-then-not-takes_one-clause-took : goal.returns-then-not-takes_one-clause-took
@@ -12,6 +13,12 @@ returns-then-not-takes_one-clause-took g c =
     let q = messages_on (g.B.Blocks.value c.args.store.now) c.args.queue.now.list in
     stays c.args.read c.args.control c.args.begun c.args.wanted q c.args.out.now.items c.requires.some
     (all-stay c.args.read c.args.control c.args.begun c.args.wanted c.requires.some q (sym c.takes_one.ensures ∙ c.if-not-takes_one.true))
+
+pub returns-then-not-takes_one-clause-flags : goal.returns-then-not-takes_one-clause-flags
+returns-then-not-takes_one-clause-flags g c = flags-none c.args.queue.now
+
+pub returns-then-not-takes_one-clause-keeps : goal.returns-then-not-takes_one-clause-keeps
+returns-then-not-takes_one-clause-keeps g c = keeps-none (g.B.Blocks.value c.args.store.now) c.args.queue.now c.requires.ready.ready
 
 pub take_first-requires-clause-ready : goal.take_first-requires-clause-ready
 take_first-requires-clause-ready g c =

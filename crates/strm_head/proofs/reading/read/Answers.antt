@@ -5,14 +5,32 @@ use Rattle.strm_types.specs.Reads.{Drawn, head_draw, none_went}
 use Rattle.strm_types.proofs.ReadRefuses.{takes-none}
 use Rattle.strm_blocks.specs.Blocks.{list_at}
 use Rattle.strm_queue.specs.Stored.{messages_on, queue_in}
-use Rattle.strm_queue.proofs.Kept.{keeps-counted, keeps-from}
-use Rattle.strm_head.proofs.Told.{told-some, queue-some, goes-some, queue-left, counts-gone}
+use Rattle.strm_queue.proofs.Kept.{keeps-none, keeps-counted, keeps-from}
+use Rattle.strm_head.proofs.Told.{told-none, told-some, queue-none, queue-some, goes-none, goes-some, queue-left, counts-gone}
 use Rattle.strm_head.proofs.reading.read.Goals as goal
 
 pub returns-then-takes_none-clause-given : goal.returns-then-takes_none-clause-given
 returns-then-takes_none-clause-given g c =
     let q = messages_on (g.B.Blocks.value c.args.store.now) c.args.queue.now.list in
     c.requires.fresh ∙ sym (ap (λ (d : Drawn ℕ). d.given) (takes-none c.args.read c.args.control c.args.n q (sym c.takes_none.ensures ∙ c.if-takes_none.true)))
+
+pub returns-then-takes_none-clause-most_given : goal.returns-then-takes_none-clause-most_given
+returns-then-takes_none-clause-most_given g c = omega (arith, ap length c.requires.fresh)
+
+pub returns-then-takes_none-clause-queue : goal.returns-then-takes_none-clause-queue
+returns-then-takes_none-clause-queue g c =
+    sym (queue-none c.args.read c.args.control c.args.n (queue_in (g.B.Blocks.value c.args.store.now) c.args.queue.now) (sym c.takes_none.ensures ∙ c.if-takes_none.true))
+
+pub returns-then-takes_none-clause-went : goal.returns-then-takes_none-clause-went
+returns-then-takes_none-clause-went g c =
+    sym (goes-none c.args.read c.args.control c.args.n (queue_in (g.B.Blocks.value c.args.store.now) c.args.queue.now) (sym c.takes_none.ensures ∙ c.if-takes_none.true))
+
+pub returns-then-takes_none-clause-told : goal.returns-then-takes_none-clause-told
+returns-then-takes_none-clause-told g c =
+    sym (told-none c.args.direction c.args.read c.args.control c.args.n (messages_on (g.B.Blocks.value c.args.store.now) c.args.queue.now.list) c.args.fates.now (sym c.takes_none.ensures ∙ c.if-takes_none.true))
+
+pub returns-then-takes_none-clause-keeps : goal.returns-then-takes_none-clause-keeps
+returns-then-takes_none-clause-keeps g c = keeps-none (g.B.Blocks.value c.args.store.now) c.args.queue.now c.requires.ready.ready
 
 pub overflow_sub-dropped : goal.overflow_sub-dropped
 overflow_sub-dropped g c =

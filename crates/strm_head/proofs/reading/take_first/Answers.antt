@@ -8,13 +8,13 @@ use Rattle.strm_blocks.specs.Blocks.{placed, dropped, put_back, in_hand, list_at
 use Rattle.strm_msg.specs.Bytes.{bytes_of}
 use Rattle.strm_msg.specs.Messages.{message_of, AreMessages, IsChain}
 use Rattle.strm_queue.specs.Stored.{messages_on, HoldsReadable}
-use Rattle.strm_queue.proofs.Gotten.{has-list, before, behind}
+use Rattle.strm_queue.proofs.Gotten.{has-list, before, behind, freed-keeps}
 use Rattle.strm_queue.proofs.Holding.{first-chain, first-holds}
 use Rattle.strm_head.specs.Drawing.{discards, first_goes, more_behind}
 use Rattle.strm_head.specs.Parted.{shown_chain, rest_chain}
 use Rattle.strm_head.proofs.Draws.{kept, freed}
 use Rattle.strm_head.proofs.Resting.{rest-is}
-use Rattle.strm_head.proofs.Returned.{changed-once, held-is, changed-again, freed-held, put-held, held-messages, held-keeps, band-within}
+use Rattle.strm_head.proofs.Returned.{changed-once, held-is, changed-again, freed-held, put-held, held-messages, held-keeps, flags-taken, band-within}
 use Rattle.strm_head.proofs.Showing.{shows}
 use Rattle.strm_head.proofs.reading.take_first.Goals as goal
 
@@ -162,3 +162,23 @@ returns-clause-took g c = λ begun takes.
     (sym (ap (first_goes c.args.control begun) stood) ∙ takes) c.min-part.result c.step_behind.result.more c.step_behind.result.discarded over (ap (λ w. messages_on w q.list) is ∙ behind s got q.list i within p)
     (c.min-part.ensures ∙ ap (λ n. min c.args.wanted n) len_is) (c.copy_into.ensures ∙ ap (λ xs. c.args.out.now.items ++ take c.min-part.result xs) bytes_is)
     (c.step_behind.ensures.more ∙ ap (λ n. more_behind c.args.read c.args.wanted n) len_is) (c.step_behind.ensures.discarded ∙ ap (λ n. n - c.args.wanted) len_is)
+
+pub returns-clause-flags : goal.returns-clause-flags
+returns-clause-flags g c = flags-taken c.args.queue.now c.getq.new.self c.in-Some.ensures.flows c.in-Some.ensures.want_read c.in-Some.ensures.no_enable
+
+pub returns-clause-keeps : goal.returns-clause-keeps
+returns-clause-keeps g c =
+    let s = g.B.Blocks.value c.args.store.now in
+    let got = g.B.Blocks.value c.getq.new.store in
+    let t = g.B.Blocks.value c.show.new.store in
+    let i = g.B.Blocks.name c.in-Some.message in
+    let q = c.args.queue.now in
+    let p = c.in-Some.ensures.taken in
+    let within = has-list s q c.audit.ensures in
+    let t_is = changed-once s got q.list i within p (shown_chain c.args.control) t c.show.ensures in
+    let is = freed-held s got q.list i within p (shown_chain c.args.control p.message) t t_is (g.B.Blocks.value c.free.new.self) c.free.ensures in
+    freed-keeps s got (g.B.Blocks.value c.free.new.self) q c.getq.new.self i within p c.requires.ready.ready is c.in-Some.ensures.list c.in-Some.ensures.counted
+
+pub returns-then-keeps_rest-clause-flags : goal.returns-then-keeps_rest-clause-flags
+returns-then-keeps_rest-clause-flags g c =
+    flags-taken c.args.queue.now c.putbq.new.self (c.putbq.ensures.flows ∙ c.in-Some.ensures.flows) (c.putbq.ensures.others.want_read ∙ c.in-Some.ensures.want_read) (c.putbq.ensures.others.no_enable ∙ c.in-Some.ensures.no_enable)
