@@ -1,5 +1,6 @@
 -- A message that was made to go down a stream.
-use Rattle.std.specs.Prelude.{ℕ, ◌≡◌, ◌+◌}
+use Rattle.std.specs.Prelude.{ℕ, ◌≡◌, ◌+◌, List, Option, option_map}
+use Rattle.std.specs.Borrow.{Bor}
 use Rattle.strm_types.specs.declared.kinds.MsgKind.{MsgKind}
 use Rattle.strm_types.specs.declared.kinds.MsgKind.TheVariants.{Proto, Pcproto}
 use Rattle.strm_types.specs.declared.modes.Prio.{Prio}
@@ -7,6 +8,10 @@ use Rattle.strm_types.specs.declared.modes.Prio.TheVariants.{High, Band}
 use Rattle.strm_types.specs.Message.{Message}
 use Rattle.strm_blocks.specs.Blocks.{StoreValue, IsFreshName, in_hand, held, free_m, free_d}
 use Rattle.strm_msg.specs.Messages.{message_of, IsChain}
+
+-- the bytes of a part that a caller lends
+abbrev pub lent : Option (Bor (List ℕ)) → Option (List ℕ)
+lent part = option_map (λ bytes. bytes.now) part
 
 -- the kind of a message that has a control part
 abbrev pub control_kind : Prio → MsgKind

@@ -249,7 +249,7 @@ fn finds<B: Blocks>(store: &B, queue: &Queue, wanted: Wanted) -> bool
 /// is asked for: getmsg(2), getpmsg(2). It tells that bytes of the direction went to a reader, and says whether a waiting writer
 /// is let go. What is left of the message is put back, without a part of which nothing is left; one that has no control part any
 /// more is M_DATA, of band 0 where it was of high priority. Where there is nothing to take nothing changes, and both parts are
-/// absent. It takes no block, and copies each byte once.
+/// absent. It takes no block, copies each byte once, and takes a step for each block of the message.
 pub fn getmsg<B: Blocks>(
     store: &mut B,
     queue: &mut Queue,

@@ -1,5 +1,5 @@
-//! A stream head, on one queue of any store: its modes, what its readers take and by which rule it goes (read(2), streamio(7I):
-//! I_SRDOPT, I_NREAD).
+//! A stream head, on one queue of any store: its modes, what its readers take and by which rule it goes, and what a putmsg sends
+//! (read(2), getmsg(2), putmsg(2), streamio(7I): I_SRDOPT, I_NREAD).
 #![tactic(auto)]
 
 mod getting;

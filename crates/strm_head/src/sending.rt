@@ -1,18 +1,18 @@
 //! What putmsg(2) and putpmsg(2) send down a stream.
 
-ghost use Rattle.std.specs.Prelude.{◌≡◌, ◌≤◌, ◌<◌, true, false, length, nat_lt, option_map, None, MatchOption};
+ghost use Rattle.std.specs.Prelude.{◌≡◌, ◌≤◌, ◌<◌, true, false, length, nat_lt, None, MatchOption};
 ghost use Rattle.strm_types.specs.Message.{part};
 ghost use Rattle.strm_types.specs.PutMsg as puts;
 ghost use Rattle.strm_blocks.specs.Blocks.{filled_block, free_m, free_d};
 ghost use Rattle.strm_blocks.specs.Outcomes.{Copied};
-ghost use Rattle.strm_head.specs.Sending.{control_kind, Sends};
+ghost use Rattle.strm_head.specs.Sending.{control_kind, lent, Sends};
 
 use strm_blocks::Blocks;
 use strm_types::{BANDS, Band, CONTROL_MAX, DATA_MAX, MsgKind, Prio, Refusal};
 
 // Whether no message can have this priority: one of high priority has a control part, and bands are those that queues have.
 fn is_no_prio(prio: Prio, control: Option<&[u8]>) -> bool
-    ensures { result ≡ puts.is_no_prio prio (option_map (λ bytes. bytes.now) control.entry) }
+    ensures { result ≡ puts.is_no_prio prio (lent control.entry) }
 {
     match prio {
         Prio::High => control.is_none(),
@@ -22,7 +22,7 @@ fn is_no_prio(prio: Prio, control: Option<&[u8]>) -> bool
 
 // Whether a part has more bytes than so many.
 fn is_longer(bytes: Option<&[u8]>, most: usize) -> bool
-    ensures { result ≡ nat_lt most (length (part (option_map (λ xs. xs.now) bytes.entry))) }
+    ensures { result ≡ nat_lt most (length (part (lent bytes.entry))) }
 {
     match bytes {
         Some(bytes) => most < bytes.len(),
@@ -33,7 +33,7 @@ fn is_longer(bytes: Option<&[u8]>, most: usize) -> bool
 /// What a putmsg(2) or putpmsg(2) is refused for by its arguments alone: EINVAL for high priority without a control part and for
 /// a band above 7, else ERANGE for a control part of more than 64 bytes or a data part of more than 256.
 pub fn put_refusal(prio: Prio, control: Option<&[u8]>, body: Option<&[u8]>) -> Option<Refusal>
-    ensures { result ≡ puts.put_refusal prio (option_map (λ bytes. bytes.now) control.entry) (option_map (λ bytes. bytes.now) body.entry) }
+    ensures { result ≡ puts.put_refusal prio (lent control.entry) (lent body.entry) }
 {
     if is_no_prio(prio, control) {
         return Some(Refusal::Einval);
@@ -85,13 +85,13 @@ pub fn make_message<B: Blocks>(
     control: Option<&[u8]>,
     body: Option<&[u8]>,
 ) -> Option<B::Mp>
-    requires allowed { puts.put_refusal prio (option_map (λ bytes. bytes.now) control) (option_map (λ bytes. bytes.now) body) ≡ None }
-    requires room_m { puts.put_blocks (option_map (λ bytes. bytes.now) control) (option_map (λ bytes. bytes.now) body) ≤ free_m (B.value store.old) }
-    requires room_d { puts.put_blocks (option_map (λ bytes. bytes.now) control) (option_map (λ bytes. bytes.now) body) ≤ free_d (B.value store.old) }
-    ensures made { let c = option_map (λ bytes. bytes.now) control.entry in let b = option_map (λ bytes. bytes.now) body.entry in
+    requires allowed { puts.put_refusal prio (lent control) (lent body) ≡ None }
+    requires room_m { puts.put_blocks (lent control) (lent body) ≤ free_m (B.value store.old) }
+    requires room_d { puts.put_blocks (lent control) (lent body) ≤ free_d (B.value store.old) }
+    ensures made { let c = lent control.entry in let b = lent body.entry in
         MatchOption result (B.value store.new ≡ B.value store.old)
         (λ m. Sends (B.value store.old) (B.value store.new) (B.name m) (puts.put_message prio c b) (puts.put_blocks c b)) }
-    ensures none { let c = option_map (λ bytes. bytes.now) control.entry in let b = option_map (λ bytes. bytes.now) body.entry in
+    ensures none { let c = lent control.entry in let b = lent body.entry in
         MatchOption result (puts.no_parts c b ≡ true) (λ _. puts.no_parts c b ≡ false) }
 {
     let band = band_of(prio);
