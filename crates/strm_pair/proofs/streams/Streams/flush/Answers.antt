@@ -1,5 +1,5 @@
 -- The M_FLUSH is alone in hand, and nothing is when all is delivered.
-use Rattle.std.proofs.Common.{◌∷◌, refl, ap, ◌∙◌}
+use Rattle.std.proofs.Common.{rules, ◌∷◌, refl, ap, ◌∙◌}
 use Rattle.strm_blocks.specs.Blocks.{in_hand, StoreValue}
 use Rattle.strm_frame.proofs.Handing.{alone-can, none-left}
 use Rattle.strm_pair.proofs.streams.Streams.flush.Goals as goal
@@ -20,3 +20,9 @@ returns-clause-held g c =
       hand = none-left made (g.B.Blocks.value c.deliver.new.store) i (in_hand made i) (λ j. 0) (λ j. 0) hand (λ j. refl) c.deliver.ensures.hands;
       beside = c.deliver.ensures.held;
     }
+
+pub returns-clause-state : goal.returns-clause-state
+returns-clause-state g c = search rules steps 1000000
+
+pub returns-clause-told : goal.returns-clause-told
+returns-clause-told g c = search rules steps 1000000

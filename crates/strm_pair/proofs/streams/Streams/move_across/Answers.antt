@@ -1,5 +1,5 @@
 -- The message is alone in hand, and nothing is when all is delivered.
-use Rattle.std.proofs.Common.{◌∷◌, refl, ap, ◌∙◌}
+use Rattle.std.proofs.Common.{rules, ◌∷◌, refl, ap, ◌∙◌}
 use Rattle.strm_blocks.specs.Blocks.{in_hand}
 use Rattle.strm_frame.proofs.Handing.{alone-can, none-left}
 use Rattle.strm_pair.proofs.streams.Streams.move_across.Goals as goal
@@ -18,3 +18,6 @@ end_turn-requires g c =
       hand = none-left got (g.B.Blocks.value c.deliver.new.store) i (in_hand got i) (λ j. 0) (λ j. 0) (c.in-Some.ensures.hand ∙ ap (λ h. record { name = i; chain = in_hand got i } ∷ h) c.requires.held.hand) (λ j. refl) c.deliver.ensures.hands;
       beside = c.deliver.ensures.held;
     }
+
+pub returns-clause-moves : goal.returns-clause-moves
+returns-clause-moves g c = search rules steps 1000000

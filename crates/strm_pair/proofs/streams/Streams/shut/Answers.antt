@@ -1,0 +1,31 @@
+-- What goes from the queues, one after the other, and then the side is closed.
+use Rattle.std.proofs.Common.{ℕ, sym, ap, ◌∙◌, rules}
+use Rattle.strm_types.specs.declared.names.Side.TheVariants.{Master, Slave}
+use Rattle.strm_types.specs.declared.rules.Rule.TheVariants.{EndClosed}
+use Rattle.strm_types.specs.Emptied.{of_all, head_emptied, driver_emptied, ended, hung_up_at, closed_at}
+use Rattle.strm_types.specs.State.{State}
+use Rattle.strm_pair.specs.Pairs.{state_in}
+use Rattle.strm_pair.proofs.streams.Streams.shut.Goals as goal
+
+pub returns-in-Master-clause-state : goal.returns-in-Master-clause-state
+returns-in-Master-clause-state g c =
+    let s = state_in (g.B.Blocks.value c.args.store.now) c.args.self.now in
+    let head = c.clear_head.ensures.state ∙ ap (λ sd. (head_emptied EndClosed of_all sd s).state) c.in-Master.is in
+    let own = c.clear_driver.ensures.state ∙ ap (λ (x : State ℕ). (driver_emptied EndClosed of_all Master x).state) head in
+    let other = c.clear_driver-in-Master.ensures.state ∙ ap (λ (x : State ℕ). (driver_emptied EndClosed of_all Slave x).state) own in
+    c.hang_up.ensures.state (g.B.Blocks.value c.end_side.new.store)
+    ∙ ap (hung_up_at Slave) (c.end_side.ensures.state ∙ ap (ended Master) other)
+    ∙ ap (λ sd. (closed_at sd s).state) (sym c.in-Master.is)
+
+pub returns-in-Slave-clause-state : goal.returns-in-Slave-clause-state
+returns-in-Slave-clause-state g c =
+    let s = state_in (g.B.Blocks.value c.args.store.now) c.args.self.now in
+    c.end_side-in-Slave.ensures.state
+    ∙ ap (ended Slave) (c.clear_head.ensures.state ∙ ap (λ sd. (head_emptied EndClosed of_all sd s).state) c.in-Slave.is)
+    ∙ ap (λ sd. (closed_at sd s).state) (sym c.in-Slave.is)
+
+pub returns-in-Master-clause-told : goal.returns-in-Master-clause-told
+returns-in-Master-clause-told g c = search rules steps 300000
+
+pub returns-in-Slave-clause-told : goal.returns-in-Slave-clause-told
+returns-in-Slave-clause-told g c = search rules steps 300000
