@@ -83,7 +83,7 @@ pub enum Event<T> {
 
 // The bytes of a part, none where it is absent.
 fn part_bytes<'a>(lent: Option<&'a [u8]>) -> &'a [u8]
-    ensures { result.now ≡ part (option_map (λ bytes. bytes.now) lent) }
+    ensures { result.now ≡ part (option_map (λ bytes. bytes.now) lent.entry) }
 {
     match lent {
         Some(bytes) => bytes,
