@@ -1,5 +1,9 @@
 //! What calls and turns answer.
 
+ghost use Rattle.std.specs.Prelude.{◌≡◌, ◌≤◌, length, option_map};
+ghost use Rattle.strm_types.specs.Calls.{map_answer};
+ghost use Rattle.strm_types.specs.Journal.{answer_len, part_in, part_len, reply_in};
+
 use crate::limits::{CONTENT_MAX, READ_MAX};
 use crate::modes::Prio;
 use crate::names::ModuleName;
@@ -37,6 +41,46 @@ pub enum Answer<T> {
         first: usize,
         messages: usize,
     },
+}
+
+// A part over its bytes, which stand in front of others.
+fn part_over<'a>(stored: Option<usize>, bytes: &'a [u8]) -> Option<&'a [u8]>
+    requires { part_len stored ≤ length bytes.now }
+    ensures { option_map (λ lent. lent.now) result ≡ part_in stored bytes.now }
+{
+    match stored {
+        Some(len) => Some(&bytes[..len]),
+        None => None,
+    }
+}
+
+impl Answer<usize> {
+    /// The answer over its bytes, which stand in front of others, those of a control part first.
+    pub fn over<'a>(&self, bytes: &'a [u8]) -> Answer<&'a [u8]>
+        requires { answer_len self.now ≤ length bytes.now }
+        ensures { map_answer (λ lent. lent.now) result ≡ reply_in self.now bytes.now }
+    {
+        match *self {
+            Answer::Done => Answer::Done,
+            Answer::Name(name) => Answer::Name(name),
+            Answer::Count(n) => Answer::Count(n),
+            Answer::Bytes(len) => Answer::Bytes(&bytes[..len]),
+            Answer::Msg {
+                prio,
+                control,
+                body,
+                more_control,
+                more_data,
+            } => Answer::Msg {
+                prio,
+                control: part_over(control, bytes),
+                body: part_over(body, &bytes[control.unwrap_or(0)..]),
+                more_control,
+                more_data,
+            },
+            Answer::Sizes { first, messages } => Answer::Sizes { first, messages },
+        }
+    }
 }
 
 /// What a turn of a queue's service procedure answers.
