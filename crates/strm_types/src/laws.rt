@@ -82,9 +82,9 @@ pub fn forgetting_commutes<C, D>()
         take_first (map_messages f q) ≡ Some (map_message f m, map_messages f rest) }
 {}
 
-/// Whatever stands for bytes, a call (open(2), unlockpt(3C), write(2), read(2)) and a turn of a service procedure
-/// (STREAMS Programming Guide, "Service Procedures") answer and do the same as on plain bytes, and let the same bytes go by
-/// the same rules on the way; and so do all entries of a journal.
+/// Whatever stands for bytes, a call (open(2), unlockpt(3C), write(2), read(2), putmsg(2), getmsg(2)) and a turn of a service
+/// procedure (STREAMS Programming Guide, "Service Procedures") answer and do the same as on plain bytes, and let the same
+/// bytes go by the same rules on the way; and so do all entries of a journal.
 pub fn steps_forget_origins<C>()
     ensures call { (cells : Cells C) (caller : Caller) (asked : Request) (s : State C) → AreCells cells →
         called plain caller asked (map_state cells.byte s) ≡ map_outcome cells.byte (called cells caller asked s) }
@@ -95,8 +95,8 @@ pub fn steps_forget_origins<C>()
 {}
 
 /// Nothing is lost or made: whatever test on bytes is chosen, as 'is this very byte', what stands on a pair's queues
-/// behind a call or a turn, and what has gone by a rule, as what a read(2) gave, is what stood there before, and what
-/// a write(2) took. A head that is opened is as new, so this wants that a side that isn't open has nothing for its
+/// behind a call or a turn, and what has gone by a rule, as what a read(2) or getmsg(2) gave, is what stood there before,
+/// and what a write(2) took or a putmsg(2) sent. A head that is opened is as new, so this wants that a side that isn't open has nothing for its
 /// readers, as it is in a new pair and behind each step. On a queue a put adds what the message has, and a take takes
 /// it away.
 pub fn bytes_are_kept<C>()
