@@ -1,23 +1,25 @@
 //! What follows from the definitions of `specs/`, in the words of the manual pages. Each law is the contract of a function
 //! that does nothing. A law over all kinds of cells holds of bytes and of bytes with their origin alike.
 
-ghost use Rattle.std.specs.Prelude.{◌≡◌, ℕ, ◌+◌, ◌≤◌, ◌<◌, ◌==◌, List, [], ◌∷◌, ◌++◌, Some, if◌then◌else◌, count_by, Bool};
+ghost use Rattle.std.specs.Prelude.{◌≡◌, ℕ, ◌+◌, ◌≤◌, ◌<◌, ◌==◌, List, [], ◌∷◌, ◌++◌, length, Some, if◌then◌else◌, count_by, Bool};
 ghost use Rattle.std.specs.List.{AllByRecursion};
 ghost use Rattle.strm_types.specs.Message.{Message, rank_of, weight_of, map_message};
 ghost use Rattle.strm_types.specs.Queue.{lane, lanes_down, IsOrdered, put, put_back, put_all, take_first, count_of, bytes_of, weight, map_messages};
+ghost use Rattle.strm_types.specs.declared.answers.Answer.{Answer};
 ghost use Rattle.strm_types.specs.declared.answers.Turn.{Turn};
+ghost use Rattle.strm_types.specs.declared.entries.Entry.TheVariants.{Called};
 ghost use Rattle.strm_types.specs.declared.events.Caller.{Caller};
 ghost use Rattle.strm_types.specs.declared.names.QueueName.{QueueName};
 ghost use Rattle.strm_types.specs.State.{State, map_state, opening};
 ghost use Rattle.strm_types.specs.Kept.{NothingUnread, state_weight, came, gone};
 ghost use Rattle.strm_types.specs.Cells.{Cells, AreCells, plain};
-ghost use Rattle.strm_types.specs.Calls.{Request, called, map_outcome};
+ghost use Rattle.strm_types.specs.Calls.{Request, Reply, called, map_outcome, map_event, map_answer, payload_of, content_of};
 ghost use Rattle.strm_types.specs.Turns.{turned, map_turn_outcome};
 ghost use Rattle.strm_types.specs.declared.spots.Spot.{Spot};
 ghost use Rattle.strm_types.specs.Deliver.{Parcel, Took, Falls, carried};
 ghost use Rattle.strm_types.specs.Places.{PutKeeps, CarryKeeps, weight_gone};
 ghost use Rattle.strm_types.specs.Origins.{PutsAgree, CarriesAgree};
-ghost use Rattle.strm_types.specs.Journal.{PlainEntry};
+ghost use Rattle.strm_types.specs.Journal.{PlainEntry, event_len, answer_len, request_in, reply_in, entry_in};
 ghost use Rattle.strm_types.specs.Step.{Step, replay};
 
 /// putq(9F): in an ordered queue the lane of the message's rank has it at its end, no other lane changes, and the queue
@@ -64,6 +66,18 @@ pub fn count_is_that_of_its_lanes<C>()
         count_of 0 q ≡ bytes_of (lane 256 q) + bytes_of (lane 0 q) }
     ensures others { (band : ℕ) (q : List (Message C)) → AllByRecursion (λ m. m.band < 256) q → 0 < band → band < 256 →
         count_of band q ≡ bytes_of (lane band q) }
+{}
+
+/// Of a call and its answer a journal stores the shape, and their bytes beside it. Both read back from where the bytes stand,
+/// those of the call first, whatever stands behind; and the shapes tell how many bytes there are.
+pub fn entries_read_back()
+    ensures call { (asked : Request) (more : List ℕ) → request_in (map_event (λ bytes. length bytes) asked) (payload_of asked ++ more) ≡ asked }
+    ensures call_size { (asked : Request) → event_len (map_event (λ bytes. length bytes) asked) ≡ length (payload_of asked) }
+    ensures answer { (reply : Reply) (more : List ℕ) → reply_in (map_answer (λ bytes. length bytes) reply) (content_of reply ++ more) ≡ reply }
+    ensures answer_size { (reply : Reply) → answer_len (map_answer (λ bytes. length bytes) reply) ≡ length (content_of reply) }
+    ensures entry { (caller : Caller) (asked : Request) (told : Answer ℕ) (content : List ℕ) →
+        entry_in (Called caller (map_event (λ bytes. length bytes) asked) told) (payload_of asked ++ content)
+        ≡ Called caller asked (reply_in told content) }
 {}
 
 /// A longer journal goes on from where the shorter one leads.
