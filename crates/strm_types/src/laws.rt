@@ -9,6 +9,7 @@ ghost use Rattle.strm_types.specs.declared.answers.Answer.{Answer};
 ghost use Rattle.strm_types.specs.declared.answers.Turn.{Turn};
 ghost use Rattle.strm_types.specs.declared.entries.Entry.TheVariants.{Called};
 ghost use Rattle.strm_types.specs.declared.events.Caller.{Caller};
+ghost use Rattle.strm_types.specs.declared.limits.TheConstants.{CONTENT_MAX};
 ghost use Rattle.strm_types.specs.declared.names.QueueName.{QueueName};
 ghost use Rattle.strm_types.specs.State.{State, map_state, opening};
 ghost use Rattle.strm_types.specs.Kept.{NothingUnread, state_weight, came, gone};
@@ -19,7 +20,7 @@ ghost use Rattle.strm_types.specs.declared.spots.Spot.{Spot};
 ghost use Rattle.strm_types.specs.Deliver.{Parcel, Took, Falls, carried};
 ghost use Rattle.strm_types.specs.Places.{PutKeeps, CarryKeeps, weight_gone};
 ghost use Rattle.strm_types.specs.Origins.{PutsAgree, CarriesAgree};
-ghost use Rattle.strm_types.specs.Journal.{PlainEntry, event_len, answer_len, request_in, reply_in, entry_in};
+ghost use Rattle.strm_types.specs.Journal.{PlainEntry, content_max, event_len, answer_len, request_in, reply_in, entry_in};
 ghost use Rattle.strm_types.specs.Step.{Step, replay};
 
 /// putq(9F): in an ordered queue the lane of the message's rank has it at its end, no other lane changes, and the queue
@@ -78,6 +79,13 @@ pub fn entries_read_back()
     ensures entry { (caller : Caller) (asked : Request) (told : Answer ℕ) (content : List ℕ) →
         entry_in (Called caller (map_event (λ bytes. length bytes) asked) told) (payload_of asked ++ content)
         ≡ Called caller asked (reply_in told content) }
+{}
+
+/// No answer has more bytes than the journal is asked to have room for, nor more than one buffer of answers takes.
+pub fn answers_fit<C>()
+    ensures content { (cells : Cells C) (caller : Caller) (asked : Request) (s : State C) →
+        length (content_of (called cells caller asked s).answer) ≤ content_max asked }
+    ensures buffer { (asked : Request) → content_max asked ≤ CONTENT_MAX }
 {}
 
 /// A longer journal goes on from where the shorter one leads.
