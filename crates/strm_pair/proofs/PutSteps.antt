@@ -64,13 +64,16 @@ not-turned here m h is = at (has_parts m)
   where
     asked : Bool → List (Parcel ℕ) → List (Parcel ℕ)
     asked b ps = cond b ps []
+
     round : (flush write : Bool) (ps : List (Parcel ℕ)) → (flush && write) ≡ false → flush ≡ true → asked write ps ≡ []
     round true false ps none some = refl
     round true true ps none some = absurd (cc)
     round false write ps none some = absurd (cc)
+
     obeys : (flush : Bool) → is_flush m.kind ≡ flush → (cond flush (flush_up here (asked_by m.plain) h) (passed_by (record h { hung_up = h.hung_up || is_hangup m.kind }))).sent ≡ []
     obeys false known = refl
     obeys true known = round (is_flush m.kind) (asked_by m.plain).for_write _ is known
+
     at : (parts : Bool) → (cond parts (waits_for_readers here m h) (obeyed here m h)).sent ≡ []
     at true = sent-nothing (Head ℕ) (is_doubled m h.queue.messages) _ _ refl refl
     at false = obeys (is_flush m.kind) refl
@@ -152,7 +155,7 @@ module _ (side : Side) (s t : StoreValue) (p : Streams) (h : heads.Head) (i : �
   came-by q is store can beside opened state notes sent told changes readable frees q_is =
       let st = state_in s p in
       let here : put_at_head to.side to m st ≡ at_head side st Did =
-          open-is to.side to m st opened ∙ ap (λ sd. at_head sd st (head_put to m (stream sd st).head)) is ∙ ap (λ x. at_head side st (head_put to m x)) (head-is s p side) in
+      open-is to.side to m st opened ∙ ap (λ sd. at_head sd st (head_put to m (stream sd st).head)) is ∙ ap (λ x. at_head side st (head_put to m x)) (head-is s p side) in
       let there : q ≡ behind = q_is ∙ ap (λ sd. record (with_end side (record (end_at side p) { head = h }) p) { enabled = enable_some lets_go (before (head_of sd)) p.enabled }) is in
       subst (λ w. CameBy s t p q i (sent_down to down) f f' w) (sym here)
       (subst (λ x. CameBy s t p x i (sent_down to down) f f' (at_head side st Did)) (sym there) (came-at store can beside state notes sent told changes readable frees))
@@ -188,9 +191,9 @@ module _ {M : Type 0} (name : M → ℕ) where
       let names = noted to.side places.Driver acts.notes.items p.enabled in
       let low = cost-low to.way m.kind in
       let here : at_driver side st did ≡ put_at_driver to.side to m st =
-          ap (λ x. at_driver side st (driver_put to.side x (record to { at = 1 }) m (queue_in s (end_at side p).driver))) across_is
-          ∙ ap (λ x. at_driver side st (driver_put to.side (across_of to.side st) (record to { at = 1 }) m x)) (sym (driver-is s p side))
-          ∙ ap (λ sd. at_driver sd st (driver_put to.side (across_of to.side st) (record to { at = 1 }) m (stream sd st).driver.queue)) (sym is) in
+      ap (λ x. at_driver side st (driver_put to.side x (record to { at = 1 }) m (queue_in s (end_at side p).driver))) across_is
+      ∙ ap (λ x. at_driver side st (driver_put to.side (across_of to.side st) (record to { at = 1 }) m x)) (sym (driver-is s p side))
+      ∙ ap (λ sd. at_driver sd st (driver_put to.side (across_of to.side st) (record to { at = 1 }) m (stream sd st).driver.queue)) (sym is) in
       subst (λ w. PutBy name s t p q i (below_takes to.way true) (sent_of acts.sent) f f' w) here
       (record {
         state = ap (λ x. state_in t x) q_is

@@ -51,10 +51,10 @@ module _ (side : Side) (s : StoreValue) (p : Streams) (most n : ℕ) (most_is : 
     pub read-state : queue_in t h.queue ≡ read_queue here.read_mode here.control_mode most here.queue → lets_go ≡ read_lets_go here.read_mode here.control_mode most here.queue → state_in t behind ≡ (read_plain side n (state_in s p)).state
     read-state queue went =
         ap (λ (x : State ℕ). record x { enabled = enable_some lets_go (before (head_of side)) p.enabled })
-            (head-state s t p beside side h (only-kept s t (end_at side p).head.queue h.queue keeps)
-            ∙ ap (λ x. with_stream side (record (stream side (state_in s p)) { head = x }) (state_in s p)) (ap (head_in t) modes ∙ ap (λ q. record here { queue = q }) queue))
+        (head-state s t p beside side h (only-kept s t (end_at side p).head.queue h.queue keeps)
+        ∙ ap (λ x. with_stream side (record (stream side (state_in s p)) { head = x }) (state_in s p)) (ap (head_in t) modes ∙ ap (λ q. record here { queue = q }) queue))
         ∙ ap (λ b. record (with_stream side (record (stream side (state_in s p)) { head = record here { queue = read_queue here.read_mode here.control_mode most here.queue } }) (state_in s p)) {
-            enabled = enable_some b (before (head_of side)) p.enabled;
-          }) went
+          enabled = enable_some b (before (head_of side)) p.enabled;
+        }) went
         ∙ ap (λ m. led here m) most_is
         ∙ ap (λ x. led x (min n READ_MAX)) (sym (head-is s p side))

@@ -70,11 +70,11 @@ ended-state s p side size q room more beside only queue room_is more_is names na
     let same = driver-is s p side in
     ap (λ (x : State ℕ). record x { enabled = names }) (driver-state s s p beside side q only ∙ ap (λ x. with_driver side x st) queue)
     ∙ ap (λ ns. record (with_driver side (settled size d) st) { enabled = ns })
-        (named ∙ ap (λ r. enable_if more (driver_of side) r) (found room (before (driver_of side)) p.enabled) ∙ ap (λ m. enable_if m (driver_of side) (enable_some room (before (driver_of side)) p.enabled)) more_is
-        ∙ ap (λ r. enable_if (not (is_none_left d.messages)) (driver_of side) (enable_some r (before (driver_of side)) p.enabled)) room_is)
+    (named ∙ ap (λ r. enable_if more (driver_of side) r) (found room (before (driver_of side)) p.enabled) ∙ ap (λ m. enable_if m (driver_of side) (enable_some room (before (driver_of side)) p.enabled)) more_is
+    ∙ ap (λ r. enable_if (not (is_none_left d.messages)) (driver_of side) (enable_some r (before (driver_of side)) p.enabled)) room_is)
     ∙ ap (λ (x : plain.Queue ℕ). record (with_driver side (settled size x) st) {
-        enabled = enable_if (not (is_none_left x.messages)) (driver_of side) (enable_some (settling_relieves size x) (before (driver_of side)) p.enabled);
-      }) (sym same)
+      enabled = enable_if (not (is_none_left x.messages)) (driver_of side) (enable_some (settling_relieves size x) (before (driver_of side)) p.enabled);
+    }) (sym same)
   where
     found : (b : Bool) (n : Option QueueName) (ns : List QueueName) → cond b (enable_found n ns) ns ≡ enable_some b n ns
     found true n ns = refl

@@ -111,7 +111,13 @@ impl Streams {
     }
 
     // A message that comes to the head of a side that isn't open, where nobody reads: its bytes go.
-    fn lose<B: Blocks>(&self, store: &mut B, to: Spot, message: B::Mp, told: &mut Fates) -> Outbox<B::Mp>
+    fn lose<B: Blocks>(
+        &self,
+        store: &mut B,
+        to: Spot,
+        message: B::Mp,
+        told: &mut Fates,
+    ) -> Outbox<B::Mp>
         requires beside { AreBeside (B.value store.old) self.now }
         requires can_put { CanPut (B.value store.old) (B.name message) (λ _. 0) }
         requires chain { IsChain (in_hand (B.value store.old) (B.name message)) }
@@ -128,7 +134,13 @@ impl Streams {
     }
 
     // A message that comes to the head of an open side. What is to go down again comes back.
-    fn come<B: Blocks>(&mut self, store: &mut B, to: Spot, message: B::Mp, told: &mut Fates) -> Option<FlushAsked>
+    fn come<B: Blocks>(
+        &mut self,
+        store: &mut B,
+        to: Spot,
+        message: B::Mp,
+        told: &mut Fates,
+    ) -> Option<FlushAsked>
         requires beside { AreBeside (B.value store.old) self.old }
         requires can_put { CanPut (B.value store.old) (B.name message) (λ _. 0) }
         requires chain { IsChain (in_hand (B.value store.old) (B.name message)) }
@@ -147,7 +159,13 @@ impl Streams {
     }
 
     // A message that comes to the head of a side.
-    fn put_head<B: Blocks>(&mut self, store: &mut B, to: Spot, message: B::Mp, told: &mut Fates) -> Outbox<B::Mp>
+    fn put_head<B: Blocks>(
+        &mut self,
+        store: &mut B,
+        to: Spot,
+        message: B::Mp,
+        told: &mut Fates,
+    ) -> Outbox<B::Mp>
         requires beside { AreBeside (B.value store.old) self.old }
         requires can_put { CanPut (B.value store.old) (B.name message) (λ _. 0) }
         requires chain { IsChain (in_hand (B.value store.old) (B.name message)) }
@@ -165,7 +183,13 @@ impl Streams {
     }
 
     // A message that comes to the driver of a side.
-    fn put_driver<B: Blocks>(&mut self, store: &mut B, to: Spot, message: B::Mp, told: &mut Fates) -> Outbox<B::Mp>
+    fn put_driver<B: Blocks>(
+        &mut self,
+        store: &mut B,
+        to: Spot,
+        message: B::Mp,
+        told: &mut Fates,
+    ) -> Outbox<B::Mp>
         requires beside { AreBeside (B.value store.old) self.old }
         requires can_put { CanPut (B.value store.old) (B.name message) (λ _. 0) }
         requires chain { IsChain (in_hand (B.value store.old) (B.name message)) }
@@ -201,7 +225,13 @@ impl Streams {
     }
 
     // A message on its way up, behind the head: the driver's place takes what was sent across.
-    fn put_up<B: Blocks>(&mut self, store: &mut B, to: Spot, message: B::Mp, told: &mut Fates) -> Outbox<B::Mp>
+    fn put_up<B: Blocks>(
+        &mut self,
+        store: &mut B,
+        to: Spot,
+        message: B::Mp,
+        told: &mut Fates,
+    ) -> Outbox<B::Mp>
         requires beside { AreBeside (B.value store.old) self.old }
         requires can_put { CanPut (B.value store.old) (B.name message) (λ _. 0) }
         requires chain { IsChain (in_hand (B.value store.old) (B.name message)) }
@@ -219,7 +249,13 @@ impl Streams {
     }
 
     // A message that is put at a spot.
-    fn put<B: Blocks>(&mut self, store: &mut B, to: Spot, message: B::Mp, told: &mut Fates) -> Outbox<B::Mp>
+    fn put<B: Blocks>(
+        &mut self,
+        store: &mut B,
+        to: Spot,
+        message: B::Mp,
+        told: &mut Fates,
+    ) -> Outbox<B::Mp>
         requires beside { AreBeside (B.value store.old) self.old }
         requires can_put { CanPut (B.value store.old) (B.name message) (λ _. 0) }
         requires chain { IsChain (in_hand (B.value store.old) (B.name message)) }
@@ -258,7 +294,13 @@ impl<B: Blocks> Stations<B> for Streams {
 
     ghost cost = { cost };
 
-    fn put_at(&mut self, store: &mut B, to: Spot, message: B::Mp, told: &mut Fates) -> Outbox<B::Mp> {
+    fn put_at(
+        &mut self,
+        store: &mut B,
+        to: Spot,
+        message: B::Mp,
+        told: &mut Fates,
+    ) -> Outbox<B::Mp> {
         self.put(store, to, message, told)
     }
 

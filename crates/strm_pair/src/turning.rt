@@ -122,7 +122,12 @@ impl Streams {
 
     /// A turn of a side's driver, which is off the list of enabled queues: its first message goes up the other side's stream,
     /// unless that isn't open or its head is full.
-    pub(crate) fn turn_driver<B: Blocks>(&mut self, store: &mut B, side: Side, told: &mut Fates) -> Turn
+    pub(crate) fn turn_driver<B: Blocks>(
+        &mut self,
+        store: &mut B,
+        side: Side,
+        told: &mut Fates,
+    ) -> Turn
         requires held { AreHeld (B.value store.old) self.old }
         requires room { HasRoom (B.value store.old) 4 }
         ensures turn { result ≡ (driver_turned side (state_in (B.value store.old) self.old)).turn }

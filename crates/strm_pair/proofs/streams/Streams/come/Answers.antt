@@ -24,7 +24,7 @@ returns g c =
     let to = c.args.to in
     let m = message_in s i in
     let q_is = c.let_go.ensures
-        ∙ ap (λ (n : QueueName). record c.match-to.self { enabled = enable_some c.match-to.came.lets_go (before n) c.match-to.self.enabled }) c.head.ensures in
+    ∙ ap (λ (n : QueueName). record c.match-to.self { enabled = enable_some c.match-to.came.lets_go (before n) c.match-to.self.enabled }) c.head.ensures in
     elim c.match-to.branch [
       | in-Master w ↦
           (let e = w.put-came.ensures in

@@ -50,15 +50,15 @@ returns-clause-state g c =
           (let e = w.read-goes.ensures in
           let t = g.B.Blocks.value w.read-goes.new.store in
           let q_is = name ∙ ap (λ sd. record c.match-side.self { enabled = enable_some c.match-side.goes (before (head_of sd)) c.match-side.self.enabled }) w.in-Master.is
-              ∙ ap (λ x. record c.match-side.self { enabled = enable_some x (before (head_of Master)) c.match-side.self.enabled }) w.goes-is
-              ∙ ap (λ (x : Streams). record x { enabled = enable_some w.read-goes.result (before (head_of Master)) x.enabled }) w.self-is in
+          ∙ ap (λ x. record c.match-side.self { enabled = enable_some x (before (head_of Master)) c.match-side.self.enabled }) w.goes-is
+          ∙ ap (λ (x : Streams). record x { enabled = enable_some w.read-goes.result (before (head_of Master)) x.enabled }) w.self-is in
           rw (w.store-is, q_is) (read-state Master s p most c.args.n c.min-wanted.ensures t w.read-goes.new.self w.read-goes.result b e.keeps e.modes e.queue e.went ∙ ap (λ sd. (read_plain sd c.args.n (state_in s p)).state) (sym w.in-Master.is)))
       | in-Slave w ↦
           (let e = w.read-goes-in-Slave.ensures in
           let t = g.B.Blocks.value w.read-goes-in-Slave.new.store in
           let q_is = name ∙ ap (λ sd. record c.match-side.self { enabled = enable_some c.match-side.goes (before (head_of sd)) c.match-side.self.enabled }) w.in-Slave.is
-              ∙ ap (λ x. record c.match-side.self { enabled = enable_some x (before (head_of Slave)) c.match-side.self.enabled }) w.goes-is
-              ∙ ap (λ (x : Streams). record x { enabled = enable_some w.read-goes-in-Slave.result (before (head_of Slave)) x.enabled }) w.self-is in
+          ∙ ap (λ x. record c.match-side.self { enabled = enable_some x (before (head_of Slave)) c.match-side.self.enabled }) w.goes-is
+          ∙ ap (λ (x : Streams). record x { enabled = enable_some w.read-goes-in-Slave.result (before (head_of Slave)) x.enabled }) w.self-is in
           rw (w.store-is, q_is) (read-state Slave s p most c.args.n c.min-wanted.ensures t w.read-goes-in-Slave.new.self w.read-goes-in-Slave.result b e.keeps e.modes e.queue e.went ∙ ap (λ sd. (read_plain sd c.args.n (state_in s p)).state) (sym w.in-Slave.is)))
     ]
 
