@@ -17,12 +17,11 @@ ghost use Rattle.strm_head.specs.Getting.{cut_by, rest_left, put_rest, prio_at, 
 
 use crate::reading::grow;
 use crate::standing::get_refusal;
-use arrayvec::ArrayVec;
 use strm_blocks::Blocks;
 use strm_msg::{control_len, data_len, set_kinds, take_control, take_data};
 use strm_queue::Queue;
 use strm_queue::standing::relieve;
-use strm_types::{BANDS, Band, Dir, Fates, MsgKind, Prio, Rule, Wanted};
+use strm_types::{BANDS, Band, Content, Dir, Fates, MsgKind, Prio, Rule, Wanted};
 
 /// What a getmsg(2) gave of the first message.
 #[derive(Clone, Copy, Debug, PartialEq, Eq)]
@@ -76,12 +75,7 @@ fn piece_of(len: Option<usize>, most: usize) -> Piece
 }
 
 // Takes the first so many bytes off a message's control part into an empty buffer.
-fn take_control_into<B: Blocks>(
-    store: &mut B,
-    message: &B::Mp,
-    count: usize,
-    out: &mut ArrayVec<u8, 4096>,
-)
+fn take_control_into<B: Blocks>(store: &mut B, message: &B::Mp, count: usize, out: &mut Content)
     requires in_hand { IsInHand (B.value store.old) (B.name message.now) }
     requires chain { IsChain (in_hand (B.value store.old) (B.name message.now)) }
     requires has { count ≤ length (control_bytes (in_hand (B.value store.old) (B.name message.now))) }
@@ -96,12 +90,7 @@ fn take_control_into<B: Blocks>(
 }
 
 // Takes the first so many bytes off a message's data part into an empty buffer.
-fn take_data_into<B: Blocks>(
-    store: &mut B,
-    message: &B::Mp,
-    count: usize,
-    out: &mut ArrayVec<u8, 4096>,
-)
+fn take_data_into<B: Blocks>(store: &mut B, message: &B::Mp, count: usize, out: &mut Content)
     requires in_hand { IsInHand (B.value store.old) (B.name message.now) }
     requires has { count ≤ length (data_bytes (in_hand (B.value store.old) (B.name message.now))) }
     requires room { count ≤ 4096 }
@@ -120,8 +109,8 @@ fn take_parts<B: Blocks>(
     message: &B::Mp,
     count: usize,
     data_count: usize,
-    control: &mut ArrayVec<u8, 4096>,
-    body: &mut ArrayVec<u8, 4096>,
+    control: &mut Content,
+    body: &mut Content,
 )
     requires in_hand { IsInHand (B.value store.old) (B.name message.now) }
     requires chain { IsChain (in_hand (B.value store.old) (B.name message.now)) }
@@ -196,8 +185,8 @@ fn take_first<B: Blocks>(
     queue: &mut Queue,
     cmax: usize,
     dmax: usize,
-    control: &mut ArrayVec<u8, 4096>,
-    body: &mut ArrayVec<u8, 4096>,
+    control: &mut Content,
+    body: &mut Content,
 ) -> Gotten
     requires ready { IsHeadQueue (B.value store.old) queue.old }
     requires control_most { cmax ≤ 4096 }
@@ -256,8 +245,8 @@ pub fn getmsg<B: Blocks>(
     wanted: Wanted,
     cmax: usize,
     dmax: usize,
-    control: &mut ArrayVec<u8, 4096>,
-    body: &mut ArrayVec<u8, 4096>,
+    control: &mut Content,
+    body: &mut Content,
     direction: Dir,
     fates: &mut Fates,
 ) -> Gotten

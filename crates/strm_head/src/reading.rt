@@ -11,12 +11,11 @@ ghost use Rattle.strm_head.specs.Drawing.{drawn_on, Stepped, discards, more_behi
 
 use crate::parts::{leave_rest, show};
 use crate::standing::{first_passed, takes_none, takes_one};
-use arrayvec::ArrayVec;
 use strm_blocks::Blocks;
 use strm_msg::{first_bytes, message_size};
 use strm_queue::Queue;
 use strm_queue::standing::{relieve, total};
-use strm_types::{ControlMode, Dir, Fates, ReadMode, Rule};
+use strm_types::{Content, ControlMode, Dir, Fates, ReadMode, Rule};
 
 /// One step of a read: how many bytes are wanted still, and how many were discarded.
 #[derive(Clone, Copy)]
@@ -32,8 +31,8 @@ const LAST: Step = Step {
 };
 
 // Adds so many bytes to what a read gives, which are to be written over.
-pub(crate) fn grow(out: &mut ArrayVec<u8, 4096>, count: usize)
-    requires { length out.old.items + count ≤ 4096 }
+pub(crate) fn grow(out: &mut Content, count: usize)
+    requires { length out.old.items + count ≤ 8192 }
     ensures front { take (length out.old.items) out.new.items ≡ out.old.items }
     ensures long { length out.new.items ≡ length out.old.items + count }
 {
@@ -44,7 +43,7 @@ pub(crate) fn grow(out: &mut ArrayVec<u8, 4096>, count: usize)
 }
 
 // Adds the first so many bytes of a message, which keeps them, to what a read gives.
-fn copy_into<B: Blocks>(store: &B, message: &B::Mp, count: usize, out: &mut ArrayVec<u8, 4096>)
+fn copy_into<B: Blocks>(store: &B, message: &B::Mp, count: usize, out: &mut Content)
     requires in_hand { IsInHand (B.value store.now) (B.name message.now) }
     requires has { count ≤ length (bytes_of (in_hand (B.value store.now) (B.name message.now))) }
     requires room { length out.old.items + count ≤ 4096 }
@@ -135,7 +134,7 @@ fn take_first<B: Blocks>(
     read: ReadMode,
     control: ControlMode,
     wanted: usize,
-    out: &mut ArrayVec<u8, 4096>,
+    out: &mut Content,
 ) -> Step
     requires ready { IsHeadQueue (B.value store.old) queue.old }
     requires some { 0 < wanted }
@@ -172,7 +171,7 @@ fn draw_first<B: Blocks>(
     control: ControlMode,
     begun: bool,
     wanted: usize,
-    out: &mut ArrayVec<u8, 4096>,
+    out: &mut Content,
 ) -> Step
     requires ready { IsHeadQueue (B.value store.old) queue.old }
     requires some { 0 < wanted }
@@ -197,7 +196,7 @@ fn gather<B: Blocks>(
     read: ReadMode,
     control: ControlMode,
     wanted: usize,
-    out: &mut ArrayVec<u8, 4096>,
+    out: &mut Content,
 ) -> usize
     requires ready { IsHeadQueue (B.value store.old) queue.old }
     requires room { length out.old.items + wanted ≤ 4096 }
@@ -249,7 +248,7 @@ pub fn read<B: Blocks>(
     read: ReadMode,
     control: ControlMode,
     n: usize,
-    out: &mut ArrayVec<u8, 4096>,
+    out: &mut Content,
     direction: Dir,
     fates: &mut Fates,
 ) -> bool

@@ -3,12 +3,12 @@
 ghost use Rattle.std.specs.Prelude.{◌≡◌, ◌+◌, ◌-◌, ◌^◌, ◌&&◌, min, length, not, true, List};
 ghost use Rattle.strm_types.specs.Queue.{relieved, relieves};
 ghost use Rattle.strm_types.specs.Reads.{finds_none, starts_refused, takes_none};
-ghost use Rattle.strm_types.specs.Gets.{get_refusal};
+ghost use Rattle.strm_types.specs.Gets.{get_refusal, first_data};
 ghost use Rattle.strm_blocks.specs.Blocks.{Block, StoreValue};
 ghost use Rattle.strm_queue.specs.Kept.{AreCounted};
 ghost use Rattle.strm_queue.specs.Queues.{OnlyCounts};
 ghost use Rattle.strm_queue.specs.Stored.{queue_in, messages_on, IsReady, IsHeadQueue};
-ghost use Rattle.strm_head.specs.Seen.{peek_passed, peek_refused, peek_empty, peek_goes, peek_wanted, gets_on, first_data};
+ghost use Rattle.strm_head.specs.Seen.{peek_passed, peek_refused, peek_empty, peek_goes, peek_wanted, gets_on};
 ghost use Rattle.strm_head.specs.Drawing.{behind_passed, first_passed, first_goes};
 
 use strm_blocks::{Blocks, Peek, Visitor};

@@ -14,7 +14,7 @@ use strm_blocks::{Blocks, TableStore};
 use strm_msg::from_bytes;
 use strm_queue::{HEAD_HIGH, HEAD_LOW, Queue};
 use strm_types::{
-    Band, ControlMode, Dir, Fates, FlushAsked, MsgKind, ReadBytes, ReadMode, Refusal, Side, Spot,
+    Band, Content, ControlMode, Dir, Fates, FlushAsked, MsgKind, ReadMode, Refusal, Side, Spot,
     Wanted, Way,
 };
 
@@ -57,7 +57,7 @@ fn reads<B: Blocks>(
     put(store, &mut head.queue, b"abc");
     head.set_read_mode(mode);
     assert_eq!(rt; head.read_refusal(store, false, n), None);
-    let mut out = ReadBytes::new();
+    let mut out = Content::new();
     let mut fates = Fates::none();
     head.read(store, n, &mut out, Dir::MasterToSlave, &mut fates);
     assert_eq!(rt; out.as_slice(), wanted.0);

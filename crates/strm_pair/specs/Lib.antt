@@ -9,3 +9,4 @@ pub mod PairViews
 pub mod PlainCalls
 pub mod Shows
 pub mod Pool
+pub mod Parts

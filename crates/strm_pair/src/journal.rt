@@ -65,17 +65,19 @@ impl Journal {
     }
 
     // Adds an entry with its bytes.
-    fn add(&mut self, entry: Entry<usize>, payload: &[u8], content: &[u8])
-        requires lengths { entry_len entry ≡ length payload.now + length content.now }
+    fn add(&mut self, entry: Entry<usize>, payload: (&[u8], &[u8]), content: &[u8])
+        requires lengths { entry_len entry ≡ length payload.0.now + length payload.1.now + length content.now }
         requires room_entries { length self.old.entries.items < self.old.most_entries }
-        requires room_bytes { length self.old.bytes.items + (length payload.now + length content.now)
+        requires room_bytes { length self.old.bytes.items + (length payload.0.now + length payload.1.now + length content.now)
             ≤ self.old.most_bytes }
-        ensures added { journal_of self.new ≡ journal_of self.old ++ entry_in entry (payload.now ++ content.now) ∷ [] }
+        ensures added { journal_of self.new
+            ≡ journal_of self.old ++ entry_in entry ((payload.0.now ++ payload.1.now) ++ content.now) ∷ [] }
         ensures most_entries { self.new.most_entries ≡ self.old.most_entries }
         ensures most_bytes { self.new.most_bytes ≡ self.old.most_bytes }
     {
         self.entries.push_reserved(entry);
-        append(&mut self.bytes, payload);
+        append(&mut self.bytes, payload.0);
+        append(&mut self.bytes, payload.1);
         append(&mut self.bytes, content);
     }
 
@@ -110,6 +112,6 @@ impl Journal {
         ensures most_entries { self.new.most_entries ≡ self.old.most_entries }
         ensures most_bytes { self.new.most_bytes ≡ self.old.most_bytes }
     {
-        self.add(Entry::Turned { queue, turn }, &[], &[]);
+        self.add(Entry::Turned { queue, turn }, (&[], &[]), &[]);
     }
 }

@@ -2,10 +2,12 @@
 //! time, each is refused by name or carried out whole, and the journal tells all that were carried out.
 #![tactic(auto)]
 
+mod answers;
 mod closing;
 mod ends;
 mod journal;
 mod looking;
+mod messages;
 mod pair;
 mod putting;
 mod refusals;

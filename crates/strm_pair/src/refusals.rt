@@ -1,9 +1,11 @@
 //! What a call is refused for, by the streams alone.
 
-ghost use Rattle.std.specs.Prelude.{ℕ, ◌≡◌, ◌+◌, ◌≤◌, ◌<◌, ◌^◌};
+ghost use Rattle.std.specs.Prelude.{ℕ, ◌≡◌, ◌+◌, ◌≤◌, ◌<◌, ◌^◌, option_map};
 ghost use Rattle.strm_types.specs.Calls.{request};
 ghost use Rattle.strm_types.specs.Journal.{content_max};
-ghost use Rattle.strm_types.specs.Refused.{refused_at_once, refused_by_state, blocks_asked, unless, or_else, in_range, goes_down, at_end, is_known, is_a_band};
+ghost use Rattle.strm_types.specs.Refused.{refused_at_once, refused_by_state, blocks_asked, unless, or_else, in_range, goes_down, at_end, is_known, is_a_band, asks_a_band};
+ghost use Rattle.strm_types.specs.PutMsg.{part_blocks};
+ghost use Rattle.strm_pair.specs.Parts.{is_held_back};
 ghost use Rattle.strm_types.specs.declared.refusals.Refusal.TheVariants.{Enxio, Erange};
 ghost use Rattle.strm_types.specs.Names.{is_open};
 ghost use Rattle.strm_types.specs.State.{stream};
@@ -12,10 +14,11 @@ use crate::ends::End;
 use crate::looking::has_no_data;
 use crate::streams::Streams;
 use strm_blocks::Blocks;
+use strm_head::put_refusal;
 use strm_queue::standing::is_full;
 use strm_types::{
-    BANDS, Band, CHANGE_BLOCKS, CLOSE_BLOCKS, Caller, Event, ModuleName, Openness, READ_MAX,
-    Refusal, Side, WRITE_BLOCKS, chunk_count,
+    BANDS, Band, CHANGE_BLOCKS, CLOSE_BLOCKS, Caller, Event, ModuleName, Openness, Prio, READ_MAX,
+    Refusal, Side, WRITE_BLOCKS, Wanted, chunk_count,
 };
 
 /// A refusal unless a condition holds.
@@ -54,6 +57,26 @@ fn is_a_band(band: Option<Band>) -> bool
     }
 }
 
+// Whether a band that a get asks for is one of those that queues have.
+fn asks_a_band(wanted: Wanted) -> bool
+    ensures { result ≡ asks_a_band wanted }
+{
+    match wanted {
+        Wanted::Any | Wanted::High => true,
+        Wanted::Band(band) => usize::from(band.0) < BANDS,
+    }
+}
+
+// How many blocks a part takes: it fits in one.
+fn part_blocks(part: Option<&[u8]>) -> usize
+    ensures { result ≡ part_blocks (option_map (λ bytes. bytes.now) part.entry) }
+{
+    match part {
+        Some(_) => 1,
+        None => 0,
+    }
+}
+
 /// How many blocks of each kind have to be free for a call.
 pub(crate) fn blocks_asked(event: &Event<&[u8]>) -> usize
     ensures { result ≡ blocks_asked (request event.now) }
@@ -61,6 +84,9 @@ pub(crate) fn blocks_asked(event: &Event<&[u8]>) -> usize
     match event {
         Event::Write { bytes } => WRITE_BLOCKS + chunk_count(bytes.len()),
         Event::Push { .. } | Event::Pop | Event::Flush { .. } => CHANGE_BLOCKS,
+        Event::Put { control, body, .. } => {
+            WRITE_BLOCKS + (part_blocks(*control) + part_blocks(*body))
+        }
         Event::Shut => CLOSE_BLOCKS,
         _ => 0,
     }
@@ -69,10 +95,13 @@ pub(crate) fn blocks_asked(event: &Event<&[u8]>) -> usize
 /// The most bytes that the answer of a call can have.
 pub(crate) fn content_most(event: &Event<&[u8]>) -> usize
     ensures value { result ≡ content_max (request event.now) }
-    ensures small { result ≤ 4096 }
+    ensures small { result ≤ 8192 }
 {
     match event {
         Event::Read { n } => (*n as usize).min(READ_MAX),
+        Event::Get { cmax, dmax, .. } => {
+            (*cmax as usize).min(READ_MAX) + (*dmax as usize).min(READ_MAX)
+        }
         _ => 0,
     }
 }
@@ -135,6 +164,19 @@ impl Streams {
         }
     }
 
+    // Whether a message of this priority finds the driver's queue of a side full in its band. One of high priority waits for nothing.
+    fn is_held_back<B: Blocks>(&self, store: &B, side: Side, prio: Prio) -> bool
+        requires { AreHeld (B.value store.now) self.now }
+        ensures { result ≡ is_held_back prio (stream side (state_in (B.value store.now) self.now)).driver.queue }
+    {
+        match prio {
+            Prio::High => false,
+            Prio::Band(band) => {
+                usize::from(band.0) < BANDS && is_full(store, &self.end(side).driver, band)
+            }
+        }
+    }
+
     /// What a call is refused for before all else: its side, and then its arguments.
     pub fn refused_at_once(&self, caller: Caller, event: &Event<&[u8]>) -> Option<Refusal>
         ensures { (s : StoreValue) →
@@ -156,6 +198,18 @@ impl Streams {
             Event::Flush { band, .. } => or_else(
                 self.unreached(caller.side),
                 or_else(unless(is_a_band(*band), Refusal::Einval), self.beyond()),
+            ),
+            Event::Put {
+                prio,
+                control,
+                body,
+            } => or_else(
+                self.unreached(caller.side),
+                or_else(put_refusal(*prio, *control, *body), self.beyond()),
+            ),
+            Event::Get { wanted, .. } => or_else(
+                self.unopened(caller.side),
+                unless(asks_a_band(*wanted), Refusal::Einval),
             ),
             _ => self.unopened(caller.side),
         }
@@ -192,8 +246,26 @@ impl Streams {
                     .head
                     .read_refusal(store, at_end, *n as usize)
             }
+            Event::Put {
+                prio,
+                control,
+                body,
+            } => {
+                let is_sent = control.is_some() || body.is_some();
+                unless(
+                    !(is_sent && self.is_held_back(store, caller.side, *prio)),
+                    Refusal::Eagain,
+                )
+            }
+            Event::Get { wanted, .. } => {
+                let at_end = self.is_at_end(store, caller.side);
+                self.end(caller.side)
+                    .head
+                    .get_refusal(store, *wanted, at_end)
+            }
             Event::Pop | Event::Look => Some(Refusal::Einval),
             Event::Unlock | Event::Shut | Event::Push { .. } | Event::Flush { .. } => None,
+            Event::Mode { .. } | Event::Nread => None,
         }
     }
 }

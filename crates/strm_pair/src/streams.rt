@@ -4,18 +4,19 @@ ghost use Rattle.std.specs.Prelude.{ℕ, ◌≡◌, ◌+◌, ◌≤◌, ◌<◌,
 ghost use Rattle.strm_types.specs.Cells.{plain};
 ghost use Rattle.strm_types.specs.State.{opening, new_stream};
 ghost use Rattle.strm_types.specs.declared.answers.Answer.TheVariants.{Count, Bytes};
-ghost use Rattle.strm_types.specs.Calls.{Reply, called, request, opened_slave};
+ghost use Rattle.strm_types.specs.Calls.{Reply, called, mode_set, request, opened_slave};
 ghost use Rattle.strm_types.specs.declared.entries.Entry.TheVariants.{Called};
 ghost use Rattle.strm_types.specs.Deliver.{tallied};
 ghost use Rattle.strm_types.specs.Kept.{gone};
 ghost use Rattle.strm_types.specs.Turns.{turned};
-ghost use Rattle.strm_types.specs.declared.limits.TheConstants.{TURN_BLOCKS};
+ghost use Rattle.strm_types.specs.declared.limits.TheConstants.{READ_MAX, TURN_BLOCKS};
 ghost use Rattle.strm_frame.specs.Hands.{HasRoom};
 ghost use Rattle.strm_types.specs.Refused.{blocks_asked, in_range, refused_at_once};
 ghost use Rattle.strm_types.specs.Write.{chunk_count};
 ghost use Rattle.strm_types.specs.Journal.{reply_in, answer_len, content_max};
 ghost use Rattle.strm_blocks.specs.Blocks.{StoreValue, free_m, free_d, empty_store};
 ghost use Rattle.strm_pair.specs.Streams.{IsBlank, IsSide, stream_in};
+ghost use Rattle.strm_pair.specs.Parts.{longest_part};
 ghost use Rattle.strm_pair.specs.PlainCalls.{wrote_plain, read_plain, read_lets};
 
 use crate::ends::End;
@@ -25,7 +26,7 @@ use strm_frame::Enabled;
 use strm_head::Head;
 use strm_queue::{HEAD_HIGH, HEAD_LOW, OTHER_HIGH, OTHER_LOW, Queue};
 use strm_types::{
-    Answer, Book, Caller, Event, Fates, Openness, Place, QueueName, READ_MAX, ReadBytes, Side,
+    Answer, Book, Caller, Content, Event, Fates, Mode, Openness, Place, QueueName, READ_MAX, Side,
     Turn, chunk_count,
 };
 
@@ -88,6 +89,17 @@ impl Streams {
         }
     }
 
+    // Sets a mode of a side's head.
+    fn set_mode(&mut self, side: Side, mode: Mode)
+        ensures state { (s : StoreValue) → state_in s self.new ≡ mode_set side mode (state_in s self.old) }
+        ensures held { (s : StoreValue) → AreHeld s self.old → AreHeld s self.new }
+    {
+        match side {
+            Side::Master => self.master.head.set_mode(mode),
+            Side::Slave => self.slave.head.set_mode(mode),
+        }
+    }
+
     /// Writes bytes down a side's stream, and answers how many were taken.
     pub fn write<B: Blocks>(&mut self, store: &mut B, side: Side, bytes: &[u8]) -> usize
         requires held { AreHeld (B.value store.old) self.old }
@@ -125,7 +137,7 @@ impl Streams {
         store: &mut B,
         side: Side,
         n: u32,
-        out: &mut ReadBytes,
+        out: &mut Content,
         told: &mut Fates,
     )
         requires held { AreHeld (B.value store.old) self.old }
@@ -147,13 +159,13 @@ impl Streams {
         self.let_go(side.head(), goes);
     }
 
-    /// Carries out a call that nothing refuses. What a read gives stands in `out`, which is empty else.
+    /// Carries out a call that nothing refuses. What a read or a get gives stands in `out`, which is empty else.
     pub fn carry_out<B: Blocks>(
         &mut self,
         store: &mut B,
         caller: Caller,
         event: &Event<&[u8]>,
-        out: &mut ReadBytes,
+        out: &mut Content,
         told: &mut Fates,
     ) -> Answer<usize>
         requires held { AreHeld (B.value store.old) self.old }
@@ -164,6 +176,7 @@ impl Streams {
             ≡ (called plain caller (request event.now) (state_in (B.value store.old) self.old)).answer }
         ensures filled { answer_len result ≡ length out.new.items }
         ensures content { length out.new.items ≤ content_max (request event.now) }
+        ensures parts { longest_part result ≤ READ_MAX }
         ensures state { state_in (B.value store.new) self.new
             ≡ (called plain caller (request event.now) (state_in (B.value store.old) self.old)).state }
         ensures held { AreHeld (B.value store.new) self.new }
@@ -199,6 +212,22 @@ impl Streams {
                 self.read(store, caller.side, *n, out, told);
                 Answer::Bytes(out.len())
             }
+            Event::Put {
+                prio,
+                control,
+                body,
+            } => {
+                self.putmsg(store, caller.side, *prio, *control, *body, told);
+                Answer::Done
+            }
+            Event::Get { wanted, cmax, dmax } => {
+                self.getmsg(store, caller.side, *wanted, *cmax, *dmax, out, told)
+            }
+            Event::Mode { mode } => {
+                self.set_mode(caller.side, *mode);
+                Answer::Done
+            }
+            Event::Nread => self.nread(store, caller.side),
         }
     }
 

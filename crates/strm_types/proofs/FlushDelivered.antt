@@ -64,12 +64,12 @@ module _ {C : Type 0} where
   flush_to to bytes = record { to = to; message = flush_message bytes }
 
   -- what carrying does with what a put took
-  abbrev went_on : ℕ → Took C (State C) → Carried C (State C)
+  abbrev pub went_on : ℕ → Took C (State C) → Carried C (State C)
   went_on hops t =
       let u = in_turn (carried put_in hops) t.sent t.state in
       record { state = u.state; gone = t.gone ++ u.gone }
 
-  carries : (hops : ℕ) (p : Parcel C) (s : State C) → carried put_in (suc hops) p s ≡ went_on hops (put_in p.to p.message s)
+  pub carries : (hops : ℕ) (p : Parcel C) (s : State C) → carried put_in (suc hops) p s ≡ went_on hops (put_in p.to p.message s)
   unfolding carried
   carries hops p s = refl
 
@@ -132,7 +132,7 @@ module _ {C : Type 0} where
       at false is = refl
 
   -- at a driver
-  abbrev driver_took : Side → Acted C (Queue C) → State C → Took C (State C)
+  abbrev pub driver_took : Side → Acted C (Queue C) → State C → Took C (State C)
   driver_took side t s = record {
     state = record (with_stream side (with_driver_queue t.state (stream side s)) s) { enabled = noted side places.Driver t.notes s.enabled };
     sent = t.sent;

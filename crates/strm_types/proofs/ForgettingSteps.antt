@@ -1,12 +1,17 @@
 -- Forgetting the origins of cells commutes with whole calls, whole turns and the replay of a journal.
-use Rattle.std.proofs.Common.{ℕ, ◌≡◌, Bool, true, false, List, [], ◌∷◌, refl, sym, ap, ◌∙◌}
-use Rattle.std.specs.Prelude.{min, not}
+use Rattle.std.proofs.Common.{ℕ, ◌≡◌, Bool, true, false, List, [], ◌∷◌, length, map, refl, sym, ap, ◌∙◌}
+use Rattle.std.specs.Prelude.{min, not, Option, None, Some, option_map}
+use Rattle.std.proofs.lemmas.List.{length-map}
 use Rattle.strm_types.specs.declared.limits.TheConstants.{READ_MAX}
-use Rattle.strm_types.specs.declared.answers.Answer.TheVariants.{Done, Count, Bytes}
+use Rattle.strm_types.specs.declared.answers.Answer.TheVariants.{Done, Count, Bytes, Msg, Sizes}
 use Rattle.strm_types.specs.declared.answers.Turn.{Turn}
 use Rattle.strm_types.specs.declared.entries.Entry.TheVariants.{Called, Turned}
 use Rattle.strm_types.specs.declared.events.Caller.{Caller}
-use Rattle.strm_types.specs.declared.events.Event.TheVariants.{OpenMaster, Unlock, OpenSlave, Shut, Push, Pop, Look, Flush, Write, Read}
+use Rattle.strm_types.specs.declared.events.Event.TheVariants.{OpenMaster, Unlock, OpenSlave, Shut, Push, Pop, Look, Flush, Write, Read, Put, Get, Mode, Nread}
+use Rattle.strm_types.specs.declared.modes.Mode as modes
+use Rattle.strm_types.specs.declared.modes.Mode.TheVariants as chosen
+use Rattle.strm_types.specs.declared.modes.Prio.{Prio}
+use Rattle.strm_types.specs.declared.modes.Wanted.{Wanted}
 use Rattle.strm_types.specs.declared.names.Side.{Side}
 use Rattle.strm_types.specs.declared.names.Side.TheVariants.{Master, Slave}
 use Rattle.strm_types.specs.declared.names.Dir.{Dir}
@@ -16,14 +21,16 @@ use Rattle.strm_types.specs.declared.names.Place.TheVariants as places
 use Rattle.strm_types.specs.declared.names.QueueName.{QueueName}
 use Rattle.strm_types.specs.Cells.{Cells, AreCells, plain, cells_written, bytes_of}
 use Rattle.strm_types.specs.Names.{driver_of, head_of, direction_from, before, without, enable_if, enable_some}
-use Rattle.strm_types.specs.Message.{map_message}
+use Rattle.strm_types.specs.Gets.{Got, prio_got, first_data, head_get, map_got}
+use Rattle.strm_types.specs.GetQueues.{get_queue, get_lets_go}
+use Rattle.strm_types.specs.Message.{Message, part, map_message}
 use Rattle.strm_types.specs.Queue.{Queue, map_messages, map_queue}
 use Rattle.strm_types.specs.State.{Head, State, stream, with_stream, with_driver_queue, with_head_queue, book, with_book, new_head, map_head, map_state}
 use Rattle.strm_types.specs.Books.{with_written}
 use Rattle.strm_types.specs.Write.{Sent, written}
 use Rattle.strm_types.specs.Reads.{Drawn, head_draw, read_queue, read_lets_go}
 use Rattle.strm_types.specs.Turns.{TurnOutcome, map_turn_outcome, turned_at, turned}
-use Rattle.strm_types.specs.Calls.{Outcome, Request, Reply, map_outcome, done, read_at, wrote, called}
+use Rattle.strm_types.specs.Calls.{Outcome, Request, Reply, map_outcome, done, read_at, wrote, get_at, mode_set, sizes_at, called}
 use Rattle.strm_types.specs.Journal.{PlainEntry}
 use Rattle.strm_types.specs.Step.{after, replay}
 use Rattle.strm_types.specs.Deliver.{Carried}
@@ -31,7 +38,10 @@ use Rattle.strm_types.proofs.Forgetting.{map_sent, none-forgets, written-forgets
 use Rattle.strm_types.proofs.EmptiedForgets.{closed_at-forgets}
 use Rattle.strm_types.proofs.PlainCells.{written-plain, bytes-plain, written-bytes}
 use Rattle.strm_types.proofs.PutsForget.{flushed_on-forgets}
-use Rattle.strm_types.proofs.ReadForgets.{head_draw-forgets, read_queue-forgets, read_lets_go-forgets}
+use Rattle.strm_types.proofs.GetKeeps.{get-forgets}
+use Rattle.strm_types.proofs.GotQueues.{get_queue-forgets, get_lets_go-forgets}
+use Rattle.strm_types.proofs.PutMessages.{put_at-forgets}
+use Rattle.strm_types.proofs.ReadForgets.{body-forgets, head_draw-forgets, read_queue-forgets, read_lets_go-forgets}
 use Rattle.strm_types.proofs.TurnForgets.{driver_turned-forgets}
 
 -- what a write makes of what was sent
@@ -55,7 +65,36 @@ taken_from side s answer q lets = record {
   };
 }
 
+-- what a get answers
+abbrev msg_of : Prio → Option (List ℕ) → Option (List ℕ) → Bool → Bool → Reply
+msg_of prio control body more_control more_data = Msg prio control body more_control more_data
+
+abbrev got_answer : {C : Type 0} → Cells C → Got C → Reply
+got_answer cells g = msg_of (prio_got g) (option_map (bytes_of cells) g.control) (option_map (bytes_of cells) g.body) g.more_control g.more_data
+
+-- what is told of the messages at a head
+abbrev told_of : {C : Type 0} → State C → ℕ → ℕ → Outcome C
+told_of s first messages = record { answer = Sizes first messages; state = s }
+
 module _ {C D : Type 0} (f : C → D) where
+  -- modes that are set, and what is told of a head
+  mode-forgets : (side : Side) (mode : modes.Mode) (s : State C) → mode_set side mode (map_state f s) ≡ map_state f (mode_set side mode s)
+  mode-forgets Master (chosen.Read mode) s = refl
+  mode-forgets Master (chosen.Control mode) s = refl
+  mode-forgets Slave (chosen.Read mode) s = refl
+  mode-forgets Slave (chosen.Control mode) s = refl
+
+  first-forgets : (q : List (Message C)) → first_data (map_messages f q) ≡ first_data q
+  first-forgets [] = refl
+  first-forgets (m ∷ q) = ap length (body-forgets f m) ∙ length-map (part m.body) f
+
+  told-forgets : (q : List (Message C)) (t : State D) → told_of t (first_data (map_messages f q)) (length (map_messages f q)) ≡ told_of t (first_data q) (length q)
+  told-forgets q t = ap (λ n. told_of t n (length (map_messages f q))) (first-forgets q) ∙ ap (λ n. told_of t (first_data q) n) (length-map q (map_message f))
+
+  sizes-forgets : (side : Side) (s : State C) → sizes_at side (map_state f s) ≡ map_outcome f (sizes_at side s)
+  sizes-forgets Master s = told-forgets s.master.head.queue.messages (map_state f s)
+  sizes-forgets Slave s = told-forgets s.slave.head.queue.messages (map_state f s)
+
   -- a write
   sent_on-forgets : (side : Side) (s : State C) (down : Sent C) → sent_on side (map_state f s) (map_sent f down) ≡ map_outcome f (sent_on side s down)
   sent_on-forgets Master s down = refl
@@ -115,6 +154,38 @@ module _ {C : Type 0} (cells : Cells C) (are : AreCells cells) where
       over Master = from-head Master (min n READ_MAX) s.master.head
       over Slave = from-head Slave (min n READ_MAX) s.slave.head
 
+  -- a get, which gives the bytes of its cells
+  bytes-forget : (o : Option (List C)) → option_map (bytes_of plain) (option_map (map cells.byte) o) ≡ option_map (bytes_of cells) o
+  bytes-forget None = refl
+  bytes-forget (Some xs) = ap Some (bytes-plain (map cells.byte xs))
+
+  answer-forgets : (g : Got C) → got_answer plain (map_got cells.byte g) ≡ got_answer cells g
+  answer-forgets g =
+      ap (λ o. msg_of (prio_got g) o (option_map (bytes_of plain) (option_map (map cells.byte) g.body)) g.more_control g.more_data) (bytes-forget g.control)
+      ∙ ap (λ o. msg_of (prio_got g) (option_map (bytes_of cells) g.control) o g.more_control g.more_data) (bytes-forget g.body)
+
+  get_at-forgets : (side : Side) (wanted : Wanted) (cmax dmax : ℕ) (s : State C) → get_at plain side wanted cmax dmax (map_state cells.byte s) ≡ map_outcome cells.byte (get_at cells side wanted cmax dmax s)
+  get_at-forgets side wanted cmax dmax s =
+      let q = (stream side s).head.queue in
+      let c = min cmax READ_MAX in
+      let d = min dmax READ_MAX in
+      over side ∙ taken_from-forgets cells.byte side s (got_answer cells (head_get wanted c d q.messages)) (get_queue wanted c d q) (get_lets_go wanted c d q)
+    where
+      from-queue : (side : Side) (c d : ℕ) (q : Queue C) → let image = map_queue cells.byte q in
+          taken_from side (map_state cells.byte s) (got_answer plain (head_get wanted c d image.messages)) (get_queue wanted c d image) (get_lets_go wanted c d image)
+          ≡ taken_from side (map_state cells.byte s) (got_answer cells (head_get wanted c d q.messages)) (map_queue cells.byte (get_queue wanted c d q)) (get_lets_go wanted c d q)
+      from-queue side c d q =
+          let image = map_queue cells.byte q in
+          ap (λ (g : Got ℕ). taken_from side (map_state cells.byte s) (got_answer plain g) (get_queue wanted c d image) (get_lets_go wanted c d image)) (sym (get-forgets cells.byte wanted c d q.messages))
+          ∙ ap (λ (a : Reply). taken_from side (map_state cells.byte s) a (get_queue wanted c d image) (get_lets_go wanted c d image)) (answer-forgets (head_get wanted c d q.messages))
+          ∙ ap (λ (b : Queue ℕ). taken_from side (map_state cells.byte s) (got_answer cells (head_get wanted c d q.messages)) b (get_lets_go wanted c d image)) (get_queue-forgets cells.byte wanted c d q)
+          ∙ ap (λ (go : Bool). taken_from side (map_state cells.byte s) (got_answer cells (head_get wanted c d q.messages)) (map_queue cells.byte (get_queue wanted c d q)) go) (get_lets_go-forgets cells.byte wanted c d q)
+
+      over : (side : Side) → let q = (stream side s).head.queue in let c = min cmax READ_MAX in let d = min dmax READ_MAX in
+          get_at plain side wanted cmax dmax (map_state cells.byte s) ≡ taken_from side (map_state cells.byte s) (got_answer cells (head_get wanted c d q.messages)) (map_queue cells.byte (get_queue wanted c d q)) (get_lets_go wanted c d q)
+      over Master = from-queue Master (min cmax READ_MAX) (min dmax READ_MAX) s.master.head.queue
+      over Slave = from-queue Slave (min cmax READ_MAX) (min dmax READ_MAX) s.slave.head.queue
+
   pub call-forgets : (caller : Caller) (asked : Request) (s : State C) → called plain caller asked (map_state cells.byte s) ≡ map_outcome cells.byte (called cells caller asked s)
   call-forgets caller OpenMaster s = refl
   call-forgets caller Unlock s = refl
@@ -129,6 +200,10 @@ module _ {C : Type 0} (cells : Cells C) (are : AreCells cells) where
   call-forgets caller (Flush what band) s = ap (λ (t : Carried ℕ (State ℕ)). done t.state) (flushed_on-forgets cells.byte band caller.side what s)
   call-forgets caller (Write bytes) s = write-forgets caller.side bytes s
   call-forgets caller (Read n) s = read_at-forgets caller.side n s
+  call-forgets caller (Put prio control body) s = ap (λ (t : Carried ℕ (State ℕ)). done t.state) (put_at-forgets cells are caller.side prio control body s)
+  call-forgets caller (Get wanted cmax dmax) s = get_at-forgets caller.side wanted cmax dmax s
+  call-forgets caller (Mode mode) s = ap (λ (t : State ℕ). done t) (mode-forgets cells.byte caller.side mode s)
+  call-forgets caller Nread s = sizes-forgets cells.byte caller.side s
 
   pub turn-forgets : (name : QueueName) (turn : Turn) (s : State C) → turned plain name turn (map_state cells.byte s) ≡ map_turn_outcome cells.byte (turned cells name turn s)
   turn-forgets name turn s = at name.place (record s { enabled = without name s.enabled })

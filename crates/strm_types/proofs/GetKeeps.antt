@@ -117,7 +117,7 @@ module _ {C : Type 0} where
   get-refused wanted at_end cmax dmax (m ∷ q) refusal is = refused-at cmax dmax m q refusal (is_wanted wanted m) is
 
 module _ {C D : Type 0} (f : C → D) where
-  wanted-forgets : (wanted : Wanted) (m : Message C) → is_wanted wanted (map_message f m) ≡ is_wanted wanted m
+  pub wanted-forgets : (wanted : Wanted) (m : Message C) → is_wanted wanted (map_message f m) ≡ is_wanted wanted m
   unfolding map_message
   wanted-forgets Any m = refl
   wanted-forgets High m = refl

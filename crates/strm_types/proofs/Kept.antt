@@ -5,7 +5,10 @@ use Rattle.strm_types.specs.declared.limits.TheConstants.{READ_MAX}
 use Rattle.strm_types.specs.declared.answers.Answer.TheVariants.{Bytes}
 use Rattle.strm_types.specs.declared.entries.Entry.TheVariants.{Called, Turned}
 use Rattle.strm_types.specs.declared.events.Caller.{Caller}
-use Rattle.strm_types.specs.declared.events.Event.TheVariants.{OpenMaster, Unlock, OpenSlave, Shut, Push, Pop, Look, Flush, Write, Read}
+use Rattle.strm_types.specs.declared.events.Event.TheVariants.{OpenMaster, Unlock, OpenSlave, Shut, Push, Pop, Look, Flush, Write, Read, Put, Get, Mode, Nread}
+use Rattle.strm_types.specs.declared.modes.Mode as modes
+use Rattle.strm_types.specs.declared.modes.Mode.TheVariants as chosen
+use Rattle.strm_types.specs.declared.modes.Wanted.{Wanted}
 use Rattle.strm_types.specs.declared.modes.ControlMode.{ControlMode}
 use Rattle.strm_types.specs.declared.modes.ReadMode.{ReadMode}
 use Rattle.strm_types.specs.declared.names.Dir.{Dir}
@@ -18,15 +21,18 @@ use Rattle.strm_types.specs.Message.{Message}
 use Rattle.strm_types.specs.Queue.{Queue, weight, left_with, relieved}
 use Rattle.strm_types.specs.State.{State, stream, book, opening}
 use Rattle.strm_types.specs.Reads.{Drawn, head_draw, none_went, queue_drawn, read_fates, read_gone, read_lets_go, read_queue, takes_none}
-use Rattle.strm_types.specs.Calls.{Request, Reply, read_at, wrote, called}
+use Rattle.strm_types.specs.Calls.{Request, Reply, read_at, wrote, get_at, mode_set, called}
+use Rattle.strm_types.specs.GetQueues.{get_queue, get_lets_go, get_gone}
 use Rattle.strm_types.specs.Journal.{PlainEntry}
-use Rattle.strm_types.specs.Refused.{or_else, unless, refused_at_once, refused_by_state}
+use Rattle.strm_types.specs.Refused.{or_else, unless, asks_a_band, refused_at_once, refused_by_state}
 use Rattle.strm_types.specs.Step.{Step}
 use Rattle.strm_types.specs.Places.{weight_gone}
 use Rattle.strm_types.specs.Kept.{state_weight, NothingUnread, cells_taken, came, gone}
 use Rattle.strm_types.proofs.Weights.{weight-written}
 use Rattle.strm_types.proofs.EmptiedKeeps.{closed_at-keeps, closed_at-unread}
 use Rattle.strm_types.proofs.Deliveries.{flushed_on-keeps, flushed_on-unread}
+use Rattle.strm_types.proofs.GotQueues.{get_queue-keeps}
+use Rattle.strm_types.proofs.PutMessages.{put_at-keeps, put_at-unread}
 use Rattle.strm_types.proofs.ReadKeeps.{head_draw-keeps}
 use Rattle.strm_types.proofs.TurnKeeps.{turn-keeps, turn-unread}
 use Rattle.strm_types.proofs.Replay.{unless-none, or_else-none}
@@ -68,6 +74,17 @@ module _ {C : Type 0} where
     read-keeps cells Master n answer s = let h = s.master.head in omega (arith, drawn-keeps (direction_of (head_of Master)) h.read_mode h.control_mode (min n READ_MAX) h.queue)
     read-keeps cells Slave n answer s = let h = s.slave.head in omega (arith, drawn-keeps (direction_of (head_of Slave)) h.read_mode h.control_mode (min n READ_MAX) h.queue)
 
+    get-keeps : (cells : Cells C) (side : Side) (wanted : Wanted) (cmax dmax : ℕ) (s : State C) →
+        state_weight p (get_at cells side wanted cmax dmax s).state + weight_gone p (get_gone (direction_of (head_of side)) wanted (min cmax READ_MAX) (min dmax READ_MAX) (stream side s).head.queue.messages) ≡ state_weight p s
+    get-keeps cells Master wanted cmax dmax s = omega (arith, get_queue-keeps p (direction_of (head_of Master)) wanted (min cmax READ_MAX) (min dmax READ_MAX) s.master.head.queue)
+    get-keeps cells Slave wanted cmax dmax s = omega (arith, get_queue-keeps p (direction_of (head_of Slave)) wanted (min cmax READ_MAX) (min dmax READ_MAX) s.slave.head.queue)
+
+    mode-keeps : (side : Side) (mode : modes.Mode) (s : State C) → state_weight p (mode_set side mode s) ≡ state_weight p s
+    mode-keeps Master (chosen.Read mode) s = refl
+    mode-keeps Master (chosen.Control mode) s = refl
+    mode-keeps Slave (chosen.Read mode) s = refl
+    mode-keeps Slave (chosen.Control mode) s = refl
+
     call-keeps : (cells : Cells C) (caller : Caller) (asked : Request) (answer : Reply) (s : State C) → NothingUnread s → or_else (refused_at_once s caller asked) (refused_by_state s caller asked) ≡ None
         → state_weight p (called cells caller asked s).state + weight_gone p (gone cells s (Called caller asked answer)) ≡ state_weight p s + count_by p (came cells s (Called caller asked answer))
     call-keeps cells caller OpenMaster answer s unread allowed = refl
@@ -84,6 +101,10 @@ module _ {C : Type 0} where
         omega (arith, nothing)
     call-keeps cells caller (Write bytes) answer s unread allowed = omega (arith, write-keeps cells caller.side bytes s)
     call-keeps cells caller (Read n) answer s unread allowed = omega (arith, read-keeps cells caller.side n answer s)
+    call-keeps cells caller (Put prio control body) answer s unread allowed = put_at-keeps p cells caller.side prio control body s
+    call-keeps cells caller (Get wanted cmax dmax) answer s unread allowed = omega (arith, get-keeps cells caller.side wanted cmax dmax s)
+    call-keeps cells caller (Mode mode) answer s unread allowed = omega (arith, mode-keeps caller.side mode s)
+    call-keeps cells caller Nread answer s unread allowed = refl
 
     -- what stands on the queues after a step, and what it took away, is what stood there before, and what it brought
     pub step-keeps : (cells : Cells C) (old new : State C) (entry : PlainEntry) → NothingUnread old → Step cells old entry new → state_weight p new + weight_gone p (gone cells old entry) ≡ state_weight p old + count_by p (came cells old entry)
@@ -104,6 +125,12 @@ module _ {C : Type 0} where
   taken-unread Master s answer q lets unread is = record { master = λ closed. absurd (cc); slave = unread.slave }
   taken-unread Slave s answer q lets unread is = record { master = unread.master; slave = λ closed. absurd (cc) }
 
+  mode-unread : (side : Side) (mode : modes.Mode) (s : State C) → NothingUnread s → NothingUnread (mode_set side mode s)
+  mode-unread Master (chosen.Read mode) s unread = record { master = unread.master; slave = unread.slave }
+  mode-unread Master (chosen.Control mode) s unread = record { master = unread.master; slave = unread.slave }
+  mode-unread Slave (chosen.Read mode) s unread = record { master = unread.master; slave = unread.slave }
+  mode-unread Slave (chosen.Control mode) s unread = record { master = unread.master; slave = unread.slave }
+
   call-unread : (cells : Cells C) (caller : Caller) (asked : Request) (s : State C) → NothingUnread s → or_else (refused_at_once s caller asked) (refused_by_state s caller asked) ≡ None → NothingUnread (called cells caller asked s).state
   call-unread cells caller OpenMaster s unread allowed = record { master = λ closed. absurd (cc); slave = unread.slave }
   call-unread cells caller Unlock s unread allowed = record { master = unread.master; slave = unread.slave }
@@ -119,6 +146,16 @@ module _ {C : Type 0} where
       let most = min n READ_MAX in
       taken-unread caller.side s (Bytes (bytes_of cells (head_draw h.read_mode h.control_mode most h.queue.messages).given)) (read_queue h.read_mode h.control_mode most h.queue) (read_lets_go h.read_mode h.control_mode most h.queue) unread
       (unless-none (is_open (stream caller.side s).opened) Enxio (or_else-none (unless (is_open (stream caller.side s).opened) Enxio) _ allowed).0)
+  call-unread cells caller (Put prio control body) s unread allowed = put_at-unread cells caller.side prio control body s unread
+  call-unread cells caller (Get wanted cmax dmax) s unread allowed =
+      let q = (stream caller.side s).head.queue in
+      let c = min cmax READ_MAX in
+      let d = min dmax READ_MAX in
+      let at_once = or_else-none (or_else (unless (is_open (stream caller.side s).opened) Enxio) (unless (asks_a_band wanted) Einval)) _ allowed in
+      taken-unread caller.side s (get_at cells caller.side wanted cmax dmax s).answer (get_queue wanted c d q) (get_lets_go wanted c d q) unread
+      (unless-none (is_open (stream caller.side s).opened) Enxio (or_else-none (unless (is_open (stream caller.side s).opened) Enxio) (unless (asks_a_band wanted) Einval) at_once.0).0)
+  call-unread cells caller (Mode mode) s unread allowed = mode-unread caller.side mode s unread
+  call-unread cells caller Nread s unread allowed = unread
 
   pub step-unread : (cells : Cells C) (old new : State C) (entry : PlainEntry) → NothingUnread old → Step cells old entry new → NothingUnread new
   step-unread cells old new (Called caller asked answer) unread step = subst (λ (s : State C). NothingUnread s) step.leads (call-unread cells caller asked old unread step.allowed)

@@ -1,24 +1,33 @@
 -- The calls on a pair: what each one does where nothing refuses it.
-use Rattle.std.specs.Prelude.{ℕ, false, not, min, List, []}
+use Rattle.std.specs.Prelude.{ℕ, ◌+◌, false, not, min, if◌then◌else◌, List, [], ◌++◌, length, Option, option_map}
 use denote.Ref.{Bor}
 use Rattle.strm_types.specs.declared.limits.TheConstants.{READ_MAX}
 use Rattle.strm_types.specs.declared.answers.Answer.{Answer}
-use Rattle.strm_types.specs.declared.answers.Answer.TheVariants.{Done, Name, Count, Bytes}
+use Rattle.strm_types.specs.declared.answers.Answer.TheVariants.{Done, Name, Count, Bytes, Msg, Sizes}
 use Rattle.strm_types.specs.declared.events.Event.{Event}
-use Rattle.strm_types.specs.declared.events.Event.TheVariants.{OpenMaster, Unlock, OpenSlave, Shut, Push, Pop, Look, Flush, Write, Read}
+use Rattle.strm_types.specs.declared.events.Event.TheVariants.{OpenMaster, Unlock, OpenSlave, Shut, Push, Pop, Look, Flush, Write, Read, Put, Get, Mode, Nread}
 use Rattle.strm_types.specs.declared.events.Caller.{Caller}
+use Rattle.strm_types.specs.declared.modes.Mode as modes
+use Rattle.strm_types.specs.declared.modes.Prio.{Prio}
+use Rattle.strm_types.specs.declared.modes.Wanted.{Wanted}
 use Rattle.strm_types.specs.declared.names.Side.{Side}
 use Rattle.strm_types.specs.declared.names.Side.TheVariants.{Master}
 use Rattle.strm_types.specs.declared.names.Openness.TheVariants.{Open}
+use Rattle.strm_types.specs.declared.names.Way.TheVariants.{Down}
 use Rattle.strm_types.specs.Cells.{Cells, cells_written, bytes_of}
 use Rattle.strm_types.specs.Names.{driver_of, head_of, direction_from, before, enable_if, enable_some}
-use Rattle.strm_types.specs.State.{State, stream, with_stream, with_driver_queue, with_head_queue, new_head, book, with_book, map_state}
+use Rattle.strm_types.specs.State.{State, stream, with_stream, with_driver_queue, with_head_queue, new_head, with_mode, book, with_book, map_state}
 use Rattle.strm_types.specs.Books.{with_written}
 use Rattle.strm_types.specs.Reads.{head_draw, read_queue, read_lets_go}
 use Rattle.strm_types.specs.Write.{written}
 use Rattle.strm_types.specs.Queue.{is_none_left}
 use Rattle.strm_types.specs.Emptied.{closed_at}
-use Rattle.strm_types.specs.Puts.{flushed_on}
+use Rattle.strm_types.specs.Deliver.{Carried}
+use Rattle.strm_types.specs.GetQueues.{get_queue, get_lets_go}
+use Rattle.strm_types.specs.Gets.{head_get, prio_got, first_data}
+use Rattle.strm_types.specs.Message.{Message, part}
+use Rattle.strm_types.specs.PutMsg.{put_message, no_parts}
+use Rattle.strm_types.specs.Puts.{delivered, flushed_on}
 
 -- a call over other things that stand for its bytes
 abbrev pub map_event : {A B : Type 0} → (A → B) → Event A → Event B
@@ -32,6 +41,10 @@ map_event f Look = Look
 map_event f (Flush what band) = Flush what band
 map_event f (Write bytes) = Write (f bytes)
 map_event f (Read n) = Read n
+map_event f (Put prio control body) = Put prio (option_map f control) (option_map f body)
+map_event f (Get wanted cmax dmax) = Get wanted cmax dmax
+map_event f (Mode mode) = Mode mode
+map_event f Nread = Nread
 
 -- an answer over other things that stand for its bytes
 abbrev pub map_answer : {A B : Type 0} → (A → B) → Answer A → Answer B
@@ -39,6 +52,8 @@ map_answer f Done = Done
 map_answer f (Name name) = Name name
 map_answer f (Count n) = Count n
 map_answer f (Bytes bytes) = Bytes (f bytes)
+map_answer f (Msg prio control body more_control more_data) = Msg prio (option_map f control) (option_map f body) more_control more_data
+map_answer f (Sizes first messages) = Sizes first messages
 
 -- a call with its bytes, and an answer with its bytes
 abbrev pub Request : Type 0
@@ -51,14 +66,16 @@ Reply = Answer (List ℕ)
 abbrev pub request : Event (Bor (List ℕ)) → Request
 request event = map_event (λ bytes. bytes.now) event
 
--- the bytes of a call: the whole payload of a write
+-- the bytes of a call: the whole payload of a write, the control part of a putmsg and then its data part
 abbrev pub payload_of : Request → List ℕ
 payload_of (Write bytes) = bytes
+payload_of (Put prio control body) = part control ++ part body
 payload_of _ = []
 
 -- the bytes of an answer
 abbrev pub content_of : Reply → List ℕ
 content_of (Bytes bytes) = bytes
+content_of (Msg prio control body more_control more_data) = part control ++ part body
 content_of _ = []
 
 -- what a call leads to
@@ -113,6 +130,45 @@ module _ {C : Type 0} where
         };
       }
 
+  -- a get of up to these sizes on a side's stream
+  abbrev pub get_at : Cells C → Side → Wanted → ℕ → ℕ → State C → Outcome C
+  get_at cells side wanted cmax dmax s =
+      let above = stream side s in
+      let q = above.head.queue in
+      let most_control = min cmax READ_MAX in
+      let most_data = min dmax READ_MAX in
+      let got = head_get wanted most_control most_data q.messages in
+      record {
+        answer = Msg (prio_got got) (option_map (bytes_of cells) got.control) (option_map (bytes_of cells) got.body) got.more_control got.more_data;
+        state = record (with_stream side (with_head_queue (get_queue wanted most_control most_data q) above) s) {
+          enabled = enable_some (get_lets_go wanted most_control most_data q) (before (head_of side)) s.enabled;
+        };
+      }
+
+  -- the message that a putmsg on a side's stream sends: the bytes of its control part are written before those of its data part
+  abbrev pub message_put : Cells C → Side → Prio → Option (List ℕ) → Option (List ℕ) → State C → Message C
+  message_put cells side prio control body s =
+      let dir = direction_from side in
+      let n = (book dir s).written in
+      put_message prio (option_map (cells_written cells dir n) control) (option_map (cells_written cells dir (n + length (part control))) body)
+
+  -- A putmsg of these parts on a side's stream: its message goes down from the head, and its bytes are booked as written. Without
+  -- a part nothing is sent.
+  abbrev pub put_at : Cells C → Side → Prio → Option (List ℕ) → Option (List ℕ) → State C → Carried C (State C)
+  put_at cells side prio control body s =
+      if no_parts control body then record { state = s; gone = [] }
+      else (let dir = direction_from side in
+      let t = delivered (record { side = side; at = 1; way = Down }) (message_put cells side prio control body s) s in
+      record { state = with_book dir (with_written (length (part control) + length (part body)) (book dir s)) t.state; gone = t.gone })
+
+  -- a mode of a side's head is set
+  abbrev pub mode_set : Side → modes.Mode → State C → State C
+  mode_set side mode s = let above = stream side s in with_stream side (record above { head = with_mode mode above.head }) s
+
+  -- what stands at a side's head
+  abbrev pub sizes_at : Side → State C → Outcome C
+  sizes_at side s = let q = (stream side s).head.queue.messages in record { answer = Sizes (first_data q) (length q); state = s }
+
   -- What a call leads to where nothing refuses it. No module is known yet, so a push, a pop and a look are always refused.
   abbrev pub called : Cells C → Caller → Request → State C → Outcome C
   called cells caller OpenMaster s = done (opened_master s)
@@ -125,3 +181,7 @@ module _ {C : Type 0} where
   called cells caller (Flush what band) s = done (flushed_on band caller.side what s).state
   called cells caller (Write bytes) s = wrote cells caller.side bytes s
   called cells caller (Read n) s = read_at cells caller.side n s
+  called cells caller (Put prio control body) s = done (put_at cells caller.side prio control body s).state
+  called cells caller (Get wanted cmax dmax) s = get_at cells caller.side wanted cmax dmax s
+  called cells caller (Mode mode) s = done (mode_set caller.side mode s)
+  called cells caller Nread s = sizes_at caller.side s

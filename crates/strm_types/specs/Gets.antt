@@ -1,5 +1,7 @@
 -- What a getmsg(2) or getpmsg(2) takes from a stream head.
 use Rattle.std.specs.Prelude.{ℕ, Bool, true, false, ◌||◌, nat_le, nat_lt, if◌then◌else◌, List, [], ◌∷◌, length, map, take, drop, Option, None, Some, option_map}
+use Rattle.strm_types.specs.declared.modes.Prio.{Prio}
+use Rattle.strm_types.specs.declared.modes.Prio.TheVariants as prios
 use Rattle.strm_types.specs.declared.modes.Wanted.{Wanted}
 use Rattle.strm_types.specs.declared.modes.Wanted.TheVariants.{Any, High, Band}
 use Rattle.strm_types.specs.declared.refusals.Refusal.{Refusal}
@@ -20,6 +22,15 @@ pub record Got (C : Type 0) : Type 0 where
   pub left : List (Message C)
 
 module _ {C : Type 0} where
+  -- the priority of what a get gives
+  abbrev pub prio_got : Got C → Prio
+  prio_got g = if g.high then prios.High else prios.Band (record { 0 = g.band })
+
+  -- how many bytes the data part of the first message has
+  abbrev pub first_data : List (Message C) → ℕ
+  first_data [] = 0
+  first_data (m ∷ q) = length (part m.body)
+
   -- whether the first message is the one that is asked for
   abbrev pub is_wanted : Wanted → Message C → Bool
   is_wanted Any m = true

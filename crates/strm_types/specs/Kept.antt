@@ -2,9 +2,12 @@
 use Rattle.std.specs.Prelude.{◌≡◌, ℕ, ◌+◌, min, Bool, false, List, [], ◌∷◌, take}
 use Rattle.strm_types.specs.declared.limits.TheConstants.{READ_MAX}
 use Rattle.strm_types.specs.declared.names.Side.{Side}
-use Rattle.strm_types.specs.declared.events.Event.TheVariants.{Shut, Flush, Write, Read}
+use Rattle.strm_types.specs.declared.events.Event.TheVariants.{Shut, Flush, Write, Read, Put, Get}
 use Rattle.strm_types.specs.declared.entries.Entry.TheVariants.{Called, Turned}
+use Rattle.strm_types.specs.Calls.{message_put, put_at}
 use Rattle.strm_types.specs.Cells.{Cells, cells_written}
+use Rattle.strm_types.specs.GetQueues.{get_gone}
+use Rattle.strm_types.specs.Message.{cells_of}
 use Rattle.strm_types.specs.Names.{direction_from, direction_of, head_of, is_open}
 use Rattle.strm_types.specs.Queue.{weight}
 use Rattle.strm_types.specs.State.{State, Stream, stream, book}
@@ -38,17 +41,21 @@ module _ {C : Type 0} where
       let all = cells_written cells dir (book dir s).written bytes in
       take (written all (stream side s).driver.queue).taken all
 
-  -- the cells that an entry brings: what a write takes
+  -- the cells that an entry brings: what a write takes, and what a putmsg sends
   abbrev pub came : Cells C → State C → PlainEntry → List C
   came cells s (Called caller (Write bytes) answer) = cells_taken cells caller.side bytes s
+  came cells s (Called caller (Put prio control body) answer) = cells_of (message_put cells caller.side prio control body s)
   came cells s (Called caller asked answer) = []
   came cells s (Turned name turn) = []
 
-  -- what an entry takes away, by its rules: what a read gives, what a flush or a close takes, and what goes on its way
+  -- what an entry takes away, by its rules: what a read or a get gives, what a flush or a close takes, and what goes on its way
   abbrev pub gone : Cells C → State C → PlainEntry → List (Fate C)
   gone cells s (Called caller (Read n) answer) =
       let h = (stream caller.side s).head in
       read_gone (direction_of (head_of caller.side)) h.read_mode h.control_mode (min n READ_MAX) h.queue.messages
+  gone cells s (Called caller (Get wanted cmax dmax) answer) =
+      get_gone (direction_of (head_of caller.side)) wanted (min cmax READ_MAX) (min dmax READ_MAX) (stream caller.side s).head.queue.messages
+  gone cells s (Called caller (Put prio control body) answer) = (put_at cells caller.side prio control body s).gone
   gone cells s (Called caller (Flush what band) answer) = (flushed_on band caller.side what s).gone
   gone cells s (Called caller Shut answer) = (closed_at caller.side s).gone
   gone cells s (Called caller asked answer) = []

@@ -28,6 +28,7 @@ pub mod Drivers
 pub mod Heads
 pub mod Puts
 pub mod FlushEffect
+pub mod PutEffect
 pub mod Calls
 pub mod Refused
 pub mod Journal

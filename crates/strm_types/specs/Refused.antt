@@ -6,7 +6,9 @@ use Rattle.strm_types.specs.declared.events.Caller.{Caller}
 use Rattle.strm_types.specs.declared.names.QueueName.{QueueName}
 use Rattle.strm_types.specs.declared.refusals.Refusal.{Refusal}
 use Rattle.strm_types.specs.declared.refusals.Refusal.TheVariants.{Einval, Eagain, Enxio, Enosr, Erange, JournalFull}
-use Rattle.strm_types.specs.declared.kinds.Band.{Band}
+use Rattle.strm_types.specs.declared.kinds.Band as bands
+use Rattle.strm_types.specs.declared.modes.Wanted.{Wanted}
+use Rattle.strm_types.specs.declared.modes.Wanted.TheVariants.{Any, High, Band}
 use Rattle.strm_types.specs.declared.names.Side.{Side}
 use Rattle.strm_types.specs.declared.names.Side.TheVariants.{Master, Slave}
 use Rattle.strm_types.specs.declared.names.ModuleName.{ModuleName}
@@ -17,8 +19,10 @@ use Rattle.strm_types.specs.Queue.{is_full}
 use Rattle.strm_types.specs.State.{State, stream}
 use Rattle.strm_types.specs.Write.{chunk_count}
 use Rattle.strm_types.specs.Reads.{read_refusal}
+use Rattle.strm_types.specs.Gets.{get_refusal}
+use Rattle.strm_types.specs.PutMsg.{put_blocks, put_refusal, put_waits}
 use Rattle.strm_types.specs.declared.limits.TheConstants.{BANDS, WRITE_BLOCKS, CHANGE_BLOCKS, CLOSE_BLOCKS}
-use Rattle.strm_types.specs.declared.events.Event.TheVariants.{OpenMaster, Unlock, OpenSlave, Shut, Push, Pop, Look, Flush, Write, Read}
+use Rattle.strm_types.specs.declared.events.Event.TheVariants.{OpenMaster, Unlock, OpenSlave, Shut, Push, Pop, Look, Flush, Write, Read, Put, Get}
 use Rattle.strm_types.specs.Books as books
 use Rattle.strm_types.specs.Calls.{Request, payload_of}
 use Rattle.strm_types.specs.Journal.{PlainEntry, content_max, room_used}
@@ -46,15 +50,17 @@ unless false refusal = Some refusal
 abbrev pub enough : ℕ → Free → Bool
 enough need free = nat_le need free.mblks && nat_le need free.dblks
 
--- how many blocks of each kind a call may take: a write one for each of its messages
+-- how many blocks of each kind a call may take: a write one for each of its messages, a putmsg one for each of its parts
 abbrev pub blocks_taken : Request → ℕ
 blocks_taken (Write bytes) = chunk_count (length bytes)
+blocks_taken (Put prio control body) = put_blocks control body
 blocks_taken _ = 0
 
--- how many blocks of each kind have to be free for a call: a write wants 32 more than it may take, a flush, a push and a
--- pop want 8, a close 2
+-- how many blocks of each kind have to be free for a call: a write and a putmsg want 32 more than they may take, a flush, a
+-- push and a pop want 8, a close 2
 abbrev pub blocks_asked : Request → ℕ
 blocks_asked (Write bytes) = WRITE_BLOCKS + chunk_count (length bytes)
+blocks_asked (Put prio control body) = WRITE_BLOCKS + put_blocks control body
 blocks_asked (Push name) = CHANGE_BLOCKS
 blocks_asked Pop = CHANGE_BLOCKS
 blocks_asked (Flush what band) = CHANGE_BLOCKS
@@ -72,9 +78,15 @@ is_known None = false
 is_known (Some name) = false
 
 -- a band, where one is named, is one of those that queues have
-abbrev pub is_a_band : Option Band → Bool
+abbrev pub is_a_band : Option bands.Band → Bool
 is_a_band None = true
 is_a_band (Some band) = nat_lt band.0 BANDS
+
+-- and so is a band that a get asks for
+abbrev pub asks_a_band : Wanted → Bool
+asks_a_band Any = true
+asks_a_band High = true
+asks_a_band (Band band) = nat_lt band.0 BANDS
 
 module _ {C : Type 0} where
   -- the stream of a side is open, and the other end isn't gone
@@ -109,6 +121,10 @@ module _ {C : Type 0} where
   refused_at_once s caller Pop = or_else (unless (goes_down caller.side s) Enxio) (unless (in_range s) Erange)
   refused_at_once s caller (Flush what band) =
       or_else (unless (goes_down caller.side s) Enxio) (or_else (unless (is_a_band band) Einval) (unless (in_range s) Erange))
+  refused_at_once s caller (Put prio control body) =
+      or_else (unless (goes_down caller.side s) Enxio) (or_else (put_refusal prio control body) (unless (in_range s) Erange))
+  refused_at_once s caller (Get wanted cmax dmax) =
+      or_else (unless (is_open (stream caller.side s).opened) Enxio) (unless (asks_a_band wanted) Einval)
   refused_at_once s caller _ = unless (is_open (stream caller.side s).opened) Enxio
 
   -- what a call is refused for after all else: what the state says
@@ -120,6 +136,8 @@ module _ {C : Type 0} where
   refused_by_state s caller (Read n) =
       let h = (stream caller.side s).head in
       read_refusal h.control_mode (at_end caller.side s) n h.queue.messages
+  refused_by_state s caller (Put prio control body) = unless (not (put_waits prio control body (stream caller.side s).driver.queue)) Eagain
+  refused_by_state s caller (Get wanted cmax dmax) = get_refusal wanted (at_end caller.side s) (stream caller.side s).head.queue.messages
   refused_by_state s caller Pop = Some Einval
   refused_by_state s caller Look = Some Einval
   refused_by_state s caller _ = None

@@ -13,6 +13,8 @@ use Rattle.strm_types.specs.declared.modes.ReadMode.{ReadMode}
 use Rattle.strm_types.specs.declared.modes.ReadMode.TheVariants.{ByteStream}
 use Rattle.strm_types.specs.declared.modes.ControlMode.{ControlMode}
 use Rattle.strm_types.specs.declared.modes.ControlMode.TheVariants.{Refuse}
+use Rattle.strm_types.specs.declared.modes.Mode.{Mode}
+use Rattle.strm_types.specs.declared.modes.Mode.TheVariants.{Read, Control}
 use Rattle.strm_types.specs.Books.{new_book}
 use Rattle.strm_types.specs.Queue.{Queue, IsOrdered, new_queue, map_queue}
 
@@ -88,6 +90,11 @@ module _ {C : Type 0} where
   abbrev pub with_book : Dir → Book → State C → State C
   with_book MasterToSlave new s = record s { from_master = new }
   with_book SlaveToMaster new s = record s { from_slave = new }
+
+  -- the head with one mode set, and the other one as it was
+  abbrev pub with_mode : Mode → Head C → Head C
+  with_mode (Read mode) h = record h { read_mode = mode }
+  with_mode (Control mode) h = record h { control_mode = mode }
 
   abbrev pub with_head_queue : Queue C → Stream C → Stream C
   with_head_queue q t = record t { head = record t.head { queue = q } }

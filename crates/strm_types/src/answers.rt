@@ -1,11 +1,19 @@
 //! What calls and turns answer.
 
-use crate::limits::READ_MAX;
+ghost use Rattle.std.specs.Prelude.{◌≡◌, ◌≤◌, length, option_map};
+ghost use Rattle.strm_types.specs.Calls.{map_answer};
+ghost use Rattle.strm_types.specs.Journal.{answer_len, part_in, part_len, reply_in};
+
+use crate::limits::{CONTENT_MAX, READ_MAX};
+use crate::modes::Prio;
 use crate::names::ModuleName;
 use arrayvec::ArrayVec;
 
-/// The bytes that one read gives.
+/// The bytes that one read gives, or one part of a getmsg(2).
 pub type ReadBytes = ArrayVec<u8, READ_MAX>;
+
+/// The bytes that one call gives: those of a read, or those of a control part and then those of a data part.
+pub type Content = ArrayVec<u8, CONTENT_MAX>;
 
 /// What a call answers that isn't refused, over what stands for its bytes: the bytes themselves, or how many they are
 /// (`Answer<usize>`), where they stand apart.
@@ -19,6 +27,60 @@ pub enum Answer<T> {
     Count(usize),
     /// The bytes that a read gives.
     Bytes(T),
+    /// The message that a getmsg(2) gives, or the front of it: its control part and its data part, and whether there is more
+    /// of each (MORECTL, MOREDATA). At the end of input both are absent, and the band is 0.
+    Msg {
+        prio: Prio,
+        control: Option<T>,
+        body: Option<T>,
+        more_control: bool,
+        more_data: bool,
+    },
+    /// How many bytes of data the first message has, and how many messages there are.
+    Sizes {
+        first: usize,
+        messages: usize,
+    },
+}
+
+// A part over its bytes, which stand in front of others.
+fn part_over<'a>(stored: Option<usize>, bytes: &'a [u8]) -> Option<&'a [u8]>
+    requires { part_len stored ≤ length bytes.now }
+    ensures { option_map (λ lent. lent.now) result ≡ part_in stored bytes.now }
+{
+    match stored {
+        Some(len) => Some(&bytes[..len]),
+        None => None,
+    }
+}
+
+impl Answer<usize> {
+    /// The answer over its bytes, which stand in front of others, those of a control part first.
+    pub fn over<'a>(&self, bytes: &'a [u8]) -> Answer<&'a [u8]>
+        requires { answer_len self.now ≤ length bytes.now }
+        ensures { map_answer (λ lent. lent.now) result ≡ reply_in self.now bytes.now }
+    {
+        match *self {
+            Answer::Done => Answer::Done,
+            Answer::Name(name) => Answer::Name(name),
+            Answer::Count(n) => Answer::Count(n),
+            Answer::Bytes(len) => Answer::Bytes(&bytes[..len]),
+            Answer::Msg {
+                prio,
+                control,
+                body,
+                more_control,
+                more_data,
+            } => Answer::Msg {
+                prio,
+                control: part_over(control, bytes),
+                body: part_over(body, &bytes[control.unwrap_or(0)..]),
+                more_control,
+                more_data,
+            },
+            Answer::Sizes { first, messages } => Answer::Sizes { first, messages },
+        }
+    }
 }
 
 /// What a turn of a queue's service procedure answers.

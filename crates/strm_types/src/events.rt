@@ -1,10 +1,12 @@
 //! The calls on a pair.
 
-ghost use Rattle.std.specs.Prelude.{◌≡◌};
+ghost use Rattle.std.specs.Prelude.{◌≡◌, ◌++◌, option_map};
 ghost use Rattle.strm_types.specs.Calls.{request, payload_of, map_event};
 ghost use Rattle.std.specs.Prelude.{length};
+ghost use Rattle.strm_types.specs.Message.{part};
 
 use crate::kinds::Band;
+use crate::modes::{Mode, Prio, Wanted};
 use crate::names::{ModuleName, Side};
 
 /// Who makes a call: the side whose stream the call is on.
@@ -56,18 +58,73 @@ pub enum Event<T> {
     Read {
         n: u32,
     },
+    /// Sends a message down the caller's stream: `putmsg(2)`, `putpmsg(2)`. Its control part has at most 64 bytes and its
+    /// data part at most 256, else ERANGE. High priority without a control part, and a band above 7, are EINVAL. Without
+    /// either part nothing is sent.
+    Put {
+        prio: Prio,
+        control: Option<T>,
+        body: Option<T>,
+    },
+    /// Takes the first message from the caller's stream head, or at most so many bytes of its control part and of its data
+    /// part: `getmsg(2)`, `getpmsg(2)`. More than 4096 counts as 4096. Where the first message isn't the wanted one the call
+    /// is EAGAIN; a band above 7 is EINVAL.
+    Get {
+        wanted: Wanted,
+        cmax: u32,
+        dmax: u32,
+    },
+    /// Sets one mode of the caller's stream head: `I_SRDOPT` of `streamio(7I)`.
+    Mode {
+        mode: Mode,
+    },
+    /// Asks how many messages the caller's stream head has, and how many bytes of data the first one: `I_NREAD` of
+    /// `streamio(7I)`.
+    Nread,
+}
+
+// The bytes of a part, none where it is absent.
+fn part_bytes<'a>(lent: Option<&'a [u8]>) -> &'a [u8]
+    ensures { result.now ≡ part (option_map (λ bytes. bytes.now) lent.entry) }
+{
+    match lent {
+        Some(bytes) => bytes,
+        None => &[],
+    }
+}
+
+// How many bytes a part has, where it is there.
+fn part_len(lent: Option<&[u8]>) -> Option<usize>
+    ensures { result ≡ option_map (λ bytes. length bytes.now) lent.entry }
+{
+    match lent {
+        Some(bytes) => Some(bytes.len()),
+        None => None,
+    }
+}
+
+// A part over its bytes where they stand.
+fn lend_part(owned: &Option<Vec<u8>>) -> Option<&[u8]>
+    ensures { option_map (λ bytes. bytes.now) result ≡ option_map (λ bytes. bytes.items) owned.now }
+{
+    match owned {
+        Some(bytes) => Some(bytes.as_slice()),
+        None => None,
+    }
 }
 
 impl<'a> Event<&'a [u8]> {
-    /// The bytes of a call.
-    pub fn payload(&self) -> &'a [u8]
-        ensures { result.now ≡ payload_of (request self.now) }
+    /// The bytes of a call: those that are written, or those of a control part and then those of a data part.
+    pub fn payload(&self) -> (&'a [u8], &'a [u8])
+        ensures { result.0.now ++ result.1.now ≡ payload_of (request self.now) }
     {
         match self {
-            Event::Write { bytes } => bytes,
-            Event::OpenMaster | Event::Unlock | Event::OpenSlave | Event::Shut => &[],
-            Event::Push { .. } | Event::Pop | Event::Look => &[],
-            Event::Flush { .. } | Event::Read { .. } => &[],
+            Event::Write { bytes } => (bytes, &[]),
+            Event::Put { control, body, .. } => (part_bytes(*control), part_bytes(*body)),
+            Event::OpenMaster | Event::Unlock | Event::OpenSlave | Event::Shut => (&[], &[]),
+            Event::Push { .. } | Event::Pop | Event::Look => (&[], &[]),
+            Event::Flush { .. } | Event::Read { .. } => (&[], &[]),
+            Event::Get { .. } | Event::Mode { .. } | Event::Nread => (&[], &[]),
         }
     }
 
@@ -89,6 +146,22 @@ impl<'a> Event<&'a [u8]> {
             },
             Event::Write { bytes } => Event::Write { bytes: bytes.len() },
             Event::Read { n } => Event::Read { n: *n },
+            Event::Put {
+                prio,
+                control,
+                body,
+            } => Event::Put {
+                prio: *prio,
+                control: part_len(*control),
+                body: part_len(*body),
+            },
+            Event::Get { wanted, cmax, dmax } => Event::Get {
+                wanted: *wanted,
+                cmax: *cmax,
+                dmax: *dmax,
+            },
+            Event::Mode { mode } => Event::Mode { mode: *mode },
+            Event::Nread => Event::Nread,
         }
     }
 }
@@ -114,6 +187,22 @@ impl Event<Vec<u8>> {
                 bytes: bytes.as_slice(),
             },
             Event::Read { n } => Event::Read { n: *n },
+            Event::Put {
+                prio,
+                control,
+                body,
+            } => Event::Put {
+                prio: *prio,
+                control: lend_part(control),
+                body: lend_part(body),
+            },
+            Event::Get { wanted, cmax, dmax } => Event::Get {
+                wanted: *wanted,
+                cmax: *cmax,
+                dmax: *dmax,
+            },
+            Event::Mode { mode } => Event::Mode { mode: *mode },
+            Event::Nread => Event::Nread,
         }
     }
 }

@@ -1,23 +1,26 @@
 //! What follows from the definitions of `specs/`, in the words of the manual pages. Each law is the contract of a function
 //! that does nothing. A law over all kinds of cells holds of bytes and of bytes with their origin alike.
 
-ghost use Rattle.std.specs.Prelude.{◌≡◌, ℕ, ◌+◌, ◌≤◌, ◌<◌, ◌==◌, List, [], ◌∷◌, ◌++◌, Some, if◌then◌else◌, count_by, Bool};
+ghost use Rattle.std.specs.Prelude.{◌≡◌, ℕ, ◌+◌, ◌≤◌, ◌<◌, ◌==◌, List, [], ◌∷◌, ◌++◌, length, Some, if◌then◌else◌, count_by, Bool};
 ghost use Rattle.std.specs.List.{AllByRecursion};
 ghost use Rattle.strm_types.specs.Message.{Message, rank_of, weight_of, map_message};
 ghost use Rattle.strm_types.specs.Queue.{lane, lanes_down, IsOrdered, put, put_back, put_all, take_first, count_of, bytes_of, weight, map_messages};
+ghost use Rattle.strm_types.specs.declared.answers.Answer.{Answer};
 ghost use Rattle.strm_types.specs.declared.answers.Turn.{Turn};
+ghost use Rattle.strm_types.specs.declared.entries.Entry.TheVariants.{Called};
 ghost use Rattle.strm_types.specs.declared.events.Caller.{Caller};
+ghost use Rattle.strm_types.specs.declared.limits.TheConstants.{CONTENT_MAX};
 ghost use Rattle.strm_types.specs.declared.names.QueueName.{QueueName};
 ghost use Rattle.strm_types.specs.State.{State, map_state, opening};
 ghost use Rattle.strm_types.specs.Kept.{NothingUnread, state_weight, came, gone};
 ghost use Rattle.strm_types.specs.Cells.{Cells, AreCells, plain};
-ghost use Rattle.strm_types.specs.Calls.{Request, called, map_outcome};
+ghost use Rattle.strm_types.specs.Calls.{Request, Reply, called, map_outcome, map_event, map_answer, payload_of, content_of};
 ghost use Rattle.strm_types.specs.Turns.{turned, map_turn_outcome};
 ghost use Rattle.strm_types.specs.declared.spots.Spot.{Spot};
 ghost use Rattle.strm_types.specs.Deliver.{Parcel, Took, Falls, carried};
 ghost use Rattle.strm_types.specs.Places.{PutKeeps, CarryKeeps, weight_gone};
 ghost use Rattle.strm_types.specs.Origins.{PutsAgree, CarriesAgree};
-ghost use Rattle.strm_types.specs.Journal.{PlainEntry};
+ghost use Rattle.strm_types.specs.Journal.{PlainEntry, content_max, event_len, answer_len, request_in, reply_in, entry_in};
 ghost use Rattle.strm_types.specs.Step.{Step, replay};
 
 /// putq(9F): in an ordered queue the lane of the message's rank has it at its end, no other lane changes, and the queue
@@ -66,6 +69,25 @@ pub fn count_is_that_of_its_lanes<C>()
         count_of band q ≡ bytes_of (lane band q) }
 {}
 
+/// Of a call and its answer a journal stores the shape, and their bytes beside it. Both read back from where the bytes stand,
+/// those of the call first, whatever stands behind; and the shapes tell how many bytes there are.
+pub fn entries_read_back()
+    ensures call { (asked : Request) (more : List ℕ) → request_in (map_event (λ bytes. length bytes) asked) (payload_of asked ++ more) ≡ asked }
+    ensures call_size { (asked : Request) → event_len (map_event (λ bytes. length bytes) asked) ≡ length (payload_of asked) }
+    ensures answer { (reply : Reply) (more : List ℕ) → reply_in (map_answer (λ bytes. length bytes) reply) (content_of reply ++ more) ≡ reply }
+    ensures answer_size { (reply : Reply) → answer_len (map_answer (λ bytes. length bytes) reply) ≡ length (content_of reply) }
+    ensures entry { (caller : Caller) (asked : Request) (told : Answer ℕ) (content : List ℕ) →
+        entry_in (Called caller (map_event (λ bytes. length bytes) asked) told) (payload_of asked ++ content)
+        ≡ Called caller asked (reply_in told content) }
+{}
+
+/// No answer has more bytes than the journal is asked to have room for, nor more than one buffer of answers takes.
+pub fn answers_fit<C>()
+    ensures content { (cells : Cells C) (caller : Caller) (asked : Request) (s : State C) →
+        length (content_of (called cells caller asked s).answer) ≤ content_max asked }
+    ensures buffer { (asked : Request) → content_max asked ≤ CONTENT_MAX }
+{}
+
 /// A longer journal goes on from where the shorter one leads.
 pub fn replay_goes_on<C>()
     ensures { (cells : Cells C) (s : State C) (es fs : List PlainEntry) →
@@ -82,9 +104,9 @@ pub fn forgetting_commutes<C, D>()
         take_first (map_messages f q) ≡ Some (map_message f m, map_messages f rest) }
 {}
 
-/// Whatever stands for bytes, a call (open(2), unlockpt(3C), write(2), read(2)) and a turn of a service procedure
-/// (STREAMS Programming Guide, "Service Procedures") answer and do the same as on plain bytes, and let the same bytes go by
-/// the same rules on the way; and so do all entries of a journal.
+/// Whatever stands for bytes, a call (open(2), unlockpt(3C), write(2), read(2), putmsg(2), getmsg(2)) and a turn of a service
+/// procedure (STREAMS Programming Guide, "Service Procedures") answer and do the same as on plain bytes, and let the same
+/// bytes go by the same rules on the way; and so do all entries of a journal.
 pub fn steps_forget_origins<C>()
     ensures call { (cells : Cells C) (caller : Caller) (asked : Request) (s : State C) → AreCells cells →
         called plain caller asked (map_state cells.byte s) ≡ map_outcome cells.byte (called cells caller asked s) }
@@ -95,8 +117,8 @@ pub fn steps_forget_origins<C>()
 {}
 
 /// Nothing is lost or made: whatever test on bytes is chosen, as 'is this very byte', what stands on a pair's queues
-/// behind a call or a turn, and what has gone by a rule, as what a read(2) gave, is what stood there before, and what
-/// a write(2) took. A head that is opened is as new, so this wants that a side that isn't open has nothing for its
+/// behind a call or a turn, and what has gone by a rule, as what a read(2) or getmsg(2) gave, is what stood there before,
+/// and what a write(2) took or a putmsg(2) sent. A head that is opened is as new, so this wants that a side that isn't open has nothing for its
 /// readers, as it is in a new pair and behind each step. On a queue a put adds what the message has, and a take takes
 /// it away.
 pub fn bytes_are_kept<C>()

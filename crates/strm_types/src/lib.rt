@@ -22,7 +22,7 @@ mod refusals;
 mod rules;
 mod spots;
 
-pub use answers::{Answer, ReadBytes, Turn};
+pub use answers::{Answer, Content, ReadBytes, Turn};
 pub use books::{BOOK_MAX, Book};
 pub use entries::Entry;
 pub use events::{Caller, Event, FlushQueues};
@@ -30,7 +30,7 @@ pub use flushing::FlushAsked;
 pub use ioctls::Ioc;
 pub use kinds::{Band, MsgKind};
 pub use limits::{
-    BANDS, BLOCK_SIZE, CHANGE_BLOCKS, CLOSE_BLOCKS, CONTROL_MAX, Config, DATA_MAX,
+    BANDS, BLOCK_SIZE, CHANGE_BLOCKS, CLOSE_BLOCKS, CONTENT_MAX, CONTROL_MAX, Config, DATA_MAX,
     HIGH_PRIORITY_RANK, HOPS, LISTS, MODULES, READ_MAX, TURN_BLOCKS, WRITE_BLOCKS, chunk_count,
 };
 pub use modes::{ControlMode, Mode, Prio, ReadMode, Wanted};

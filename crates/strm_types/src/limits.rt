@@ -21,8 +21,11 @@ pub const MODULES: usize = 3;
 /// How often a message is handed on at most, with all that it gives rise to.
 pub const HOPS: usize = 16;
 
-/// The most bytes that one read gives.
+/// The most bytes that one read gives, or one part of a getmsg(2).
 pub const READ_MAX: usize = 4096;
+
+/// The most bytes that one call gives: both parts of a getmsg(2).
+pub const CONTENT_MAX: usize = 8192;
 
 /// The most bytes of the control part and of the data part that one putmsg(2) sends.
 pub const CONTROL_MAX: usize = 64;

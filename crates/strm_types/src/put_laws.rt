@@ -2,14 +2,18 @@
 //! drivers, and at places where nothing stands. Each law is the contract of a function that does nothing, and holds of bytes and
 //! of bytes with their origin alike.
 
-ghost use Rattle.std.specs.Prelude.{◌≡◌, ◌<◌, ◌≤◌, Bool};
+ghost use Rattle.std.specs.Prelude.{◌≡◌, ◌<◌, ◌≤◌, Bool, true, false};
 ghost use Rattle.strm_types.specs.declared.limits.TheConstants.{HOPS};
+ghost use Rattle.strm_types.specs.declared.names.Side.{Side};
+ghost use Rattle.strm_types.specs.declared.names.Way.TheVariants.{Down};
 ghost use Rattle.strm_types.specs.declared.spots.Spot.{Spot};
 ghost use Rattle.strm_types.specs.Deliver.{Falls};
 ghost use Rattle.strm_types.specs.Kept.{NothingUnread, state_weight};
-ghost use Rattle.strm_types.specs.Message.{Message};
+ghost use Rattle.strm_types.specs.Message.{Message, has_parts};
+ghost use Rattle.strm_types.specs.Names.{is_closed};
 ghost use Rattle.strm_types.specs.Origins.{PutsAgree};
 ghost use Rattle.strm_types.specs.Places.{PutKeeps};
+ghost use Rattle.strm_types.specs.PutEffect.{put_effect};
 ghost use Rattle.strm_types.specs.Puts.{SameEnds, delivered, far, put_in};
 ghost use Rattle.strm_types.specs.State.{State, map_state};
 
@@ -35,4 +39,12 @@ pub fn puts_forget_origins<C, D>()
 pub fn deliveries_leave_the_ends<C>()
     ensures same { (to : Spot) (m : Message C) (s : State C) → SameEnds s (delivered to m s).state }
     ensures unread { (to : Spot) (m : Message C) (s : State C) → NothingUnread s → NothingUnread (delivered to m s).state }
+{}
+
+/// Where no module stands on a stream, a message with parts that goes down from its head, as that of a putmsg(2), is put on the
+/// driver's queue, which is enabled as putq(9F) has it. Nothing else changes and nothing goes. Its premise is that the master
+/// isn't closed, as then nothing crosses any more.
+pub fn puts_stand_at_the_driver<C>()
+    ensures { (side : Side) (m : Message C) (s : State C) → has_parts m ≡ true → is_closed s.master.opened ≡ false →
+        delivered (record { side = side; at = 1; way = Down }) m s ≡ put_effect side m s }
 {}

@@ -9,7 +9,7 @@ use std::alloc::Global;
 use std::process::Abort;
 use std::test::Fail;
 use strm_blocks::{Blocks, TableStore};
-use strm_types::{Band, Dir, Fates, Prio, ReadBytes, Refusal, Wanted};
+use strm_types::{Band, Content, Dir, Fates, Prio, Refusal, Wanted};
 
 // The priority and the parts of a message.
 type Sent<'a> = (Prio, Option<&'a [u8]>, Option<&'a [u8]>);
@@ -44,8 +44,8 @@ fn gives<B: Blocks>(
     requires body { asked.2 ≤ 4096 }
     ensures { IsHeadQueue (B.value store.new) head.new.queue }
 {
-    let mut control = ReadBytes::new();
-    let mut body = ReadBytes::new();
+    let mut control = Content::new();
+    let mut body = Content::new();
     let mut fates = Fates::none();
     let got = getmsg(
         store,
