@@ -306,7 +306,7 @@ fn reads_parts(
     comes(&mut store, &mut head, (MsgKind::Data, b"ef"), &mut fates);
     head.set_read_mode(modes.0);
     head.set_control_mode(modes.1);
-    let mut out = ReadBytes::new();
+    let mut out = Content::new();
     head.read(&mut store, n, &mut out, Dir::MasterToSlave, &mut fates);
     assert_eq!(rt; out.as_slice(), wanted.0);
     assert_eq!(rt; fates.from_master[0], wanted.0.len() as u64);

@@ -12,4 +12,3 @@ pub mod JournalLemmas
 mod PlainWrites
 mod Refusing
 mod Fresh
-pub mod Reaching

@@ -1,8 +1,7 @@
 -- The first message of a queue, taken off it.
 use Rattle.std.proofs.Common.{ℕ, ◌≡◌, ◌<◌, false, List, [], ◌∷◌, length, map, refl, sym, ap, subst, ◌∙◌, arith}
 use Rattle.std.specs.Prelude.{sum_by, Option, None, Some, MatchOption}
-use Rattle.strm_types.specs.Queue as plain
-use Rattle.strm_blocks.specs.Blocks.{Block, StoreValue, list_at, in_hand, held, placed, names_of, total}
+use Rattle.strm_blocks.specs.Blocks.{Block, StoreValue, list_at, in_hand, names_of, total}
 use Rattle.strm_blocks.specs.Outcomes.{Popped, Unpopped}
 use Rattle.strm_blocks.proofs.Laws.{total-placed, total-held, used-is, references-is, free_m-is, free_d-more}
 use Rattle.std.proofs.lemmas.List.Sums.{sum_by-cons}
@@ -10,9 +9,9 @@ use Rattle.strm_msg.specs.Messages.{message_of, IsChain, AreMessages}
 use Rattle.strm_queue.specs.declared.queue.Queue.{Queue}
 use Rattle.strm_queue.specs.Flows.{plain_flows}
 use Rattle.strm_queue.specs.Kept.{AreCounted}
-use Rattle.strm_queue.specs.Stored.{queue_in, messages_on, Holds, IsReady, FreesBlocks, Dequeued}
+use Rattle.strm_queue.specs.Stored.{messages_on, Holds, IsReady, FreesBlocks, Dequeued}
 use Rattle.strm_queue.proofs.Holding.{first-chain, rest-messages, rest-holds}
-use Rattle.strm_queue.proofs.Gotten.{left, off, chain-is, before, behind}
+use Rattle.strm_queue.proofs.Gotten.{left, off, chain-is, before}
 
 pub unpopped : (s t : StoreValue) (k : ℕ) → Unpopped s t k → messages_on s k ≡ []
 unpopped s t k u = ap (map message_of) u.none

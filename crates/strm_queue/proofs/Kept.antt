@@ -5,17 +5,16 @@ use Rattle.strm_blocks.specs.Blocks.{StoreValue, list_at}
 use Rattle.strm_msg.specs.Messages.{AreMessages}
 use Rattle.strm_queue.specs.declared.queue.Queue.{Queue}
 use Rattle.strm_queue.specs.Kept.{AreCounted}
-use Rattle.strm_queue.specs.Stored.{Holds, HoldsData, IsReady, IsHeadQueue, Keeps, SameFlags}
+use Rattle.strm_queue.specs.Stored.{Holds, IsReady, IsHeadQueue, Keeps, SameFlags}
 use Rattle.strm_queue.proofs.Holding.{data-readable}
 
 pub keeps-none : (s : StoreValue) (q : Queue) → IsReady s q → Keeps s s q q
-keeps-none s q ready = record { ready = ready; holds = λ test passes h. h; data_only = λ h. h; list = refl; others = λ k apart. refl; hand = refl; mblks = refl; dblks = refl }
+keeps-none s q ready = record { ready = ready; holds = λ test passes h. h; list = refl; others = λ k apart. refl; hand = refl; mblks = refl; dblks = refl }
 
 pub keeps-both : (s t u : StoreValue) (q p r : Queue) → Keeps s t q p → Keeps t u p r → Keeps s u q r
 keeps-both s t u q p r first second = record {
   ready = second.ready;
   holds = λ test passes h. second.holds test passes (first.holds test passes h);
-  data_only = λ h. second.data_only (first.data_only h);
   list = second.list ∙ first.list;
   others = λ k apart. second.others k (λ e. apart (e ∙ first.list)) ∙ first.others k apart;
   hand = second.hand ∙ first.hand;
@@ -31,7 +30,6 @@ keeps-counted s t q p r keeps list counted = record {
     counted = subst (λ k. AreCounted r.flows (list_at t k)) (sym list) counted;
   };
   holds = λ test passes h. subst (λ k. Holds test (list_at t k)) (sym list) (keeps.holds test passes h);
-  data_only = λ h. subst (λ k. HoldsData (list_at t k)) (sym list) (keeps.data_only h);
   list = list ∙ keeps.list;
   others = keeps.others;
   hand = keeps.hand;
@@ -44,7 +42,6 @@ pub keeps-from : (s t : StoreValue) (q p r : Queue) → p.list ≡ q.list → Ke
 keeps-from s t q p r list keeps = record {
   ready = keeps.ready;
   holds = λ test passes h. keeps.holds test passes (subst (λ k. Holds test (list_at s k)) (sym list) h);
-  data_only = λ h. keeps.data_only (subst (λ k. HoldsData (list_at s k)) (sym list) h);
   list = keeps.list ∙ list;
   others = λ k apart. keeps.others k (λ e. apart (e ∙ list));
   hand = keeps.hand;

@@ -9,7 +9,6 @@ pub mod Chains
 pub mod FlowControl
 pub mod Placed
 pub mod Holding
-pub mod Unheld
 pub mod Gotten
 pub mod Leaving
 pub mod Sizes

@@ -9,7 +9,7 @@ use Rattle.strm_blocks.proofs.Laws.{dropped-held, in_hand-held, total-placed, to
 use Rattle.strm_msg.specs.Messages.{AreMessages}
 use Rattle.strm_queue.specs.declared.queue.Queue.{Queue}
 use Rattle.strm_queue.specs.Kept.{AreCounted}
-use Rattle.strm_queue.specs.Stored.{Holds, is_m_data, HoldsData, IsReady, Keeps}
+use Rattle.strm_queue.specs.Stored.{Holds, IsReady, Keeps}
 
 -- one list of a store is this one now, and nothing else changed
 pub record Landed (s new : StoreValue) (k : ℕ) (list : List (List Block)) : Type 0 where
@@ -44,7 +44,6 @@ keeps-landed s new q q' list l messages holds same counted =
     record {
       ready = record { messages = subst AreMessages is messages; counted = counted };
       holds = λ test passes h. subst (Holds test) is (holds test passes h);
-      data_only = λ h. subst HoldsData is (holds is_m_data refl h);
       list = same;
       others = l.others;
       hand = l.hand;
