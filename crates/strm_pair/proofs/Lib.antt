@@ -4,6 +4,9 @@ pub mod PutsCost
 pub mod PutSteps
 pub mod TurnSteps
 pub mod ReadSteps
+pub mod GetSteps
+pub mod PutBooks
+pub mod Bands
 pub mod FreeBlocks
 pub mod Steps
 pub mod Shown
