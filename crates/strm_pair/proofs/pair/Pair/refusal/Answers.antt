@@ -1,33 +1,53 @@
-use Rattle.std.proofs.Common.{rules, ◌≡◌, ◌≤◌, ◌<◌, [], length, replicate, MatchResult, MatchOption, IsOk, Err, IfOk, slice_get, ℕ, ◌+◌, ◌-◌, ◌*◌, ◌/◌, ◌%◌, Bool, true, false, nat_eq, nat_lt, List, ◌∷◌, ◌++◌, slice_index_or, slice_set, bit_and, bit_or, Fits, w8, w32, w64, Bor, MutBor}
-use Rattle.strm_types.specs.Calls.{request, map_answer}
-use Rattle.strm_types.specs.Cells.{plain}
-use Rattle.strm_types.specs.declared.entries.Entry.TheVariants.{Called, Turned}
-use Rattle.strm_types.specs.Pair.{new_pair, call_refused, queue_refused, AddsEntry}
-use Rattle.strm_types.specs.Journal.{entries_in, reply_in, answer_len}
-use Rattle.strm_types.specs.Refused.{enough, has_room}
-use Rattle.strm_types.specs.Step.{replay, IsLegal}
-use Rattle.strm_types.specs.Kept.{told_by}
-use Rattle.strm_types.specs.Rules.{no_fates}
-use Rattle.strm_types.specs.Queue.{bytes_of}
-use Rattle.strm_types.specs.State.{AreOrdered, messages_in}
-use Rattle.strm_pair.specs.Shows.{Shows, count_at, full_at, messages_at}
-use Rattle.strm_pair.specs.Parts.{longest_part}
-use Rattle.strm_pair.specs.Pool.{IsPoolOf}
-use Rattle.strm_pair.specs.PairViews.{sizes_over}
+-- The first reason that holds is the one that is told.
+use Rattle.std.proofs.Common.{◌≡◌, ◌+◌, ◌<◌, Fits, w64, true, false, length, length-append, rules, sym, ap, ◌∙◌, arith}
+use Rattle.std.specs.Prelude.{None}
+use Rattle.strm_types.specs.Calls.{payload_of, request}
+use Rattle.strm_types.specs.Journal.{content_max}
+use Rattle.strm_types.specs.Pair.{PairState}
+use Rattle.strm_types.specs.Refused.{enough, refused_at_once, refused_by_state}
+use Rattle.strm_pair.proofs.Refusing.{room-small, full-told, few-told, state-told}
 use Rattle.strm_pair.proofs.pair.Pair.refusal.Goals as goal
 
--- src/pair.rt:190:27
 pub overflow_add-first-2 : goal.overflow_add-first-2
-overflow_add-first-2 g c = ?
+overflow_add-first-2 g c =
+    let r = c.payload.result in
+    let both : Fits w64 (length r.0.now + length r.1.now) = search rules steps 100000 in
+    let is : length r.0.now + length r.1.now ≡ length (payload_of (request c.args.event.now)) = omega (arith, ap length c.payload.ensures, length-append r.0.now r.1.now) in
+    let all = room-small (request c.args.event.now) (length r.0.now + length r.1.now) is (omega (arith, both)) in
+    omega (arith, all, c.content_most.ensures.value)
 
--- src/pair.rt:191:13
 pub returns-then-not-has_room : goal.returns-then-not-has_room
-returns-then-not-has_room g c = ?
+returns-then-not-has_room g c =
+    let v = c.args.self.now in
+    let asked = request c.args.event.now in
+    let r = c.payload.result in
+    let at_once : refused_at_once v.state c.args.caller asked ≡ None =
+    ap (λ (x : PairState). refused_at_once x.state c.args.caller asked) (sym c.self.view_is) ∙ sym (c.refused_at_once.ensures (g.B.Blocks.value c.self.inside.store)) ∙ c.in_default.is in
+    let n = length r.0.now + length r.1.now + c.content_most.result in
+    let n_is : n ≡ length (payload_of asked) + content_max asked = omega (arith, ap length c.payload.ensures, length-append r.0.now r.1.now, c.content_most.ensures.value) in
+    full-told v c.args.caller asked at_once n n_is (sym c.has_room.ensures ∙ c.if-not-has_room.true)
 
--- src/pair.rt:194:13
 pub returns-then-not-has_blocks : goal.returns-then-not-has_blocks
-returns-then-not-has_blocks g c = ?
+returns-then-not-has_blocks g c =
+    let v = c.args.self.now in
+    let asked = request c.args.event.now in
+    let r = c.payload.result in
+    let at_once : refused_at_once v.state c.args.caller asked ≡ None =
+    ap (λ (x : PairState). refused_at_once x.state c.args.caller asked) (sym c.self.view_is) ∙ sym (c.refused_at_once.ensures (g.B.Blocks.value c.self.inside.store)) ∙ c.in_default.is in
+    let n = length r.0.now + length r.1.now + c.content_most.result in
+    let n_is : n ≡ length (payload_of asked) + content_max asked = omega (arith, ap length c.payload.ensures, length-append r.0.now r.1.now, c.content_most.ensures.value) in
+    few-told v c.args.caller asked at_once n n_is (sym c.has_room.ensures ∙ c.if-not-has_room.false)
+    (ap (λ k. enough k v.free) (sym c.blocks_asked.ensures) ∙ sym c.has_blocks.ensures ∙ c.if-not-has_blocks.true)
 
--- src/pair.rt:183:5
 pub returns : goal.returns
-returns g c = ?
+returns g c =
+    let v = c.args.self.now in
+    let asked = request c.args.event.now in
+    let r = c.payload.result in
+    let at_once : refused_at_once v.state c.args.caller asked ≡ None =
+    ap (λ (x : PairState). refused_at_once x.state c.args.caller asked) (sym c.self.view_is) ∙ sym (c.refused_at_once.ensures (g.B.Blocks.value c.self.inside.store)) ∙ c.in_default.is in
+    let n = length r.0.now + length r.1.now + c.content_most.result in
+    let n_is : n ≡ length (payload_of asked) + content_max asked = omega (arith, ap length c.payload.ensures, length-append r.0.now r.1.now, c.content_most.ensures.value) in
+    c.refused_by_state.ensures ∙ ap (λ (x : PairState). refused_by_state x.state c.args.caller asked) c.self.view_is
+    ∙ state-told v c.args.caller asked at_once n n_is (sym c.has_room.ensures ∙ c.if-not-has_room.false)
+    (ap (λ k. enough k v.free) (sym c.blocks_asked.ensures) ∙ sym c.has_blocks.ensures ∙ c.if-not-has_blocks.false)
