@@ -1,21 +1,16 @@
 -- A turn of a driver, step by step.
-use Rattle.std.proofs.Common.{ℕ, ◌≡◌, ◌≤◌, Bool, true, false, cond, List, [], ◌∷◌, map, refl, sym, ap, subst, ◌∙◌, arith}
-use Rattle.std.specs.Prelude.{not, ◌&&◌, ◌==◌, Option, None, Some, MatchOption}
-use Rattle.strm_types.specs.declared.answers.Turn.{Turn}
-use Rattle.strm_types.specs.declared.answers.Turn.TheVariants.{Moved, Blocked, Idle}
-use Rattle.strm_types.specs.declared.limits.TheConstants.{HOPS}
+use Rattle.std.proofs.Common.{ℕ, ◌≡◌, Bool, true, false, cond, List, [], ◌∷◌, map, refl, sym, ap, ◌∙◌}
+use Rattle.std.specs.Prelude.{not, ◌&&◌, Option, None, Some, MatchOption}
+use Rattle.strm_types.specs.declared.answers.Turn.TheVariants.{Blocked}
 use Rattle.strm_types.specs.declared.names.QueueName.{QueueName}
 use Rattle.strm_types.specs.declared.names.Side.{Side}
 use Rattle.strm_types.specs.declared.names.Side.TheVariants.{Master, Slave}
-use Rattle.strm_types.specs.declared.rules.Fates.{Fates}
-use Rattle.strm_types.specs.Deliver.{Carried, tallied, carried}
-use Rattle.strm_types.specs.Message.{Message, size_of, band_of, is_held}
+use Rattle.strm_types.specs.Message.{Message, band_of, is_held}
 use Rattle.strm_types.specs.Names.{other, driver_of, before, is_open, enable_if, enable_found, enable_some}
-use Rattle.strm_types.specs.Puts.{put_in, delivered}
 use Rattle.strm_types.specs.Queue as plain
 use Rattle.strm_types.specs.Queue.{is_full, is_none_left, left_with, relieved, relieves, with_writer_at}
-use Rattle.strm_types.specs.State.{State, stream, with_stream, with_driver_queue, with_head_queue}
-use Rattle.strm_types.specs.Turns.{TurnOutcome, up_across, is_stopped, held_back, turned_queue, turn_ended, with_driver, moved_across, stayed_put, driver_serves, driver_turned}
+use Rattle.strm_types.specs.State.{State, stream}
+use Rattle.strm_types.specs.Turns.{is_stopped, held_back, turn_ended, with_driver, moved_across, stayed_put, driver_serves, driver_turned}
 use Rattle.strm_blocks.specs.Blocks.{StoreValue, block_at}
 use Rattle.strm_blocks.specs.Outcomes.{PeekedFirst}
 use Rattle.strm_blocks.specs.declared.asked.Peek.{Peek}
@@ -27,8 +22,7 @@ use Rattle.strm_pty.specs.Does.{OnlyQueue}
 use Rattle.strm_pair.specs.declared.ends.End.{End}
 use Rattle.strm_pair.specs.declared.streams.Streams.{Streams}
 use Rattle.strm_pair.specs.Pairs.{state_in, end_at, with_end, AreBeside}
-use Rattle.strm_pair.specs.Streams.{stream_in}
-use Rattle.strm_pair.specs.Took.{settled, settling_relieves, TookFirst, MovesAcross, waits_at_head}
+use Rattle.strm_pair.specs.Took.{settled, settling_relieves, TookFirst, waits_at_head}
 use Rattle.strm_pair.proofs.Sides.{driver-changed, driver-state, driver-is, head-is}
 use Rattle.strm_pair.proofs.Peeked.{seen-before}
 

@@ -1,6 +1,6 @@
 -- How many blocks of each kind a delivery takes at most: a driver makes two messages at most of an M_FLUSH, and one of what
 -- was sent across; a head makes one of an M_FLUSH that goes down again.
-use Rattle.std.specs.Prelude.{ℕ, suc, Bool, true, false, ◌&&◌, ◌==◌, if◌then◌else◌}
+use Rattle.std.specs.Prelude.{ℕ, suc, Bool, ◌&&◌, ◌==◌, if◌then◌else◌}
 use Rattle.strm_types.specs.declared.limits.TheConstants.{MODULES}
 use Rattle.strm_types.specs.declared.names.Way.{Way}
 use Rattle.strm_types.specs.declared.names.Way.TheVariants.{Up, Down}

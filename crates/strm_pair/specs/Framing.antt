@@ -1,11 +1,9 @@
 -- The streams stand for the same, and fit, where the lists of the store are the same.
 use Rattle.std.specs.Prelude.{ℕ, ◌≡◌, ◌+◌, [], slice_index_or}
 use Rattle.std.proofs.Common.{sym, ap, subst, ◌∙◌}
-use Rattle.strm_types.specs.State.{State}
 use Rattle.strm_blocks.specs.Blocks.{StoreValue, list_at}
 use Rattle.strm_frame.specs.Hands.{SameFor}
-use Rattle.strm_queue.specs.declared.queue.Queue.{Queue}
-use Rattle.strm_queue.specs.Stored.{HoldsReadable, IsReady}
+use Rattle.strm_queue.specs.Stored.{HoldsReadable}
 use Rattle.strm_queue.proofs.Placed.{ready-same}
 use Rattle.strm_pair.specs.declared.ends.End.{End}
 use Rattle.strm_pair.specs.declared.streams.Streams.{Streams}

@@ -9,7 +9,7 @@ use std::process::Abort;
 use std::test::Fail;
 use strm_blocks::Blocks;
 use strm_types::{
-    Band, Caller, Config, Entry, Event, FlushQueues, ModuleName, Place, QueueName, Content,
+    Band, Caller, Config, Content, Entry, Event, FlushQueues, ModuleName, Place, QueueName,
     Refusal, Side, Turn, Way,
 };
 

@@ -1,5 +1,5 @@
 -- What goes down is one message that was made, or none.
-use Rattle.std.proofs.Common.{◌+◌, cond, [], ◌∷◌, sym, ap, subst}
+use Rattle.std.proofs.Common.{◌+◌, cond, sym, ap, subst}
 use Rattle.strm_types.specs.declared.kinds.MsgKind.TheVariants.{Flush}
 use Rattle.strm_types.specs.declared.names.Way.TheVariants.{Down}
 use Rattle.strm_types.specs.Deliver.{toward}

@@ -1,5 +1,5 @@
 -- The first reason that holds is the one that is told.
-use Rattle.std.proofs.Common.{◌≡◌, ◌+◌, ◌<◌, Fits, w64, true, false, length, length-append, rules, sym, ap, ◌∙◌, arith}
+use Rattle.std.proofs.Common.{◌≡◌, ◌+◌, Fits, w64, length, length-append, rules, sym, ap, ◌∙◌, arith}
 use Rattle.std.specs.Prelude.{None}
 use Rattle.strm_types.specs.Calls.{payload_of, request}
 use Rattle.strm_types.specs.Journal.{content_max}

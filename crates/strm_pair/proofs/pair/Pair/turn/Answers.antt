@@ -1,6 +1,5 @@
 -- A turn that isn't refused is a step, and the journal gains it.
-use Rattle.std.proofs.Common.{ℕ, ◌≡◌, ◌∙◌, List, ap, sym, refl, subst, rules}
-use Rattle.strm_types.specs.Deliver.{Fate, tallied}
+use Rattle.std.proofs.Common.{◌≡◌, ◌∙◌, ap, sym, refl, subst, rules}
 use Rattle.std.specs.Prelude.{None}
 use Rattle.strm_types.specs.declared.limits.TheConstants.{TURN_BLOCKS}
 use Rattle.strm_types.specs.declared.entries.Entry.TheVariants.{Turned}

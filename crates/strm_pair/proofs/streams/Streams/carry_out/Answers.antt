@@ -1,5 +1,5 @@
 -- Plain bytes have no origin: what goes down and what comes up are the bytes themselves.
-use Rattle.std.proofs.Common.{ℕ, ◌≡◌, ◌∙◌, sym, ap, subst, take}
+use Rattle.std.proofs.Common.{ℕ, ◌≡◌, ◌∙◌, sym, ap, take}
 use Rattle.std.proofs.Math.Seq.{take-length}
 use Rattle.strm_types.specs.declared.answers.Answer.TheVariants.{Bytes}
 use Rattle.strm_types.specs.Calls.{Outcome}

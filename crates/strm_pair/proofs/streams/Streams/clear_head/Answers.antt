@@ -1,9 +1,7 @@
 -- Nothing is left on the queue that was cleared.
-use Rattle.std.proofs.Common.{◌≡◌, sym, ap, subst, ◌∙◌}
+use Rattle.std.proofs.Common.{◌∙◌}
 use Rattle.strm_types.specs.declared.names.Side.TheVariants.{Master, Slave}
 use Rattle.strm_queue.specs.Stored.{queue_in}
-use Rattle.strm_pair.specs.declared.streams.Streams.{Streams}
-use Rattle.strm_pair.specs.Pairs.{AreHeld}
 use Rattle.strm_pair.proofs.Sides.{head-changed, only-changed, readable-cleared}
 use Rattle.strm_pair.proofs.streams.Streams.clear_head.Goals as goal
 use Rattle.strm_pair.proofs.streams.Streams.clear_head.Goals.{in-Master, in-Slave}

@@ -1,11 +1,5 @@
 -- The head is as new, and the driver stays.
 use Rattle.std.proofs.Common.{◌∙◌}
-use Rattle.strm_types.specs.declared.names.Side.TheVariants.{Slave}
-use Rattle.strm_blocks.specs.Blocks.{StoreValue}
-use Rattle.strm_queue.specs.Stored.{Keeps}
-use Rattle.strm_pair.specs.declared.ends.End.{End}
-use Rattle.strm_pair.specs.declared.streams.Streams.{Streams}
-use Rattle.strm_pair.specs.Pairs.{AreHeld}
 use Rattle.strm_pair.proofs.Sides.{slave-renewed}
 use Rattle.strm_pair.proofs.streams.Streams.open_slave.Goals as goal
 

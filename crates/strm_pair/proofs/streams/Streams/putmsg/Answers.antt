@@ -1,13 +1,12 @@
 -- The message is alone in hand, and nothing is when all is delivered.
-use Rattle.std.proofs.Common.{ℕ, ◌≡◌, ◌+◌, ◌∷◌, length, List, Option, Bor, refl, sym, ap, ◌∙◌}
+use Rattle.std.proofs.Common.{ℕ, ◌≡◌, ◌+◌, ◌∷◌, length, List, Option, Bor, refl, ap, ◌∙◌}
 use Rattle.std.specs.Prelude.{option_map}
 use Rattle.strm_blocks.specs.Blocks.{in_hand, StoreValue}
 use Rattle.strm_msg.specs.Messages.{message_of}
 use Rattle.strm_frame.proofs.Handing.{alone-can, none-left}
-use Rattle.strm_types.specs.Deliver.{Carried, tallied}
+use Rattle.strm_types.specs.Deliver.{tallied}
 use Rattle.strm_types.specs.Message.{part}
 use Rattle.strm_types.specs.Puts.{delivered}
-use Rattle.strm_types.specs.State.{State}
 use Rattle.strm_types.specs.declared.names.Way.TheVariants.{Down}
 use Rattle.strm_types.specs.declared.spots.Spot.{Spot}
 use Rattle.strm_pair.specs.Pairs.{state_in}

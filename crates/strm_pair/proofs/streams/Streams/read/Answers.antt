@@ -1,5 +1,5 @@
 -- What the head of either side gives.
-use Rattle.std.proofs.Common.{ℕ, ◌≡◌, sym, ap, subst, ◌∙◌}
+use Rattle.std.proofs.Common.{◌≡◌, sym, ap, subst, ◌∙◌}
 use Rattle.strm_types.specs.declared.answers.Answer.TheVariants.{Bytes}
 use Rattle.strm_types.specs.declared.names.QueueName.{QueueName}
 use Rattle.strm_types.specs.declared.names.Side.TheVariants.{Master, Slave}
@@ -8,7 +8,7 @@ use Rattle.strm_types.specs.Names.{before, direction_of, enable_some, head_of}
 use Rattle.strm_types.specs.Reads.{read_gone}
 use Rattle.strm_queue.specs.Stored.{messages_on}
 use Rattle.strm_pair.specs.declared.streams.Streams.{Streams}
-use Rattle.strm_pair.specs.Pairs.{state_in, AreHeld}
+use Rattle.strm_pair.specs.Pairs.{state_in}
 use Rattle.strm_pair.specs.PlainCalls.{read_plain, read_lets}
 use Rattle.strm_pair.proofs.ReadSteps.{read-answer, read-told, read-beside, read-state}
 use Rattle.strm_pair.proofs.streams.Streams.read.Goals as goal

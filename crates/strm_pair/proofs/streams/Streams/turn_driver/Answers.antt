@@ -1,7 +1,7 @@
 -- What is seen of the first message says what becomes of it.
-use Rattle.std.proofs.Common.{ℕ, ◌≡◌, Bool, true, not, ap, sym, ◌∙◌}
+use Rattle.std.proofs.Common.{ℕ, ap, sym, ◌∙◌}
 use Rattle.strm_types.specs.Deliver.{tallied}
-use Rattle.strm_types.specs.Names.{is_open, other}
+use Rattle.strm_types.specs.Names.{other}
 use Rattle.strm_types.specs.Turns.{TurnOutcome}
 use Rattle.strm_pair.specs.Pairs.{state_in, end_at}
 use Rattle.strm_pair.specs.Took.{waits_at_head}
