@@ -16,7 +16,6 @@ use Rattle.strm_types.specs.Queue.{put_on}
 use Rattle.strm_types.specs.State.{Head}
 use Rattle.strm_blocks.specs.Blocks.{Block, StoreValue, IsInHand, block_at, dropped, names_of}
 use Rattle.strm_blocks.specs.Outcomes.{peek_of, told}
-use Rattle.strm_blocks.specs.declared.asked.Peek.{Peek}
 use Rattle.strm_blocks.proofs.Laws.{total-dropped, used-is, references-is, free_m-is, free_d-more}
 use Rattle.strm_msg.specs.Bytes.{bytes_of}
 use Rattle.strm_msg.specs.Messages.{message_of, IsChain}

@@ -1,12 +1,11 @@
 -- No queue has a band above 7, so it is full in none of them.
-use Rattle.std.proofs.Common.{ℕ, zero, suc, ◌≡◌, ◌≤◌, ◌<◌, ◌+◌, Bool, true, false, cond, List, [], ◌∷◌, length, map, refl, sym, ap, ◌∙◌, arith}
+use Rattle.std.proofs.Common.{ℕ, zero, suc, ◌≡◌, ◌≤◌, false, cond, List, [], ◌∷◌, length, map, refl, sym, ap, ◌∙◌, arith}
 use Rattle.std.specs.Prelude.{◌==◌, nat_le, if◌then◌else◌, slice_index_or}
 use Rattle.std.proofs.lemmas.Bool.Decides.{nat_tests}
 use Rattle.std.proofs.lemmas.List.{length-map}
 use Rattle.std.proofs.lemmas.List.Sums.{sum_by-cons}
 use Rattle.strm_types.specs.Queue as plain
 use Rattle.strm_blocks.specs.Blocks.{Block, StoreValue, list_at}
-use Rattle.strm_msg.specs.Messages.{message_of}
 use Rattle.strm_queue.specs.declared.queue.Queue.{Queue}
 use Rattle.strm_queue.specs.Flows.{plain_flow}
 use Rattle.strm_queue.specs.Kept as kept

@@ -1,10 +1,9 @@
 -- A putmsg on a side's stream: its message is delivered from below the head, and its bytes are booked as written.
 use Rattle.std.proofs.Common.{ℕ, ◌≡◌, ◌<◌, ◌+◌, Bool, true, false, cond, List, [], length, refl, sym, ap, ◌∙◌, arith}
-use Rattle.std.specs.Prelude.{Option, None, Some, option_map, nat_lt, ◌&&◌, if◌then◌else◌}
+use Rattle.std.specs.Prelude.{Option, None, Some, option_map, nat_lt, ◌&&◌}
 use Rattle.std.proofs.lemmas.Bool.Decides.{nat_tests}
 use Rattle.strm_types.specs.declared.books.Book.{Book}
 use Rattle.strm_types.specs.declared.books.TheConstants.{BOOK_MAX}
-use Rattle.strm_types.specs.declared.limits.TheConstants.{HOPS}
 use Rattle.strm_types.specs.declared.modes.Prio.{Prio}
 use Rattle.strm_types.specs.declared.names.Dir.{Dir}
 use Rattle.strm_types.specs.declared.names.Side.{Side}
@@ -14,7 +13,7 @@ use Rattle.strm_types.specs.Books as books
 use Rattle.strm_types.specs.Books.{with_written}
 use Rattle.strm_types.specs.Calls.{message_put, put_at}
 use Rattle.strm_types.specs.Cells.{plain, cells_written}
-use Rattle.strm_types.specs.Deliver.{Carried, carried, tallied}
+use Rattle.strm_types.specs.Deliver.{Carried, tallied}
 use Rattle.strm_types.specs.Message.{Message, part}
 use Rattle.strm_types.specs.Names.{direction_from}
 use Rattle.strm_types.specs.PutMsg.{no_parts, put_message}

@@ -15,4 +15,4 @@ add-requires-clause-room_bytes c =
     let j = c.args.self.now in
     let fits = (room-means j.entries.items j.bytes.items j.most_entries j.most_bytes _ j.stored.lengths c.requires.room).1 in
     let shown = ap length c.payload.ensures in
-    omega (arith, fits, shown, length-append c.first.now c.second.now)
+    omega (arith, fits, shown, length-append c.payload.result.0.now c.payload.result.1.now)

@@ -1,6 +1,5 @@
 -- What the head of either side gives.
-use Rattle.std.proofs.Common.{◌≡◌, ◌≤◌, ◌+◌, ◌++◌, min, length, length-append, sym, ap, subst, ◌∙◌, refl, arith}
-use Rattle.strm_types.specs.declared.limits.TheConstants.{READ_MAX}
+use Rattle.std.proofs.Common.{◌≡◌, ◌++◌, length, length-append, sym, ap, subst, ◌∙◌, refl, arith}
 use Rattle.strm_types.specs.declared.names.Side.TheVariants.{Master, Slave}
 use Rattle.strm_head.specs.Getting.{Gives}
 use Rattle.strm_pair.proofs.GetSteps.{got_at, gives-is, got-answer, got-filled, control-few, body-few, got-parts}

@@ -1,14 +1,14 @@
 -- The message is alone in hand, and nothing is when all is delivered.
-use Rattle.std.proofs.Common.{ℕ, ◌≡◌, ◌+◌, ◌∷◌, length, List, Option, Bor, refl, sym, ap, ◌∙◌}
+use Rattle.std.proofs.Common.{ℕ, ◌≡◌, ◌+◌, ◌∷◌, length, List, Option, Bor, refl, ap, ◌∙◌}
 use Rattle.std.specs.Prelude.{option_map}
 use Rattle.strm_blocks.specs.Blocks.{in_hand, StoreValue}
 use Rattle.strm_msg.specs.Messages.{message_of}
 use Rattle.strm_frame.proofs.Handing.{alone-can, none-left}
-use Rattle.strm_types.specs.Deliver.{Carried, tallied}
+use Rattle.strm_types.specs.Deliver.{tallied}
 use Rattle.strm_types.specs.Message.{part}
 use Rattle.strm_types.specs.Puts.{delivered}
-use Rattle.strm_types.specs.State.{State}
 use Rattle.strm_types.specs.declared.names.Way.TheVariants.{Down}
+use Rattle.strm_types.specs.declared.spots.Spot.{Spot}
 use Rattle.strm_pair.specs.Pairs.{state_in}
 use Rattle.strm_pair.proofs.PutBooks.{put-state, put-told}
 use Rattle.strm_pair.proofs.streams.Streams.putmsg.Goals as goal
@@ -33,7 +33,7 @@ returns-clause-state g c =
     let i = g.B.Blocks.name c.in-Some.message in
     let m = message_of (in_hand made i) in
     let same : state_in made p ≡ state_in s p = ap (λ v. state_in v p) c.in-Some.ensures.made.after in
-    let to = record { side = c.args.side; at = 1; way = Down } in
+    let to : Spot = record { side = c.args.side; at = 1; way = Down } in
     put-state c.args.side c.args.prio (shown c.args.control) (shown c.args.body) (state_in s p) c.in-Some.ensures.none m c.in-Some.ensures.made.shows
     (state_in t c.deliver.new.stations) (state_in t c.keep_book.new.self) c.book_with-book.result (c.len_of.result + c.len_of-2.result)
     (c.deliver.ensures.state ∙ ap (λ v. (delivered to m v).state) same)
@@ -60,6 +60,6 @@ returns-clause-told g c =
     let i = g.B.Blocks.name c.in-Some.message in
     let m = message_of (in_hand made i) in
     let same : state_in made p ≡ state_in s p = ap (λ v. state_in v p) c.in-Some.ensures.made.after in
-    let to = record { side = c.args.side; at = 1; way = Down } in
+    let to : Spot = record { side = c.args.side; at = 1; way = Down } in
     put-told c.args.side c.args.prio (shown c.args.control) (shown c.args.body) (state_in s p) c.in-Some.ensures.none m c.in-Some.ensures.made.shows
     c.args.told.now c.deliver.new.told (c.deliver.ensures.told ∙ ap (λ v. tallied (delivered to m v).gone c.args.told.now) same)
