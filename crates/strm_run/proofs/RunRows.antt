@@ -43,11 +43,11 @@ usual-pair = refl
 
 -- lines count from 1, silent ones too, and nothing is said behind a malformed one
 pub malformed-line-ends-a-script : told_from 1 [] None (codes "# a" ∷ [] ∷ codes "unlock" ∷ codes "bad" ∷ codes "open" ∷ []) ≡ ended (codes "err ENXIO" ∷ []) 4
-unfolding told_from reading command_in open_in named_in write_in read_in turn_in run_in stream_in sided_call_in push_in flush_in show_in answered line_text
+unfolding told_from reading command_in open_in named_in write_in read_in turn_in run_in stream_in sided_call_in push_in flush_in show_in message_in put_in get_in set_mode_in answered line_text
 malformed-line-ends-a-script = refl
 
 pub first-line-is-line-one : told_from 1 [] None (codes "bad" ∷ []) ≡ ended [] 1
-unfolding told_from reading command_in open_in named_in write_in read_in turn_in run_in stream_in sided_call_in push_in flush_in show_in line_text
+unfolding told_from reading command_in open_in named_in write_in read_in turn_in run_in stream_in sided_call_in push_in flush_in show_in message_in put_in get_in set_mode_in line_text
 first-line-is-line-one = refl
 
 -- commands before a pair is there, pairs with no blocks and with too many, and a second pair
@@ -83,30 +83,30 @@ turns-before-a-short-one-count = refl
 
 -- commands on a stream before a pair is there
 pub streams-want-a-pair : told_from 1 [] None (codes "close m" ∷ codes "push m ldterm" ∷ codes "pop m" ∷ codes "look s" ∷ codes "flush m r" ∷ codes "flush m r 256" ∷ codes "show m" ∷ []) ≡ wrote (codes "err ENXIO" ∷ codes "err ENXIO" ∷ codes "err ENXIO" ∷ codes "err ENXIO" ∷ codes "err ENXIO" ∷ codes "err ENXIO" ∷ codes "err ENXIO" ∷ []) None
-unfolding told_from reading command_in open_in named_in write_in read_in turn_in run_in stream_in sided_call_in push_in flush_in show_in side_alone module_in is_name flush_queues_in band_in number_in number_from digit_of text_in text_from side_in place_in way_in queue_in answered by_open by_call by_flush by_show call_of by_run turns_of by_turn turn_of line_text chunk_count data_message rank_of band_of size_of cells_of is_high_priority is_held is_data_kind carried
+unfolding told_from reading command_in open_in named_in write_in read_in turn_in run_in stream_in sided_call_in push_in flush_in show_in message_in put_in get_in set_mode_in side_alone module_in is_name flush_queues_in band_in number_in number_from digit_of text_in text_from side_in place_in way_in queue_in answered by_open by_call by_flush by_show call_of by_run turns_of by_turn turn_of line_text chunk_count data_message rank_of band_of size_of cells_of is_high_priority is_held is_data_kind carried
 streams-want-a-pair = refl
 
 -- a band above 255 is refused before the call is made, and so on a stream that isn't open; what stands is told of that too
 pub bands-and-sizes-of-a-closed-stream : told_from 1 [] None (codes "open" ∷ codes "flush s r 256" ∷ codes "flush s r 255" ∷ codes "flush m r 4294967295" ∷ codes "flush m r 8" ∷ codes "flush m r 7" ∷ codes "show s" ∷ []) ≡ wrote (codes "ok" ∷ codes "err EINVAL" ∷ codes "err ENXIO" ∷ codes "err EINVAL" ∷ codes "err EINVAL" ∷ codes "ok" ∷ stands (codes "show s") 0 0 0 0 ∷ []) None
-unfolding told_from reading command_in open_in named_in write_in read_in turn_in run_in stream_in sided_call_in push_in flush_in show_in side_alone module_in is_name flush_queues_in band_in number_in number_from digit_of text_in text_from side_in place_in way_in queue_in answered by_open by_call by_flush by_show call_of by_run turns_of by_turn turn_of line_text chunk_count data_message rank_of band_of size_of cells_of is_high_priority is_held is_data_kind carried
+unfolding told_from reading command_in open_in named_in write_in read_in turn_in run_in stream_in sided_call_in push_in flush_in show_in message_in put_in get_in set_mode_in side_alone module_in is_name flush_queues_in band_in number_in number_from digit_of text_in text_from side_in place_in way_in queue_in answered by_open by_call by_flush by_show call_of by_run turns_of by_turn turn_of line_text chunk_count data_message rank_of band_of size_of cells_of is_high_priority is_held is_data_kind carried
 bands-and-sizes-of-a-closed-stream = refl
 
 -- what a side's queues have before a turn and behind it, each its messages and then its bytes
 pub sizes-are-told : told_from 1 [] None (codes "open" ∷ codes "unlock" ∷ codes "slave" ∷ codes "write m \"ab\"" ∷ codes "write m \"c\"" ∷ codes "show m" ∷ codes "show s" ∷ codes "run 9" ∷ codes "show m" ∷ codes "show s" ∷ []) ≡ wrote (codes "ok" ∷ codes "ok" ∷ codes "ok" ∷ (codes "ok " ++ decimal 2) ∷ (codes "ok " ++ decimal 1) ∷ stands (codes "show m") 0 0 2 3 ∷ stands (codes "show s") 0 0 0 0 ∷ (codes "ran " ++ decimal 2) ∷ stands (codes "show m") 0 0 0 0 ∷ stands (codes "show s") 2 3 0 0 ∷ []) None
-unfolding told_from reading command_in open_in named_in write_in read_in turn_in run_in stream_in sided_call_in push_in flush_in show_in side_alone module_in is_name flush_queues_in band_in number_in number_from digit_of text_in text_from side_in place_in way_in queue_in answered by_open by_call by_flush by_show call_of by_run turns_of by_turn turn_of line_text chunk_count data_message rank_of band_of size_of cells_of is_high_priority is_held is_data_kind carried
+unfolding told_from reading command_in open_in named_in write_in read_in turn_in run_in stream_in sided_call_in push_in flush_in show_in message_in put_in get_in set_mode_in side_alone module_in is_name flush_queues_in band_in number_in number_from digit_of text_in text_from side_in place_in way_in queue_in answered by_open by_call by_flush by_show call_of by_run turns_of by_turn turn_of line_text chunk_count data_message rank_of band_of size_of cells_of is_high_priority is_held is_data_kind carried
 sizes-are-told = refl
 
 -- a flush takes what is on its way, and another queue's isn't touched
 pub flush-takes-bytes : told_from 1 [] None (codes "open" ∷ codes "unlock" ∷ codes "slave" ∷ codes "write m \"ab\"" ∷ codes "write s \"c\"" ∷ codes "flush m w" ∷ codes "show m" ∷ codes "show s" ∷ []) ≡ wrote (codes "ok" ∷ codes "ok" ∷ codes "ok" ∷ (codes "ok " ++ decimal 2) ∷ (codes "ok " ++ decimal 1) ∷ codes "ok" ∷ stands (codes "show m") 0 0 0 0 ∷ stands (codes "show s") 0 0 1 1 ∷ []) None
-unfolding told_from reading command_in open_in named_in write_in read_in turn_in run_in stream_in sided_call_in push_in flush_in show_in side_alone module_in is_name flush_queues_in band_in number_in number_from digit_of text_in text_from side_in place_in way_in queue_in answered by_open by_call by_flush by_show call_of by_run turns_of by_turn turn_of line_text chunk_count data_message rank_of band_of size_of cells_of is_high_priority is_held is_data_kind carried
+unfolding told_from reading command_in open_in named_in write_in read_in turn_in run_in stream_in sided_call_in push_in flush_in show_in message_in put_in get_in set_mode_in side_alone module_in is_name flush_queues_in band_in number_in number_from digit_of text_in text_from side_in place_in way_in queue_in answered by_open by_call by_flush by_show call_of by_run turns_of by_turn turn_of line_text chunk_count data_message rank_of band_of size_of cells_of is_high_priority is_held is_data_kind carried
 flush-takes-bytes = refl
 
 -- no module is known yet
 pub no-module-is-known : told_from 1 [] None (codes "open" ∷ codes "look m" ∷ codes "pop m" ∷ codes "push m ldterm" ∷ codes "push m foo" ∷ []) ≡ wrote (codes "ok" ∷ codes "err EINVAL" ∷ codes "err EINVAL" ∷ codes "err EINVAL" ∷ codes "err EINVAL" ∷ []) None
-unfolding told_from reading command_in open_in named_in write_in read_in turn_in run_in stream_in sided_call_in push_in flush_in show_in side_alone module_in is_name flush_queues_in band_in number_in number_from digit_of text_in text_from side_in place_in way_in queue_in answered by_open by_call by_flush by_show call_of by_run turns_of by_turn turn_of line_text chunk_count data_message rank_of band_of size_of cells_of is_high_priority is_held is_data_kind carried
+unfolding told_from reading command_in open_in named_in write_in read_in turn_in run_in stream_in sided_call_in push_in flush_in show_in message_in put_in get_in set_mode_in side_alone module_in is_name flush_queues_in band_in number_in number_from digit_of text_in text_from side_in place_in way_in queue_in answered by_open by_call by_flush by_show call_of by_run turns_of by_turn turn_of line_text chunk_count data_message rank_of band_of size_of cells_of is_high_priority is_held is_data_kind carried
 no-module-is-known = refl
 
 -- an account: a look asks for no blocks, and a close that gets too few is refused
 pub account-of-closes : told_from 1 (TooFew ∷ TooFew ∷ TooFew ∷ []) None (codes "open" ∷ codes "show m" ∷ codes "close m" ∷ []) ≡ wrote (codes "ok" ∷ stands (codes "show m") 0 0 0 0 ∷ codes "err ENOSR" ∷ []) (Some 3)
-unfolding told_from reading command_in open_in named_in write_in read_in turn_in run_in stream_in sided_call_in push_in flush_in show_in side_alone module_in is_name flush_queues_in band_in number_in number_from digit_of text_in text_from side_in place_in way_in queue_in answered by_open by_call by_flush by_show call_of by_run turns_of by_turn turn_of line_text chunk_count data_message rank_of band_of size_of cells_of is_high_priority is_held is_data_kind carried
+unfolding told_from reading command_in open_in named_in write_in read_in turn_in run_in stream_in sided_call_in push_in flush_in show_in message_in put_in get_in set_mode_in side_alone module_in is_name flush_queues_in band_in number_in number_from digit_of text_in text_from side_in place_in way_in queue_in answered by_open by_call by_flush by_show call_of by_run turns_of by_turn turn_of line_text chunk_count data_message rank_of band_of size_of cells_of is_high_priority is_held is_data_kind carried
 account-of-closes = refl

@@ -16,7 +16,7 @@ use Rattle.strm_types.specs.declared.events.FlushQueues.TheVariants as queues
 use Rattle.strm_types.specs.declared.events.Event.TheVariants.{Unlock, OpenSlave, Shut, Push, Pop, Look, Write, Read}
 use Rattle.strm_types.specs.Names.{head_of, driver_of}
 use Rattle.strm_run.specs.Script.{Open, Call, Flush, Turn, Run, Show, queue_name, digit_of, hex_of, escaped, lines_of}
-use Rattle.strm_run.specs.ScriptReading.{Reading, Silent, Malformed, Spoken, number_from, number_in, text_from, text_in, side_in, place_in, way_in, queue_in, side_alone, module_in, is_name, flush_queues_in, band_in, open_in, named_in, write_in, read_in, turn_in, run_in, sided_call_in, push_in, flush_in, show_in, stream_in, command_in, reading}
+use Rattle.strm_run.specs.ScriptReading.{Reading, Silent, Malformed, Spoken, number_from, number_in, text_from, text_in, side_in, place_in, way_in, queue_in, side_alone, module_in, is_name, flush_queues_in, band_in, open_in, named_in, write_in, read_in, turn_in, run_in, sided_call_in, push_in, flush_in, show_in, stream_in, put_in, get_in, set_mode_in, message_in, command_in, reading}
 use Rattle.strm_run.specs.ScriptAnswers.{Plain, Named, Number, Text, Held, Empty, Ran, Sizes, Refused, Wrong, printed, printed_line, line_text, reply_line, turn_line}
 
 -- the lines of a script: LF ends each, and the last may lack it
@@ -42,16 +42,16 @@ pub names-of-queues : map queue_name (record { side = Master; place = Driver; wa
 names-of-queues = refl
 
 pub malformed-lines : map reading (codes "open " ∷ codes "open 1 " ∷ codes " open" ∷ codes "opens" ∷ codes "unlock " ∷ codes "slaves" ∷ codes "write m ab" ∷ codes "write m \"ab" ∷ codes "write m \"ab\" " ∷ codes "write x \"\"" ∷ codes "read m" ∷ codes "read m 1x" ∷ codes "turn m.drv" ∷ codes "turn m.drv.x" ∷ codes "run" ∷ codes "run -1" ∷ []) ≡ replicate 16 Malformed
-unfolding reading command_in open_in named_in write_in read_in turn_in run_in stream_in sided_call_in push_in flush_in show_in number_in number_from digit_of text_in text_from side_in place_in way_in queue_in escaped hex_of
+unfolding reading command_in open_in named_in write_in read_in turn_in run_in stream_in sided_call_in push_in flush_in show_in message_in put_in get_in set_mode_in number_in number_from digit_of text_in text_from side_in place_in way_in queue_in escaped hex_of
 malformed-lines = refl
 
 -- commands on a stream: a name of a module, a name of none, the queues of a flush with and without a band
 pub commands-on-streams-are-spelled : map reading (codes "close m" ∷ codes "close s" ∷ codes "pop m" ∷ codes "look s" ∷ codes "push s ldterm" ∷ codes "push m ptem" ∷ codes "push m pckt" ∷ codes "push s foo" ∷ codes "push s ldter" ∷ codes "push s ldterma" ∷ codes "flush m r" ∷ codes "flush s w" ∷ codes "flush m rw" ∷ codes "flush m rw 0" ∷ codes "flush s r 256" ∷ codes "flush s w 07" ∷ codes "show m" ∷ codes "show s" ∷ []) ≡ Spoken (Call Master Shut) ∷ Spoken (Call Slave Shut) ∷ Spoken (Call Master Pop) ∷ Spoken (Call Slave Look) ∷ Spoken (Call Slave (Push (Some modules.Ldterm))) ∷ Spoken (Call Master (Push (Some modules.Ptem))) ∷ Spoken (Call Master (Push (Some modules.Pckt))) ∷ Spoken (Call Slave (Push None)) ∷ Spoken (Call Slave (Push None)) ∷ Spoken (Call Slave (Push None)) ∷ Spoken (Flush Master queues.Read None) ∷ Spoken (Flush Slave queues.Write None) ∷ Spoken (Flush Master queues.Both None) ∷ Spoken (Flush Master queues.Both (Some 0)) ∷ Spoken (Flush Slave queues.Read (Some 256)) ∷ Spoken (Flush Slave queues.Write (Some 7)) ∷ Spoken (Show Master) ∷ Spoken (Show Slave) ∷ []
-unfolding reading command_in open_in named_in write_in read_in turn_in run_in stream_in sided_call_in push_in flush_in show_in side_alone module_in is_name flush_queues_in band_in number_in number_from digit_of side_in
+unfolding reading command_in open_in named_in write_in read_in turn_in run_in stream_in sided_call_in push_in flush_in show_in message_in put_in get_in set_mode_in side_alone module_in is_name flush_queues_in band_in number_in number_from digit_of side_in
 commands-on-streams-are-spelled = refl
 
 pub malformed-commands-on-streams : map reading (codes "close" ∷ codes "close " ∷ codes "close x" ∷ codes "close m " ∷ codes "closem" ∷ codes "push s" ∷ codes "push s " ∷ codes "push s Foo" ∷ codes "push s ld-term" ∷ codes "push s abcdefghi" ∷ codes "push s foo 1" ∷ codes "push x foo" ∷ codes "pop" ∷ codes "pop m 1" ∷ codes "look m x" ∷ codes "flush m" ∷ codes "flush m " ∷ codes "flush m q" ∷ codes "flush m wr" ∷ codes "flush m r " ∷ codes "flush m r x" ∷ codes "flush m r -1" ∷ codes "flush m r 4294967296" ∷ codes "flush m  r" ∷ codes "flush m rw1" ∷ codes "show" ∷ codes "show m 1" ∷ codes "show m.head.r" ∷ []) ≡ replicate 28 Malformed
-unfolding reading command_in open_in named_in write_in read_in turn_in run_in stream_in sided_call_in push_in flush_in show_in side_alone module_in is_name flush_queues_in band_in number_in number_from digit_of side_in
+unfolding reading command_in open_in named_in write_in read_in turn_in run_in stream_in sided_call_in push_in flush_in show_in message_in put_in get_in set_mode_in side_alone module_in is_name flush_queues_in band_in number_in number_from digit_of side_in
 malformed-commands-on-streams = refl
 
 -- a name has 1 to 8 letters from a to z
