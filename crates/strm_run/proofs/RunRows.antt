@@ -8,7 +8,7 @@ use Rattle.strm_types.specs.Deliver.{carried}
 use Rattle.strm_types.specs.Flush.{is_data_kind}
 use Rattle.strm_types.specs.Write.{chunk_count}
 use Rattle.strm_run.specs.Script.{Open, digit_of}
-use Rattle.strm_run.specs.ScriptReading.{number_from, number_in, text_from, text_in, side_in, place_in, way_in, queue_in, side_alone, module_in, is_name, flush_queues_in, band_in, open_in, named_in, write_in, read_in, turn_in, run_in, sided_call_in, push_in, flush_in, show_in, stream_in, command_in, reading}
+use Rattle.strm_run.specs.ScriptReading.{number_from, number_in, text_from, text_in, side_in, place_in, way_in, queue_in, side_alone, module_in, is_name, flush_queues_in, band_in, open_in, named_in, write_in, read_in, turn_in, run_in, sided_call_in, push_in, flush_in, show_in, stream_in, put_in, get_in, set_mode_in, message_in, command_in, reading}
 use Rattle.strm_run.specs.ScriptAnswers.{line_text}
 use Rattle.strm_run.specs.ScriptRun.{Enough, TooFew, Told, script_limits, call_of, turn_of, by_call, by_flush, by_show, by_turn, turns_of, by_run, by_open, answered, told_from}
 
