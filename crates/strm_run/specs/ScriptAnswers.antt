@@ -96,8 +96,8 @@ line_text (Named known) = codes "name " ++ module_name known
 line_text (Number n) = codes "ok " ++ decimal n
 line_text (Text bytes) = codes "data " ++ decimal (length bytes) ++ codes " " ++ quoted bytes
 line_text (Message prio control body more_control more_data) =
-    codes "msg " ++ prio_text prio ++ codes " " ++ part_text control ++ codes " " ++ part_text body ++ codes " " ++ more_text more_control more_data
-line_text (Waiting first messages) = codes "ok " ++ decimal first ++ codes " " ++ decimal messages
+    codes "msg " ++ (prio_text prio ++ (codes " " ++ (part_text control ++ (codes " " ++ (part_text body ++ (codes " " ++ more_text more_control more_data))))))
+line_text (Waiting first messages) = codes "ok " ++ (decimal first ++ (codes " " ++ decimal messages))
 line_text Held = codes "blocked"
 line_text Empty = codes "idle"
 line_text (Ran n) = codes "ran " ++ decimal n
