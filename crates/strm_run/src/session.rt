@@ -114,10 +114,11 @@ fn flush(
 fn band(number: u32) -> Option<Band>
     ensures { result ≡ band_of number }
 {
-    if number > BAND_MAX {
-        return None;
+    if number <= BAND_MAX {
+        Some(Band(number as u8))
+    } else {
+        None
     }
-    Some(Band(number as u8))
 }
 
 /// The priority of a put, where a call can name it.
