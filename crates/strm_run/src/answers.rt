@@ -1,11 +1,11 @@
 //! The answer lines of a script, as they are printed.
 
-ghost use Rattle.std.specs.Prelude.{◌≡◌, ◌<◌, Some, take, drop, option_map};
+ghost use Rattle.std.specs.Prelude.{◌≡◌, ◌<◌, Some, Ok, take, drop, option_map};
 ghost use Rattle.std.specs.List.{position_from, position_or_len};
 ghost use Rattle.strm_run.specs.Script.{side_name, place_name, way_name, module_name};
-ghost use Rattle.strm_types.specs.Journal.{part_in};
+ghost use Rattle.strm_types.specs.Journal.{part_in, reply_in};
 ghost use Rattle.strm_run.specs.ScriptAnswers.{hex_digit, is_escaped, printed, quoted, size_text, line_text, refusal_name};
-ghost use Rattle.strm_run.specs.ScriptAnswers.{prio_text, part_text, more_text};
+ghost use Rattle.strm_run.specs.ScriptAnswers.{prio_text, part_text, more_text, reply_line};
 ghost use Rattle.strm_run.specs.Lines.{line_of};
 
 use std::fmt;
@@ -300,33 +300,38 @@ impl fmt::Display for More {
     }
 }
 
-impl fmt::Display for Shown<'_> {
-    ghost output = { λ shown. Some (line_text (line_of shown.bytes.now shown.line.now)) };
+/// What a call was answered, with the bytes that it gave, as it is printed.
+#[derive(Drop)]
+struct ShownAnswer<'a> {
+    answer: &'a Answer<usize>,
+    bytes: &'a [u8],
+}
+
+impl fmt::Display for ShownAnswer<'_> {
+    ghost output = { λ shown. Some (line_text (reply_line (Ok (reply_in shown.answer.now shown.bytes.now)))) };
 
     #[tactic(auto, unfolding(crate::specs::ScriptAnswers::line_text))]
     fn fmt<W: fmt::Write>(&self, f: &mut fmt::Formatter<W>) -> fmt::Result {
-        match self.line {
-            Line::Done(Answer::Done) => write!(f, "ok"),
-            Line::Done(Answer::Name(module)) => {
+        match self.answer {
+            Answer::Done => write!(f, "ok"),
+            Answer::Name(module) => {
                 let module = module_name(*module);
                 write!(f, "name {module}")
             }
-            Line::Done(Answer::Count(n)) => write!(f, "ok {n}"),
-            Line::Done(Answer::Bytes(len)) => {
+            Answer::Count(n) => write!(f, "ok {n}"),
+            Answer::Bytes(len) => {
                 let bytes = front(self.bytes, *len);
                 let count = bytes.len();
                 let text = Quoted(bytes);
                 write!(f, "data {count} {text}")
             }
-            Line::Done(
-                Answer::Msg {
-                    prio,
-                    control,
-                    body,
-                    more_control,
-                    more_data,
-                },
-            ) => {
+            Answer::Msg {
+                prio,
+                control,
+                body,
+                more_control,
+                more_data,
+            } => {
                 let prio = ShownPrio(*prio);
                 let data = behind(self.bytes, control.unwrap_or(0));
                 let body = ShownPart(part(*body, data));
@@ -337,7 +342,22 @@ impl fmt::Display for Shown<'_> {
                 };
                 write!(f, "msg {prio} {control} {body} {more}")
             }
-            Line::Done(Answer::Sizes { first, messages }) => write!(f, "ok {first} {messages}"),
+            Answer::Sizes { first, messages } => write!(f, "ok {first} {messages}"),
+        }
+    }
+}
+
+impl fmt::Display for Shown<'_> {
+    ghost output = { λ shown. Some (line_text (line_of shown.bytes.now shown.line.now)) };
+
+    #[tactic(auto, unfolding(crate::specs::ScriptAnswers::line_text))]
+    fn fmt<W: fmt::Write>(&self, f: &mut fmt::Formatter<W>) -> fmt::Result {
+        match self.line {
+            Line::Done(answer) => {
+                let bytes = self.bytes;
+                let shown = ShownAnswer { answer, bytes };
+                write!(f, "{shown}")
+            }
             Line::Turned(Turn::Moved(n)) => write!(f, "ok {n}"),
             Line::Turned(Turn::Blocked) => write!(f, "blocked"),
             Line::Turned(Turn::Idle) => write!(f, "idle"),
