@@ -1,6 +1,6 @@
 -- What stands at the front of a line: a word and what it stands for, and what follows it.
 use Rattle.std.proofs.Common.{◌≡◌, ℕ, suc, ◌+◌, ◌*◌, ◌<◌, ◌≤◌, false, eqb, leb, ◌&&◌, List, [], ◌∷◌, ◌++◌, length, take, drop, Option, None, Some, option_map, refl, arith, sym, ap, ◌∙◌, inl, inr, ◌⊎◌, append_assoc, append-nil, codes, subst}
-use Rattle.std.proofs.lemmas.Bool.{cond-true, cond-false, ne_eqb, leb-true, cases_Bool, and_parts}
+use Rattle.std.proofs.lemmas.Bool.{cond-false, ne_eqb, leb-true, cases_Bool, and_parts}
 use Rattle.std.proofs.lemmas.List.{take-append-drop, length-append}
 use Rattle.std.proofs.Math.Seq.{take-append_seam, drop-append_seam}
 use Rattle.std.specs.List.{position_or_len}
@@ -10,9 +10,9 @@ use Rattle.strm_run.specs.declared.commands.NamedPrio.{NamedPrio}
 use Rattle.strm_run.specs.declared.commands.NamedPrio.TheVariants as prios
 use Rattle.strm_run.specs.declared.commands.NamedWanted.{NamedWanted}
 use Rattle.strm_run.specs.declared.commands.NamedWanted.TheVariants as wanteds
-use Rattle.strm_run.specs.Script.{side_name, digit_of, HasValue, IsNumber, IsPiece, Itself, Named, Coded, IsText, IsPrio, IsWanted, IsPart, escaped, hex_of}
+use Rattle.strm_run.specs.Script.{side_name, digit_of, HasValue, IsNumber, IsPiece, Itself, Named, Coded, IsText, IsPrio, IsWanted, IsPart, hex_of}
 use Rattle.strm_run.specs.ScriptReading as readings
-use Rattle.strm_run.specs.ScriptReading.{either_of, and_then, after, at_end, whole, Front, before, number_in, number_at, is_space, text_from, quoted_len, inside_at, text_at, part_at, side_in, prio_at, wanted_at}
+use Rattle.strm_run.specs.ScriptReading.{either_of, after, at_end, whole, Front, before, number_in, number_at, is_space, text_from, quoted_len, inside_at, text_at, part_at, side_in, prio_at, wanted_at}
 use Rattle.strm_run.proofs.Readings.{position-here, position-later, quoted_ends, quoted_skips, quoted_escapes, quoted_more}
 use Rattle.strm_run.proofs.Grammar.{and_then-found, option_map-found, after-found, number-found, number-only, text_from-spelled, text_from-only}
 

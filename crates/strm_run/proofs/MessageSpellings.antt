@@ -1,5 +1,5 @@
 -- Puts, gets and modes: what is read is spelled so, and what is spelled so is read.
-use Rattle.std.proofs.Common.{◌≡◌, ℕ, List, [], ◌∷◌, ◌++◌, Option, None, Some, option_map, refl, sym, ap, ◌∙◌, inl, inr, append_assoc, append-nil, codes, subst}
+use Rattle.std.proofs.Common.{◌≡◌, ℕ, List, [], ◌∷◌, ◌++◌, Option, Some, option_map, refl, sym, ap, ◌∙◌, inl, inr, append_assoc, append-nil, codes, subst}
 use Rattle.strm_types.specs.declared.names.Side.{Side}
 use Rattle.strm_types.specs.declared.events.Event.TheVariants as calls
 use Rattle.strm_types.specs.declared.modes.Mode.{Mode}
@@ -61,6 +61,10 @@ worded : (front first second third line rest more last : List ℕ) → line ≡ 
 worded front first second third line rest more last h one two three =
     h ∙ ap (λ k. front ++ k) (one ∙ ap (λ k. first ++ 32 ∷ k) (two ∙ ap (λ k. second ++ 32 ∷ k) three))
 
+-- a word, and nothing behind it
+ends : (word line rest : List ℕ) → line ≡ word ++ rest → rest ≡ [] → line ≡ word
+ends word line rest h e = h ∙ ap (λ k. word ++ k) e ∙ append-nil word
+
 pub put-found : (line : List ℕ) (command : Command) → put_in line ≡ Some command → IsSpelled command line
 unfolding put_in
 put-found line command h =
@@ -80,7 +84,7 @@ put-found line command h =
       control_is = control.word_is;
       body_is = last.word_is;
       line_is = worded (with_side (codes "put ") side.0) prio.word control.word last.word line side.1 prio.rest control.rest front prio.line_is control.line_is
-          (last.line_is ∙ ap (λ k. last.word ++ k) end.1 ∙ append-nil last.word);
+          (ends last.word control.rest body.value.rest last.line_is end.1);
     })
 
 pub put_on-only : (side : Side) (prio : NamedPrio) (control body : Option (List ℕ)) (line : List ℕ) (is : IsPut side prio control body line)
@@ -120,7 +124,7 @@ get-found line command h =
             wanted_is = refl;
             cmax_is = refl;
             dmax_is = refl;
-            line_is = word ∙ ap (λ k. codes "get " ++ k) (front.line_is ∙ ap (λ k. side_name side.value.value ++ k) end.1 ∙ append-nil (side_name side.value.value));
+            line_is = word ∙ ap (λ k. codes "get " ++ k) (ends (side_name side.value.value) rest.value side.value.rest front.line_is end.1);
           }))
       | inr b ↦
           let gap = and_then-found (get_of side.value.value) (after (codes " ") side.value.rest) command b in

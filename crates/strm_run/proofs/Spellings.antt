@@ -1,5 +1,5 @@
 -- Each command is read where it is spelled, and only there.
-use Rattle.std.proofs.Common.{◌≡◌, ◌≢◌, ℕ, ◌≤◌, true, false, List, [], ◌∷◌, ◌++◌, length, Option, None, Some, option_map, refl, sym, ap, ◌∙◌, inl, inr, ◌⊎◌, append_assoc, append-nil, codes, subst, ltb}
+use Rattle.std.proofs.Common.{◌≡◌, ◌≢◌, ℕ, ◌≤◌, true, false, List, [], ◌∷◌, ◌++◌, length, Option, None, Some, option_map, refl, sym, ap, ◌∙◌, inl, inr, append_assoc, append-nil, codes, subst, ltb}
 use Rattle.std.proofs.lemmas.Bool.{cond-true, cond-false, le-ltb, lt-ltb, ltb-true, leb-true, le-leb, and_parts, cases_Bool}
 use Rattle.strm_types.specs.declared.names.Side.{Side}
 use Rattle.strm_types.specs.declared.names.Side.TheVariants.{Master, Slave}
@@ -19,7 +19,7 @@ use Rattle.strm_run.specs.declared.commands.NamedPrio.{NamedPrio}
 use Rattle.strm_run.specs.declared.commands.NamedWanted.{NamedWanted}
 use Rattle.std.specs.List.{AllByRecursion, list_all}
 use Rattle.strm_run.specs.Script.{Command, Open, Call, Flush, Put, Get, Turn, Run, Show, mode_name, IsPut, IsGetOf, IsUsualGet, side_name, place_name, way_name, queue_name, module_name, flush_name, is_letter, is_silent, with_side, IsName, IsNumber, IsFlush, IsSpelled}
-use Rattle.strm_run.specs.ScriptReading.{Silent, Malformed, Spoken, spoken, reading, either_of, and_then, after, at_end, whole, Front, before, number_in, text_in, side_in, place_in, way_in, queue_in, placed_in, sided_in, behind_side, side_alone, module_in, is_name, flush_queues_in, band_in, pushed_in, flushed_in, open_in, named_in, write_in, read_in, turn_in, run_in, sided_call_in, push_in, flush_in, show_in, stream_in, put_in, get_in, set_mode_in, message_in, command_in}
+use Rattle.strm_run.specs.ScriptReading.{Silent, Malformed, Spoken, spoken, reading, and_then, after, at_end, Front, number_in, text_in, side_in, place_in, way_in, queue_in, placed_in, sided_in, behind_side, side_alone, module_in, is_name, flush_queues_in, band_in, pushed_in, flushed_in, open_in, named_in, write_in, read_in, turn_in, run_in, sided_call_in, push_in, flush_in, show_in, stream_in, put_in, get_in, set_mode_in, message_in, command_in}
 use Rattle.strm_run.proofs.Grammar.{and_then-found, option_map-found, after-found, number-found, number-only, text-found, text-only}
 use Rattle.strm_run.proofs.Fronts.{either-found, at_end-found, whole-found, Stands, before-found, side-found}
 use Rattle.strm_run.proofs.MessageSpellings.{behind_side-found, put-found, get-found, set_mode-found, put_on-only, get_of-only, mode_in-only}

@@ -1,4 +1,4 @@
-use Rattle.std.proofs.Common.{◌≡◌, ◌+◌, arith, ap, ◌∙◌, subst}
+use Rattle.std.proofs.Common.{◌+◌, arith, ap, ◌∙◌, subst}
 use Rattle.strm_run.proofs.Readings.{QuotedTo, QuotedTo-ends, QuotedTo-past, QuotedTo-escaped, QuotedTo-all}
 use Rattle.strm_run.proofs.texts.quoted_len.Goals as goal
 use Rattle.strm_run.proofs.texts.quoted_len.Goals.{then-escaped, else-escaped+else-byte-eq34}

@@ -1,4 +1,4 @@
-use Rattle.std.proofs.Common.{Ok, drop, option_map, ap, sym, ◌∙◌, subst}
+use Rattle.std.proofs.Common.{Ok, drop, ap, sym, ◌∙◌, subst}
 use Rattle.std.specs.Fmt.{HasWritten}
 use Rattle.strm_types.specs.Journal.{part_in, reply_in}
 use Rattle.strm_run.specs.ScriptAnswers.{Message, line_text, reply_line}
