@@ -16,7 +16,6 @@ use Rattle.strm_types.specs.Queue.{put_on}
 use Rattle.strm_types.specs.State.{Head}
 use Rattle.strm_blocks.specs.Blocks.{Block, StoreValue, IsInHand, block_at, dropped, names_of}
 use Rattle.strm_blocks.specs.Outcomes.{peek_of, told}
-use Rattle.strm_blocks.specs.declared.asked.Peek.{Peek}
 use Rattle.strm_blocks.proofs.Laws.{total-dropped, used-is, references-is, free_m-is, free_d-more}
 use Rattle.strm_msg.specs.Bytes.{bytes_of}
 use Rattle.strm_msg.specs.Messages.{message_of, IsChain}
@@ -25,26 +24,30 @@ use Rattle.strm_msg.proofs.MadePlain.{parts-same, plain-is}
 use Rattle.strm_queue.specs.Stored.{FreesBlocks}
 use Rattle.strm_head.specs.declared.putting.Urgent.{Urgent}
 
+-- a visitor that stops at a message of a kind sees whether there is one
+module _ {V : Type 0} (found : V → Bool) (saw : Bool → V) (same : (b : Bool) → found (saw b) ≡ b) (test : MsgKind → Bool) where
+  abbrev any_such : List (Message ℕ) → Bool
+  any_such ms = list_any (λ (m : Message ℕ). test m.kind) ms
+
+  abbrev seen_in : Bool → List (List Block) → V
+  seen_in b q = told (λ v p. saw (test p.kind)) (λ v. not (found v)) (saw b) (map peek_of q)
+
+  pub finds-kind : (q : List (List Block)) → found (seen_in false q) ≡ any_such (map message_of q)
+  finds-kind [] = same false
+  finds-kind (chain ∷ q) =
+      ap (λ b. found (cond (not b) (seen_in (test (block_at 0 chain).kind) q) (saw (test (block_at 0 chain).kind)))) (same (test (block_at 0 chain).kind))
+      ∙ at (test (block_at 0 chain).kind) (finds-kind q) ∙ ap (λ k. test k || any_such (map message_of q)) (sym (kind-is chain))
+    where
+      at : (b : Bool) → found (seen_in false q) ≡ any_such (map message_of q) → found (cond (not b) (seen_in b q) (saw b)) ≡ (b || any_such (map message_of q))
+      at true ih = same true
+      at false ih = ih
+
 -- whether an M_PCPROTO stands among some messages
 abbrev any_urgent : List (Message ℕ) → Bool
 any_urgent ms = list_any (λ (m : Message ℕ). is_pcproto m.kind) ms
 
--- a visitor that stops at an M_PCPROTO sees whether there is one
-abbrev one_more : Urgent → Peek → Urgent
-one_more v p = record { found = is_pcproto p.kind }
-
-abbrev seen_in : Bool → List (List Block) → Urgent
-seen_in found q = told one_more (λ v. not v.found) (record { found = found }) (map peek_of q)
-
-pub finds-urgent : (q : List (List Block)) → (seen_in false q).found ≡ any_urgent (map message_of q)
-finds-urgent [] = refl
-finds-urgent (chain ∷ q) =
-    at (is_pcproto (block_at 0 chain).kind) (finds-urgent q) ∙ ap (λ k. is_pcproto k || any_urgent (map message_of q)) (sym (kind-is chain))
-  where
-    at : (b : Bool) → (seen_in false q).found ≡ any_urgent (map message_of q)
-        → (cond (not b) (seen_in b q) (record { found = b })).found ≡ (b || any_urgent (map message_of q))
-    at true ih = refl
-    at false ih = ih
+pub finds-urgent : (q : List (List Block)) → (told (λ (v : Urgent) p. record { found = is_pcproto p.kind }) (λ v. not v.found) (record { found = false }) (map peek_of q)).found ≡ any_urgent (map message_of q)
+finds-urgent = finds-kind (λ (v : Urgent). v.found) (λ b. record { found = b }) (λ b. refl) is_pcproto
 
 -- no fewer blocks are free where a message in hand is freed
 dropped-frees : (s : StoreValue) (i : ℕ) → IsInHand s i → FreesBlocks s (dropped s i)

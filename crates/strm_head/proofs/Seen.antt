@@ -1,9 +1,8 @@
 -- What is seen of a message without taking it is what the message has.
-use Rattle.std.proofs.Common.{ℕ, ◌≡◌, ◌<◌, Bool, true, false, cond, List, [], ◌∷◌, length, map, refl, sym, ap, ◌∙◌, arith}
-use Rattle.std.specs.Prelude.{None, Some, unwrap_or, ◌&&◌, ◌||◌, nat_le}
+use Rattle.std.proofs.Common.{ℕ, ◌≡◌, Bool, true, false, cond, List, [], ◌∷◌, ◌++◌, length, map, refl, sym, ap, ◌∙◌, arith}
+use Rattle.std.specs.Prelude.{None, Some, unwrap_or, not, ◌==◌, ◌&&◌, ◌||◌, nat_le}
 use Rattle.std.specs.List.{AllByRecursion}
-use Rattle.strm_types.specs.declared.kinds.MsgKind.{MsgKind}
-use Rattle.strm_types.specs.declared.kinds.MsgKind.TheVariants as kinds
+use Rattle.std.proofs.lemmas.Bool.Decides.{nat_tests}
 use Rattle.strm_types.specs.declared.modes.ControlMode.{ControlMode}
 use Rattle.strm_types.specs.declared.modes.ControlMode.TheVariants.{Refuse, Data, Discard}
 use Rattle.strm_types.specs.declared.modes.Wanted.{Wanted}
@@ -11,20 +10,20 @@ use Rattle.strm_types.specs.declared.modes.Wanted.TheVariants.{Any, High, Band}
 use Rattle.strm_types.specs.Gets.{is_wanted, get_refusal}
 use Rattle.strm_types.specs.declared.refusals.Refusal.TheVariants.{Eagain}
 use Rattle.strm_types.specs.Flush.{is_data_kind}
-use Rattle.strm_types.specs.Kinds.{is_control_kind, is_body_kind}
-use Rattle.strm_types.specs.Message.{Message, part, is_high_priority}
-use Rattle.strm_types.specs.Reads.{is_there, is_passed, is_refused, finds_none}
+use Rattle.strm_types.specs.Message.{Message, part, cells_of, is_high_priority}
+use Rattle.strm_types.specs.Reads.{is_there, is_passed, is_refused, no_cells, offered, finds_none}
 use Rattle.strm_blocks.specs.Blocks.{Block, block_at}
 use Rattle.strm_blocks.specs.Outcomes.{Peeked, peek_of, part_len, control_len, body_len, told}
 use Rattle.strm_blocks.specs.declared.asked.Peek.{Peek}
-use Rattle.strm_msg.specs.Bytes.{data_bytes, control_blocks, data_blocks}
+use Rattle.strm_msg.specs.Bytes.{control_blocks, data_blocks}
 use Rattle.strm_msg.specs.Messages.{message_of, part_of}
 use Rattle.strm_msg.proofs.Chains.{bytes-sum, kind-is, band-is}
-use Rattle.strm_msg.proofs.Parts.{control-blocks-cons}
 use Rattle.strm_head.specs.declared.standing.Passing.{Passing}
-use Rattle.strm_head.specs.Seen.{peek_passed, peek_refused, peek_wanted, gets_on}
+use Rattle.strm_head.specs.declared.standing.Reaching.{Reaching}
+use Rattle.strm_head.specs.Drawing.{behind_passed, first_goes, goes}
+use Rattle.strm_head.specs.Seen.{peek_passed, peek_refused, peek_empty, peek_goes, peek_wanted, gets_on}
 
-parts-shown : (chain : List Block) → is_data_kind (block_at 0 chain).kind ≡ true
+pub parts-shown : (chain : List Block) → is_data_kind (block_at 0 chain).kind ≡ true
     → message_of chain ≡ record { kind = (block_at 0 chain).kind; band = (block_at 0 chain).band; control = part_of (control_blocks chain); body = part_of (data_blocks chain); plain = [] }
 unfolding message_of
 parts-shown chain is = rw is refl
@@ -57,6 +56,12 @@ module _ (chain : List Block) (readable : is_data_kind (block_at 0 chain).kind �
   refused-seen Data p is = refl
   refused-seen Discard p is = refl
 
+-- a read passes over by the data part alone
+pub passed-by : (control : ControlMode) (p p' : Peek) → p.body ≡ p'.body → peek_passed control p ≡ peek_passed control p'
+passed-by Refuse p p' is = refl
+passed-by Data p p' is = refl
+passed-by Discard p p' is = ap (λ o. cond (is_there o) false true) is
+
 -- whether a message is the one that a get asks for
 pub wanted-seen : (chain : List Block) (wanted : Wanted) (p : Peek) → Peeked p chain → peek_wanted wanted p ≡ is_wanted wanted (message_of chain)
 wanted-seen chain Any p seen = refl
@@ -85,39 +90,54 @@ passing-all control (chain ∷ q) all =
     at true ih = ih
     at false ih = refl
 
--- a message without a control part is M_DATA
-plain-kind : (k : MsgKind) → is_data_kind k ≡ true → is_control_kind k ≡ false → k ≡ kinds.Data
-unfolding is_data_kind is_control_kind
-plain-kind kinds.Data is other = refl
-plain-kind kinds.Proto is other = absurd (cc)
-plain-kind kinds.Pcproto is other = absurd (cc)
-plain-kind _ is other = absurd (cc)
+-- whether a read could give no bytes of a message that is seen
+some-length : (x : ℕ) (xs : List ℕ) → (length (x ∷ xs) == 0) ≡ false
+some-length x xs = grind (arith, nat_tests)
 
-not-there : (b : Block) (chain : List Block) (v : Bool) → is_control_kind b.kind ≡ v → is_there (control_len (b ∷ chain)) ≡ false → v ≡ false
-not-there b chain false is none = refl
-not-there b chain true is none =
-    absurd (let there : is_there (control_len (b ∷ chain)) ≡ true = ap (λ xs. is_there (part_len xs)) (control-blocks-cons b chain ∙ ap (λ v. cond v (b ∷ control_blocks chain) []) is) in cc)
+none-both : (xs ys : List ℕ) → (length xs == 0 && length ys == 0) ≡ no_cells (xs ++ ys)
+none-both [] [] = refl
+none-both [] (y ∷ ys) = some-length y ys
+none-both (x ∷ xs) ys = ap (λ b. b && length ys == 0) (some-length x xs)
 
-pub data-kind : (chain : List Block) → 0 < length chain → is_data_kind (block_at 0 chain).kind ≡ true → is_there (control_len chain) ≡ false → (block_at 0 chain).kind ≡ kinds.Data
-data-kind [] some is none = absurd (omega arith)
-data-kind (b ∷ chain) some is none = plain-kind b.kind is (not-there b chain (is_control_kind b.kind) refl none)
+module _ (chain : List Block) (readable : is_data_kind (block_at 0 chain).kind ≡ true) where
+  control-size : unwrap_or (control_len chain) 0 ≡ length (part (message_of chain).control)
+  control-size = part-size (control_blocks chain) ∙ ap (λ (m : Message ℕ). length (part m.control)) (sym (parts-shown chain readable))
 
--- how many bytes are seen of an M_DATA message
-body-kind : (b : Block) → b.kind ≡ kinds.Data → is_body_kind b.kind ≡ true
-unfolding is_body_kind
-body-kind b is = rw is refl
+  both-empty : (unwrap_or (control_len chain) 0 == 0 && unwrap_or (body_len chain) 0 == 0) ≡ no_cells (cells_of (message_of chain))
+  unfolding cells_of
+  both-empty =
+      ap (λ n. n == 0 && unwrap_or (body_len chain) 0 == 0) control-size ∙ ap (λ n. length (part (message_of chain).control) == 0 && n == 0) (body-size chain readable)
+      ∙ none-both (part (message_of chain).control) (part (message_of chain).body)
 
-body-first : (b : Block) (chain : List Block) → b.kind ≡ kinds.Data → body_len (b ∷ chain) ≡ Some (length (data_bytes (b ∷ chain)))
-body-first b chain is = rw (body-kind b is) (ap Some (sym (bytes-sum (b ∷ data_blocks chain))))
+  body-empty : (unwrap_or (body_len chain) 0 == 0) ≡ no_cells (offered Discard (message_of chain))
+  unfolding cells_of
+  body-empty = ap (λ n. n == 0) (body-size chain readable) ∙ none-both [] (part (message_of chain).body)
 
-pub body-is : (chain : List Block) → 0 < length chain → (block_at 0 chain).kind ≡ kinds.Data → body_len chain ≡ Some (length (data_bytes chain))
-body-is [] some is = absurd (omega arith)
-body-is (b ∷ chain) some is = body-first b chain is
+  empty-seen : (control : ControlMode) → peek_empty control (peek_of chain) ≡ no_cells (offered control (message_of chain))
+  empty-seen Refuse = both-empty
+  empty-seen Data = both-empty
+  empty-seen Discard = body-empty
 
--- the first of some messages is one
-abbrev first_of : List (List Block) → List Block
-first_of [] = []
-first_of (chain ∷ q) = chain
+  goes-seen : (control : ControlMode) (begun : Bool) → peek_goes control begun (peek_of chain) ≡ goes control begun (message_of chain)
+  goes-seen control begun =
+      ap (λ b. not b && not (begun && peek_empty control (peek_of chain))) (refused-seen chain readable control (peek_of chain) refl)
+      ∙ ap (λ b. not (is_refused control (message_of chain)) && not (begun && b)) (empty-seen control)
 
-pub first-same : (a b : List Block) (p q : List (List Block)) → a ∷ p ≡ b ∷ q → a ≡ b
-first-same a b p q is = ap first_of is
+-- a visitor that sees whether a read takes the first message that it doesn't pass over
+abbrev reach : Reaching → Peek → Reaching
+reach v p = record { control = v.control; begun = v.begun; passing = peek_passed v.control p; goes = not (peek_passed v.control p) && peek_goes v.control v.begun p }
+
+pub reaching-one : (control : ControlMode) (begun : Bool) (q : List (List Block)) → AllByRecursion (λ chain. is_data_kind (block_at 0 chain).kind ≡ true) q
+    → (told reach (λ v. v.passing) (record { control = control; begun = begun; passing = true; goes = false }) (map peek_of q)).goes ≡ first_goes control begun (behind_passed control (map message_of q))
+reaching-one control begun [] all = refl
+reaching-one control begun (chain ∷ q) all =
+    at (peek_passed control (peek_of chain)) (is_passed control (message_of chain)) (passed-seen chain all.0 control) refl (reaching-one control begun q all.1)
+  where
+    at : (b c : Bool) → b ≡ c → is_passed control (message_of chain) ≡ c
+        → (told reach (λ v. v.passing) (record { control = control; begun = begun; passing = true; goes = false }) (map peek_of q)).goes ≡ first_goes control begun (behind_passed control (map message_of q))
+        → (cond b (told reach (λ v. v.passing) (record { control = control; begun = begun; passing = b; goes = not b && peek_goes control begun (peek_of chain) }) (map peek_of q)) (record { control = control; begun = begun; passing = b; goes = not b && peek_goes control begun (peek_of chain) })).goes
+        ≡ first_goes control begun (cond c (behind_passed control (map message_of q)) (message_of chain ∷ map message_of q))
+    at true true same is ih = ih
+    at false false same is ih = goes-seen chain all.0 control begun ∙ ap (λ b. not b && goes control begun (message_of chain)) (sym is)
+    at true false same is ih = absurd (cc)
+    at false true same is ih = absurd (cc)

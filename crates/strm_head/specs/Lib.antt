@@ -1,3 +1,6 @@
 pub mod Seen
 pub mod Drawing
+pub mod Parted
 pub mod Heads
+pub mod Getting
+pub mod Sending

@@ -2,16 +2,15 @@
 
 ghost use Rattle.std.specs.Prelude.{◌≡◌, ◌≤◌, [], length, false};
 ghost use Rattle.strm_types.specs.Reads.{read_refusal, head_draw, read_queue, read_lets_go, read_told};
-ghost use Rattle.strm_types.specs.Gets.{get_refusal};
+ghost use Rattle.strm_types.specs.Gets.{get_refusal, first_data};
 ghost use Rattle.strm_queue.specs.Stored.{messages_on, queue_in, IsHeadQueue, Keeps};
-ghost use Rattle.strm_head.specs.Seen.{first_data};
 
 use crate::standing::{finds_none, first_len, starts_refused};
 use crate::{reading, standing};
 use strm_blocks::Blocks;
 use strm_queue::Queue;
 use strm_queue::standing::sizes;
-use strm_types::{ControlMode, Dir, Fates, READ_MAX, ReadBytes, ReadMode, Refusal, Wanted};
+use strm_types::{Content, ControlMode, Dir, Fates, Mode, READ_MAX, ReadMode, Refusal, Wanted};
 
 /// A stream head: the queue of what waits for its readers, and how they read it.
 #[derive(Drop)]
@@ -32,6 +31,10 @@ pub struct Waiting {
 }
 
 impl Head {
+    ghost use Rattle.strm_blocks.specs.Blocks.{StoreValue};
+    ghost use Rattle.strm_types.specs.State.{with_mode};
+    ghost use Rattle.strm_head.specs.Heads.{head_in};
+
     /// A head on an empty queue: RNORM and RPROTNORM.
     pub fn new(queue: Queue) -> Head
         ensures queue { result.queue ≡ queue }
@@ -62,6 +65,17 @@ impl Head {
         ensures { self.new ≡ record self.old { control_mode = mode } }
     {
         self.control_mode = mode;
+    }
+
+    /// Sets one mode, and the other one stays.
+    pub fn set_mode(&mut self, mode: Mode)
+        ensures mode { (s : StoreValue) → head_in s self.new ≡ with_mode mode (head_in s self.old) }
+        ensures queue { self.new.queue ≡ self.old.queue }
+    {
+        match mode {
+            Mode::Read(read_mode) => self.set_read_mode(read_mode),
+            Mode::Control(control_mode) => self.set_control_mode(control_mode),
+        }
     }
 
     /// What a read of up to `n` bytes is refused for, before it takes anything: EAGAIN where it finds nothing and the input
@@ -102,26 +116,25 @@ impl Head {
         }
     }
     /// Gives up to `n` bytes of what waits, tells by which rules bytes of the direction go, and says whether a waiting writer
-    /// is let go. Where `read_refusal` refuses the read, or there is nothing to take, nothing changes. RPROTNORM alone: under
-    /// the other control modes nothing reads yet.
+    /// is let go. Where `read_refusal` refuses the read, or there is nothing to take, nothing changes. The cost is a step for
+    /// each block of the messages that are taken or passed over, and of the first one that stays.
     pub fn read<B: Blocks>(
         &mut self,
         store: &mut B,
         n: usize,
-        out: &mut ReadBytes,
+        out: &mut Content,
         direction: Dir,
         fates: &mut Fates,
     ) -> bool
         requires ready { IsHeadQueue (B.value store.old) self.old.queue }
-        requires mode { self.old.control_mode ≡ Refuse }
         requires most { n ≤ READ_MAX }
         requires fresh { out.old.items ≡ [] }
-        ensures given { out.new.items ≡ (head_draw self.old.read_mode Refuse n (messages_on (B.value store.old) self.old.queue.list)).given }
+        ensures given { out.new.items ≡ (head_draw self.old.read_mode self.old.control_mode n (messages_on (B.value store.old) self.old.queue.list)).given }
         ensures most_given { length out.new.items ≤ n }
         ensures queue { queue_in (B.value store.new) self.new.queue
-            ≡ read_queue self.old.read_mode Refuse n (queue_in (B.value store.old) self.old.queue) }
-        ensures went { result ≡ read_lets_go self.old.read_mode Refuse n (queue_in (B.value store.old) self.old.queue) }
-        ensures told { fates.new ≡ read_told direction self.old.read_mode Refuse n (messages_on (B.value store.old) self.old.queue.list) fates.old }
+            ≡ read_queue self.old.read_mode self.old.control_mode n (queue_in (B.value store.old) self.old.queue) }
+        ensures went { result ≡ read_lets_go self.old.read_mode self.old.control_mode n (queue_in (B.value store.old) self.old.queue) }
+        ensures told { fates.new ≡ read_told direction self.old.read_mode self.old.control_mode n (messages_on (B.value store.old) self.old.queue.list) fates.old }
         ensures keeps { Keeps (B.value store.old) (B.value store.new) self.old.queue self.new.queue }
         ensures ready { IsHeadQueue (B.value store.new) self.new.queue }
         ensures modes { self.new ≡ record self.old { queue = self.new.queue } }
@@ -130,6 +143,7 @@ impl Head {
             store,
             &mut self.queue,
             self.read_mode,
+            self.control_mode,
             n,
             out,
             direction,

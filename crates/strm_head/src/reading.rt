@@ -1,23 +1,21 @@
-//! What a head gives its readers under RPROTNORM, in each read mode (read(2), streamio(7I): I_SRDOPT).
+//! What a head gives its readers, in each read mode and control mode (read(2), streamio(7I): I_SRDOPT).
 
-ghost use Rattle.std.specs.Prelude.{◌≡◌, ◌<◌, ◌≤◌, ◌+◌, ◌++◌, ◌-◌, ◌⊎◌, ℕ, Some, true, false, [], length, take};
+ghost use Rattle.std.specs.Prelude.{◌≡◌, ◌<◌, ◌≤◌, ◌+◌, ◌++◌, ◌-◌, ℕ, Bool, true, false, not, [], length, take, drop};
 ghost use Rattle.std.specs.Bool.{OnTrue, OnFalse};
-ghost use Rattle.strm_types.specs.declared.modes.ControlMode.TheVariants.{Refuse};
 ghost use Rattle.strm_types.specs.Deliver.{tallied};
-ghost use Rattle.strm_types.specs.Reads.{Drawn, wanted_after, is_there, head_draw, read_queue, read_lets_go, read_fates, read_told};
-ghost use Rattle.strm_blocks.specs.Blocks.{IsInHand, in_hand, changed};
-ghost use Rattle.strm_msg.specs.Bytes.{data_bytes};
-ghost use Rattle.strm_msg.specs.Taken.{without_data};
+ghost use Rattle.strm_types.specs.Reads.{Drawn, wanted_after, head_draw, none_went, read_queue, read_lets_go, read_fates, read_told};
+ghost use Rattle.strm_blocks.specs.Blocks.{IsInHand, in_hand};
+ghost use Rattle.strm_msg.specs.Bytes.{bytes_of};
 ghost use Rattle.strm_queue.specs.Stored.{queue_in, messages_on, SameFlags, IsHeadQueue, Keeps};
-ghost use Rattle.strm_head.specs.Drawing.{drawn_on, Stepped, discards, more_behind};
+ghost use Rattle.strm_head.specs.Drawing.{drawn_on, Stepped, discards, more_behind, behind_passed, first_goes};
 
-use crate::standing::takes_none;
-use arrayvec::ArrayVec;
-use strm_blocks::{Blocks, Peek};
-use strm_msg::{msgdsize, take_data};
+use crate::parts::{leave_rest, show};
+use crate::standing::{first_passed, takes_none, takes_one};
+use strm_blocks::Blocks;
+use strm_msg::{first_bytes, message_size};
 use strm_queue::Queue;
-use strm_queue::standing::relieve;
-use strm_types::{ControlMode, Dir, Fates, ReadMode, Rule};
+use strm_queue::standing::{relieve, total};
+use strm_types::{Content, ControlMode, Dir, Fates, ReadMode, Rule};
 
 /// One step of a read: how many bytes are wanted still, and how many were discarded.
 #[derive(Clone, Copy)]
@@ -33,8 +31,8 @@ const LAST: Step = Step {
 };
 
 // Adds so many bytes to what a read gives, which are to be written over.
-fn grow(out: &mut ArrayVec<u8, 4096>, count: usize)
-    requires { length out.old.items + count ≤ 4096 }
+pub(crate) fn grow(out: &mut Content, count: usize)
+    requires { length out.old.items + count ≤ 8192 }
     ensures front { take (length out.old.items) out.new.items ≡ out.old.items }
     ensures long { length out.new.items ≡ length out.old.items + count }
 {
@@ -44,19 +42,17 @@ fn grow(out: &mut ArrayVec<u8, 4096>, count: usize)
     }
 }
 
-// Takes the first so many data bytes off a message, and adds them to what a read gives.
-fn take_into<B: Blocks>(store: &mut B, message: &B::Mp, count: usize, out: &mut ArrayVec<u8, 4096>)
-    requires in_hand { IsInHand (B.value store.old) (B.name message.now) }
-    requires has { count ≤ length (data_bytes (in_hand (B.value store.old) (B.name message.now))) }
+// Adds the first so many bytes of a message, which keeps them, to what a read gives.
+fn copy_into<B: Blocks>(store: &B, message: &B::Mp, count: usize, out: &mut Content)
+    requires in_hand { IsInHand (B.value store.now) (B.name message.now) }
+    requires has { count ≤ length (bytes_of (in_hand (B.value store.now) (B.name message.now))) }
     requires room { length out.old.items + count ≤ 4096 }
-    ensures given { let chain = in_hand (B.value store.old) (B.name message.now) in
-        out.new.items ≡ out.old.items ++ take count (data_bytes chain) }
-    ensures trimmed { let chain = in_hand (B.value store.old) (B.name message.now) in
-        B.value store.new ≡ changed (B.value store.old) (B.name message.now) (without_data count chain) }
+    ensures { let chain = in_hand (B.value store.now) (B.name message.now) in
+        out.new.items ≡ out.old.items ++ take count (bytes_of chain) }
 {
     let from = out.len();
     grow(out, count);
-    take_data(store, message, &mut out.as_mut_slice()[from..]);
+    first_bytes(store, message, &mut out.as_mut_slice()[from..]);
 }
 
 // How many bytes a read still wants behind a message of this size: a read of messages ends with its message.
@@ -94,14 +90,6 @@ fn step_behind(read: ReadMode, wanted: usize, size: usize) -> Step
     }
 }
 
-// Whether a read leaves a message where it stands: it has a control part, or it has no bytes and the read has begun to give.
-fn stays(message: Peek, begun: bool) -> bool
-    ensures stays { OnTrue result ((is_there message.control ≡ true) ⊎ ((begun ≡ true) × (message.body ≡ Some 0))) }
-    ensures goes { OnFalse result ((is_there message.control ≡ false) × (message.body ≡ Some 0 → begun ≡ false)) }
-{
-    message.control.is_some() || (begun && message.body == Some(0))
-}
-
 // Whether what a read leaves of a message of this size is put back.
 fn keeps_rest(read: ReadMode, wanted: usize, size: usize) -> bool
     ensures keeps { OnTrue result ((wanted < size) × (discards read ≡ false)) }
@@ -110,39 +98,64 @@ fn keeps_rest(read: ReadMode, wanted: usize, size: usize) -> bool
     wanted < size && !discards(read)
 }
 
-// Adds up to `wanted` bytes of the first message to `out`. It stays where it has a control part, or has no bytes though the
-// read has begun to give. What is left of it is put back, or discarded under RMSGD.
-fn draw_first<B: Blocks>(
+// Takes the first message away, if there is one.
+fn drop_first<B: Blocks>(store: &mut B, queue: &mut Queue)
+    requires ready { IsHeadQueue (B.value store.old) queue.old }
+    ensures left { messages_on (B.value store.new) queue.old.list ≡ drop 1 (messages_on (B.value store.old) queue.old.list) }
+    ensures flags { SameFlags queue.old queue.new }
+    ensures keeps { Keeps (B.value store.old) (B.value store.new) queue.old queue.new }
+{
+    store.audit();
+    let Some(message) = queue.getq(store) else {
+        return;
+    };
+    store.free(message);
+}
+
+// Takes the messages away that a read passes over, up to the first that it doesn't.
+fn drop_passed<B: Blocks>(store: &mut B, queue: &mut Queue, control: ControlMode)
+    requires ready { IsHeadQueue (B.value store.old) queue.old }
+    ensures left { messages_on (B.value store.new) queue.old.list
+        ≡ behind_passed control (messages_on (B.value store.old) queue.old.list) }
+    ensures flags { SameFlags queue.old queue.new }
+    ensures keeps { Keeps (B.value store.old) (B.value store.new) queue.old queue.new }
+{
+    let mut passed = first_passed(store, queue, control);
+    while passed {
+        drop_first(store, queue);
+        passed = first_passed(store, queue, control);
+    }
+}
+
+// Adds up to `wanted` bytes of the first message to `out`. What is left of it is put back, or discarded under RMSGD.
+fn take_first<B: Blocks>(
     store: &mut B,
     queue: &mut Queue,
     read: ReadMode,
-    begun: bool,
+    control: ControlMode,
     wanted: usize,
-    out: &mut ArrayVec<u8, 4096>,
+    out: &mut Content,
 ) -> Step
     requires ready { IsHeadQueue (B.value store.old) queue.old }
     requires some { 0 < wanted }
     requires room { length out.old.items + wanted ≤ 4096 }
     ensures took { let old = messages_on (B.value store.old) queue.old.list in
         let new = messages_on (B.value store.new) queue.old.list in
-        Stepped read begun wanted result.more result.discarded old new out.old.items out.new.items }
+        (begun : Bool) → first_goes control begun old ≡ true →
+        Stepped read control begun wanted result.more result.discarded old new out.old.items out.new.items }
     ensures flags { SameFlags queue.old queue.new }
     ensures keeps { Keeps (B.value store.old) (B.value store.new) queue.old queue.new }
 {
-    let Some(peek) = store.peek(queue.list) else {
-        return LAST;
-    };
-    if stays(peek, begun) {
-        return LAST;
-    }
     store.audit();
     let Some(message) = queue.getq(store) else {
         return LAST;
     };
-    let len = msgdsize(store, &message);
+    show(store, &message, control);
+    let len = message_size(store, &message);
     let part = wanted.min(len);
-    take_into(store, &message, part, out);
+    copy_into(store, &message, part, out);
     if keeps_rest(read, wanted, len) {
+        leave_rest(store, &message, wanted);
         queue.putbq(store, message);
         return LAST;
     }
@@ -150,22 +163,49 @@ fn draw_first<B: Blocks>(
     step_behind(read, wanted, len)
 }
 
+// Adds up to `wanted` bytes of the first message that isn't passed over to `out`. Where the read doesn't take it, all stay.
+fn draw_first<B: Blocks>(
+    store: &mut B,
+    queue: &mut Queue,
+    read: ReadMode,
+    control: ControlMode,
+    begun: bool,
+    wanted: usize,
+    out: &mut Content,
+) -> Step
+    requires ready { IsHeadQueue (B.value store.old) queue.old }
+    requires some { 0 < wanted }
+    requires room { length out.old.items + wanted ≤ 4096 }
+    ensures took { let old = messages_on (B.value store.old) queue.old.list in
+        let new = messages_on (B.value store.new) queue.old.list in
+        Stepped read control begun wanted result.more result.discarded old new out.old.items out.new.items }
+    ensures flags { SameFlags queue.old queue.new }
+    ensures keeps { Keeps (B.value store.old) (B.value store.new) queue.old queue.new }
+{
+    if !takes_one(store, queue, control, begun) {
+        return LAST;
+    }
+    drop_passed(store, queue, control);
+    take_first(store, queue, read, control, wanted, out)
+}
+
 // Adds up to `wanted` bytes of the first messages to `out`, and says how many were discarded.
 fn gather<B: Blocks>(
     store: &mut B,
     queue: &mut Queue,
     read: ReadMode,
+    control: ControlMode,
     wanted: usize,
-    out: &mut ArrayVec<u8, 4096>,
+    out: &mut Content,
 ) -> usize
     requires ready { IsHeadQueue (B.value store.old) queue.old }
     requires room { length out.old.items + wanted ≤ 4096 }
-    ensures given { let d = drawn_on read false wanted (messages_on (B.value store.old) queue.old.list) in
+    ensures given { let d = drawn_on read control false wanted (messages_on (B.value store.old) queue.old.list) in
         out.new.items ≡ out.old.items ++ d.given }
-    ensures discarded { let d = drawn_on read false wanted (messages_on (B.value store.old) queue.old.list) in
+    ensures discarded { let d = drawn_on read control false wanted (messages_on (B.value store.old) queue.old.list) in
         result ≡ length d.discarded }
     ensures left { messages_on (B.value store.new) queue.old.list
-        ≡ (drawn_on read false wanted (messages_on (B.value store.old) queue.old.list)).left }
+        ≡ (drawn_on read control false wanted (messages_on (B.value store.old) queue.old.list)).left }
     ensures most { length out.new.items ≤ length out.old.items + wanted }
     ensures flags { SameFlags queue.old queue.new }
     ensures keeps { Keeps (B.value store.old) (B.value store.new) queue.old queue.new }
@@ -174,7 +214,7 @@ fn gather<B: Blocks>(
     let mut begun = false;
     let mut discarded = 0;
     while wanted > 0 {
-        let step = draw_first(store, queue, read, begun, wanted, out);
+        let step = draw_first(store, queue, read, control, begun, wanted, out);
         wanted = step.more;
         discarded = step.discarded;
         begun = true;
@@ -192,32 +232,44 @@ fn tell(fates: &mut Fates, direction: Dir, given: usize, discarded: usize, dropp
     fates.tell(direction, Rule::ControlDropped, dropped);
 }
 
+// Whether bytes went by a read: so many were given, discarded and dropped.
+fn went(given: usize, discarded: usize, dropped: usize) -> bool
+    ensures { (d : Drawn ℕ) → length d.given ≡ given → length d.discarded ≡ discarded → length d.dropped ≡ dropped →
+        none_went d ≡ not result }
+{
+    given > 0 || discarded > 0 || dropped > 0
+}
+
 /// Gives up to `n` bytes of the first messages, tells by which rules bytes go, and says whether a waiting writer is let go.
+/// Bytes that leave the queue and are neither given nor discarded are those of control parts.
 pub fn read<B: Blocks>(
     store: &mut B,
     queue: &mut Queue,
     read: ReadMode,
+    control: ControlMode,
     n: usize,
-    out: &mut ArrayVec<u8, 4096>,
+    out: &mut Content,
     direction: Dir,
     fates: &mut Fates,
 ) -> bool
     requires ready { IsHeadQueue (B.value store.old) queue.old }
     requires most { n ≤ 4096 }
     requires fresh { out.old.items ≡ [] }
-    ensures given { out.new.items ≡ (head_draw read Refuse n (messages_on (B.value store.old) queue.old.list)).given }
+    ensures given { out.new.items ≡ (head_draw read control n (messages_on (B.value store.old) queue.old.list)).given }
     ensures most_given { length out.new.items ≤ n }
     ensures queue { let q = queue_in (B.value store.old) queue.old in
-        queue_in (B.value store.new) queue.new ≡ read_queue read Refuse n q }
-    ensures went { result ≡ read_lets_go read Refuse n (queue_in (B.value store.old) queue.old) }
-    ensures told { fates.new ≡ read_told direction read Refuse n (messages_on (B.value store.old) queue.old.list) fates.old }
+        queue_in (B.value store.new) queue.new ≡ read_queue read control n q }
+    ensures went { result ≡ read_lets_go read control n (queue_in (B.value store.old) queue.old) }
+    ensures told { fates.new ≡ read_told direction read control n (messages_on (B.value store.old) queue.old.list) fates.old }
     ensures keeps { Keeps (B.value store.old) (B.value store.new) queue.old queue.new }
 {
-    if takes_none(store, queue, ControlMode::Refuse, n) {
+    if takes_none(store, queue, control, n) {
         return false;
     }
+    let before = total(store, queue);
     queue.want_read = false;
-    let discarded = gather(store, queue, read, n, out);
-    tell(fates, direction, out.len(), discarded, 0);
-    (!out.is_empty() || discarded > 0) && relieve(queue)
+    let discarded = gather(store, queue, read, control, n, out);
+    let dropped = before - total(store, queue) - out.len() - discarded;
+    tell(fates, direction, out.len(), discarded, dropped);
+    went(out.len(), discarded, dropped) && relieve(queue)
 }

@@ -1,14 +1,15 @@
 //! What stands on a head's queue.
 
-ghost use Rattle.std.specs.Prelude.{◌≡◌, ◌+◌, ◌-◌, ◌^◌, ◌&&◌, min, length, true, List};
+ghost use Rattle.std.specs.Prelude.{◌≡◌, ◌+◌, ◌-◌, ◌^◌, ◌&&◌, min, length, not, true, List};
 ghost use Rattle.strm_types.specs.Queue.{relieved, relieves};
 ghost use Rattle.strm_types.specs.Reads.{finds_none, starts_refused, takes_none};
-ghost use Rattle.strm_types.specs.Gets.{get_refusal};
+ghost use Rattle.strm_types.specs.Gets.{get_refusal, first_data};
 ghost use Rattle.strm_blocks.specs.Blocks.{Block, StoreValue};
 ghost use Rattle.strm_queue.specs.Kept.{AreCounted};
 ghost use Rattle.strm_queue.specs.Queues.{OnlyCounts};
 ghost use Rattle.strm_queue.specs.Stored.{queue_in, messages_on, IsReady, IsHeadQueue};
-ghost use Rattle.strm_head.specs.Seen.{peek_passed, peek_refused, peek_wanted, gets_on, first_data};
+ghost use Rattle.strm_head.specs.Seen.{peek_passed, peek_refused, peek_empty, peek_goes, peek_wanted, gets_on};
+ghost use Rattle.strm_head.specs.Drawing.{behind_passed, first_passed, first_goes};
 
 use strm_blocks::{Blocks, Peek, Visitor};
 use strm_queue::Queue;
@@ -96,6 +97,82 @@ pub(crate) fn takes_none<B: Blocks>(
     ensures { result ≡ takes_none control n (messages_on (B.value store.now) queue.now.list) }
 {
     n == 0 || finds_none(store, queue, control) || starts_refused(store, queue, control)
+}
+
+/// Whether a read passes the first message over.
+pub(crate) fn first_passed<B: Blocks>(store: &B, queue: &Queue, control: ControlMode) -> bool
+    requires { IsHeadQueue (B.value store.now) queue.now }
+    ensures { result ≡ first_passed control (messages_on (B.value store.now) queue.now.list) }
+{
+    match store.peek(queue.list) {
+        Some(peek) => passes(control, peek),
+        None => false,
+    }
+}
+
+// Whether a read could give no bytes of a message: under RPROTDIS those of its control part don't count.
+fn offers_none(control: ControlMode, message: Peek) -> bool
+    ensures { result ≡ peek_empty control message }
+{
+    match control {
+        ControlMode::Discard => message.body.unwrap_or(0) == 0,
+        _ => message.control.unwrap_or(0) == 0 && message.body.unwrap_or(0) == 0,
+    }
+}
+
+// Whether a read takes a message that it doesn't pass over. It fails at a control part under RPROTNORM, and once it has begun
+// to give it stops at a message without bytes.
+fn goes(control: ControlMode, begun: bool, message: Peek) -> bool
+    ensures { result ≡ peek_goes control begun message }
+{
+    !refuses(control, message) && !(begun && offers_none(control, message))
+}
+
+// Sees whether a read takes the first message that it doesn't pass over.
+#[derive(Drop)]
+struct Reaching {
+    control: ControlMode,
+    begun: bool,
+    passing: bool,
+    goes: bool,
+}
+
+impl Visitor for Reaching {
+    ghost after = { λ v p. record {
+      control = v.control;
+      begun = v.begun;
+      passing = peek_passed v.control p;
+      goes = not (peek_passed v.control p) && peek_goes v.control v.begun p;
+    } };
+
+    ghost goes_on = { λ v. v.passing };
+
+    fn see(&mut self, message: Peek) -> bool {
+        self.passing = passes(self.control, message);
+        self.goes = !self.passing && goes(self.control, self.begun, message);
+        self.passing
+    }
+}
+
+/// Whether there is a message that a read takes, behind those that it passes over. The cost is a step for each block of
+/// these, and of the next.
+pub(crate) fn takes_one<B: Blocks>(
+    store: &B,
+    queue: &Queue,
+    control: ControlMode,
+    begun: bool,
+) -> bool
+    requires { IsHeadQueue (B.value store.now) queue.now }
+    ensures { result ≡ first_goes control begun (behind_passed control (messages_on (B.value store.now) queue.now.list)) }
+{
+    let mut reaching = Reaching {
+        control,
+        begun,
+        passing: true,
+        goes: false,
+    };
+    store.visit(queue.list, &mut reaching);
+    reaching.goes
 }
 
 // Whether a message is the one that a get asks for.

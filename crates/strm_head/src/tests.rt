@@ -1,5 +1,7 @@
 //! Reads of a head in each read mode, and what comes up to it, with answers worked out by hand.
 
+mod gets;
+
 ghost use Rattle.std.specs.Prelude.{◌≡◌, ◌≤◌, [], length};
 ghost use Rattle.strm_blocks.specs.Blocks.{list_at};
 ghost use Rattle.strm_queue.specs.Stored.{IsHeadQueue};
@@ -13,7 +15,7 @@ use strm_blocks::{Blocks, TableStore};
 use strm_msg::from_bytes;
 use strm_queue::{HEAD_HIGH, HEAD_LOW, Queue};
 use strm_types::{
-    Band, Dir, Fates, FlushAsked, MsgKind, ReadBytes, ReadMode, Refusal, Side, Spot, Way,
+    Band, Content, Dir, Fates, FlushAsked, MsgKind, ReadMode, Refusal, Side, Spot, Way,
 };
 
 // A new head on an empty list.
@@ -56,7 +58,7 @@ fn reads<B: Blocks>(
     put(store, &mut head.queue, b"abc");
     head.set_read_mode(mode);
     assert_eq!(rt; head.read_refusal(store, false, n), None);
-    let mut out = ReadBytes::new();
+    let mut out = Content::new();
     let mut fates = Fates::none();
     head.read(store, n, &mut out, Dir::MasterToSlave, &mut fates);
     assert_eq!(rt; out.as_slice(), wanted.0);

@@ -55,7 +55,7 @@ trimmed-at n chain {end} {size} {blocks} end_is size_is blocks_is =
     ap (λ k. seen_from end (trimmed_front (trim_at end) size k (seen_from end chain))) blocks_is ∙ ap (λ m. seen_from end (trimmed_front (trim_at end) m (length (front_run (seen_from end chain))) (seen_from end chain))) size_is ∙ ap (λ e. seen_from e (trimmed_front (trim_at e) (unsigned_abs n) (length (front_run (seen_from e chain))) (seen_from e chain))) end_is ∙ trimmed-is n chain
 
 -- bytes trimmed off blocks, the first one first
-trimmed-heads : (n : ℕ) (blocks : List Block) → bytes_of (trimmed_by trimmed_head n blocks) ≡ drop n (bytes_of blocks)
+pub trimmed-heads : (n : ℕ) (blocks : List Block) → bytes_of (trimmed_by trimmed_head n blocks) ≡ drop n (bytes_of blocks)
 trimmed-heads n [] = sym (drop_all n [] (omega arith))
 trimmed-heads n (b ∷ blocks) =
     ap (λ xs. xs ++ bytes_of (trimmed_by trimmed_head (n - length b.bytes) blocks)) (drop-least n (min n (length b.bytes)) b.bytes refl) ∙ ap (λ xs. drop n b.bytes ++ xs) (trimmed-heads (n - length b.bytes) blocks) ∙ sym (drop-append n b.bytes (bytes_of blocks))

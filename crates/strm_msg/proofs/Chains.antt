@@ -61,7 +61,7 @@ bytes-sum [] = refl
 bytes-sum (b ∷ chain) = omega (arith, bytes-sum chain, length-append b.bytes (bytes_of chain), sum_by-cons (λ (x : Block). length x.bytes) b chain)
 
 -- a kind of data is M_DATA or one of a control part
-data-or-control : (k : MsgKind) → is_data_kind k ≡ true → (k ≡ kinds.Data) ⊎ (is_control_kind k ≡ true)
+pub data-or-control : (k : MsgKind) → is_data_kind k ≡ true → (k ≡ kinds.Data) ⊎ (is_control_kind k ≡ true)
 unfolding is_data_kind is_control_kind
 data-or-control kinds.Data is = inl refl
 data-or-control kinds.Proto is = inr refl
@@ -93,13 +93,13 @@ unfolding is_data_kind
 data-kind k is = rw is refl
 
 -- a control kind is no body kind
-control-body : (k : MsgKind) → is_control_kind k ≡ true → is_body_kind k ≡ false
+pub control-body : (k : MsgKind) → is_control_kind k ≡ true → is_body_kind k ≡ false
 unfolding is_control_kind is_body_kind
 control-body kinds.Data is = absurd (cc)
 control-body _ is = refl
 
 -- M_DATA blocks are all body
-control-none : (chain : List Block) → AreData chain → control_blocks chain ≡ []
+pub control-none : (chain : List Block) → AreData chain → control_blocks chain ≡ []
 control-none [] all = refl
 control-none (b ∷ chain) all = control-blocks-cons b chain ∙ ap (λ v. cond v (b ∷ control_blocks chain) []) (data-control b.kind all.0)
 
@@ -109,14 +109,14 @@ data-all (b ∷ chain) all =
     ap (λ v. cond v (b ∷ data_blocks chain) (data_blocks chain)) (data-body b.kind all.0) ∙ ap (λ xs. b ∷ xs) (data-all chain all.1)
 
 -- blocks of a control kind in front of them are the control part
-control-front : (k : MsgKind) (front behind : List Block) → is_control_kind k ≡ true → AllByRecursion (λ b. b.kind ≡ k) front → AreData behind → control_blocks (front ++ behind) ≡ front
+pub control-front : (k : MsgKind) (front behind : List Block) → is_control_kind k ≡ true → AllByRecursion (λ b. b.kind ≡ k) front → AreData behind → control_blocks (front ++ behind) ≡ front
 control-front k [] behind is of_kind tail = control-none behind tail
 control-front k (b ∷ front) behind is of_kind tail =
     control-blocks-cons b (front ++ behind)
     ∙ ap (λ v. cond v (b ∷ control_blocks (front ++ behind)) []) (ap is_control_kind of_kind.0 ∙ is)
     ∙ ap (λ xs. b ∷ xs) (control-front k front behind is of_kind.1 tail)
 
-data-behind : (k : MsgKind) (front behind : List Block) → is_control_kind k ≡ true → AllByRecursion (λ b. b.kind ≡ k) front → AreData behind → data_blocks (front ++ behind) ≡ behind
+pub data-behind : (k : MsgKind) (front behind : List Block) → is_control_kind k ≡ true → AllByRecursion (λ b. b.kind ≡ k) front → AreData behind → data_blocks (front ++ behind) ≡ behind
 data-behind k [] behind is of_kind tail = data-all behind tail
 data-behind k (b ∷ front) behind is of_kind tail =
     ap (λ v. cond v (b ∷ data_blocks (front ++ behind)) (data_blocks (front ++ behind))) (ap is_body_kind of_kind.0 ∙ control-body k is)

@@ -7,6 +7,7 @@ pub mod AdjustingStore
 pub mod Bounds
 pub mod Chains
 pub mod Counts
+pub mod Cutting
 pub mod Dropping
 pub mod Gathering
 pub mod Hands

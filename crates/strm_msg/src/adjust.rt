@@ -4,7 +4,7 @@ ghost use Rattle.std.specs.Bool.{OnTrue, OnFalse};
 ghost use Rattle.strm_blocks.specs.Blocks.{IsInHand, in_hand, changed, block_at, with_block, free_m, free_d};
 ghost use Rattle.strm_msg.specs.Bytes.{bytes_of};
 ghost use Rattle.strm_msg.specs.Runs.{front_run};
-ghost use Rattle.strm_msg.specs.Adjusted.{adjusted, has_bytes, left_of, seen_from, trim_at, trimmed_front, without_bytes};
+ghost use Rattle.strm_msg.specs.Adjusted.{adjusted, has_bytes, left_of, seen_from, trim_at, trimmed_front, without_bytes, without_head};
 ghost use Rattle.strm_msg.specs.Adjusted as adjusting;
 
 use crate::kinds::same_kind;
@@ -124,4 +124,15 @@ pub fn adjmsg<B: Blocks>(store: &mut B, message: &B::Mp, n: isize) -> bool
     }
     trim_blocks(store, message, end, run.blocks, size);
     true
+}
+
+/// Trims the first `n` bytes of a message, as `adjmsg` does, all of them within the blocks at its front that are of one kind.
+pub fn trim_front<B: Blocks>(store: &mut B, message: &B::Mp, n: usize)
+    requires in_hand { IsInHand (B.value store.old) (B.name message.now) }
+    requires has { n ≤ length (bytes_of (front_run (in_hand (B.value store.old) (B.name message.now)))) }
+    ensures { let chain = in_hand (B.value store.old) (B.name message.now) in
+        B.value store.new ≡ changed (B.value store.old) (B.name message.now) (without_head n chain) }
+{
+    let run = run_at(store, message, End::Head);
+    trim_blocks(store, message, End::Head, run.blocks, n);
 }

@@ -5,14 +5,16 @@
 
 mod adjust;
 mod bytes;
+mod control;
 mod copies;
 mod data;
 mod kinds;
 mod pulls;
 mod sizes;
 
-pub use adjust::adjmsg;
+pub use adjust::{adjmsg, trim_front};
 pub use bytes::{first_bytes, from_bytes};
+pub use control::take_control;
 pub use copies::{copymsg, dupmsg};
 pub use data::take_data;
 pub use kinds::set_kinds;

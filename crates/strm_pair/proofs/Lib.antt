@@ -1,13 +1,16 @@
 pub mod Peeked
-pub mod Passed
 pub mod Sides
+pub mod PutsCost
+pub mod PutSteps
+pub mod TurnSteps
+pub mod ReadSteps
+pub mod GetSteps
+pub mod PutBooks
+pub mod Bands
 pub mod FreeBlocks
-pub mod DataTurned
 pub mod Steps
 pub mod Shown
 pub mod DataLemmas
-pub mod DataQueues
-pub mod StreamLemmas
 pub mod JournalLemmas
 mod PlainWrites
 mod Refusing

@@ -30,12 +30,12 @@ ordered-map (chain ∷ q) o = (ranks-map chain q o.0, ordered-map q o.1)
 -- each queue is in order
 pub ordered : (s : StoreValue) (p : Streams) → AreHeld s p → AreOrdered (state_in s p)
 ordered s p held = (
-  ordered-map (list_at s p.master.head.list) held.master.head.ready.messages.ordered,
+  ordered-map (list_at s p.master.head.queue.list) held.beside.master.head.ready.messages.ordered,
   (
-    ordered-map (list_at s p.master.driver.list) held.master.driver.ready.messages.ordered,
+    ordered-map (list_at s p.master.driver.list) held.beside.master.driver.messages.ordered,
     (
-      ordered-map (list_at s p.slave.head.list) held.slave.head.ready.messages.ordered,
-      (ordered-map (list_at s p.slave.driver.list) held.slave.driver.ready.messages.ordered, tt),
+      ordered-map (list_at s p.slave.head.queue.list) held.beside.slave.head.ready.messages.ordered,
+      (ordered-map (list_at s p.slave.driver.list) held.beside.slave.driver.messages.ordered, tt),
     ),
   ),
 )
@@ -49,10 +49,10 @@ in-use s p is held =
     omega (
       arith,
       used-enough s is,
-      long s p.master.head.list 0 held.master.head_list,
-      long s p.master.driver.list 1 held.master.driver_list,
-      long s p.slave.head.list 4 held.slave.head_list,
-      long s p.slave.driver.list 5 held.slave.driver_list,
+      long s p.master.head.queue.list 0 held.beside.master.head_list,
+      long s p.master.driver.list 1 held.beside.master.driver_list,
+      long s p.slave.head.queue.list 4 held.beside.slave.head_list,
+      long s p.slave.driver.list 5 held.beside.slave.driver_list,
     )
 
 no-chain : (q : List (List Block)) → length q ≡ 0 → q ≡ []
@@ -61,21 +61,21 @@ no-chain (c ∷ q) none = absurd (omega arith)
 
 bare : (s : StoreValue) (p : Streams) → IsStore s → AreHeld s p → messages_in (state_in s p) ≡ 0 → IsBare s
 bare s p is held none =
-    let a = long s p.master.head.list 0 held.master.head_list in
-    let b = long s p.master.driver.list 1 held.master.driver_list in
-    let c = long s p.slave.head.list 4 held.slave.head_list in
-    let d = long s p.slave.driver.list 5 held.slave.driver_list in
+    let a = long s p.master.head.queue.list 0 held.beside.master.head_list in
+    let b = long s p.master.driver.list 1 held.beside.master.driver_list in
+    let c = long s p.slave.head.queue.list 4 held.beside.slave.head_list in
+    let d = long s p.slave.driver.list 5 held.beside.slave.driver_list in
     record {
       eight = is.eight;
       hand = held.hand;
       at_0 = no-chain (list_at s 0) (omega arith);
       at_1 = no-chain (list_at s 1) (omega arith);
-      at_2 = held.master.spare_up;
-      at_3 = held.master.spare_down;
+      at_2 = held.beside.master.spare_up;
+      at_3 = held.beside.master.spare_down;
       at_4 = no-chain (list_at s 4) (omega arith);
       at_5 = no-chain (list_at s 5) (omega arith);
-      at_6 = held.slave.spare_up;
-      at_7 = held.slave.spare_down;
+      at_6 = held.beside.slave.spare_up;
+      at_7 = held.beside.slave.spare_down;
     }
 
 pub free-shown : (s : StoreValue) (p : Streams) (limits : Config) → IsStore s → AreHeld s p → s.mblks ≡ limits.mblks → s.dblks ≡ limits.dblks → IsPoolOf (messages_in (state_in s p)) limits (free_in s)

@@ -1,28 +1,37 @@
--- The queues of both sides beside their store.
-use Rattle.std.proofs.Common.{ℕ, zero, suc, ◌≡◌, ◌≤◌, ◌<◌, ◌+◌, List, [], refl, sym, subst, ◌∙◌, arith}
+-- The queues of both sides beside their store, where one of them changed.
+use Rattle.std.proofs.Common.{ℕ, zero, suc, ◌≡◌, ◌≤◌, ◌<◌, ◌+◌, Bool, true, false, cond, List, [], ◌∷◌, map, refl, sym, ap, subst, ◌∙◌, arith}
 use Rattle.std.specs.Prelude.{replicate, slice_index_or}
 use Rattle.strm_types.specs.declared.names.Side.{Side}
 use Rattle.strm_types.specs.declared.names.Side.TheVariants.{Master, Slave}
-use Rattle.strm_blocks.specs.Blocks.{Block, StoreValue, empty_store}
-use Rattle.strm_pair.specs.declared.streams.Streams.{Streams}
-use Rattle.strm_blocks.specs.Blocks.{list_at}
-use Rattle.strm_msg.specs.Messages.{AreMessages}
+use Rattle.strm_types.specs.declared.kinds.MsgKind.TheVariants as kinds
+use Rattle.strm_types.specs.Flush.{is_data_kind}
+use Rattle.strm_types.specs.Emptied.{of_all, stayed, emptied, none_goes, queue_behind}
+use Rattle.strm_types.specs.Message.{Message}
+use Rattle.strm_types.specs.Queue as state
+use Rattle.strm_types.specs.State as streams
+use Rattle.strm_types.specs.State.{State, stream, with_stream, with_driver_queue}
+use Rattle.strm_blocks.specs.Blocks.{Block, StoreValue, empty_store, list_at}
+use Rattle.strm_msg.specs.Messages.{message_of}
+use Rattle.strm_head.specs.declared.head.Head.{Head}
+use Rattle.strm_head.specs.Heads.{head_in}
 use Rattle.strm_queue.specs.declared.queue.Queue.{Queue}
-use Rattle.strm_queue.specs.Kept.{AreCounted}
-use Rattle.strm_queue.specs.Stored.{HoldsData, IsDataQueue, IsReady, Keeps}
+use Rattle.strm_queue.specs.Flows.{plain_flows}
+use Rattle.strm_queue.specs.Stored.{queue_in, HoldsReadable, IsHeadQueue, IsReady, Keeps, Changes}
+use Rattle.strm_queue.proofs.Placed.{ready-same}
+use Rattle.strm_pty.specs.Does.{OnlyQueue}
 use Rattle.strm_pair.specs.declared.ends.End.{End}
-use Rattle.strm_pair.specs.Streams.{IsBlank, IsSide, AreSides}
-use Rattle.strm_pair.specs.Pairs.{end_at, AreHeld}
+use Rattle.strm_pair.specs.declared.streams.Streams.{Streams}
+use Rattle.strm_pair.specs.Streams.{stream_in, IsBlank, IsSide}
+use Rattle.strm_pair.specs.Pairs.{state_in, end_at, with_end, AreBeside}
 
--- the driver of a side is ready
-pub driver-ready : (s : StoreValue) (p : Streams) → AreHeld s p → (side : Side) → IsReady s (end_at side p).driver
-driver-ready s p held Master = held.master.driver.ready
-driver-ready s p held Slave = held.slave.driver.ready
+-- the driver of a side is ready, and so is the head
+pub driver-ready : (s : StoreValue) (p : Streams) → AreBeside s p → (side : Side) → IsReady s (end_at side p).driver
+driver-ready s p beside Master = beside.master.driver
+driver-ready s p beside Slave = beside.slave.driver
 
--- the head of a side is ready
-pub head-ready : (s : StoreValue) (p : Streams) → AreHeld s p → (side : Side) → IsReady s (end_at side p).head
-head-ready s p held Master = held.master.head.ready
-head-ready s p held Slave = held.slave.head.ready
+pub head-queue : (s : StoreValue) (p : Streams) → AreBeside s p → (side : Side) → IsHeadQueue s (end_at side p).head.queue
+head-queue s p beside Master = beside.master.head
+head-queue s p beside Slave = beside.slave.head
 
 -- a store with nothing in it
 no-list : (n k : ℕ) → slice_index_or (replicate {A = List (List Block)} n []) k [] ≡ []
@@ -33,46 +42,202 @@ no-list (suc n) (suc k) = no-list n k
 pub blank : (mblks dblks : ℕ) → IsBlank (empty_store mblks dblks) 0 × IsBlank (empty_store mblks dblks) 4
 blank mblks dblks = (record { head = refl; driver = refl; up = refl; down = refl }, record { head = refl; driver = refl; up = refl; down = refl })
 
+-- what is kept or changed of one queue alone
+pub only-kept : (s t : StoreValue) (q q' : Queue) → Keeps s t q q' → OnlyQueue s t q q'
+only-kept s t q q' keeps = record { ready = keeps.ready; list = keeps.list; others = keeps.others }
+
+pub only-changed : (s t : StoreValue) (q q' : Queue) → Changes s t q q' → OnlyQueue s t q q'
+only-changed s t q q' changes = record { ready = changes.ready; list = changes.list; others = changes.others }
+
+-- readers may read what is left of what they could
+pub data-is : is_data_kind kinds.Data ≡ true
+unfolding is_data_kind
+data-is = refl
+
+pub readable-kept : (s t : StoreValue) (q q' : Queue) → IsHeadQueue s q → Keeps s t q q' → HoldsReadable (list_at t q'.list)
+readable-kept s t q q' is keeps = keeps.holds is_data_kind data-is is.readable
+
+pub readable-none : (l : List (List Block)) → l ≡ [] → HoldsReadable l
+readable-none l none = subst HoldsReadable (sym none) (record { each = tt })
+
 -- a queue whose list stays
-stays : (s t : StoreValue) (q : Queue) → list_at t q.list ≡ list_at s q.list → IsDataQueue s q → IsDataQueue t q
-stays s t q same is = record {
-  ready = record { messages = subst AreMessages (sym same) is.ready.messages; counted = subst (AreCounted q.flows) (sym same) is.ready.counted };
-  data_only = subst HoldsData (sym same) is.data_only;
+queue-same : (s t : StoreValue) (q : Queue) → list_at t q.list ≡ list_at s q.list → queue_in t q ≡ queue_in s q
+queue-same s t q same = ap (λ l. record { messages = map message_of l; flows = plain_flows q.flows; want_read = q.want_read; no_enable = q.no_enable }) same
+
+-- a stream by its two queues
+abbrev stream_of : End → state.Queue ℕ → state.Queue ℕ → streams.Stream ℕ
+stream_of e h d = record {
+  opened = e.opened;
+  head = record { queue = h; read_mode = e.head.read_mode; control_mode = e.head.control_mode; hung_up = e.head.hung_up };
+  driver = record { queue = d };
 }
 
--- a side whose lists stay
-side-stays : (s t : StoreValue) (first : ℕ) (e : End) → ((k : ℕ) → first ≤ k → k < first + 4 → list_at t k ≡ list_at s k) → IsSide s first e → IsSide t first e
-side-stays s t first e same is = record {
+module _ (s t : StoreValue) (first : ℕ) (e : End) (is : IsSide s first e) where
+  -- all lists of the side stay
+  abbrev Stay : Type 0
+  Stay = (k : ℕ) → first ≤ k → k < first + 4 → list_at t k ≡ list_at s k
+
+  head-at : Stay → list_at t e.head.queue.list ≡ list_at s e.head.queue.list
+  head-at stay = stay e.head.queue.list (let l = is.head_list in omega arith) (let l = is.head_list in omega arith)
+
+  driver-at : Stay → list_at t e.driver.list ≡ list_at s e.driver.list
+  driver-at stay = stay e.driver.list (let l = is.driver_list in omega arith) (let l = is.driver_list in omega arith)
+
+  side-stays : Stay → IsSide t first e
+  side-stays stay = record {
+    head_list = is.head_list;
+    driver_list = is.driver_list;
+    head = record { ready = ready-same s t e.head.queue (head-at stay) is.head.ready; readable = subst HoldsReadable (sym (head-at stay)) is.head.readable };
+    driver = ready-same s t e.driver (driver-at stay) is.driver;
+    spare_up = stay (first + 2) (omega arith) (omega arith) ∙ is.spare_up;
+    spare_down = stay (first + 3) (omega arith) (omega arith) ∙ is.spare_down;
+  }
+
+  stream-stays : Stay → stream_in t e ≡ stream_in s e
+  stream-stays stay =
+      ap (λ h. stream_of e h (queue_in t e.driver)) (queue-same s t e.head.queue (head-at stay))
+      ∙ ap (λ d. stream_of e (queue_in s e.head.queue) d) (queue-same s t e.driver (driver-at stay))
+
+  -- the driver's queue changed
+  module _ (q : Queue) (only : OnlyQueue s t e.driver q) where
+    head-beside : list_at t e.head.queue.list ≡ list_at s e.head.queue.list
+    head-beside = only.others e.head.queue.list (λ eq. let a = is.head_list in let b = is.driver_list in absurd (omega arith))
+
+    driver-side : IsSide t first (record e { driver = q })
+    driver-side = record {
+      head_list = is.head_list;
+      driver_list = only.list ∙ is.driver_list;
+      head = record { ready = ready-same s t e.head.queue head-beside is.head.ready; readable = subst HoldsReadable (sym head-beside) is.head.readable };
+      driver = only.ready;
+      spare_up = only.others (first + 2) (λ eq. let a = is.driver_list in absurd (omega arith)) ∙ is.spare_up;
+      spare_down = only.others (first + 3) (λ eq. let a = is.driver_list in absurd (omega arith)) ∙ is.spare_down;
+    }
+
+    driver-stream : stream_in t (record e { driver = q }) ≡ with_driver_queue (queue_in t q) (stream_in s e)
+    driver-stream = ap (λ h. stream_of e h (queue_in t q)) (queue-same s t e.head.queue head-beside)
+
+  -- the head changed
+  module _ (h : Head) (only : OnlyQueue s t e.head.queue h.queue) where
+    driver-beside : list_at t e.driver.list ≡ list_at s e.driver.list
+    driver-beside = only.others e.driver.list (λ eq. let a = is.head_list in let b = is.driver_list in absurd (omega arith))
+
+    head-side : HoldsReadable (list_at t h.queue.list) → IsSide t first (record e { head = h })
+    head-side readable = record {
+      head_list = only.list ∙ is.head_list;
+      driver_list = is.driver_list;
+      head = record { ready = only.ready; readable = readable };
+      driver = ready-same s t e.driver driver-beside is.driver;
+      spare_up = only.others (first + 2) (λ eq. let a = is.head_list in absurd (omega arith)) ∙ is.spare_up;
+      spare_down = only.others (first + 3) (λ eq. let a = is.head_list in absurd (omega arith)) ∙ is.spare_down;
+    }
+
+    head-stream : stream_in t (record e { head = h }) ≡ record (stream_in s e) { head = head_in t h }
+    head-stream = ap (λ d. record { opened = e.opened; head = head_in t h; driver = record { queue = d } }) (queue-same s t e.driver driver-beside)
+
+-- a stream that was closed has the same driver
+as-side : (t : StoreValue) (first : ℕ) (e e' : End) → e'.driver ≡ e.driver → IsSide t first (record e { head = e'.head }) → IsSide t first e'
+as-side t first e e' same is = record {
   head_list = is.head_list;
-  driver_list = is.driver_list;
-  head = stays s t e.head (same e.head.list (let l = is.head_list in omega arith) (let l = is.head_list in omega arith)) is.head;
-  driver = stays s t e.driver (same e.driver.list (let l = is.driver_list in omega arith) (let l = is.driver_list in omega arith)) is.driver;
-  spare_up = same (first + 2) (omega arith) (omega arith) ∙ is.spare_up;
-  spare_down = same (first + 3) (omega arith) (omega arith) ∙ is.spare_down;
+  driver_list = ap (λ d. d.list) same ∙ is.driver_list;
+  head = is.head;
+  driver = subst (IsReady t) (sym same) is.driver;
+  spare_up = is.spare_up;
+  spare_down = is.spare_down;
 }
 
--- a side whose head's queue changed
-head-changed : (s t : StoreValue) (first : ℕ) (e : End) (h : Queue) → Keeps s t e.head h → IsSide s first e → IsSide t first (record e { head = h })
-head-changed s t first e h keeps is = record {
-  head_list = keeps.list ∙ is.head_list;
-  driver_list = is.driver_list;
-  head = record { ready = keeps.ready; data_only = keeps.data_only is.head.data_only };
-  driver = stays s t e.driver (keeps.others e.driver.list (λ eq. let a = is.head_list in let b = is.driver_list in absurd (omega arith))) is.driver;
-  spare_up = keeps.others (first + 2) (λ eq. let a = is.head_list in absurd (omega arith)) ∙ is.spare_up;
-  spare_down = keeps.others (first + 3) (λ eq. let a = is.head_list in absurd (omega arith)) ∙ is.spare_down;
+-- a queue from which all went has what readers may read
+all-gone : (ms : List (Message ℕ)) → stayed of_all ms ≡ []
+all-gone [] = refl
+all-gone (m ∷ ms) = all-gone ms
+
+no-chain : (l : List (List Block)) → map message_of l ≡ [] → l ≡ []
+no-chain [] none = refl
+no-chain (chain ∷ l) none = absurd (cc)
+
+pub readable-cleared : (t : StoreValue) (q : Queue) (old : state.Queue ℕ) → queue_in t q ≡ queue_behind of_all old → HoldsReadable (list_at t q.list)
+readable-cleared t q old is = readable-none (list_at t q.list) (no-chain (list_at t q.list) (ap (λ (x : state.Queue ℕ). x.messages) is ∙ behind (none_goes of_all old)))
+  where
+    behind : (b : Bool) → (cond b (emptied of_all old) (state.relieved (emptied of_all old))).messages ≡ []
+    behind true = all-gone old.messages
+    behind false = all-gone old.messages
+
+-- a state by its two streams
+abbrev state_of : Streams → streams.Stream ℕ → streams.Stream ℕ → State ℕ
+state_of p m sl = record {
+  master = m;
+  slave = sl;
+  locked = p.locked;
+  enabled = p.enabled;
+  next_ioctl = p.next_ioctl;
+  from_master = p.from_master;
+  from_slave = p.from_slave;
 }
 
--- both sides where one head's queue changed
-pub head-kept : (s t : StoreValue) (p : Streams) (h : Queue) → AreHeld s p → Keeps s t p.master.head h → AreSides t (record p.master { head = h }) p.slave
-head-kept s t p h held keeps = record {
-  hand = keeps.hand ∙ held.hand;
-  master = head-changed s t 0 p.master h keeps held.master;
-  slave = side-stays s t 4 p.slave (λ k low high. keeps.others k (λ eq. let a = held.master.head_list in absurd (omega arith))) held.slave;
-}
+both : (p : Streams) (m m' sl sl' : streams.Stream ℕ) → m ≡ m' → sl ≡ sl' → state_of p m sl ≡ state_of p m' sl'
+both p m m' sl sl' a b = ap (λ v. state_of p v sl) a ∙ ap (λ v. state_of p m' v) b
 
-pub slave-head-kept : (s t : StoreValue) (p : Streams) (h : Queue) → AreHeld s p → Keeps s t p.slave.head h → AreSides t p.master (record p.slave { head = h })
-slave-head-kept s t p h held keeps = record {
-  hand = keeps.hand ∙ held.hand;
-  master = side-stays s t 0 p.master (λ k low high. keeps.others k (λ eq. let a = held.slave.head_list in absurd (omega arith))) held.master;
-  slave = head-changed s t 4 p.slave h keeps held.slave;
-}
+module _ (s t : StoreValue) (p : Streams) (beside : AreBeside s p) where
+  module _ (q : Queue) (only : OnlyQueue s t p.master.driver q) where
+    across-master-driver : (k : ℕ) → 4 ≤ k → k < 4 + 4 → list_at t k ≡ list_at s k
+    across-master-driver k low high = only.others k (λ eq. let a = beside.master.driver_list in absurd (omega arith))
+
+  module _ (q : Queue) (only : OnlyQueue s t p.slave.driver q) where
+    across-slave-driver : (k : ℕ) → 0 ≤ k → k < 0 + 4 → list_at t k ≡ list_at s k
+    across-slave-driver k low high = only.others k (λ eq. let a = beside.slave.driver_list in absurd (omega arith))
+
+  module _ (h : Head) (only : OnlyQueue s t p.master.head.queue h.queue) where
+    across-master-head : (k : ℕ) → 4 ≤ k → k < 4 + 4 → list_at t k ≡ list_at s k
+    across-master-head k low high = only.others k (λ eq. let a = beside.master.head_list in absurd (omega arith))
+
+  module _ (h : Head) (only : OnlyQueue s t p.slave.head.queue h.queue) where
+    across-slave-head : (k : ℕ) → 0 ≤ k → k < 0 + 4 → list_at t k ≡ list_at s k
+    across-slave-head k low high = only.others k (λ eq. let a = beside.slave.head_list in absurd (omega arith))
+
+  -- the queue of a side's driver changed
+  pub driver-changed : (side : Side) (q : Queue) → OnlyQueue s t (end_at side p).driver q → AreBeside t (with_end side (record (end_at side p) { driver = q }) p)
+  driver-changed Master q only = record { master = driver-side s t 0 p.master beside.master q only; slave = side-stays s t 4 p.slave beside.slave (across-master-driver q only) }
+  driver-changed Slave q only = record { master = side-stays s t 0 p.master beside.master (across-slave-driver q only); slave = driver-side s t 4 p.slave beside.slave q only }
+
+  pub driver-state : (side : Side) (q : Queue) → OnlyQueue s t (end_at side p).driver q
+      → state_in t (with_end side (record (end_at side p) { driver = q }) p) ≡ with_stream side (with_driver_queue (queue_in t q) (stream side (state_in s p))) (state_in s p)
+  driver-state Master q only =
+      both p (stream_in t (record p.master { driver = q })) (with_driver_queue (queue_in t q) (stream_in s p.master)) (stream_in t p.slave) (stream_in s p.slave)
+      (driver-stream s t 0 p.master beside.master q only) (stream-stays s t 4 p.slave beside.slave (across-master-driver q only))
+  driver-state Slave q only =
+      both p (stream_in t p.master) (stream_in s p.master) (stream_in t (record p.slave { driver = q })) (with_driver_queue (queue_in t q) (stream_in s p.slave))
+      (stream-stays s t 0 p.master beside.master (across-slave-driver q only)) (driver-stream s t 4 p.slave beside.slave q only)
+
+  -- the head of a side changed
+  pub head-changed : (side : Side) (h : Head) → OnlyQueue s t (end_at side p).head.queue h.queue → HoldsReadable (list_at t h.queue.list) → AreBeside t (with_end side (record (end_at side p) { head = h }) p)
+  head-changed Master h only readable = record { master = head-side s t 0 p.master beside.master h only readable; slave = side-stays s t 4 p.slave beside.slave (across-master-head h only) }
+  head-changed Slave h only readable = record { master = side-stays s t 0 p.master beside.master (across-slave-head h only); slave = head-side s t 4 p.slave beside.slave h only readable }
+
+  pub head-state : (side : Side) (h : Head) → OnlyQueue s t (end_at side p).head.queue h.queue
+      → state_in t (with_end side (record (end_at side p) { head = h }) p) ≡ with_stream side (record (stream side (state_in s p)) { head = head_in t h }) (state_in s p)
+  head-state Master h only =
+      both p (stream_in t (record p.master { head = h })) (record (stream_in s p.master) { head = head_in t h }) (stream_in t p.slave) (stream_in s p.slave)
+      (head-stream s t 0 p.master beside.master h only) (stream-stays s t 4 p.slave beside.slave (across-master-head h only))
+  head-state Slave h only =
+      both p (stream_in t p.master) (stream_in s p.master) (stream_in t (record p.slave { head = h })) (record (stream_in s p.slave) { head = head_in t h })
+      (stream-stays s t 0 p.master beside.master (across-slave-head h only)) (head-stream s t 4 p.slave beside.slave h only)
+
+-- the queue of a side's driver, as the state has it
+pub driver-is : (s : StoreValue) (p : Streams) (side : Side) → (stream side (state_in s p)).driver.queue ≡ queue_in s (end_at side p).driver
+driver-is s p Master = refl
+driver-is s p Slave = refl
+
+-- and its head
+pub head-is : (s : StoreValue) (p : Streams) (side : Side) → (stream side (state_in s p)).head ≡ head_in s (end_at side p).head
+head-is s p Master = refl
+head-is s p Slave = refl
+
+-- a side whose head's queue was emptied, and whose driver stays
+pub master-renewed : (s t : StoreValue) (p : Streams) (e : End) → AreBeside s p → e.driver ≡ p.master.driver → Keeps s t p.master.head.queue e.head.queue → AreBeside t (with_end Master e p)
+master-renewed s t p e beside same keeps =
+    let all = head-changed s t p beside Master e.head (only-kept s t p.master.head.queue e.head.queue keeps) (readable-kept s t p.master.head.queue e.head.queue beside.master.head keeps) in
+    record { master = as-side t 0 p.master e same all.master; slave = all.slave }
+
+pub slave-renewed : (s t : StoreValue) (p : Streams) (e : End) → AreBeside s p → e.driver ≡ p.slave.driver → Keeps s t p.slave.head.queue e.head.queue → AreBeside t (with_end Slave e p)
+slave-renewed s t p e beside same keeps =
+    let all = head-changed s t p beside Slave e.head (only-kept s t p.slave.head.queue e.head.queue keeps) (readable-kept s t p.slave.head.queue e.head.queue beside.slave.head keeps) in
+    record { master = all.master; slave = as-side t 4 p.slave e same all.slave }

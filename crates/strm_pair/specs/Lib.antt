@@ -1,4 +1,7 @@
-pub mod DataTurns
+pub mod Costs
+pub mod PutBy
+pub mod Took
+pub mod Framing
 pub mod Streams
 pub mod Journals
 pub mod Pairs
@@ -6,3 +9,4 @@ pub mod PairViews
 pub mod PlainCalls
 pub mod Shows
 pub mod Pool
+pub mod Parts

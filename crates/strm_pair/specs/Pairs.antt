@@ -1,5 +1,5 @@
 -- What a pair over a store stands for.
-use Rattle.std.specs.Prelude.{ℕ, ◌≡◌, List}
+use Rattle.std.specs.Prelude.{ℕ, ◌≡◌, List, []}
 use Rattle.strm_types.specs.declared.names.Side.{Side}
 use Rattle.strm_types.specs.declared.names.Side.TheVariants.{Master, Slave}
 use Rattle.strm_types.specs.State.{State}
@@ -28,9 +28,19 @@ abbrev pub end_at : Side → Streams → End
 end_at Master p = p.master
 end_at Slave p = p.slave
 
--- the store and the streams beside it fit
-abbrev pub AreHeld : StoreValue → Streams → Type 0
-AreHeld s p = AreSides s p.master p.slave
+-- the streams with another stream on a side
+abbrev pub with_end : Side → End → Streams → Streams
+with_end Master e p = record p { master = e }
+with_end Slave e p = record p { slave = e }
+
+-- the store and the streams beside it fit, whatever is in hand
+abbrev pub AreBeside : StoreValue → Streams → Type 0
+AreBeside s p = AreSides s p.master p.slave
+
+-- the same while nobody is in a call: nothing is in hand
+pub record AreHeld (s : StoreValue) (p : Streams) : Type 0 where
+  pub hand : s.hand ≡ []
+  pub beside : AreBeside s p
 
 -- how many blocks of each kind are free in the store
 abbrev pub free_in : StoreValue → Free

@@ -64,18 +64,20 @@ impl Journal {
         self.entries.len() < self.most_entries && bytes <= self.most_bytes - self.bytes.len()
     }
 
-    // Adds an entry with its bytes.
-    fn add(&mut self, entry: Entry<usize>, payload: &[u8], content: &[u8])
-        requires lengths { entry_len entry ≡ length payload.now + length content.now }
+    // Adds an entry with its bytes: those of its call, in two parts, and those of its answer.
+    fn add(&mut self, entry: Entry<usize>, first: &[u8], second: &[u8], content: &[u8])
+        requires lengths { entry_len entry ≡ length first.now + length second.now + length content.now }
         requires room_entries { length self.old.entries.items < self.old.most_entries }
-        requires room_bytes { length self.old.bytes.items + (length payload.now + length content.now)
+        requires room_bytes { length self.old.bytes.items + (length first.now + length second.now + length content.now)
             ≤ self.old.most_bytes }
-        ensures added { journal_of self.new ≡ journal_of self.old ++ entry_in entry (payload.now ++ content.now) ∷ [] }
+        ensures added { journal_of self.new
+            ≡ journal_of self.old ++ entry_in entry ((first.now ++ second.now) ++ content.now) ∷ [] }
         ensures most_entries { self.new.most_entries ≡ self.old.most_entries }
         ensures most_bytes { self.new.most_bytes ≡ self.old.most_bytes }
     {
         self.entries.push_reserved(entry);
-        append(&mut self.bytes, payload);
+        append(&mut self.bytes, first);
+        append(&mut self.bytes, second);
         append(&mut self.bytes, content);
     }
 
@@ -100,7 +102,8 @@ impl Journal {
             event: event.shape(),
             answer,
         };
-        self.add(entry, event.payload(), content);
+        let (first, second) = event.payload();
+        self.add(entry, first, second, content);
     }
 
     /// Adds a turn with its answer.
@@ -110,6 +113,6 @@ impl Journal {
         ensures most_entries { self.new.most_entries ≡ self.old.most_entries }
         ensures most_bytes { self.new.most_bytes ≡ self.old.most_bytes }
     {
-        self.add(Entry::Turned { queue, turn }, &[], &[]);
+        self.add(Entry::Turned { queue, turn }, &[], &[], &[]);
     }
 }

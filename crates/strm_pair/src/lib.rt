@@ -2,15 +2,18 @@
 //! time, each is refused by name or carried out whole, and the journal tells all that were carried out.
 #![tactic(auto)]
 
+mod answers;
 mod closing;
 mod ends;
 mod journal;
 mod looking;
+mod messages;
 mod pair;
-mod passing;
+mod putting;
 mod refusals;
 mod sending;
 mod streams;
+mod turning;
 
 pub use pair::{Pair, Recorded};
 

@@ -1,6 +1,6 @@
 //! The pair: calls, turns, and the journal of what was carried out.
 
-ghost use Rattle.std.specs.Prelude.{◌≡◌, ◌<◌, [], length, replicate, MatchResult, MatchOption, IsOk, Err, IfOk, slice_get};
+ghost use Rattle.std.specs.Prelude.{◌≡◌, ◌≤◌, ◌<◌, [], length, replicate, MatchResult, MatchOption, IsOk, Err, IfOk, slice_get};
 ghost use Rattle.strm_types.specs.Calls.{request, map_answer};
 ghost use Rattle.strm_types.specs.Cells.{plain};
 ghost use Rattle.strm_types.specs.declared.entries.Entry.TheVariants.{Called, Turned};
@@ -13,19 +13,20 @@ ghost use Rattle.strm_types.specs.Rules.{no_fates};
 ghost use Rattle.strm_types.specs.Queue.{bytes_of};
 ghost use Rattle.strm_types.specs.State.{AreOrdered, messages_in};
 ghost use Rattle.strm_pair.specs.Shows.{Shows, count_at, full_at, messages_at};
+ghost use Rattle.strm_pair.specs.Parts.{longest_part};
 ghost use Rattle.strm_pair.specs.Pool.{IsPoolOf};
 ghost use Rattle.strm_pair.specs.PairViews.{sizes_over};
 
+use crate::answers::own;
 use crate::journal::Journal;
 use crate::refusals::{blocks_asked, content_most, or_else, unless};
 use crate::streams::Streams;
-use arrayvec::ArrayVec;
 use std::alloc::Global;
 use std::marker::Model;
 use strm_blocks::Blocks;
 use strm_types::{
-    Answer, BANDS, Band, Caller, Config, Entry, Event, Fates, LISTS, NoMemory, QueueName,
-    ReadBytes, Refusal, TURN_BLOCKS, Turn,
+    Answer, BANDS, Band, Caller, Config, Content, Entry, Event, Fates, LISTS, NoMemory, QueueName,
+    READ_MAX, ReadBytes, Refusal, TURN_BLOCKS, Turn,
 };
 
 /// A pair of a master and a slave, whose messages stand in a store of its own. Contracts see it as its plain state, its
@@ -185,7 +186,8 @@ impl<B: Blocks + Drop> Pair<B> {
         if let Some(refusal) = self.streams.refused_at_once(caller, event) {
             return Some(refusal);
         }
-        if !self.has_room(event.payload().len() + content_most(event)) {
+        let (first, second) = event.payload();
+        if !self.has_room(first.len() + second.len() + content_most(event)) {
             return Some(Refusal::JournalFull);
         }
         if !self.has_blocks(blocks_asked(event)) {
@@ -210,8 +212,8 @@ impl<B: Blocks + Drop> Pair<B> {
         )
     }
 
-    /// Makes a call, and tells it as [`Pair::call`] does, with the bytes of a read in the answer. An answer has room
-    /// for 4096 bytes, and whoever makes many calls keeps a buffer and takes `call`.
+    /// Makes a call, and tells it as [`Pair::call`] does, with the bytes of a read or of a get in the answer. Each part of an
+    /// answer has room for 4096 bytes, and whoever makes many calls keeps a buffer and takes `call`.
     pub fn apply(
         &mut self,
         caller: Caller,
@@ -222,33 +224,32 @@ impl<B: Blocks + Drop> Pair<B> {
         ensures adds { IfOk result (λ answer.
             AddsEntry self.old self.new (Called caller (request event.now) (map_answer (λ b. b.items) answer))) }
     {
-        let mut out = ArrayVec::new();
+        let mut out = Content::new();
         match self.call(caller, event, &mut out) {
             Err(refusal) => Err(refusal),
-            Ok(Answer::Done) => Ok(Answer::Done),
-            Ok(Answer::Name(name)) => Ok(Answer::Name(name)),
-            Ok(Answer::Count(n)) => Ok(Answer::Count(n)),
-            Ok(Answer::Bytes(_)) => Ok(Answer::Bytes(out)),
+            Ok(answer) => Ok(own(answer, out.as_slice())),
         }
     }
 
     /// Makes a call. It is refused for the first of: its side isn't open, or is hung up where the call sends something down
     /// (ENXIO); an argument is wrong (EINVAL); a book is full (ERANGE); the journal is full; too few blocks are free (ENOSR);
     /// the state doesn't allow it (EAGAIN, EINVAL). A refused call changes nothing, and `out` stays. Else the call is carried out, and the journal gains it with its answer;
-    /// `out` has the bytes that it gives, which are none for any call but a read.
+    /// `out` has the bytes that it gives, which are none for any call but a read and a get: a get gives those of the control part
+    /// first. No part has more than 4096 bytes.
     ///
     /// The cost is in proportion to the bytes that the call moves. No memory is taken.
     pub fn call(
         &mut self,
         caller: Caller,
         event: &Event<&[u8]>,
-        out: &mut ReadBytes,
+        out: &mut Content,
     ) -> Result<Answer<usize>, Refusal>
         ensures refused { MatchOption (call_refused self.old caller (request event.now)) (IsOk result)
             (λ r. (result ≡ Err r) × ((self.new ≡ self.old) × (out.new ≡ out.old))) }
         ensures adds { IfOk result (λ answer.
             AddsEntry self.old self.new (Called caller (request event.now) (reply_in answer out.new.items))) }
         ensures filled { IfOk result (λ answer. answer_len answer ≡ length out.new.items) }
+        ensures parts { IfOk result (λ answer. longest_part answer ≤ READ_MAX) }
     {
         if let Some(refusal) = self.refusal(caller, event) {
             return Err(refusal);
@@ -274,7 +275,7 @@ impl<B: Blocks + Drop> Pair<B> {
         if let Some(refusal) = self.turn_refusal(name) {
             return Err(refusal);
         }
-        let turn = self.streams.turn(&mut self.store, name);
+        let turn = self.streams.turn(&mut self.store, name, &mut self.fates);
         self.journal.add_turn(name, turn);
         Ok(turn)
     }

@@ -1,22 +1,24 @@
 //! What a call is refused for, by the streams alone.
 
-ghost use Rattle.std.specs.Prelude.{ℕ, ◌≡◌, ◌+◌, ◌≤◌, ◌<◌, ◌^◌, ◌&&◌, ◌||◌, ◌==◌, not};
+ghost use Rattle.std.specs.Prelude.{ℕ, ◌≡◌, ◌+◌, ◌≤◌, ◌<◌, ◌^◌, option_map};
 ghost use Rattle.strm_types.specs.Calls.{request};
 ghost use Rattle.strm_types.specs.Journal.{content_max};
-ghost use Rattle.strm_types.specs.Refused.{refused_at_once, refused_by_state, blocks_asked, unless, or_else, in_range, goes_down, at_end, has_no_data, is_known, is_a_band};
-ghost use Rattle.strm_types.specs.Reads.{read_refusal};
-ghost use Rattle.strm_types.specs.declared.modes.ControlMode.TheVariants.{Refuse};
+ghost use Rattle.strm_types.specs.Refused.{refused_at_once, refused_by_state, blocks_asked, unless, or_else, in_range, goes_down, at_end, is_known, is_a_band, asks_a_band};
+ghost use Rattle.strm_types.specs.PutMsg.{part_blocks};
+ghost use Rattle.strm_pair.specs.Parts.{is_held_back};
 ghost use Rattle.strm_types.specs.declared.refusals.Refusal.TheVariants.{Enxio, Erange};
 ghost use Rattle.strm_types.specs.Names.{is_open};
 ghost use Rattle.strm_types.specs.State.{stream};
 
 use crate::ends::End;
+use crate::looking::has_no_data;
 use crate::streams::Streams;
 use strm_blocks::Blocks;
+use strm_head::put_refusal;
 use strm_queue::standing::is_full;
 use strm_types::{
-    BANDS, Band, CHANGE_BLOCKS, CLOSE_BLOCKS, Caller, Event, ModuleName, Openness, READ_MAX,
-    Refusal, Side, WRITE_BLOCKS, chunk_count,
+    BANDS, Band, CHANGE_BLOCKS, CLOSE_BLOCKS, Caller, Event, ModuleName, Openness, Prio, READ_MAX,
+    Refusal, Side, WRITE_BLOCKS, Wanted, chunk_count,
 };
 
 /// A refusal unless a condition holds.
@@ -55,6 +57,26 @@ fn is_a_band(band: Option<Band>) -> bool
     }
 }
 
+// Whether a band that a get asks for is one of those that queues have.
+fn asks_a_band(wanted: Wanted) -> bool
+    ensures { result ≡ asks_a_band wanted }
+{
+    match wanted {
+        Wanted::Any | Wanted::High => true,
+        Wanted::Band(band) => usize::from(band.0) < BANDS,
+    }
+}
+
+// How many blocks a part takes: it fits in one.
+fn part_blocks(part: Option<&[u8]>) -> usize
+    ensures { result ≡ part_blocks (option_map (λ bytes. bytes.now) part.entry) }
+{
+    match part {
+        Some(_) => 1,
+        None => 0,
+    }
+}
+
 /// How many blocks of each kind have to be free for a call.
 pub(crate) fn blocks_asked(event: &Event<&[u8]>) -> usize
     ensures { result ≡ blocks_asked (request event.now) }
@@ -62,6 +84,9 @@ pub(crate) fn blocks_asked(event: &Event<&[u8]>) -> usize
     match event {
         Event::Write { bytes } => WRITE_BLOCKS + chunk_count(bytes.len()),
         Event::Push { .. } | Event::Pop | Event::Flush { .. } => CHANGE_BLOCKS,
+        Event::Put { control, body, .. } => {
+            WRITE_BLOCKS + (part_blocks(*control) + part_blocks(*body))
+        }
         Event::Shut => CLOSE_BLOCKS,
         _ => 0,
     }
@@ -70,19 +95,15 @@ pub(crate) fn blocks_asked(event: &Event<&[u8]>) -> usize
 /// The most bytes that the answer of a call can have.
 pub(crate) fn content_most(event: &Event<&[u8]>) -> usize
     ensures value { result ≡ content_max (request event.now) }
-    ensures small { result ≤ 4096 }
+    ensures small { result ≤ 8192 }
 {
     match event {
         Event::Read { n } => (*n as usize).min(READ_MAX),
+        Event::Get { cmax, dmax, .. } => {
+            (*cmax as usize).min(READ_MAX) + (*dmax as usize).min(READ_MAX)
+        }
         _ => 0,
     }
-}
-
-// Whether a read may go on: it asks for nothing, or something stands there, or the input is at its end.
-fn may_read(n: u32, is_empty: bool, at_end: bool) -> bool
-    ensures { result ≡ (n == 0 || (not is_empty || at_end)) }
-{
-    n == 0 || !is_empty || at_end
 }
 
 impl Streams {
@@ -114,7 +135,7 @@ impl Streams {
         ensures { (s : StoreValue) → result ≡ unless (goes_down side (state_in s self.now)) Enxio }
     {
         let end = self.end(side);
-        unless(end.opened.is_open() && !end.hung_up, Refusal::Enxio)
+        unless(end.opened.is_open() && !end.head.hung_up, Refusal::Enxio)
     }
 
     /// ERANGE where the books of a direction are full.
@@ -127,37 +148,33 @@ impl Streams {
         )
     }
 
-    // Whether nothing of the slave's stands anywhere for the master's readers.
-    fn is_drained<B: Blocks>(&self, store: &B) -> bool
-        requires { AreHeld (B.value store.now) self.now }
-        ensures { let s = state_in (B.value store.now) self.now in
-            result ≡ (has_no_data s.slave.driver.queue.messages && has_no_data s.master.head.queue.messages) }
-    {
-        self.slave.driver.is_empty(store) && self.master.head.is_empty(store)
-    }
-
     // Whether a side's head is at the end of its input, where nothing is to be read there.
     fn is_at_end<B: Blocks>(&self, store: &B, side: Side) -> bool
         requires { AreHeld (B.value store.now) self.now }
         ensures { result ≡ at_end side (state_in (B.value store.now) self.now) }
     {
         match side {
-            Side::Slave => self.slave.hung_up,
+            Side::Slave => self.slave.head.hung_up,
             Side::Master => {
-                self.master.hung_up || (self.slave.opened.is_closed() && self.is_drained(store))
+                self.master.head.hung_up
+                    || (self.slave.opened.is_closed()
+                        && has_no_data(store, &self.slave.driver)
+                        && has_no_data(store, &self.master.head.queue))
             }
         }
     }
 
-    // EAGAIN for a read where nothing stands at a side's head and the input isn't at its end.
-    fn read_refusal<B: Blocks>(&self, store: &B, side: Side, n: u32) -> Option<Refusal>
+    // Whether a message of this priority finds the driver's queue of a side full in its band. One of high priority waits for nothing.
+    fn is_held_back<B: Blocks>(&self, store: &B, side: Side, prio: Prio) -> bool
         requires { AreHeld (B.value store.now) self.now }
-        ensures { let s = state_in (B.value store.now) self.now in
-            result ≡ read_refusal Refuse (at_end side s) n (stream side s).head.queue.messages }
+        ensures { result ≡ is_held_back prio (stream side (state_in (B.value store.now) self.now)).driver.queue }
     {
-        let is_empty = self.end(side).head.is_empty(store);
-        let at_end = self.is_at_end(store, side);
-        unless(may_read(n, is_empty, at_end), Refusal::Eagain)
+        match prio {
+            Prio::High => false,
+            Prio::Band(band) => {
+                usize::from(band.0) < BANDS && is_full(store, &self.end(side).driver, band)
+            }
+        }
     }
 
     /// What a call is refused for before all else: its side, and then its arguments.
@@ -181,6 +198,18 @@ impl Streams {
             Event::Flush { band, .. } => or_else(
                 self.unreached(caller.side),
                 or_else(unless(is_a_band(*band), Refusal::Einval), self.beyond()),
+            ),
+            Event::Put {
+                prio,
+                control,
+                body,
+            } => or_else(
+                self.unreached(caller.side),
+                or_else(put_refusal(*prio, *control, *body), self.beyond()),
+            ),
+            Event::Get { wanted, .. } => or_else(
+                self.unopened(caller.side),
+                unless(asks_a_band(*wanted), Refusal::Einval),
             ),
             _ => self.unopened(caller.side),
         }
@@ -211,9 +240,32 @@ impl Streams {
                     Refusal::Eagain,
                 )
             }
-            Event::Read { n } => self.read_refusal(store, caller.side, *n),
+            Event::Read { n } => {
+                let at_end = self.is_at_end(store, caller.side);
+                self.end(caller.side)
+                    .head
+                    .read_refusal(store, at_end, *n as usize)
+            }
+            Event::Put {
+                prio,
+                control,
+                body,
+            } => {
+                let is_sent = control.is_some() || body.is_some();
+                unless(
+                    !(is_sent && self.is_held_back(store, caller.side, *prio)),
+                    Refusal::Eagain,
+                )
+            }
+            Event::Get { wanted, .. } => {
+                let at_end = self.is_at_end(store, caller.side);
+                self.end(caller.side)
+                    .head
+                    .get_refusal(store, *wanted, at_end)
+            }
             Event::Pop | Event::Look => Some(Refusal::Einval),
             Event::Unlock | Event::Shut | Event::Push { .. } | Event::Flush { .. } => None,
+            Event::Mode { .. } | Event::Nread => None,
         }
     }
 }

@@ -4,30 +4,30 @@ ghost use Rattle.std.specs.Prelude.{ℕ, ◌≡◌, ◌+◌, ◌≤◌, ◌<◌,
 ghost use Rattle.strm_types.specs.Cells.{plain};
 ghost use Rattle.strm_types.specs.State.{opening, new_stream};
 ghost use Rattle.strm_types.specs.declared.answers.Answer.TheVariants.{Count, Bytes};
-ghost use Rattle.strm_types.specs.Calls.{Reply, called, request, opened_slave};
+ghost use Rattle.strm_types.specs.Calls.{Reply, called, mode_set, request, opened_slave};
 ghost use Rattle.strm_types.specs.declared.entries.Entry.TheVariants.{Called};
 ghost use Rattle.strm_types.specs.Deliver.{tallied};
 ghost use Rattle.strm_types.specs.Kept.{gone};
 ghost use Rattle.strm_types.specs.Turns.{turned};
-ghost use Rattle.strm_pair.specs.DataTurns.{data_turned};
-ghost use Rattle.strm_types.specs.Refused.{blocks_taken, in_range, refused_at_once};
+ghost use Rattle.strm_types.specs.declared.limits.TheConstants.{READ_MAX, TURN_BLOCKS};
+ghost use Rattle.strm_frame.specs.Hands.{HasRoom};
+ghost use Rattle.strm_types.specs.Refused.{blocks_asked, in_range, refused_at_once};
 ghost use Rattle.strm_types.specs.Write.{chunk_count};
 ghost use Rattle.strm_types.specs.Journal.{reply_in, answer_len, content_max};
 ghost use Rattle.strm_blocks.specs.Blocks.{StoreValue, free_m, free_d, empty_store};
 ghost use Rattle.strm_pair.specs.Streams.{IsBlank, IsSide, stream_in};
+ghost use Rattle.strm_pair.specs.Parts.{longest_part};
 ghost use Rattle.strm_pair.specs.PlainCalls.{wrote_plain, read_plain, read_lets};
 
 use crate::ends::End;
-use crate::passing::{goes_on, serve};
 use crate::sending::send;
 use strm_blocks::Blocks;
 use strm_frame::Enabled;
-use strm_head::read;
-use strm_queue::emptying::Chosen;
-use strm_queue::{Flush, HEAD_HIGH, HEAD_LOW, OTHER_HIGH, OTHER_LOW, Queue};
+use strm_head::Head;
+use strm_queue::{HEAD_HIGH, HEAD_LOW, OTHER_HIGH, OTHER_LOW, Queue};
 use strm_types::{
-    Answer, Book, Caller, Event, Fates, Openness, Place, QueueName, READ_MAX, ReadBytes, ReadMode,
-    Side, Turn, chunk_count,
+    Answer, Book, Caller, Content, Event, Fates, Mode, Openness, Place, QueueName, READ_MAX, Side,
+    Turn, chunk_count,
 };
 
 /// The streams of a pair, whether its slave is locked, the queues that are enabled, the number that the next ioctl gets,
@@ -52,8 +52,7 @@ fn new_end(first: usize) -> End
 {
     End {
         opened: Openness::Never,
-        hung_up: false,
-        head: Queue::new(first, HEAD_HIGH, HEAD_LOW),
+        head: Head::new(Queue::new(first, HEAD_HIGH, HEAD_LOW)),
         driver: Queue::new(first + 1, OTHER_HIGH, OTHER_LOW),
     }
 }
@@ -84,11 +83,20 @@ impl Streams {
         ensures held { AreHeld (B.value store.new) self.new }
         ensures pool { SamePool (B.value store.old) (B.value store.new) }
     {
-        store.audit();
-        self.slave.opened = Openness::Open;
-        self.slave.renew_head(store);
+        self.slave.open(store);
         if !self.master.driver.is_empty(store) {
             self.enabled.enable(Side::Master.driver());
+        }
+    }
+
+    // Sets a mode of a side's head.
+    fn set_mode(&mut self, side: Side, mode: Mode)
+        ensures state { (s : StoreValue) → state_in s self.new ≡ mode_set side mode (state_in s self.old) }
+        ensures held { (s : StoreValue) → AreHeld s self.old → AreHeld s self.new }
+    {
+        match side {
+            Side::Master => self.master.head.set_mode(mode),
+            Side::Slave => self.slave.head.set_mode(mode),
         }
     }
 
@@ -123,13 +131,13 @@ impl Streams {
         down.taken
     }
 
-    /// Reads up to `n` bytes from a side's head into `out`, and tells by which rule they go.
+    /// Reads up to `n` bytes from a side's head into `out`, as its modes say.
     pub fn read<B: Blocks>(
         &mut self,
         store: &mut B,
         side: Side,
         n: u32,
-        out: &mut ReadBytes,
+        out: &mut Content,
         told: &mut Fates,
     )
         requires held { AreHeld (B.value store.old) self.old }
@@ -143,50 +151,32 @@ impl Streams {
         ensures told { told.new ≡ tallied (read_lets side n (state_in (B.value store.old) self.old)) told.old }
     {
         let wanted = (n as usize).min(READ_MAX);
-        let mode = ReadMode::ByteStream;
         let direction = side.head().direction();
         let goes = match side {
-            Side::Master => read(
-                store,
-                &mut self.master.head,
-                mode,
-                wanted,
-                out,
-                direction,
-                told,
-            ),
-            Side::Slave => read(
-                store,
-                &mut self.slave.head,
-                mode,
-                wanted,
-                out,
-                direction,
-                told,
-            ),
+            Side::Master => self.master.head.read(store, wanted, out, direction, told),
+            Side::Slave => self.slave.head.read(store, wanted, out, direction, told),
         };
-        if goes {
-            self.enabled.enable_found(side.head().before());
-        }
+        self.let_go(side.head(), goes);
     }
 
-    /// Carries out a call that nothing refuses. What a read gives stands in `out`, which is empty else.
+    /// Carries out a call that nothing refuses. What a read or a get gives stands in `out`, which is empty else.
     pub fn carry_out<B: Blocks>(
         &mut self,
         store: &mut B,
         caller: Caller,
         event: &Event<&[u8]>,
-        out: &mut ReadBytes,
+        out: &mut Content,
         told: &mut Fates,
     ) -> Answer<usize>
         requires held { AreHeld (B.value store.old) self.old }
         requires allowed { refused_at_once (state_in (B.value store.old) self.old) caller (request event.now) ≡ None }
-        requires room_m { blocks_taken (request event.now) ≤ free_m (B.value store.old) }
-        requires room_d { blocks_taken (request event.now) ≤ free_d (B.value store.old) }
+        requires room_m { blocks_asked (request event.now) ≤ free_m (B.value store.old) }
+        requires room_d { blocks_asked (request event.now) ≤ free_d (B.value store.old) }
         ensures answer { reply_in result out.new.items
             ≡ (called plain caller (request event.now) (state_in (B.value store.old) self.old)).answer }
         ensures filled { answer_len result ≡ length out.new.items }
         ensures content { length out.new.items ≤ content_max (request event.now) }
+        ensures parts { longest_part result ≤ READ_MAX }
         ensures state { state_in (B.value store.new) self.new
             ≡ (called plain caller (request event.now) (state_in (B.value store.old) self.old)).state }
         ensures held { AreHeld (B.value store.new) self.new }
@@ -213,7 +203,7 @@ impl Streams {
                 Answer::Done
             }
             Event::Flush { what, band } => {
-                self.flush(store, caller.side, *what, Chosen::of_data(*band), told);
+                self.flush(store, caller.side, *what, *band, told);
                 Answer::Done
             }
             Event::Push { .. } | Event::Pop | Event::Look => Answer::Done,
@@ -222,47 +212,39 @@ impl Streams {
                 self.read(store, caller.side, *n, out, told);
                 Answer::Bytes(out.len())
             }
-        }
-    }
-
-    // A turn of a side's driver, which is off the list of enabled queues.
-    fn turn_driver<B: Blocks>(&mut self, store: &mut B, side: Side) -> Turn
-        requires { AreHeld (B.value store.old) self.old }
-        ensures turn { result ≡ (data_turned side (state_in (B.value store.old) self.old)).turn }
-        ensures state { state_in (B.value store.new) self.new
-            ≡ (data_turned side (state_in (B.value store.old) self.old)).state }
-        ensures held { AreHeld (B.value store.new) self.new }
-        ensures pool { SamePool (B.value store.old) (B.value store.new) }
-    {
-        match side {
-            Side::Master => {
-                let turn = serve(store, &mut self.master, &mut self.slave);
-                let more = goes_on(turn, store, &self.master.driver);
-                self.enabled.enable_if(more, Side::Master.driver());
-                turn
+            Event::Put {
+                prio,
+                control,
+                body,
+            } => {
+                self.putmsg(store, caller.side, *prio, *control, *body, told);
+                Answer::Done
             }
-            Side::Slave => {
-                let turn = serve(store, &mut self.slave, &mut self.master);
-                let more = goes_on(turn, store, &self.slave.driver);
-                self.enabled.enable_if(more, Side::Slave.driver());
-                turn
+            Event::Get { wanted, cmax, dmax } => {
+                self.getmsg(store, caller.side, *wanted, *cmax, *dmax, out, told)
             }
+            Event::Mode { mode } => {
+                self.set_mode(caller.side, *mode);
+                Answer::Done
+            }
+            Event::Nread => self.nread(store, caller.side),
         }
     }
 
     /// A turn of an enabled queue.
-    pub fn turn<B: Blocks>(&mut self, store: &mut B, name: QueueName) -> Turn
-        requires { AreHeld (B.value store.old) self.old }
+    pub fn turn<B: Blocks>(&mut self, store: &mut B, name: QueueName, told: &mut Fates) -> Turn
+        requires held { AreHeld (B.value store.old) self.old }
+        requires room { HasRoom (B.value store.old) TURN_BLOCKS }
         ensures turn { result ≡ (turned plain name result (state_in (B.value store.old) self.old)).turn }
         ensures state { state_in (B.value store.new) self.new
             ≡ (turned plain name result (state_in (B.value store.old) self.old)).state }
         ensures held { AreHeld (B.value store.new) self.new }
         ensures pool { SamePool (B.value store.old) (B.value store.new) }
-        ensures none_gone { (turned plain name result (state_in (B.value store.old) self.old)).gone ≡ [] }
+        ensures told { told.new ≡ tallied (turned plain name result (state_in (B.value store.old) self.old)).gone told.old }
     {
         self.enabled.remove(name);
         match name.place {
-            Place::Driver => self.turn_driver(store, name.side),
+            Place::Driver => self.turn_driver(store, name.side, told),
             Place::Head | Place::Ldterm => Turn::Idle,
         }
     }

@@ -9,7 +9,7 @@ use std::process::Abort;
 use std::test::Fail;
 use strm_blocks::{Blocks, TableStore};
 use strm_types::{
-    Answer, Band, Caller, Config, Event, FlushQueues, ModuleName, Place, QueueName, ReadBytes,
+    Answer, Band, Caller, Config, Content, Event, FlushQueues, ModuleName, Place, QueueName,
     Refusal, Rule, Side, Turn, Way,
 };
 
@@ -91,7 +91,7 @@ fn answers<B: Blocks + Drop>(
     event: &Event<&[u8]>,
     came: Came,
 ) -> bool {
-    let mut out = ReadBytes::new();
+    let mut out = Content::new();
     pair.call(caller, event, &mut out) == came
 }
 

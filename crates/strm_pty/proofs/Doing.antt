@@ -70,7 +70,7 @@ module _ {M : Type 0} (name : M → ℕ) where
   unfolding times_sent
   times-none i made none = ap (times_sent name i) none
 
-  times-one : (i : ℕ) (x : Sent M) (made : List (Sent M)) → made ≡ x ∷ [] → times_sent name i made ≡ once (name x.message) i + 0
+  pub times-one : (i : ℕ) (x : Sent M) (made : List (Sent M)) → made ≡ x ∷ [] → times_sent name i made ≡ once (name x.message) i + 0
   unfolding times_sent
   times-one i x made one = ap (times_sent name i) one
 

@@ -9,6 +9,7 @@ mod making;
 mod taking;
 
 pub use drivers::put;
+pub use making::make;
 
 #[cfg(test)]
 mod tests;

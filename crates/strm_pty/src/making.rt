@@ -18,7 +18,7 @@ use strm_msg::{first_bytes, from_bytes};
 use strm_types::{Band, FlushAsked, Ioc, MsgKind, Spot};
 
 /// Makes a message of a kind without parts, of band 0, in one block.
-pub(crate) fn make<B: Blocks>(store: &mut B, kind: MsgKind, bytes: &[u8]) -> B::Mp
+pub fn make<B: Blocks>(store: &mut B, kind: MsgKind, bytes: &[u8]) -> B::Mp
     requires kind { is_data_kind kind ≡ false }
     requires few { length bytes.now ≤ 256 }
     requires room { HasRoom (B.value store.old) 1 }

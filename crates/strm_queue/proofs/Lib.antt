@@ -18,4 +18,5 @@ pub mod Queued
 pub mod OneMade
 pub mod Renewed
 pub mod Joined
+pub mod Dequeuing
 pub mod Going

@@ -6,8 +6,8 @@ use Rattle.strm_types.specs.declared.kinds.MsgKind.TheVariants as kinds
 use Rattle.strm_types.specs.Flush.{is_data_kind}
 use Rattle.strm_types.specs.Message.{Message, size_of}
 use Rattle.strm_types.specs.Queue as plain
-use Rattle.strm_blocks.specs.Blocks.{Block, StoreValue, block_at, list_at, free_m, free_d}
-use Rattle.strm_msg.specs.Messages.{message_of, AreMessages}
+use Rattle.strm_blocks.specs.Blocks.{Block, StoreValue, IsFreshName, block_at, in_hand, list_at, free_m, free_d}
+use Rattle.strm_msg.specs.Messages.{message_of, IsChain, AreMessages}
 use Rattle.strm_queue.specs.declared.queue.Queue.{Queue}
 use Rattle.strm_queue.specs.Flows.{plain_flows}
 use Rattle.strm_queue.specs.Kept.{AreCounted}
@@ -130,3 +130,19 @@ pub record MovedOn (old new : StoreValue) (from from' to to' : Queue) (count : �
   pub put : queue_in new to' ≡ plain.put_on message (queue_in old to)
   pub moved : queue_in new from' ≡ moved_on (size_of message) (messages_on new from.list) (queue_in old from)
   pub keeps : KeepsBoth old new from from' to to'
+
+-- The first message of a queue was taken off it into the hand, beside what was there, and no other queue changed. No fewer blocks
+-- are free.
+pub record Dequeued (old new : StoreValue) (q q' : Queue) (name : ℕ) : Type 0 where
+  pub fresh : IsFreshName old name
+  pub first : messages_on old q.list ≡ message_of (in_hand new name) ∷ messages_on new q'.list
+  pub queue : queue_in new q' ≡ plain.left_with (messages_on new q'.list) (queue_in old q)
+  pub ready : IsReady new q'
+  pub holds : (test : MsgKind → Bool) → Holds test (list_at old q.list) → Holds test (list_at new q'.list)
+  pub chain : IsChain (in_hand new name)
+  pub list : q'.list ≡ q.list
+  pub others : (k : ℕ) → k ≢ q.list → list_at new k ≡ list_at old k
+  pub hand : new.hand ≡ record { name = name; chain = in_hand new name } ∷ old.hand
+  pub mblks : new.mblks ≡ old.mblks
+  pub dblks : new.dblks ≡ old.dblks
+  pub frees : FreesBlocks old new

@@ -1,7 +1,7 @@
 //! A queue beside its store, as the plain messages that stand there: what is counted and full, and who is let go (STREAMS
 //! Programming Guide, "Flow Control").
 
-ghost use Rattle.std.specs.Prelude.{◌≡◌, ◌<◌, ◌+◌, ◌-◌, ◌^◌, ◌&&◌, Bool, min, true, length, List};
+ghost use Rattle.std.specs.Prelude.{◌≡◌, ◌<◌, ◌+◌, ◌-◌, ◌^◌, ◌&&◌, Bool, min, true, [], length, List, MatchOption};
 ghost use Rattle.strm_types.specs.declared.kinds.MsgKind.{MsgKind};
 ghost use Rattle.strm_types.specs.Message.{is_held};
 ghost use Rattle.strm_types.specs.Emptied.{cells_gone, of_data};
@@ -11,7 +11,7 @@ ghost use Rattle.strm_blocks.specs.Blocks.{Block, StoreValue, IsInHand, block_at
 ghost use Rattle.strm_msg.specs.Messages.{message_of, IsChain};
 ghost use Rattle.strm_queue.specs.Kept.{AreCounted};
 ghost use Rattle.strm_queue.specs.Queues.{OnlyCounts};
-ghost use Rattle.strm_queue.specs.Stored.{queue_in, messages_on, Holds, IsReady, Changes, FreesBlocks};
+ghost use Rattle.strm_queue.specs.Stored.{queue_in, messages_on, Holds, IsReady, Changes, FreesBlocks, Dequeued};
 
 use crate::queue::Queue;
 use strm_blocks::{Blocks, Peek, Visitor};
@@ -120,4 +120,15 @@ pub fn enqueue<B: Blocks>(store: &mut B, queue: &mut Queue, message: B::Mp) -> b
 {
     store.audit();
     queue.putq(store, message)
+}
+
+/// Takes the first message off a queue into the hand, with its chain as it stood there: `getq(9F)`. None where no message
+/// stands there.
+pub fn dequeue<B: Blocks>(store: &mut B, queue: &mut Queue) -> Option<B::Mp>
+    requires { IsReady (B.value store.old) queue.old }
+    ensures { MatchOption result (messages_on (B.value store.old) queue.old.list ≡ [])
+        (λ m. Dequeued (B.value store.old) (B.value store.new) queue.old queue.new (B.name m)) }
+{
+    store.audit();
+    queue.getq(store)
 }

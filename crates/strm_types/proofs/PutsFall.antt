@@ -29,7 +29,7 @@ named-reads : (b : Bool) (asked : FlushAsked) → asked.for_write ≡ false → 
 named-reads true asked is = is
 named-reads false asked is = refl
 
-reads-alone : (band : Option Band) → (asked_by (read_flush band)).for_write ≡ false
+pub reads-alone : (band : Option Band) → (asked_by (read_flush band)).for_write ≡ false
 reads-alone None = refl
 reads-alone (Some band) = named-reads (nat_lt band.0 BANDS) _ refl
 

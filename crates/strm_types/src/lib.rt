@@ -31,7 +31,7 @@ pub use ioctls::Ioc;
 pub use kinds::{Band, MsgKind};
 pub use limits::{
     BANDS, BLOCK_SIZE, CHANGE_BLOCKS, CLOSE_BLOCKS, CONTENT_MAX, CONTROL_MAX, Config, DATA_MAX,
-    HIGH_PRIORITY_RANK, LISTS, MODULES, READ_MAX, TURN_BLOCKS, WRITE_BLOCKS, chunk_count,
+    HIGH_PRIORITY_RANK, HOPS, LISTS, MODULES, READ_MAX, TURN_BLOCKS, WRITE_BLOCKS, chunk_count,
 };
 pub use modes::{ControlMode, Mode, Prio, ReadMode, Wanted};
 pub use names::{Dir, ModuleName, Openness, Place, QueueName, Side, Way, line};

@@ -9,7 +9,7 @@ use std::process::Abort;
 use std::test::Fail;
 use strm_blocks::Blocks;
 use strm_types::{
-    Band, Caller, Config, Entry, Event, FlushQueues, ModuleName, Place, QueueName, ReadBytes,
+    Band, Caller, Config, Content, Entry, Event, FlushQueues, ModuleName, Place, QueueName,
     Refusal, Side, Turn, Way,
 };
 
@@ -19,7 +19,7 @@ use strm_types::{
 struct Walk<B: Blocks + Drop> {
     pair: Pair<B>,
     model: PlainPair,
-    out: ReadBytes,
+    out: Content,
     random: u64,
     met: Met,
 }
@@ -226,7 +226,7 @@ impl<B: Blocks + Drop> Walk<B> {
                     event: event_told,
                     answer,
                 };
-                self.gains(wanted, &told, event.payload())
+                self.gains(wanted, &told, event.payload().0)
             }
         }
     }
@@ -359,7 +359,7 @@ fn met_on_a_walk(
     let mut walk = Walk {
         pair: over_tables(alloc, sizes)?,
         model: PlainPair::new(alloc, sizes),
-        out: ReadBytes::new(),
+        out: Content::new(),
         random: 1,
         met: NOTHING_MET,
     };

@@ -21,15 +21,15 @@ loop-wanted-preserved g c =
     let q = c.args.queue.now in
     let old = messages_on t q.list in
     let new = messages_on u q.list in
-    let all = drawn_on c.args.read false c.args.wanted (messages_on s q.list) in
-    let took : Stepped c.args.read l.begun l.wanted step.result.more step.result.discarded old new l.out.items step.new.out.items =
-    subst (λ k. Stepped c.args.read l.begun l.wanted step.result.more step.result.discarded (messages_on t k) (messages_on u k) l.out.items step.new.out.items) l.invariant.keeps.list step.ensures.took in
+    let all = drawn_on c.args.read c.args.control false c.args.wanted (messages_on s q.list) in
+    let took : Stepped c.args.read c.args.control l.begun l.wanted step.result.more step.result.discarded old new l.out.items step.new.out.items =
+    subst (λ k. Stepped c.args.read c.args.control l.begun l.wanted step.result.more step.result.discarded (messages_on t k) (messages_on u k) l.out.items step.new.out.items) l.invariant.keeps.list step.ensures.took in
     let some : 0 < l.wanted = omega (arith, c.loop-wanted-test.true) in
     record {
-      given = next-given c.args.read l.begun l.wanted step.result.more step.result.discarded old new l.out.items step.new.out.items took (c.args.out.now.items ++ all.given) l.invariant.given;
-      discarded = next-discarded c.args.read l.begun l.wanted step.result.more step.result.discarded old new l.out.items step.new.out.items took l.discarded (length all.discarded) (l.invariant.none some) l.invariant.discarded;
-      left = next-left c.args.read l.begun l.wanted step.result.more step.result.discarded old new l.out.items step.new.out.items took all.left l.invariant.left;
-      none = next-none c.args.read l.begun l.wanted step.result.more step.result.discarded old new l.out.items step.new.out.items took;
+      given = next-given c.args.read c.args.control l.begun l.wanted step.result.more step.result.discarded old new l.out.items step.new.out.items took (c.args.out.now.items ++ all.given) l.invariant.given;
+      discarded = next-discarded c.args.read c.args.control l.begun l.wanted step.result.more step.result.discarded old new l.out.items step.new.out.items took l.discarded (length all.discarded) (l.invariant.none some) l.invariant.discarded;
+      left = next-left c.args.read c.args.control l.begun l.wanted step.result.more step.result.discarded old new l.out.items step.new.out.items took all.left l.invariant.left;
+      none = next-none c.args.read c.args.control l.begun l.wanted step.result.more step.result.discarded old new l.out.items step.new.out.items took;
       fits = omega (arith, l.invariant.fits, took.most, ap length took.given, length-append l.out.items took.piece);
       flags = flags-both q l.queue step.new.queue l.invariant.flags step.ensures.flags;
       keeps = keeps-both s t u q l.queue step.new.queue l.invariant.keeps step.ensures.keeps;
@@ -38,17 +38,17 @@ loop-wanted-preserved g c =
 pub returns-clause-given : goal.returns-clause-given
 returns-clause-given g c =
     let l = c.loop-wanted in
-    let d = drawn_on c.args.read false c.args.wanted (messages_on (g.B.Blocks.value c.args.store.now) c.args.queue.now.list) in
-    all-given c.args.read l.begun l.wanted (messages_on (g.B.Blocks.value l.store) c.args.queue.now.list) (omega arith) l.out.items (c.args.out.now.items ++ d.given) l.invariant.given
+    let d = drawn_on c.args.read c.args.control false c.args.wanted (messages_on (g.B.Blocks.value c.args.store.now) c.args.queue.now.list) in
+    all-given c.args.read c.args.control l.begun l.wanted (messages_on (g.B.Blocks.value l.store) c.args.queue.now.list) (omega arith) l.out.items (c.args.out.now.items ++ d.given) l.invariant.given
 
 pub returns-clause-discarded : goal.returns-clause-discarded
 returns-clause-discarded g c =
     let l = c.loop-wanted in
-    let d = drawn_on c.args.read false c.args.wanted (messages_on (g.B.Blocks.value c.args.store.now) c.args.queue.now.list) in
-    all-discarded c.args.read l.begun l.wanted (messages_on (g.B.Blocks.value l.store) c.args.queue.now.list) (omega arith) l.discarded (length d.discarded) l.invariant.discarded
+    let d = drawn_on c.args.read c.args.control false c.args.wanted (messages_on (g.B.Blocks.value c.args.store.now) c.args.queue.now.list) in
+    all-discarded c.args.read c.args.control l.begun l.wanted (messages_on (g.B.Blocks.value l.store) c.args.queue.now.list) (omega arith) l.discarded (length d.discarded) l.invariant.discarded
 
 pub returns-clause-left : goal.returns-clause-left
 returns-clause-left g c =
     let l = c.loop-wanted in
-    let d = drawn_on c.args.read false c.args.wanted (messages_on (g.B.Blocks.value c.args.store.now) c.args.queue.now.list) in
-    all-left c.args.read l.begun l.wanted (messages_on (g.B.Blocks.value l.store) c.args.queue.now.list) (omega arith) d.left l.invariant.left
+    let d = drawn_on c.args.read c.args.control false c.args.wanted (messages_on (g.B.Blocks.value c.args.store.now) c.args.queue.now.list) in
+    all-left c.args.read c.args.control l.begun l.wanted (messages_on (g.B.Blocks.value l.store) c.args.queue.now.list) (omega arith) d.left l.invariant.left

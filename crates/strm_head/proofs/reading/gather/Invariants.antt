@@ -5,8 +5,8 @@ use Rattle.strm_head.proofs.reading.gather.Given as goal
 
 abbrev pub invariant-loop-wanted : goal.invariant-loop-wanted
 invariant-loop-wanted g l =
-    let now = drawn_on l.read l.begun l.wanted (messages_on (g.B.Blocks.value l.store) l.initial.queue.list) in
-    let all = drawn_on l.initial.read l.initial.begun l.initial.wanted (messages_on (g.B.Blocks.value l.initial.store) l.initial.queue.list) in
+    let now = drawn_on l.read l.control l.begun l.wanted (messages_on (g.B.Blocks.value l.store) l.initial.queue.list) in
+    let all = drawn_on l.initial.read l.initial.control l.initial.begun l.initial.wanted (messages_on (g.B.Blocks.value l.initial.store) l.initial.queue.list) in
     record {
       given : l.out.items ++ now.given ≡ l.initial.out.items ++ all.given;
       discarded : l.discarded + length now.discarded ≡ length all.discarded;

@@ -1,33 +1,145 @@
--- Where there is nothing to take nothing is given, and no control part is dropped under RPROTNORM.
-use Rattle.std.proofs.Common.{◌∙◌, ◌++◌, ℕ, length, refl, sym, ap}
-use Rattle.strm_types.specs.declared.modes.ControlMode.TheVariants.{Refuse}
-use Rattle.strm_types.specs.Reads.{Drawn, head_draw}
+-- Where there is nothing to take nothing is given, and what went but was neither given nor discarded was dropped.
+use Rattle.std.proofs.Common.{ℕ, ◌≡◌, ◌∙◌, ◌++◌, true, false, not, length, refl, sym, ap, arith}
+use Rattle.strm_types.specs.Queue.{relieved, relieves}
+use Rattle.strm_types.specs.Reads.{Drawn, head_draw, none_went}
 use Rattle.strm_types.proofs.ReadRefuses.{takes-none}
-use Rattle.strm_types.proofs.ReadKeeps.{refuse-never}
 use Rattle.strm_blocks.specs.Blocks.{list_at}
-use Rattle.strm_queue.specs.Stored.{messages_on}
+use Rattle.strm_queue.specs.Stored.{messages_on, queue_in}
 use Rattle.strm_queue.proofs.Kept.{keeps-counted, keeps-from}
-use Rattle.strm_head.proofs.Told.{told-some}
+use Rattle.strm_head.proofs.Told.{told-some, queue-some, goes-some, queue-left, counts-gone}
 use Rattle.strm_head.proofs.reading.read.Goals as goal
 
 pub returns-then-takes_none-clause-given : goal.returns-then-takes_none-clause-given
 returns-then-takes_none-clause-given g c =
     let q = messages_on (g.B.Blocks.value c.args.store.now) c.args.queue.now.list in
-    c.requires.fresh ∙ sym (ap (λ (d : Drawn ℕ). d.given) (takes-none c.args.read Refuse c.args.n q (sym c.takes_none.ensures ∙ c.if-takes_none.true)))
+    c.requires.fresh ∙ sym (ap (λ (d : Drawn ℕ). d.given) (takes-none c.args.read c.args.control c.args.n q (sym c.takes_none.ensures ∙ c.if-takes_none.true)))
 
-pub returns-then-discarded-gt0-clause-told : goal.returns-then-discarded-gt0-clause-told
-returns-then-discarded-gt0-clause-told g c =
-    let q = messages_on (g.B.Blocks.value c.args.store.now) c.args.queue.now.list in
-    let d = head_draw c.args.read Refuse c.args.n q in
-    c.tell.ensures d (ap length (sym (c.gather-discarded.ensures.given ∙ ap (λ xs. xs ++ d.given) c.requires.fresh)) ∙ sym c.len.ensures.value)
-    (sym c.gather-discarded.ensures.discarded) (ap length (refuse-never c.args.read c.args.n q))
-    ∙ told-some c.args.direction c.args.read Refuse c.args.n q c.args.fates.now (sym c.takes_none.ensures ∙ c.if-takes_none.false)
+pub overflow_sub-dropped : goal.overflow_sub-dropped
+overflow_sub-dropped g c =
+    let s = g.B.Blocks.value c.args.store.now in
+    let t = g.B.Blocks.value c.gather-discarded.new.store in
+    let k = c.args.queue.now.list in
+    let q = messages_on s k in
+    let d = head_draw c.args.read c.args.control c.args.n q in
+    let gathered = c.gather-discarded.ensures in
+    let given = ap length (gathered.given ∙ ap (λ xs. xs ++ d.given) c.requires.fresh) in
+    let all = counts-gone c.args.read c.args.control c.args.n s t c.args.queue.now _ c.gather-discarded.new.queue c.total-before.result c.total.result c.requires.ready gathered.keeps refl gathered.left c.total-before.ensures c.total.ensures in
+    omega (arith, all)
 
-pub returns-then-discarded-gt0-clause-keeps : goal.returns-then-discarded-gt0-clause-keeps
-returns-then-discarded-gt0-clause-keeps g c =
+pub overflow_sub-dropped-2 : goal.overflow_sub-dropped-2
+overflow_sub-dropped-2 g c =
+    let s = g.B.Blocks.value c.args.store.now in
+    let t = g.B.Blocks.value c.gather-discarded.new.store in
+    let k = c.args.queue.now.list in
+    let q = messages_on s k in
+    let d = head_draw c.args.read c.args.control c.args.n q in
+    let gathered = c.gather-discarded.ensures in
+    let given = ap length (gathered.given ∙ ap (λ xs. xs ++ d.given) c.requires.fresh) in
+    let all = counts-gone c.args.read c.args.control c.args.n s t c.args.queue.now _ c.gather-discarded.new.queue c.total-before.result c.total.result c.requires.ready gathered.keeps refl gathered.left c.total-before.ensures c.total.ensures in
+    omega (arith, all, given, c.len.ensures.value)
+
+pub overflow_sub-dropped-3 : goal.overflow_sub-dropped-3
+overflow_sub-dropped-3 g c =
+    let s = g.B.Blocks.value c.args.store.now in
+    let t = g.B.Blocks.value c.gather-discarded.new.store in
+    let k = c.args.queue.now.list in
+    let q = messages_on s k in
+    let d = head_draw c.args.read c.args.control c.args.n q in
+    let gathered = c.gather-discarded.ensures in
+    let given = ap length (gathered.given ∙ ap (λ xs. xs ++ d.given) c.requires.fresh) in
+    let all = counts-gone c.args.read c.args.control c.args.n s t c.args.queue.now _ c.gather-discarded.new.queue c.total-before.result c.total.result c.requires.ready gathered.keeps refl gathered.left c.total-before.ensures c.total.ensures in
+    omega (arith, all, given, c.len.ensures.value, gathered.discarded)
+
+pub returns-then-went-clause-queue : goal.returns-then-went-clause-queue
+returns-then-went-clause-queue g c =
+    let s = g.B.Blocks.value c.args.store.now in
+    let t = g.B.Blocks.value c.gather-discarded.new.store in
+    let k = c.args.queue.now.list in
+    let q = messages_on s k in
+    let d = head_draw c.args.read c.args.control c.args.n q in
+    let gathered = c.gather-discarded.ensures in
+    let given = ap length (gathered.given ∙ ap (λ xs. xs ++ d.given) c.requires.fresh) in
+    let all = counts-gone c.args.read c.args.control c.args.n s t c.args.queue.now _ c.gather-discarded.new.queue c.total-before.result c.total.result c.requires.ready gathered.keeps refl gathered.left c.total-before.ensures c.total.ensures in
+    let gone : none_went d ≡ not c.went.result = c.went.ensures d (sym given ∙ sym c.len-3.ensures.value) (sym gathered.discarded) (omega (arith, all, given, c.len.ensures.value, gathered.discarded)) in
+    let some = sym c.takes_none.ensures ∙ c.if-takes_none.false in
+    let left = queue-left s t c.args.queue.now c.gather-discarded.new.queue d.left (ap (messages_on t) gathered.keeps.list ∙ gathered.left) gathered.flags.flows (gathered.flags.want_read refl) gathered.flags.no_enable in
+    c.relieve.ensures.queue t gathered.keeps.ready ∙ ap relieved left ∙ sym (queue-some c.args.read c.args.control c.args.n (queue_in s c.args.queue.now) false some (gone ∙ ap not c.if-went.true))
+
+pub returns-then-went-clause-went : goal.returns-then-went-clause-went
+returns-then-went-clause-went g c =
+    let s = g.B.Blocks.value c.args.store.now in
+    let t = g.B.Blocks.value c.gather-discarded.new.store in
+    let k = c.args.queue.now.list in
+    let q = messages_on s k in
+    let d = head_draw c.args.read c.args.control c.args.n q in
+    let gathered = c.gather-discarded.ensures in
+    let given = ap length (gathered.given ∙ ap (λ xs. xs ++ d.given) c.requires.fresh) in
+    let all = counts-gone c.args.read c.args.control c.args.n s t c.args.queue.now _ c.gather-discarded.new.queue c.total-before.result c.total.result c.requires.ready gathered.keeps refl gathered.left c.total-before.ensures c.total.ensures in
+    let gone : none_went d ≡ not c.went.result = c.went.ensures d (sym given ∙ sym c.len-3.ensures.value) (sym gathered.discarded) (omega (arith, all, given, c.len.ensures.value, gathered.discarded)) in
+    let some = sym c.takes_none.ensures ∙ c.if-takes_none.false in
+    let left = queue-left s t c.args.queue.now c.gather-discarded.new.queue d.left (ap (messages_on t) gathered.keeps.list ∙ gathered.left) gathered.flags.flows (gathered.flags.want_read refl) gathered.flags.no_enable in
+    c.relieve.ensures.went t gathered.keeps.ready ∙ ap relieves left ∙ sym (goes-some c.args.read c.args.control c.args.n (queue_in s c.args.queue.now) false some (gone ∙ ap not c.if-went.true))
+
+pub returns-then-went-clause-told : goal.returns-then-went-clause-told
+returns-then-went-clause-told g c =
+    let s = g.B.Blocks.value c.args.store.now in
+    let t = g.B.Blocks.value c.gather-discarded.new.store in
+    let k = c.args.queue.now.list in
+    let q = messages_on s k in
+    let d = head_draw c.args.read c.args.control c.args.n q in
+    let gathered = c.gather-discarded.ensures in
+    let given = ap length (gathered.given ∙ ap (λ xs. xs ++ d.given) c.requires.fresh) in
+    let all = counts-gone c.args.read c.args.control c.args.n s t c.args.queue.now _ c.gather-discarded.new.queue c.total-before.result c.total.result c.requires.ready gathered.keeps refl gathered.left c.total-before.ensures c.total.ensures in
+    c.tell.ensures d (sym given ∙ sym c.len-2.ensures.value) (sym gathered.discarded) (omega (arith, all, given, c.len.ensures.value, gathered.discarded))
+    ∙ told-some c.args.direction c.args.read c.args.control c.args.n q c.args.fates.now (sym c.takes_none.ensures ∙ c.if-takes_none.false)
+
+pub returns-then-went-clause-keeps : goal.returns-then-went-clause-keeps
+returns-then-went-clause-keeps g c =
     let s = g.B.Blocks.value c.args.store.now in
     let t = g.B.Blocks.value c.gather-discarded.new.store in
     let q = c.args.queue.now in
     let p = c.gather-discarded.new.queue in
     keeps-counted s t q p c.relieve.new.queue (keeps-from s t q _ p refl c.gather-discarded.ensures.keeps) c.relieve.ensures.others.list
     (c.relieve.ensures.counted (list_at t p.list) c.gather-discarded.ensures.keeps.ready.counted)
+
+pub returns-else-went-clause-queue : goal.returns-else-went-clause-queue
+returns-else-went-clause-queue g c =
+    let s = g.B.Blocks.value c.args.store.now in
+    let t = g.B.Blocks.value c.gather-discarded.new.store in
+    let k = c.args.queue.now.list in
+    let q = messages_on s k in
+    let d = head_draw c.args.read c.args.control c.args.n q in
+    let gathered = c.gather-discarded.ensures in
+    let given = ap length (gathered.given ∙ ap (λ xs. xs ++ d.given) c.requires.fresh) in
+    let all = counts-gone c.args.read c.args.control c.args.n s t c.args.queue.now _ c.gather-discarded.new.queue c.total-before.result c.total.result c.requires.ready gathered.keeps refl gathered.left c.total-before.ensures c.total.ensures in
+    let gone : none_went d ≡ not c.went.result = c.went.ensures d (sym given ∙ sym c.len-3.ensures.value) (sym gathered.discarded) (omega (arith, all, given, c.len.ensures.value, gathered.discarded)) in
+    let some = sym c.takes_none.ensures ∙ c.if-takes_none.false in
+    let left = queue-left s t c.args.queue.now c.gather-discarded.new.queue d.left (ap (messages_on t) gathered.keeps.list ∙ gathered.left) gathered.flags.flows (gathered.flags.want_read refl) gathered.flags.no_enable in
+    left ∙ sym (queue-some c.args.read c.args.control c.args.n (queue_in s c.args.queue.now) true some (gone ∙ ap not c.if-went.false))
+
+pub returns-else-went-clause-went : goal.returns-else-went-clause-went
+returns-else-went-clause-went g c =
+    let s = g.B.Blocks.value c.args.store.now in
+    let t = g.B.Blocks.value c.gather-discarded.new.store in
+    let k = c.args.queue.now.list in
+    let q = messages_on s k in
+    let d = head_draw c.args.read c.args.control c.args.n q in
+    let gathered = c.gather-discarded.ensures in
+    let given = ap length (gathered.given ∙ ap (λ xs. xs ++ d.given) c.requires.fresh) in
+    let all = counts-gone c.args.read c.args.control c.args.n s t c.args.queue.now _ c.gather-discarded.new.queue c.total-before.result c.total.result c.requires.ready gathered.keeps refl gathered.left c.total-before.ensures c.total.ensures in
+    let gone : none_went d ≡ not c.went.result = c.went.ensures d (sym given ∙ sym c.len-3.ensures.value) (sym gathered.discarded) (omega (arith, all, given, c.len.ensures.value, gathered.discarded)) in
+    let some = sym c.takes_none.ensures ∙ c.if-takes_none.false in
+    c.if-went.false ∙ sym (goes-some c.args.read c.args.control c.args.n (queue_in s c.args.queue.now) true some (gone ∙ ap not c.if-went.false))
+
+pub returns-else-went-clause-told : goal.returns-else-went-clause-told
+returns-else-went-clause-told g c =
+    let s = g.B.Blocks.value c.args.store.now in
+    let t = g.B.Blocks.value c.gather-discarded.new.store in
+    let k = c.args.queue.now.list in
+    let q = messages_on s k in
+    let d = head_draw c.args.read c.args.control c.args.n q in
+    let gathered = c.gather-discarded.ensures in
+    let given = ap length (gathered.given ∙ ap (λ xs. xs ++ d.given) c.requires.fresh) in
+    let all = counts-gone c.args.read c.args.control c.args.n s t c.args.queue.now _ c.gather-discarded.new.queue c.total-before.result c.total.result c.requires.ready gathered.keeps refl gathered.left c.total-before.ensures c.total.ensures in
+    c.tell.ensures d (sym given ∙ sym c.len-2.ensures.value) (sym gathered.discarded) (omega (arith, all, given, c.len.ensures.value, gathered.discarded))
+    ∙ told-some c.args.direction c.args.read c.args.control c.args.n q c.args.fates.now (sym c.takes_none.ensures ∙ c.if-takes_none.false)

@@ -4,7 +4,7 @@ use Rattle.std.specs.Prelude.{unwrap_or}
 use Rattle.strm_msg.specs.Messages.{message_of}
 use Rattle.strm_types.specs.Flush.{is_data_kind}
 use Rattle.strm_queue.specs.Stored.{HoldsReadable}
-use Rattle.strm_head.specs.Seen.{first_data}
+use Rattle.strm_types.specs.Gets.{first_data}
 use Rattle.strm_queue.proofs.Holding.{first-holds}
 use Rattle.strm_head.proofs.Seen.{body-size}
 use Rattle.strm_head.proofs.standing.first_len.Goals as goal

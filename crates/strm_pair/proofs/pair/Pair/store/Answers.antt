@@ -12,8 +12,8 @@ returns g c =
     let kept = c.self.invariant.held in
     subst (λ (v : PairState). Shows s v.state) c.self.view_is (record {
       hand = kept.hand;
-      master_head = ap (messages_on s) (sym kept.master.head_list);
-      master_driver = ap (messages_on s) (sym kept.master.driver_list);
-      slave_head = ap (messages_on s) (sym kept.slave.head_list);
-      slave_driver = ap (messages_on s) (sym kept.slave.driver_list);
+      master_head = ap (messages_on s) (sym kept.beside.master.head_list);
+      master_driver = ap (messages_on s) (sym kept.beside.master.driver_list);
+      slave_head = ap (messages_on s) (sym kept.beside.slave.head_list);
+      slave_driver = ap (messages_on s) (sym kept.beside.slave.driver_list);
     })

@@ -1,6 +1,5 @@
 -- A turn that isn't refused is a step, and the journal gains it.
-use Rattle.std.proofs.Common.{ℕ, ◌≡◌, ◌∙◌, List, ap, sym, refl, subst, rules}
-use Rattle.strm_types.specs.Deliver.{Fate, tallied}
+use Rattle.std.proofs.Common.{◌≡◌, ◌∙◌, ap, sym, refl, subst, rules}
 use Rattle.std.specs.Prelude.{None}
 use Rattle.strm_types.specs.declared.limits.TheConstants.{TURN_BLOCKS}
 use Rattle.strm_types.specs.declared.entries.Entry.TheVariants.{Turned}
@@ -23,14 +22,14 @@ invariant_of-self g c =
     let old = state_in s p.streams in
     let entry : PlainEntry = Turned c.args.name c.turn-turn.result in
     let allowed : queue_refused (pair_of s p.streams p.journal p.limits p.fates) c.args.name ≡ None = ap (λ (v : PairState). queue_refused v c.args.name) c.self.view_is ∙ sym c.turn_refusal.ensures ∙ c.in_default.is in
-    kept-step s new p.streams c.turn-turn.new.self p.journal c.add_turn.new.self p.limits p.fates p.fates entry c.self.invariant
+    kept-step s new p.streams c.turn-turn.new.self p.journal c.add_turn.new.self p.limits p.fates c.turn-turn.new.told entry c.self.invariant
     (record {
       enabled = (turn-allowed old (journal_of p.journal) p.limits (enough TURN_BLOCKS (free_in s)) c.args.name allowed).0;
       in_range = (turn-allowed old (journal_of p.journal) p.limits (enough TURN_BLOCKS (free_in s)) c.args.name allowed).1;
       answered = sym c.turn-turn.ensures.turn;
       leads = refl;
     })
-    c.turn-turn.ensures.state c.turn-turn.ensures.held c.turn-turn.ensures.pool (sym (ap (λ (gs : List (Fate ℕ)). tallied gs p.fates) c.turn-turn.ensures.none_gone)) c.add_turn.ensures.added c.add_turn.ensures.most_entries c.add_turn.ensures.most_bytes
+    c.turn-turn.ensures.state c.turn-turn.ensures.held c.turn-turn.ensures.pool c.turn-turn.ensures.told c.add_turn.ensures.added c.add_turn.ensures.most_entries c.add_turn.ensures.most_bytes
 
 pub returns-clause-adds : goal.returns-clause-adds
 returns-clause-adds g c =
@@ -48,11 +47,11 @@ returns-clause-adds g c =
       answered = sym c.turn-turn.ensures.turn;
       leads = refl;
     } in
-    subst (λ (v : PairState). AddsEntry v (pair_of new q k p.limits p.fates) entry) c.self.view_is
+    subst (λ (v : PairState). AddsEntry v (pair_of new q k p.limits c.turn-turn.new.told) entry) c.self.view_is
     (record {
       journal = c.add_turn.ensures.added;
       step = step-shown s new p.streams q entry c.turn-turn.ensures.state taken;
-      fates = sym (ap (λ (gs : List (Fate ℕ)). tallied gs p.fates) c.turn-turn.ensures.none_gone);
+      fates = c.turn-turn.ensures.told;
       base = refl;
       limits = refl;
     })
@@ -62,9 +61,6 @@ returns-in-Some-clause-refused g c = search rules steps 300000
 
 pub returns-in-Some-clause-adds : goal.returns-in-Some-clause-adds
 returns-in-Some-clause-adds g c = search rules steps 30000
-
-pub turn-turn-requires : goal.turn-turn-requires
-turn-turn-requires g c = search rules steps 100000
 
 pub add_turn-requires : goal.add_turn-requires
 add_turn-requires g c = search rules steps 300000

@@ -1,22 +1,22 @@
--- Both sides of a flush, one after the other.
-use Rattle.strm_types.specs.FlushEffect.{write_flushed, read_flushed}
-use Rattle.strm_pair.specs.Pairs.{state_in}
-use Rattle.strm_queue.specs.Choices.{choice_of}
-use Rattle.strm_pair.proofs.Reaching.{then-state, then-told}
+-- The M_FLUSH is alone in hand, and nothing is when all is delivered.
+use Rattle.std.proofs.Common.{◌∷◌, refl, ap, ◌∙◌}
+use Rattle.strm_blocks.specs.Blocks.{in_hand, StoreValue}
+use Rattle.strm_frame.proofs.Handing.{alone-can, none-left}
 use Rattle.strm_pair.proofs.streams.Streams.flush.Goals as goal
 
-pub returns-in-Both-clause-state : goal.returns-in-Both-clause-state
-returns-in-Both-clause-state g c =
-    let s = state_in (g.B.Blocks.value c.args.store.now) c.args.self.now in
-    let t = state_in (g.B.Blocks.value c.flush_write-in-Both.new.store) c.flush_write-in-Both.new.self in
-    let u = state_in (g.B.Blocks.value c.flush_read-in-Both.new.store) c.flush_read-in-Both.new.self in
-    let chosen = choice_of c.args.chosen in
-    rw c.in-Both.is (then-state (write_flushed chosen c.args.side s) (read_flushed chosen c.args.side) t u c.flush_write-in-Both.ensures.state c.flush_read-in-Both.ensures.state)
+pub deliver-requires-clause-can_put : goal.deliver-requires-clause-can_put
+deliver-requires-clause-can_put g c =
+    let made = g.B.Blocks.value c.make_flush-message.new.store in
+    let i = g.B.Blocks.name c.make_flush-message.result in
+    let hand = ap (λ (v : StoreValue). v.hand) c.make_flush-message.ensures.after ∙ ap (λ h. record { name = i; chain = in_hand made i } ∷ h) c.requires.held.hand in
+    alone-can made i (in_hand made i) (λ j. 0) hand (λ j. refl)
 
-pub returns-in-Both-clause-told : goal.returns-in-Both-clause-told
-returns-in-Both-clause-told g c =
-    let s = state_in (g.B.Blocks.value c.args.store.now) c.args.self.now in
-    let t = state_in (g.B.Blocks.value c.flush_write-in-Both.new.store) c.flush_write-in-Both.new.self in
-    let u = state_in (g.B.Blocks.value c.flush_read-in-Both.new.store) c.flush_read-in-Both.new.self in
-    let chosen = choice_of c.args.chosen in
-    rw c.in-Both.is (then-told (write_flushed chosen c.args.side s) (read_flushed chosen c.args.side) t u c.args.told.now c.flush_write-in-Both.new.told c.flush_read-in-Both.new.told c.flush_write-in-Both.ensures.state c.flush_write-in-Both.ensures.told c.flush_read-in-Both.ensures.told)
+pub returns-clause-held : goal.returns-clause-held
+returns-clause-held g c =
+    let made = g.B.Blocks.value c.make_flush-message.new.store in
+    let i = g.B.Blocks.name c.make_flush-message.result in
+    let hand = ap (λ (v : StoreValue). v.hand) c.make_flush-message.ensures.after ∙ ap (λ h. record { name = i; chain = in_hand made i } ∷ h) c.requires.held.hand in
+    record {
+      hand = none-left made (g.B.Blocks.value c.deliver.new.store) i (in_hand made i) (λ j. 0) (λ j. 0) hand (λ j. refl) c.deliver.ensures.hands;
+      beside = c.deliver.ensures.held;
+    }

@@ -14,6 +14,8 @@ returns-clause-held c = λ mblks dblks.
     let s = empty_store mblks dblks in
     record {
       hand = refl;
-      master = c.new_end.ensures.side s (blank mblks dblks).0;
-      slave = c.new_end-2.ensures.side s (blank mblks dblks).1;
+      beside = record {
+        master = c.new_end.ensures.side s (blank mblks dblks).0;
+        slave = c.new_end-2.ensures.side s (blank mblks dblks).1;
+      };
     }

@@ -1,20 +1,81 @@
--- A head's queue holds M_DATA alone, which readers may read.
-use Rattle.strm_pair.proofs.DataQueues.{head-queue}
-use Rattle.strm_pair.proofs.Sides.{head-kept, slave-head-kept}
+-- What the head of either side gives.
+use Rattle.std.proofs.Common.{◌≡◌, sym, ap, subst, ◌∙◌}
+use Rattle.strm_types.specs.declared.answers.Answer.TheVariants.{Bytes}
+use Rattle.strm_types.specs.declared.names.QueueName.{QueueName}
+use Rattle.strm_types.specs.declared.names.Side.TheVariants.{Master, Slave}
+use Rattle.strm_types.specs.Deliver.{tallied}
+use Rattle.strm_types.specs.Names.{before, direction_of, enable_some, head_of}
+use Rattle.strm_types.specs.Reads.{read_gone}
+use Rattle.strm_queue.specs.Stored.{messages_on}
+use Rattle.strm_pair.specs.declared.streams.Streams.{Streams}
+use Rattle.strm_pair.specs.Pairs.{state_in}
+use Rattle.strm_pair.specs.PlainCalls.{read_plain, read_lets}
+use Rattle.strm_pair.proofs.ReadSteps.{read-answer, read-told, read-beside, read-state}
 use Rattle.strm_pair.proofs.streams.Streams.read.Goals as goal
 use Rattle.strm_pair.proofs.streams.Streams.read.Goals.{in-Master, in-Slave}
 
-pub read-goes-requires-clause-ready : goal.read-goes-requires-clause-ready
-read-goes-requires-clause-ready g c = head-queue (g.B.Blocks.value c.args.store.now) c.args.self.now.master.head c.requires.held.master.head
-
-pub read-goes-requires-in-Slave-clause-ready : goal.read-goes-requires-in-Slave-clause-ready
-read-goes-requires-in-Slave-clause-ready g c = head-queue (g.B.Blocks.value c.args.store.now) c.args.self.now.slave.head c.requires.held.slave.head
-
-pub returns-then-goes-clause-held : goal.returns-then-goes-clause-held
-returns-then-goes-clause-held g c =
+pub returns-clause-answer : goal.returns-clause-answer
+returns-clause-answer g c =
     let s = g.B.Blocks.value c.args.store.now in
     let p = c.args.self.now in
+    let most = c.min-wanted.result in
     elim c.match-side.branch [
-      | in-Master w ↦ rw (w.self-is, w.store-is) (head-kept s (g.B.Blocks.value w.read-goes.new.store) p w.read-goes.new.queue c.requires.held w.read-goes.ensures.keeps)
-      | in-Slave w ↦ rw (w.self-is, w.store-is) (slave-head-kept s (g.B.Blocks.value w.read-goes-in-Slave.new.store) p w.read-goes-in-Slave.new.queue c.requires.held w.read-goes-in-Slave.ensures.keeps)
+      | in-Master w ↦ rw w.out-is (subst (λ sd. Bytes w.read-goes.new.out.items ≡ (read_plain sd c.args.n (state_in s p)).answer) (sym w.in-Master.is) (read-answer Master s p most c.args.n c.min-wanted.ensures w.read-goes.new.out.items w.read-goes.ensures.given))
+      | in-Slave w ↦ rw w.out-is (subst (λ sd. Bytes w.read-goes-in-Slave.new.out.items ≡ (read_plain sd c.args.n (state_in s p)).answer) (sym w.in-Slave.is) (read-answer Slave s p most c.args.n c.min-wanted.ensures w.read-goes-in-Slave.new.out.items w.read-goes-in-Slave.ensures.given))
+    ]
+
+pub returns-clause-told : goal.returns-clause-told
+returns-clause-told g c =
+    let s = g.B.Blocks.value c.args.store.now in
+    let p = c.args.self.now in
+    let most = c.min-wanted.result in
+    let dir = c.direction-direction.ensures ∙ ap direction_of c.head.ensures in
+    let old = c.args.told.now in
+    elim c.match-side.branch [
+      | in-Master w ↦ rw w.told-is (subst (λ sd. w.read-goes.new.fates ≡ tallied (read_lets sd c.args.n (state_in s p)) old) (sym w.in-Master.is) (read-told Master s p most c.args.n c.min-wanted.ensures old w.read-goes.new.fates
+          (w.read-goes.ensures.told ∙ ap (λ d. tallied (read_gone d p.master.head.read_mode p.master.head.control_mode most (messages_on s p.master.head.queue.list)) old) (dir ∙ ap (λ sd. direction_of (head_of sd)) w.in-Master.is))))
+      | in-Slave w ↦ rw w.told-is (subst (λ sd. w.read-goes-in-Slave.new.fates ≡ tallied (read_lets sd c.args.n (state_in s p)) old) (sym w.in-Slave.is) (read-told Slave s p most c.args.n c.min-wanted.ensures old w.read-goes-in-Slave.new.fates
+          (w.read-goes-in-Slave.ensures.told ∙ ap (λ d. tallied (read_gone d p.slave.head.read_mode p.slave.head.control_mode most (messages_on s p.slave.head.queue.list)) old) (dir ∙ ap (λ sd. direction_of (head_of sd)) w.in-Slave.is))))
+    ]
+
+pub returns-clause-state : goal.returns-clause-state
+returns-clause-state g c =
+    let s = g.B.Blocks.value c.args.store.now in
+    let p = c.args.self.now in
+    let most = c.min-wanted.result in
+    let b = c.requires.held.beside in
+    let name = c.let_go.ensures ∙ ap (λ (n : QueueName). record c.match-side.self { enabled = enable_some c.match-side.goes (before n) c.match-side.self.enabled }) c.head-2.ensures in
+    elim c.match-side.branch [
+      | in-Master w ↦
+          (let e = w.read-goes.ensures in
+          let t = g.B.Blocks.value w.read-goes.new.store in
+          let q_is = name ∙ ap (λ sd. record c.match-side.self { enabled = enable_some c.match-side.goes (before (head_of sd)) c.match-side.self.enabled }) w.in-Master.is
+          ∙ ap (λ x. record c.match-side.self { enabled = enable_some x (before (head_of Master)) c.match-side.self.enabled }) w.goes-is
+          ∙ ap (λ (x : Streams). record x { enabled = enable_some w.read-goes.result (before (head_of Master)) x.enabled }) w.self-is in
+          rw (w.store-is, q_is) (read-state Master s p most c.args.n c.min-wanted.ensures t w.read-goes.new.self w.read-goes.result b e.keeps e.modes e.queue e.went ∙ ap (λ sd. (read_plain sd c.args.n (state_in s p)).state) (sym w.in-Master.is)))
+      | in-Slave w ↦
+          (let e = w.read-goes-in-Slave.ensures in
+          let t = g.B.Blocks.value w.read-goes-in-Slave.new.store in
+          let q_is = name ∙ ap (λ sd. record c.match-side.self { enabled = enable_some c.match-side.goes (before (head_of sd)) c.match-side.self.enabled }) w.in-Slave.is
+          ∙ ap (λ x. record c.match-side.self { enabled = enable_some x (before (head_of Slave)) c.match-side.self.enabled }) w.goes-is
+          ∙ ap (λ (x : Streams). record x { enabled = enable_some w.read-goes-in-Slave.result (before (head_of Slave)) x.enabled }) w.self-is in
+          rw (w.store-is, q_is) (read-state Slave s p most c.args.n c.min-wanted.ensures t w.read-goes-in-Slave.new.self w.read-goes-in-Slave.result b e.keeps e.modes e.queue e.went ∙ ap (λ sd. (read_plain sd c.args.n (state_in s p)).state) (sym w.in-Slave.is)))
+    ]
+
+pub returns-clause-held : goal.returns-clause-held
+returns-clause-held g c =
+    let s = g.B.Blocks.value c.args.store.now in
+    let p = c.args.self.now in
+    let most = c.min-wanted.result in
+    let b = c.requires.held.beside in
+    let name = c.let_go.ensures ∙ ap (λ (n : QueueName). record c.match-side.self { enabled = enable_some c.match-side.goes (before n) c.match-side.self.enabled }) c.head-2.ensures in
+    elim c.match-side.branch [
+      | in-Master w ↦
+          (let e = w.read-goes.ensures in
+          let t = g.B.Blocks.value w.read-goes.new.store in
+          rw (w.store-is, c.let_go.ensures, w.self-is) (record { hand = e.keeps.hand ∙ c.requires.held.hand; beside = read-beside Master s p most c.args.n c.min-wanted.ensures t w.read-goes.new.self w.read-goes.result b e.keeps e.modes e.ready }))
+      | in-Slave w ↦
+          (let e = w.read-goes-in-Slave.ensures in
+          let t = g.B.Blocks.value w.read-goes-in-Slave.new.store in
+          rw (w.store-is, c.let_go.ensures, w.self-is) (record { hand = e.keeps.hand ∙ c.requires.held.hand; beside = read-beside Slave s p most c.args.n c.min-wanted.ensures t w.read-goes-in-Slave.new.self w.read-goes-in-Slave.result b e.keeps e.modes e.ready }))
     ]

@@ -13,3 +13,7 @@ returns-in-Write c = λ s. rw (c.in-Write.is, c.or_else-in-Write.ensures, c.unre
 
 pub returns-in-Pop : goal.returns-in-Pop
 returns-in-Pop c = λ s. rw (c.in-Pop.is, c.or_else-in-Pop.ensures, c.unreached-in-Pop.ensures s, c.beyond-in-Pop.ensures s) refl
+
+pub returns-in-Put : goal.returns-in-Put
+returns-in-Put c = λ s.
+    rw (c.in-Put.is, c.or_else-in-Put-2.ensures, c.or_else-in-Put.ensures, c.unreached-in-Put.ensures s, c.beyond-in-Put.ensures s, c.put_refusal.ensures) refl

@@ -7,7 +7,7 @@ use Rattle.strm_pair.proofs.streams.Streams.refused_by_state.Goals as goal
 pub is_full-requires-clause-ready : goal.is_full-requires-clause-ready
 is_full-requires-clause-ready g c =
     let s = g.B.Blocks.value c.args.store.now in
-    subst (λ (e : End). IsReady s e.driver) (sym c.end.ensures.end) (driver-ready s c.args.self.now c.requires c.args.caller.side)
+    subst (λ (e : End). IsReady s e.driver) (sym c.end.ensures.end) (driver-ready s c.args.self.now c.requires.beside c.args.caller.side)
 
 pub returns-in-Unlock : goal.returns-in-Unlock
 returns-in-Unlock g c = search rules steps 100000

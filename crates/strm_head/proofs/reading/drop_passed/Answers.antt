@@ -1,0 +1,43 @@
+-- Each message that goes is one that is passed over.
+use Rattle.std.proofs.Common.{◌≡◌, ◌∙◌, true, drop, sym, ap, subst}
+use Rattle.strm_queue.specs.Stored.{messages_on}
+use Rattle.strm_queue.proofs.Kept.{head-kept, keeps-both, flags-both}
+use Rattle.strm_head.specs.Drawing.{behind_passed, first_passed}
+use Rattle.strm_head.proofs.Passed.{passed-gone, none-passed}
+use Rattle.strm_head.proofs.reading.drop_passed.Goals as goal
+
+pub drop_first-requires : goal.drop_first-requires
+drop_first-requires g c =
+    let l = c.loop-passed in
+    record { ready = head-kept (g.B.Blocks.value c.args.store.now) (g.B.Blocks.value l.store) c.args.queue.now l.queue c.requires.ready l.invariant.keeps }
+
+pub first_passed-passed-requires-in-loop-passed : goal.first_passed-passed-requires-in-loop-passed
+first_passed-passed-requires-in-loop-passed g c =
+    let l = c.loop-passed in
+    let s = g.B.Blocks.value c.args.store.now in
+    let t = g.B.Blocks.value l.store in
+    let u = g.B.Blocks.value c.drop_first.new.store in
+    let q = c.args.queue.now in
+    head-kept s u q c.drop_first.new.queue c.requires.ready (keeps-both s t u q l.queue c.drop_first.new.queue l.invariant.keeps c.drop_first.ensures.keeps)
+
+pub loop-passed-preserved : goal.loop-passed-preserved
+loop-passed-preserved g c =
+    let l = c.loop-passed in
+    let s = g.B.Blocks.value c.args.store.now in
+    let t = g.B.Blocks.value l.store in
+    let u = g.B.Blocks.value c.drop_first.new.store in
+    let q = c.args.queue.now in
+    let keeps = keeps-both s t u q l.queue c.drop_first.new.queue l.invariant.keeps c.drop_first.ensures.keeps in
+    let gone : messages_on u q.list ≡ drop 1 (messages_on t q.list) = subst (λ k. messages_on u k ≡ drop 1 (messages_on t k)) l.invariant.keeps.list c.drop_first.ensures.left in
+    let is : first_passed c.args.control (messages_on t q.list) ≡ true = sym l.invariant.passed ∙ c.loop-passed-test.true in
+    record {
+      passed = c.first_passed-passed-in-loop-passed.ensures ∙ ap (λ k. first_passed c.args.control (messages_on u k)) keeps.list;
+      left = ap (behind_passed c.args.control) gone ∙ passed-gone c.args.control (messages_on t q.list) is ∙ l.invariant.left;
+      flags = flags-both q l.queue c.drop_first.new.queue l.invariant.flags c.drop_first.ensures.flags;
+      keeps = keeps;
+    }
+
+pub returns-clause-left : goal.returns-clause-left
+returns-clause-left g c =
+    let l = c.loop-passed in
+    none-passed c.args.control (messages_on (g.B.Blocks.value l.store) c.args.queue.now.list) (sym l.invariant.passed ∙ c.loop-passed-test.false) ∙ l.invariant.left

@@ -1,0 +1,23 @@
+-- A message that was made to go down a stream.
+use Rattle.std.specs.Prelude.{ℕ, ◌≡◌, ◌+◌}
+use Rattle.strm_types.specs.declared.kinds.MsgKind.{MsgKind}
+use Rattle.strm_types.specs.declared.kinds.MsgKind.TheVariants.{Proto, Pcproto}
+use Rattle.strm_types.specs.declared.modes.Prio.{Prio}
+use Rattle.strm_types.specs.declared.modes.Prio.TheVariants.{High, Band}
+use Rattle.strm_types.specs.Message.{Message}
+use Rattle.strm_blocks.specs.Blocks.{StoreValue, IsFreshName, in_hand, held, free_m, free_d}
+use Rattle.strm_msg.specs.Messages.{message_of, IsChain}
+
+-- the kind of a message that has a control part
+abbrev pub control_kind : Prio → MsgKind
+control_kind High = Pcproto
+control_kind (Band band) = Proto
+
+-- One message was made, in so many blocks of each kind, and nothing else changed. It stands for this one.
+pub record Sends (old new : StoreValue) (name : ℕ) (message : Message ℕ) (blocks : ℕ) : Type 0 where
+  pub fresh : IsFreshName old name
+  pub after : new ≡ held old name (in_hand new name)
+  pub room_m : free_m new + blocks ≡ free_m old
+  pub room_d : free_d new + blocks ≡ free_d old
+  pub chain : IsChain (in_hand new name)
+  pub shows : message_of (in_hand new name) ≡ message

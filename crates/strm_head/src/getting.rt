@@ -1,0 +1,274 @@
+//! What a head gives to getmsg(2) and getpmsg(2).
+
+ghost use Rattle.std.specs.Prelude.{◌≡◌, ◌≤◌, ◌<◌, ℕ, [], ◌∷◌, List, length, take, min, not, ◌||◌, true, nat_lt, unwrap_or, option_map, Option};
+ghost use Rattle.strm_types.specs.Flush.{is_data_kind};
+ghost use Rattle.strm_types.specs.Gets.{head_get, parts_of};
+ghost use Rattle.strm_types.specs.GetQueues.{gets_none, get_queue, get_lets_go, get_told};
+ghost use Rattle.strm_types.specs.Message.{Message, part};
+ghost use Rattle.strm_blocks.specs.Blocks.{IsInHand, in_hand, list_at, changed};
+ghost use Rattle.strm_msg.specs.Bytes.{control_bytes, data_bytes, control_blocks, data_blocks, length_of_part};
+ghost use Rattle.strm_msg.specs.Messages.{message_of, IsChain};
+ghost use Rattle.strm_msg.specs.Taken.{without_control, without_data};
+ghost use Rattle.strm_queue.specs.Flows.{plain_flows};
+ghost use Rattle.strm_queue.specs.Kept.{AreCounted, band_of};
+ghost use Rattle.strm_queue.specs.Queues.{OnlyCounts};
+ghost use Rattle.strm_queue.specs.Stored.{queue_in, messages_on, IsHeadQueue, Keeps};
+ghost use Rattle.strm_head.specs.Getting.{cut_by, rest_left, put_rest, prio_at, Gives, TakesFirst};
+
+use crate::reading::grow;
+use crate::standing::get_refusal;
+use strm_blocks::Blocks;
+use strm_msg::{control_len, data_len, set_kinds, take_control, take_data};
+use strm_queue::Queue;
+use strm_queue::standing::relieve;
+use strm_types::{BANDS, Band, Content, Dir, Fates, MsgKind, Prio, Rule, Wanted};
+
+/// What a getmsg(2) gave of the first message.
+#[derive(Clone, Copy, Debug, PartialEq, Eq)]
+pub struct Gotten {
+    /// How many bytes of the control part it gave; none where the message has no control part, or there is no message.
+    pub control: Option<usize>,
+    /// How many bytes of the data part it gave; none where the message has no data part, or there is no message.
+    pub body: Option<usize>,
+    /// The priority of the message, band 0 where there is none.
+    pub prio: Prio,
+    /// MORECTL: bytes of the control part are left.
+    pub more_control: bool,
+    /// MOREDATA: bytes of the data part are left.
+    pub more_data: bool,
+    /// Whether a waiting writer is let go.
+    pub lets_go: bool,
+}
+
+// A get that has nothing to take.
+const NOTHING: Gotten = Gotten {
+    control: None,
+    body: None,
+    prio: Prio::Band(Band(0)),
+    more_control: false,
+    more_data: false,
+    lets_go: false,
+};
+
+// How many bytes of a part are given, nothing where it is absent, and whether it has more.
+#[derive(Clone, Copy)]
+struct Piece {
+    given: Option<usize>,
+    more: bool,
+}
+
+// Up to `most` bytes of a part of that length.
+fn piece_of(len: Option<usize>, most: usize) -> Piece
+    ensures given { result.given ≡ option_map (λ n. min most n) len }
+    ensures more { result.more ≡ nat_lt most (unwrap_or len 0) }
+{
+    match len {
+        Some(len) => Piece {
+            given: Some(most.min(len)),
+            more: most < len,
+        },
+        None => Piece {
+            given: None,
+            more: false,
+        },
+    }
+}
+
+// Takes the first so many bytes off a message's control part into an empty buffer.
+fn take_control_into<B: Blocks>(store: &mut B, message: &B::Mp, count: usize, out: &mut Content)
+    requires in_hand { IsInHand (B.value store.old) (B.name message.now) }
+    requires chain { IsChain (in_hand (B.value store.old) (B.name message.now)) }
+    requires has { count ≤ length (control_bytes (in_hand (B.value store.old) (B.name message.now))) }
+    requires room { count ≤ 4096 }
+    requires fresh { out.old.items ≡ [] }
+    ensures given { out.new.items ≡ take count (control_bytes (in_hand (B.value store.old) (B.name message.now))) }
+    ensures trimmed { let chain = in_hand (B.value store.old) (B.name message.now) in
+        B.value store.new ≡ changed (B.value store.old) (B.name message.now) (without_control count chain) }
+{
+    grow(out, count);
+    take_control(store, message, out.as_mut_slice());
+}
+
+// Takes the first so many bytes off a message's data part into an empty buffer.
+fn take_data_into<B: Blocks>(store: &mut B, message: &B::Mp, count: usize, out: &mut Content)
+    requires in_hand { IsInHand (B.value store.old) (B.name message.now) }
+    requires has { count ≤ length (data_bytes (in_hand (B.value store.old) (B.name message.now))) }
+    requires room { count ≤ 4096 }
+    requires fresh { out.old.items ≡ [] }
+    ensures given { out.new.items ≡ take count (data_bytes (in_hand (B.value store.old) (B.name message.now))) }
+    ensures trimmed { let chain = in_hand (B.value store.old) (B.name message.now) in
+        B.value store.new ≡ changed (B.value store.old) (B.name message.now) (without_data count chain) }
+{
+    grow(out, count);
+    take_data(store, message, out.as_mut_slice());
+}
+
+// Takes so many bytes off the parts of a message into empty buffers.
+fn take_parts<B: Blocks>(
+    store: &mut B,
+    message: &B::Mp,
+    count: usize,
+    data_count: usize,
+    control: &mut Content,
+    body: &mut Content,
+)
+    requires in_hand { IsInHand (B.value store.old) (B.name message.now) }
+    requires chain { IsChain (in_hand (B.value store.old) (B.name message.now)) }
+    requires has_control { count ≤ length (control_bytes (in_hand (B.value store.old) (B.name message.now))) }
+    requires has_data { data_count ≤ length (data_bytes (in_hand (B.value store.old) (B.name message.now))) }
+    requires room { count ≤ 4096 }
+    requires data_room { data_count ≤ 4096 }
+    requires fresh { control.old.items ≡ [] }
+    requires data_fresh { body.old.items ≡ [] }
+    ensures control { control.new.items ≡ take count (control_bytes (in_hand (B.value store.old) (B.name message.now))) }
+    ensures body { body.new.items ≡ take data_count (data_bytes (in_hand (B.value store.old) (B.name message.now))) }
+    ensures cut { let chain = in_hand (B.value store.old) (B.name message.now) in
+        B.value store.new ≡ changed (B.value store.old) (B.name message.now) (cut_by count data_count chain) }
+{
+    take_control_into(store, message, count, control);
+    take_data_into(store, message, data_count, body);
+}
+
+// Makes a message whose bytes were taken what is left of it: the blocks of a part of which nothing is left get the kind of the
+// other part's, so that the part is absent.
+fn leave_parts<B: Blocks>(store: &mut B, message: &B::Mp, control: bool, body: bool)
+    requires { IsInHand (B.value store.old) (B.name message.now) }
+    ensures { let chain = in_hand (B.value store.old) (B.name message.now) in
+        B.value store.new ≡ changed (B.value store.old) (B.name message.now) (rest_left control body chain) }
+{
+    let count = store.blocks(message);
+    if !control {
+        set_kinds(store, message, count, MsgKind::Data);
+    } else if !body {
+        let kind = store.kind(message, 0);
+        set_kinds(store, message, count, kind);
+    }
+}
+
+// The priority of a message in hand.
+fn prio_of<B: Blocks>(store: &B, message: &B::Mp) -> Prio
+    requires { IsInHand (B.value store.now) (B.name message.now) }
+    ensures { result ≡ prio_at (message_of (in_hand (B.value store.now) (B.name message.now))) }
+{
+    store.audit();
+    if store.kind(message, 0).is_high_priority() {
+        Prio::High
+    } else {
+        Prio::Band(store.band(message))
+    }
+}
+
+// Puts back what is left of a message whose bytes were taken, where bytes of its control part or of its data part are left, and
+// frees it where none are.
+fn put_rest<B: Blocks>(store: &mut B, queue: &mut Queue, message: B::Mp, control: bool, body: bool)
+    requires counted { AreCounted queue.old.flows (list_at (B.value store.old) queue.old.list) }
+    requires in_hand { IsInHand (B.value store.old) (B.name message) }
+    requires band { band_of (rest_left control body (in_hand (B.value store.old) (B.name message))) < BANDS }
+    ensures left { B.value store.new ≡ put_rest (control || body) (B.value store.old) (B.name message) queue.old.list
+        (rest_left control body (in_hand (B.value store.old) (B.name message))) }
+    ensures counted { AreCounted queue.new.flows (list_at (B.value store.new) queue.new.list) }
+    ensures flows { plain_flows queue.new.flows ≡ plain_flows queue.old.flows }
+    ensures others { OnlyCounts queue.old queue.new }
+{
+    if !control && !body {
+        store.free(message);
+        return;
+    }
+    leave_parts(store, &message, control, body);
+    queue.putbq(store, message);
+}
+
+// Takes up to these many bytes of each part of the first message. What is left of the message is put back, and where nothing is
+// left it is freed.
+fn take_first<B: Blocks>(
+    store: &mut B,
+    queue: &mut Queue,
+    cmax: usize,
+    dmax: usize,
+    control: &mut Content,
+    body: &mut Content,
+) -> Gotten
+    requires ready { IsHeadQueue (B.value store.old) queue.old }
+    requires control_most { cmax ≤ 4096 }
+    requires data_most { dmax ≤ 4096 }
+    requires fresh { control.old.items ≡ [] }
+    requires data_fresh { body.old.items ≡ [] }
+    ensures took { (m : Message ℕ) (rest : List (Message ℕ)) → messages_on (B.value store.old) queue.old.list ≡ m ∷ rest →
+        TakesFirst result control.new.items body.new.items (B.value store.old) (B.value store.new) queue.old queue.new
+        (parts_of cmax dmax m rest) }
+    ensures keeps { Keeps (B.value store.old) (B.value store.new) queue.old queue.new }
+{
+    store.audit();
+    let Some(message) = queue.getq(store) else {
+        return NOTHING;
+    };
+    let prio = prio_of(store, &message);
+    let first = piece_of(control_len(store, &message), cmax);
+    let second = piece_of(data_len(store, &message), dmax);
+    take_parts(
+        store,
+        &message,
+        first.given.unwrap_or(0),
+        second.given.unwrap_or(0),
+        control,
+        body,
+    );
+    put_rest(store, queue, message, first.more, second.more);
+    Gotten {
+        control: first.given,
+        body: second.given,
+        prio,
+        more_control: first.more,
+        more_data: second.more,
+        lets_go: false,
+    }
+}
+
+// Whether the first message is the one that a get asks for.
+fn finds<B: Blocks>(store: &B, queue: &Queue, wanted: Wanted) -> bool
+    ensures { result ≡ not (gets_none wanted (messages_on (B.value store.now) queue.now.list)) }
+{
+    match get_refusal(store, queue, wanted, false) {
+        Some(_) => false,
+        None => true,
+    }
+}
+
+/// Gives up to `cmax` bytes of the control part and up to `dmax` of the data part of the first message, where it is the one that
+/// is asked for: getmsg(2), getpmsg(2). It tells that bytes of the direction went to a reader, and says whether a waiting writer
+/// is let go. What is left of the message is put back, without a part of which nothing is left; one that has no control part any
+/// more is M_DATA, of band 0 where it was of high priority. Where there is nothing to take nothing changes, and both parts are
+/// absent. It takes no block, and copies each byte once.
+pub fn getmsg<B: Blocks>(
+    store: &mut B,
+    queue: &mut Queue,
+    wanted: Wanted,
+    cmax: usize,
+    dmax: usize,
+    control: &mut Content,
+    body: &mut Content,
+    direction: Dir,
+    fates: &mut Fates,
+) -> Gotten
+    requires ready { IsHeadQueue (B.value store.old) queue.old }
+    requires control_most { cmax ≤ 4096 }
+    requires data_most { dmax ≤ 4096 }
+    requires fresh { control.old.items ≡ [] }
+    requires data_fresh { body.old.items ≡ [] }
+    ensures gives { Gives result control.new.items body.new.items
+        (head_get wanted cmax dmax (messages_on (B.value store.old) queue.old.list)) }
+    ensures queue { queue_in (B.value store.new) queue.new ≡ get_queue wanted cmax dmax (queue_in (B.value store.old) queue.old) }
+    ensures went { result.lets_go ≡ get_lets_go wanted cmax dmax (queue_in (B.value store.old) queue.old) }
+    ensures told { fates.new ≡ get_told direction wanted cmax dmax (messages_on (B.value store.old) queue.old.list) fates.old }
+    ensures keeps { Keeps (B.value store.old) (B.value store.new) queue.old queue.new }
+    ensures ready { IsHeadQueue (B.value store.new) queue.new }
+{
+    if !finds(store, queue, wanted) {
+        return NOTHING;
+    }
+    let mut got = take_first(store, queue, cmax, dmax, control, body);
+    let count = control.len() + body.len();
+    fates.tell(direction, Rule::Read, count);
+    got.lets_go = count > 0 && relieve(queue);
+    got
+}

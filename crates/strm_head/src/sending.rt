@@ -1,0 +1,110 @@
+//! What putmsg(2) and putpmsg(2) send down a stream.
+
+ghost use Rattle.std.specs.Prelude.{◌≡◌, ◌≤◌, ◌<◌, true, false, length, nat_lt, option_map, None, MatchOption};
+ghost use Rattle.strm_types.specs.Message.{part};
+ghost use Rattle.strm_types.specs.PutMsg as puts;
+ghost use Rattle.strm_blocks.specs.Blocks.{filled_block, free_m, free_d};
+ghost use Rattle.strm_blocks.specs.Outcomes.{Copied};
+ghost use Rattle.strm_head.specs.Sending.{control_kind, Sends};
+
+use strm_blocks::Blocks;
+use strm_types::{BANDS, Band, CONTROL_MAX, DATA_MAX, MsgKind, Prio, Refusal};
+
+// Whether no message can have this priority: one of high priority has a control part, and bands are those that queues have.
+fn is_no_prio(prio: Prio, control: Option<&[u8]>) -> bool
+    ensures { result ≡ puts.is_no_prio prio (option_map (λ bytes. bytes.now) control.entry) }
+{
+    match prio {
+        Prio::High => control.is_none(),
+        Prio::Band(band) => usize::from(band.0) >= BANDS,
+    }
+}
+
+// Whether a part has more bytes than so many.
+fn is_longer(bytes: Option<&[u8]>, most: usize) -> bool
+    ensures { result ≡ nat_lt most (length (part (option_map (λ xs. xs.now) bytes.entry))) }
+{
+    match bytes {
+        Some(bytes) => most < bytes.len(),
+        None => false,
+    }
+}
+
+/// What a putmsg(2) or putpmsg(2) is refused for by its arguments alone: EINVAL for high priority without a control part and for
+/// a band above 7, else ERANGE for a control part of more than 64 bytes or a data part of more than 256.
+pub fn put_refusal(prio: Prio, control: Option<&[u8]>, body: Option<&[u8]>) -> Option<Refusal>
+    ensures { result ≡ puts.put_refusal prio (option_map (λ bytes. bytes.now) control.entry) (option_map (λ bytes. bytes.now) body.entry) }
+{
+    if is_no_prio(prio, control) {
+        return Some(Refusal::Einval);
+    }
+    if is_longer(control, CONTROL_MAX) || is_longer(body, DATA_MAX) {
+        return Some(Refusal::Erange);
+    }
+    None
+}
+
+// The band of a priority.
+fn band_of(prio: Prio) -> Band
+    ensures { result.0 ≡ puts.put_band prio }
+{
+    match prio {
+        Prio::High => Band(0),
+        Prio::Band(band) => band,
+    }
+}
+
+// The kind of a message of a priority that has a control part.
+fn control_kind(prio: Prio) -> MsgKind
+    ensures { result ≡ control_kind prio }
+{
+    match prio {
+        Prio::High => MsgKind::Pcproto,
+        Prio::Band(_) => MsgKind::Proto,
+    }
+}
+
+// Makes a message of one block.
+fn make<B: Blocks>(store: &mut B, kind: MsgKind, band: Band, bytes: &[u8]) -> B::Mp
+    requires few { length bytes.now ≤ 256 }
+    requires room_m { 0 < free_m (B.value store.old) }
+    requires room_d { 0 < free_d (B.value store.old) }
+    ensures { Copied (B.value store.old) (B.value store.new) (B.name result) (filled_block kind band.0 bytes.now) }
+{
+    let Ok(message) = store.alloc_with(kind, band, bytes) else {
+        unreachable!()
+    };
+    message
+}
+
+/// Makes the message that a putmsg(2) or putpmsg(2) sends, M_PCPROTO for high priority, else M_PROTO with a control part and
+/// M_DATA without, in one block for each part that is there. None is made where neither is.
+pub fn make_message<B: Blocks>(
+    store: &mut B,
+    prio: Prio,
+    control: Option<&[u8]>,
+    body: Option<&[u8]>,
+) -> Option<B::Mp>
+    requires allowed { puts.put_refusal prio (option_map (λ bytes. bytes.now) control) (option_map (λ bytes. bytes.now) body) ≡ None }
+    requires room_m { puts.put_blocks (option_map (λ bytes. bytes.now) control) (option_map (λ bytes. bytes.now) body) ≤ free_m (B.value store.old) }
+    requires room_d { puts.put_blocks (option_map (λ bytes. bytes.now) control) (option_map (λ bytes. bytes.now) body) ≤ free_d (B.value store.old) }
+    ensures made { let c = option_map (λ bytes. bytes.now) control.entry in let b = option_map (λ bytes. bytes.now) body.entry in
+        MatchOption result (B.value store.new ≡ B.value store.old)
+        (λ m. Sends (B.value store.old) (B.value store.new) (B.name m) (puts.put_message prio c b) (puts.put_blocks c b)) }
+    ensures none { let c = option_map (λ bytes. bytes.now) control.entry in let b = option_map (λ bytes. bytes.now) body.entry in
+        MatchOption result (puts.no_parts c b ≡ true) (λ _. puts.no_parts c b ≡ false) }
+{
+    let band = band_of(prio);
+    let Some(control) = control else {
+        return match body {
+            Some(body) => Some(make(store, MsgKind::Data, band, body)),
+            None => None,
+        };
+    };
+    let first = make(store, control_kind(prio), band, control);
+    let Some(body) = body else {
+        return Some(first);
+    };
+    let second = make(store, MsgKind::Data, band, body);
+    Some(store.link(first, second))
+}

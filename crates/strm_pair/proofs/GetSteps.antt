@@ -1,0 +1,89 @@
+-- A get from a side's head: what it hands back is the answer.
+use Rattle.std.proofs.Common.{ℕ, ◌≡◌, ◌≤◌, List, [], ◌++◌, length, min, append-nil, Option, refl, sym, ap, subst, ◌∙◌, arith}
+use Rattle.std.specs.Prelude.{None, Some, option_map}
+use Rattle.strm_types.specs.declared.answers.Answer.{Answer}
+use Rattle.strm_types.specs.declared.answers.Answer.TheVariants.{Msg}
+use Rattle.strm_types.specs.declared.limits.TheConstants.{READ_MAX}
+use Rattle.strm_types.specs.declared.modes.Wanted.{Wanted}
+use Rattle.strm_types.specs.declared.names.Side.{Side}
+use Rattle.strm_types.specs.Calls.{Reply, map_answer}
+use Rattle.strm_types.specs.Cells.{plain, bytes_of}
+use Rattle.strm_types.specs.Gets.{Got, head_get, prio_got}
+use Rattle.strm_types.specs.Journal.{answer_len, part_len, reply_in}
+use Rattle.strm_types.specs.Message.{part}
+use Rattle.strm_types.specs.State as plain_state
+use Rattle.strm_types.specs.State.{State, stream}
+use Rattle.strm_types.proofs.GetKeeps.{get-control, get-data}
+use Rattle.strm_types.proofs.PlainCells.{bytes-plain}
+use Rattle.strm_types.proofs.StoredCalls.{reply-back, reply-size}
+use Rattle.strm_blocks.specs.Blocks.{StoreValue}
+use Rattle.strm_head.specs.declared.getting.Gotten.{Gotten}
+use Rattle.strm_head.specs.Getting.{Gives}
+use Rattle.strm_queue.specs.Stored.{messages_on}
+use Rattle.strm_pair.specs.declared.streams.Streams.{Streams}
+use Rattle.strm_pair.specs.Pairs.{state_in, end_at}
+use Rattle.strm_pair.specs.Parts.{longest_part}
+use Rattle.strm_pair.proofs.Sides.{head-is}
+
+part-plain : (o : Option (List ℕ)) → o ≡ option_map (bytes_of plain) o
+part-plain None = refl
+part-plain (Some bytes) = ap Some (sym (bytes-plain bytes))
+
+part-size : (o : Option (List ℕ)) → part_len (option_map (λ (cells : List ℕ). length cells) o) ≡ length (part o)
+part-size None = refl
+part-size (Some bytes) = refl
+
+-- what a get takes of a side's head
+abbrev pub got_at : Side → Wanted → ℕ → ℕ → StoreValue → Streams → Got ℕ
+got_at side wanted cmax dmax s p = head_get wanted (min cmax READ_MAX) (min dmax READ_MAX) (stream side (state_in s p)).head.queue.messages
+
+pub gives-is : (side : Side) (wanted : Wanted) (cmax dmax most most_data : ℕ) (s : StoreValue) (p : Streams) → most ≡ min cmax READ_MAX → most_data ≡ min dmax READ_MAX
+    → (got : Gotten) (control body : List ℕ) → Gives got control body (head_get wanted most most_data (messages_on s (end_at side p).head.queue.list)) → Gives got control body (got_at side wanted cmax dmax s p)
+gives-is side wanted cmax dmax most most_data s p most_is data_is got control body gives =
+    subst (λ (h : plain_state.Head ℕ). Gives got control body (head_get wanted (min cmax READ_MAX) (min dmax READ_MAX) h.queue.messages)) (sym (head-is s p side))
+    (subst (λ n. Gives got control body (head_get wanted (min cmax READ_MAX) n (messages_on s (end_at side p).head.queue.list))) data_is
+    (subst (λ n. Gives got control body (head_get wanted n most_data (messages_on s (end_at side p).head.queue.list))) most_is gives))
+
+-- the answer of what was got
+abbrev answered : Gotten → Answer ℕ
+answered got = Msg got.prio got.control got.body got.more_control got.more_data
+
+abbrev reply_of : Got ℕ → Reply
+reply_of g = Msg (prio_got g) g.control g.body g.more_control g.more_data
+
+module _ (got : Gotten) (control body out : List ℕ) (g : Got ℕ) (gives : Gives got control body g) (joined : out ≡ control ++ body) where
+  shape : answered got ≡ map_answer (λ (cells : List ℕ). length cells) (reply_of g)
+  shape = rw (gives.prio, gives.control_there, gives.body_there, gives.more_control, gives.more_data) refl
+
+  content : out ≡ part g.control ++ part g.body
+  content = joined ∙ ap (λ xs. xs ++ body) gives.control_is ∙ ap (λ xs. part g.control ++ xs) gives.body_is
+
+  pub got-answer : reply_in (answered got) out ≡ Msg (prio_got g) (option_map (bytes_of plain) g.control) (option_map (bytes_of plain) g.body) g.more_control g.more_data
+  got-answer =
+      ap (λ a. reply_in a out) shape
+      ∙ ap (λ xs. reply_in (map_answer (λ (cells : List ℕ). length cells) (reply_of g)) xs) (content ∙ sym (append-nil (part g.control ++ part g.body)))
+      ∙ reply-back (reply_of g) []
+      ∙ ap (λ c. Msg (prio_got g) c g.body g.more_control g.more_data) (part-plain g.control)
+      ∙ ap (λ b. Msg (prio_got g) (option_map (bytes_of plain) g.control) b g.more_control g.more_data) (part-plain g.body)
+
+  pub got-filled : answer_len (answered got) ≡ length out
+  got-filled = ap answer_len shape ∙ reply-size (reply_of g) ∙ ap (λ (xs : List ℕ). length xs) (sym content)
+
+-- how much is got
+module _ (got : Gotten) (control body : List ℕ) (side : Side) (wanted : Wanted) (cmax dmax : ℕ) (s : StoreValue) (p : Streams) (gives : Gives got control body (got_at side wanted cmax dmax s p)) where
+  abbrev g : Got ℕ
+  g = got_at side wanted cmax dmax s p
+
+  pub control-few : length control ≤ min cmax READ_MAX
+  control-few = omega (arith, ap (λ (xs : List ℕ). length xs) gives.control_is, get-control wanted (min cmax READ_MAX) (min dmax READ_MAX) (stream side (state_in s p)).head.queue.messages)
+
+  pub body-few : length body ≤ min dmax READ_MAX
+  body-few = omega (arith, ap (λ (xs : List ℕ). length xs) gives.body_is, get-data wanted (min cmax READ_MAX) (min dmax READ_MAX) (stream side (state_in s p)).head.queue.messages)
+
+  pub got-parts : longest_part (answered got) ≤ READ_MAX
+  got-parts =
+      let first = control-few in
+      let second = body-few in
+      let control_len : part_len got.control ≡ length control = ap part_len gives.control_there ∙ part-size g.control ∙ ap (λ (xs : List ℕ). length xs) (sym gives.control_is) in
+      let body_len : part_len got.body ≡ length body = ap part_len gives.body_there ∙ part-size g.body ∙ ap (λ (xs : List ℕ). length xs) (sym gives.body_is) in
+      omega (arith, first, second, control_len, body_len)

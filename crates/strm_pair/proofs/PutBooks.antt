@@ -1,0 +1,76 @@
+-- A putmsg on a side's stream: its message is delivered from below the head, and its bytes are booked as written.
+use Rattle.std.proofs.Common.{ℕ, ◌≡◌, ◌<◌, ◌+◌, Bool, true, false, cond, List, [], length, refl, sym, ap, ◌∙◌, arith}
+use Rattle.std.specs.Prelude.{Option, None, Some, option_map, nat_lt, ◌&&◌}
+use Rattle.std.proofs.lemmas.Bool.Decides.{nat_tests}
+use Rattle.strm_types.specs.declared.books.Book.{Book}
+use Rattle.strm_types.specs.declared.books.TheConstants.{BOOK_MAX}
+use Rattle.strm_types.specs.declared.modes.Prio.{Prio}
+use Rattle.strm_types.specs.declared.names.Dir.{Dir}
+use Rattle.strm_types.specs.declared.names.Side.{Side}
+use Rattle.strm_types.specs.declared.names.Way.TheVariants.{Down}
+use Rattle.strm_types.specs.declared.rules.Fates.{Fates}
+use Rattle.strm_types.specs.Books as books
+use Rattle.strm_types.specs.Books.{with_written}
+use Rattle.strm_types.specs.Calls.{message_put, put_at}
+use Rattle.strm_types.specs.Cells.{plain, cells_written}
+use Rattle.strm_types.specs.Deliver.{Carried, tallied}
+use Rattle.strm_types.specs.Message.{Message, part}
+use Rattle.strm_types.specs.Names.{direction_from}
+use Rattle.strm_types.specs.PutMsg.{no_parts, put_message}
+use Rattle.strm_types.specs.Puts.{delivered}
+use Rattle.strm_types.specs.State.{State, book, with_book}
+use Rattle.strm_types.proofs.PlainCells.{written-plain}
+
+-- a book that has room
+both-true : (a b : Bool) → (a && b) ≡ true → (a ≡ true) × (b ≡ true)
+both-true true true h = (refl, refl)
+both-true true false h = absurd (cc)
+both-true false b h = absurd (cc)
+
+room-low : (b : Book) → books.has_room b ≡ true → b.written < BOOK_MAX
+room-low b h = let lt = (both-true (nat_lt b.written BOOK_MAX) (nat_lt b.made BOOK_MAX) h).0 in grind (arith, nat_tests)
+
+pub written-low : (a b : Book) → (books.has_room a && books.has_room b) ≡ true → (a.written < BOOK_MAX) × (b.written < BOOK_MAX)
+written-low a b h = let parts = both-true (books.has_room a) (books.has_room b) h in (room-low a parts.0, room-low b parts.1)
+
+-- plain bytes have no origin
+part-plain : (dir : Dir) (n : ℕ) (o : Option (List ℕ)) → option_map (cells_written plain dir n) o ≡ o
+part-plain dir n None = refl
+part-plain dir n (Some bytes) = ap Some (written-plain dir n bytes)
+
+message-plain : (side : Side) (prio : Prio) (control body : Option (List ℕ)) (s : State ℕ) → message_put plain side prio control body s ≡ put_message prio control body
+message-plain side prio control body s =
+    let dir = direction_from side in
+    let n = (book dir s).written in
+    ap (λ c. put_message prio c (option_map (cells_written plain dir (n + length (part control))) body)) (part-plain dir n control)
+    ∙ ap (λ b. put_message prio control b) (part-plain dir (n + length (part control)) body)
+
+module _ (side : Side) (prio : Prio) (control body : Option (List ℕ)) (s : State ℕ) (some : no_parts control body ≡ false) where
+  -- what is delivered of a message
+  abbrev sent : Message ℕ → Carried ℕ (State ℕ)
+  sent m = delivered (record { side = side; at = 1; way = Down }) m s
+
+  abbrev booked : Message ℕ → Carried ℕ (State ℕ)
+  booked m = record { state = with_book (direction_from side) (with_written (length (part control) + length (part body)) (book (direction_from side) s)) (sent m).state; gone = (sent m).gone }
+
+  put-is : put_at plain side prio control body s ≡ booked (put_message prio control body)
+  put-is =
+      ap (λ (b : Bool). cond b (record { state = s; gone = [] }) (booked (message_put plain side prio control body s))) some
+      ∙ ap booked (message-plain side prio control body s)
+
+  module _ (message : Message ℕ) (shows : message ≡ put_message prio control body) where
+    pub put-state : (t u : State ℕ) (b : Book) (n : ℕ) → t ≡ (sent message).state → u ≡ with_book (direction_from side) b t → b ≡ with_written n (book (direction_from side) s) → n ≡ length (part control) + length (part body)
+        → u ≡ (put_at plain side prio control body s).state
+    put-state t u b n led kept b_is n_is =
+        kept
+        ∙ ap (λ x. with_book (direction_from side) b x) led
+        ∙ ap (λ x. with_book (direction_from side) x (sent message).state) b_is
+        ∙ ap (λ k. with_book (direction_from side) (with_written k (book (direction_from side) s)) (sent message).state) n_is
+        ∙ ap (λ m. (booked m).state) shows
+        ∙ sym (ap (λ (x : Carried ℕ (State ℕ)). x.state) put-is)
+
+    pub put-told : (old new : Fates) → new ≡ tallied (sent message).gone old → new ≡ tallied (put_at plain side prio control body s).gone old
+    put-told old new told =
+        told
+        ∙ ap (λ m. tallied (sent m).gone old) shows
+        ∙ sym (ap (λ (x : Carried ℕ (State ℕ)). tallied x.gone old) put-is)

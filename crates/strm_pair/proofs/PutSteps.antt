@@ -1,0 +1,264 @@
+-- Puts at the heads and the drivers of a pair, step by step.
+use Rattle.std.proofs.Common.{ℕ, ◌≡◌, ◌≤◌, ◌+◌, Bool, true, false, cond, List, [], ◌∷◌, refl, sym, ap, subst, ◌∙◌, arith}
+use Rattle.std.specs.Prelude.{◌&&◌, ◌||◌, Option, None, Some}
+use Rattle.strm_types.specs.declared.flushing.FlushAsked.{FlushAsked}
+use Rattle.strm_types.specs.declared.kinds.MsgKind.{MsgKind}
+use Rattle.strm_types.specs.declared.kinds.MsgKind.TheVariants.{Flush, Ioctl}
+use Rattle.strm_types.specs.declared.names.Way.{Way}
+use Rattle.strm_types.specs.declared.spots.Across.{Across}
+use Rattle.strm_types.specs.declared.rules.Rule.TheVariants.{EndClosed}
+use Rattle.strm_types.specs.Drivers.{driver_put}
+use Rattle.strm_types.specs.Queue as plain
+use Rattle.strm_blocks.specs.Blocks.{IsStore, dropped, list_at}
+use Rattle.strm_head.specs.declared.head.Head as heads
+use Rattle.strm_head.specs.Heads.{head_in}
+use Rattle.strm_queue.specs.declared.queue.Queue.{Queue}
+use Rattle.strm_queue.specs.Stored.{queue_in, HoldsReadable, Changes, FreesBlocks}
+use Rattle.strm_frame.specs.declared.modules.Acts.{Acts}
+use Rattle.strm_frame.specs.Hands.{CanPut, Hands, SamePool, Spends}
+use Rattle.strm_frame.specs.Outboxes.{sent_of}
+use Rattle.strm_frame.proofs.Shifting.{shifts-joined}
+use Rattle.strm_pty.specs.Does.{OnlyQueue, driver_cost}
+use Rattle.strm_pair.specs.Pairs.{end_at, with_end}
+use Rattle.strm_pair.proofs.Sides.{driver-changed, driver-state, head-changed, head-state, driver-is, head-is}
+use Rattle.strm_types.specs.declared.names.Place.TheVariants as places
+use Rattle.strm_types.specs.declared.names.QueueName.{QueueName}
+use Rattle.strm_types.specs.declared.names.Side.{Side}
+use Rattle.strm_types.specs.declared.names.Way.TheVariants.{Up, Down}
+use Rattle.strm_types.specs.declared.rules.Fates.{Fates}
+use Rattle.strm_types.specs.declared.spots.Spot.{Spot}
+use Rattle.strm_types.specs.Deliver.{Acted, Parcel, Took, tallied}
+use Rattle.strm_types.specs.Flushing.{is_flush, asked_by}
+use Rattle.strm_types.specs.Heads.{flush_up, head_put, is_doubled, is_hangup, obeyed, passed_by, waits_for_readers}
+use Rattle.strm_types.specs.Message.{Message, cells_of, has_parts}
+use Rattle.strm_types.specs.Names.{before, direction_at, enable_found, enable_some, head_of, is_open}
+use Rattle.strm_types.specs.Puts.{across_of, is_turned, noted, passed_up, put_at_driver, put_at_head}
+use Rattle.strm_types.specs.Reads.{is_there}
+use Rattle.strm_types.specs.State.{Head, State, stream, with_stream, with_driver_queue}
+use Rattle.strm_blocks.specs.Blocks.{StoreValue, in_hand}
+use Rattle.strm_msg.specs.Messages.{IsChain}
+use Rattle.strm_head.specs.Heads.{notes_of, sent_down}
+use Rattle.strm_frame.specs.declared.parcels.Sent.{Sent}
+use Rattle.strm_frame.specs.Hands.{once, HasRoom, Shifts}
+use Rattle.strm_frame.specs.Outboxes.{message_in, times_sent, parcels_in, AreChains}
+use Rattle.strm_frame.proofs.Handing.{one-parts, one-chains}
+use Rattle.strm_frame.proofs.Shifting.{shifts-both, shifts-as}
+use Rattle.strm_pty.specs.Does.{Makes, Swaps}
+use Rattle.strm_pty.proofs.Doing.{times-one}
+use Rattle.strm_pair.specs.declared.streams.Streams.{Streams}
+use Rattle.strm_pair.specs.Costs.{head_takes, below_takes}
+use Rattle.strm_pair.specs.Pairs.{state_in, AreBeside}
+use Rattle.strm_pair.specs.Framing.{same-state, same-beside}
+use Rattle.strm_pair.specs.PutBy.{PutBy, CameBy}
+
+-- what a head sends down is nothing where nothing is turned round
+sent-nothing : (S : Type 0) (b : Bool) (one another : Acted ℕ S) → one.sent ≡ [] → another.sent ≡ [] → (cond b one another).sent ≡ []
+sent-nothing S true one another first second = first
+sent-nothing S false one another first second = second
+
+not-turned : (here : Spot) (m : Message ℕ) (h : Head ℕ) → is_turned m ≡ false → (head_put here m h).sent ≡ []
+not-turned here m h is = at (has_parts m)
+  where
+    asked : Bool → List (Parcel ℕ) → List (Parcel ℕ)
+    asked b ps = cond b ps []
+
+    round : (flush write : Bool) (ps : List (Parcel ℕ)) → (flush && write) ≡ false → flush ≡ true → asked write ps ≡ []
+    round true false ps none some = refl
+    round true true ps none some = absurd (cc)
+    round false write ps none some = absurd (cc)
+
+    obeys : (flush : Bool) → is_flush m.kind ≡ flush → (cond flush (flush_up here (asked_by m.plain) h) (passed_by (record h { hung_up = h.hung_up || is_hangup m.kind }))).sent ≡ []
+    obeys false known = refl
+    obeys true known = round (is_flush m.kind) (asked_by m.plain).for_write _ is known
+
+    at : (parts : Bool) → (cond parts (waits_for_readers here m h) (obeyed here m h)).sent ≡ []
+    at true = sent-nothing (Head ℕ) (is_doubled m h.queue.messages) _ _ refl refl
+    at false = obeys (is_flush m.kind) refl
+
+reached-sent : (side : Side) (here : Spot) (m : Message ℕ) (s : State ℕ) → is_turned m ≡ false → (put_at_head side here m s).sent ≡ []
+reached-sent side here m s is = either (is_open (stream side s).opened) _ _ (not-turned here m (stream side s).head is) refl
+  where
+    either : (b : Bool) (one another : Took ℕ (State ℕ)) → one.sent ≡ [] → another.sent ≡ [] → (cond b one another).sent ≡ []
+    either true one another first second = first
+    either false one another first second = second
+
+down-none : (here : Spot) (down : Option FlushAsked) → sent_down here down ≡ [] → is_there down ≡ false
+down-none here None none = refl
+down-none here (Some asked) none = absurd (cc)
+
+down-few : (b : Bool) (down : Option FlushAsked) → (b ≡ false → is_there down ≡ false) → cond {A = ℕ} (is_there down) 1 0 ≤ cond b 1 0
+down-few true None none = omega arith
+down-few true (Some asked) none = omega arith
+down-few false None none = omega arith
+down-few false (Some asked) none = let e = none refl in absurd (cc)
+
+-- it takes a block only where something is turned round
+pub down-takes : (side : Side) (here : Spot) (m : Message ℕ) (s : State ℕ) (down : Option FlushAsked) → sent_down here down ≡ (put_at_head side here m s).sent → cond {A = ℕ} (is_there down) 1 0 ≤ head_takes m
+down-takes side here m s down is = down-few (is_turned m) down (λ none. down-none here down (is ∙ reached-sent side here m s none))
+
+pub room-less : (s t : StoreValue) (gone come : ℕ → ℕ) (n k : ℕ) → Shifts s t gone come 0 → k ≤ n → HasRoom s n → HasRoom t k
+room-less s t gone come n k hands le room = record { mblks = (let a = hands.mblks in let b = room.mblks in omega arith); dblks = (let a = hands.dblks in let b = room.dblks in omega arith) }
+
+-- a waiting writer is let go where the head says so
+pub noted-room : (side : Side) (lets_go : Bool) (names : List QueueName) → noted side places.Head (notes_of lets_go) names ≡ cond lets_go (enable_found (before (head_of side)) names) names
+noted-room side true names = refl
+noted-room side false names = refl
+
+-- a message that comes to a side that isn't open
+pub closed-is : (side : Side) (here : Spot) (m : Message ℕ) (s : State ℕ) → is_open (stream side s).opened ≡ false
+    → put_at_head side here m s ≡ record { state = s; sent = []; gone = record { direction = direction_at Up side; rule = EndClosed; cells = cells_of m } ∷ [] }
+closed-is side here m s closed = rw closed refl
+
+-- what a put at an open head leads to, by what the head does
+abbrev at_head : Side → State ℕ → Acted ℕ (Head ℕ) → Took ℕ (State ℕ)
+at_head side s t = record {
+  state = record (with_stream side (record (stream side s) { head = t.state }) s) { enabled = noted side places.Head t.notes s.enabled };
+  sent = t.sent;
+  gone = t.gone;
+}
+
+open-is : (side : Side) (here : Spot) (m : Message ℕ) (s : State ℕ) → is_open (stream side s).opened ≡ true → put_at_head side here m s ≡ at_head side s (head_put here m (stream side s).head)
+open-is side here m s opened = rw opened refl
+
+module _ (side : Side) (s t : StoreValue) (p : Streams) (h : heads.Head) (i : ℕ) (to : Spot) (m : Message ℕ) (lets_go : Bool) (down : Option FlushAsked) (f f' : Fates) where
+  -- what the head did
+  abbrev Did : Acted ℕ (Head ℕ)
+  Did = head_put to m (head_in s (end_at side p).head)
+
+  abbrev behind : Streams
+  behind = record (with_end side (record (end_at side p) { head = h }) p) { enabled = enable_some lets_go (before (head_of side)) p.enabled }
+
+  came-at : IsStore s → CanPut s i (λ _. 0) → AreBeside s p → head_in t h ≡ Did.state → notes_of lets_go ≡ Did.notes → sent_down to down ≡ Did.sent → f' ≡ tallied Did.gone f
+      → Changes (dropped s i) t (end_at side p).head.queue h.queue → HoldsReadable (list_at t h.queue.list) → FreesBlocks s t → CameBy s t p behind i (sent_down to down) f f' (at_head side (state_in s p) Did)
+  came-at store can beside state notes sent told changes readable frees =
+      let only : OnlyQueue s t (end_at side p).head.queue h.queue = record { ready = changes.ready; list = changes.list; others = changes.others } in
+      let st = state_in s p in
+      record {
+        state = ap (λ (x : State ℕ). record x { enabled = enable_some lets_go (before (head_of side)) p.enabled })
+            (head-state s t p beside side h only ∙ ap (λ x. with_stream side (record (stream side st) { head = x }) st) state)
+            ∙ ap (λ ns. record (with_stream side (record (stream side st) { head = Did.state }) st) { enabled = ns })
+            (sym (noted-room side lets_go p.enabled) ∙ ap (λ n. noted side places.Head n p.enabled) notes);
+        down_is = sent;
+        tells = told;
+        beside = head-changed s t p beside side h only readable;
+        hands = shifts-joined s t i (end_at side p).head.queue h.queue store can changes frees;
+      }
+
+  pub came-by : (q : Streams) → to.side ≡ side → IsStore s → CanPut s i (λ _. 0) → AreBeside s p → is_open (stream to.side (state_in s p)).opened ≡ true
+      → head_in t h ≡ Did.state → notes_of lets_go ≡ Did.notes → sent_down to down ≡ Did.sent → f' ≡ tallied Did.gone f
+      → Changes (dropped s i) t (end_at side p).head.queue h.queue → HoldsReadable (list_at t h.queue.list) → FreesBlocks s t
+      → q ≡ record (with_end side (record (end_at side p) { head = h }) p) { enabled = enable_some lets_go (before (head_of to.side)) p.enabled }
+      → CameBy s t p q i (sent_down to down) f f' (put_at_head to.side to m (state_in s p))
+  came-by q is store can beside opened state notes sent told changes readable frees q_is =
+      let st = state_in s p in
+      let here : put_at_head to.side to m st ≡ at_head side st Did =
+      open-is to.side to m st opened ∙ ap (λ sd. at_head sd st (head_put to m (stream sd st).head)) is ∙ ap (λ x. at_head side st (head_put to m x)) (head-is s p side) in
+      let there : q ≡ behind = q_is ∙ ap (λ sd. record (with_end side (record (end_at side p) { head = h }) p) { enabled = enable_some lets_go (before (head_of sd)) p.enabled }) is in
+      subst (λ w. CameBy s t p q i (sent_down to down) f f' w) (sym here)
+      (subst (λ x. CameBy s t p x i (sent_down to down) f f' (at_head side st Did)) (sym there) (came-at store can beside state notes sent told changes readable frees))
+
+-- a put at a driver, by what the driver does
+abbrev at_driver : Side → State ℕ → Acted ℕ (plain.Queue ℕ) → Took ℕ (State ℕ)
+at_driver side s t = record {
+  state = record (with_stream side (with_driver_queue t.state (stream side s)) s) { enabled = noted side places.Driver t.notes s.enabled };
+  sent = t.sent;
+  gone = t.gone;
+}
+
+pub cost-low : (way : Way) (kind : MsgKind) → driver_cost way kind ≤ below_takes way true
+cost-low Down Flush = omega arith
+cost-low Down Ioctl = omega arith
+cost-low Up Flush = omega arith
+cost-low Down kind = omega arith
+cost-low Up kind = omega arith
+
+module _ {M : Type 0} (name : M → ℕ) where
+  -- the driver takes the message
+  pub driver-by : (side : Side) (s t : StoreValue) (p q : Streams) (d : Queue) (i : ℕ) (to : Spot) (across : Across) (acts : Acts M) (f f' : Fates)
+      → let m = message_in s i in let did = driver_put to.side across (record to { at = 1 }) m (queue_in s (end_at side p).driver) in
+      to.side ≡ side → across ≡ across_of to.side (state_in s p) → AreBeside s p → queue_in t d ≡ did.state → acts.notes.items ≡ did.notes → parcels_in name t (sent_of acts.sent) ≡ did.sent
+      → f' ≡ tallied did.gone f → OnlyQueue s t (end_at side p).driver d → AreChains name t (sent_of acts.sent) → Hands s t i (λ _. 0) (λ _. 0) (λ j. times_sent name j (sent_of acts.sent))
+      → Spends s t (driver_cost to.way m.kind) 0 → SamePool s t
+      → q ≡ record (with_end side (record (end_at side p) { driver = d }) p) { enabled = noted to.side places.Driver acts.notes.items p.enabled }
+      → PutBy name s t p q i (below_takes to.way true) (sent_of acts.sent) f f' (put_at_driver to.side to m (state_in s p))
+  driver-by side s t p q d i to across acts f f' is across_is beside state notes sent told only chains hands spends pool q_is =
+      let m = message_in s i in
+      let st = state_in s p in
+      let did = driver_put to.side across (record to { at = 1 }) m (queue_in s (end_at side p).driver) in
+      let names = noted to.side places.Driver acts.notes.items p.enabled in
+      let low = cost-low to.way m.kind in
+      let here : at_driver side st did ≡ put_at_driver to.side to m st =
+      ap (λ x. at_driver side st (driver_put to.side x (record to { at = 1 }) m (queue_in s (end_at side p).driver))) across_is
+      ∙ ap (λ x. at_driver side st (driver_put to.side (across_of to.side st) (record to { at = 1 }) m x)) (sym (driver-is s p side))
+      ∙ ap (λ sd. at_driver sd st (driver_put to.side (across_of to.side st) (record to { at = 1 }) m (stream sd st).driver.queue)) (sym is) in
+      subst (λ w. PutBy name s t p q i (below_takes to.way true) (sent_of acts.sent) f f' w) here
+      (record {
+        state = ap (λ x. state_in t x) q_is
+            ∙ ap (λ (x : State ℕ). record x { enabled = names }) (driver-state s t p beside side d only ∙ ap (λ x. with_stream side (with_driver_queue x (stream side st)) st) state)
+            ∙ ap (λ ns. record (with_stream side (with_driver_queue did.state (stream side st)) st) { enabled = ns })
+            (ap (λ n. noted to.side places.Driver n p.enabled) notes ∙ ap (λ sd. noted sd places.Driver did.notes p.enabled) is);
+        sent = sent;
+        tells = told;
+        beside = subst (λ x. AreBeside t x) (sym q_is) (driver-changed s t p beside side d only);
+        chains = chains;
+        hands = record {
+          counts = λ j. let a = hands.counts j in omega arith;
+          others = λ j none some. hands.others j none refl some;
+          mblks = (let a = spends.mblks in omega arith);
+          dblks = (let a = spends.dblks in omega arith);
+          pool = pool;
+        };
+      })
+
+  pub put-more : (s t : StoreValue) (p q : Streams) (m n k : ℕ) (sent_on : List (Sent M)) (f f' : Fates) (is : Took ℕ (State ℕ)) → n ≤ k → PutBy name s t p q m n sent_on f f' is → PutBy name s t p q m k sent_on f f' is
+  put-more s t p q m n k sent_on f f' is le put = record {
+    state = put.state;
+    sent = put.sent;
+    tells = put.tells;
+    beside = put.beside;
+    chains = put.chains;
+    hands = shifts-as s t (once m) (λ i. times_sent name i sent_on) (once m) (λ i. times_sent name i sent_on) n k put.hands (λ i. refl) (λ i. refl) le;
+  }
+
+  -- a message goes, and the streams stay
+  pub swaps-put : (s t : StoreValue) (p : Streams) (m n k : ℕ) (made : List (Sent M)) (ps : List (Parcel ℕ)) (f f' : Fates) (is : Took ℕ (State ℕ))
+      → AreBeside s p → Swaps name s t m n made ps → n ≤ k → state_in s p ≡ is.state → ps ≡ is.sent → f' ≡ tallied is.gone f → PutBy name s t p p m k made f f' is
+  swaps-put s t p m n k made ps f f' is beside swaps le stays sends tells = record {
+    state = same-state s t swaps.lists p ∙ stays;
+    sent = swaps.sent ∙ sends;
+    tells = tells;
+    beside = same-beside s t swaps.lists p beside;
+    chains = swaps.chains;
+    hands = shifts-as s t (once m) (λ i. times_sent name i made) (once m) (λ i. times_sent name i made) n k swaps.hands (λ i. refl) (λ i. refl) le;
+  }
+
+  -- the message itself goes on
+  pub passed-put : (s : StoreValue) (p : Streams) (x : Sent M) (sent_on : List (Sent M)) (f : Fates) (to : Spot) → AreBeside s p → IsChain (in_hand s (name x.message)) → x.to ≡ record to { at = 0 } → sent_on ≡ x ∷ []
+      → PutBy name s s p p (name x.message) 0 sent_on f f (passed_up to (message_in s (name x.message)) (state_in s p))
+  passed-put s p x sent_on f to beside chain on one = record {
+    state = refl;
+    sent = one-parts name s x sent_on one ∙ ap (λ spot. record { to = spot; message = message_in s (name x.message) } ∷ []) on;
+    tells = refl;
+    beside = beside;
+    chains = one-chains name s x sent_on one chain;
+    hands = record {
+      counts = λ i. let o = times-one name i x sent_on one in omega arith;
+      others = λ i none some. refl;
+      mblks = omega arith;
+      dblks = omega arith;
+      pool = record { mblks = refl; dblks = refl };
+    };
+  }
+
+  -- what a head sends down is made
+  pub came-put : (s t u : StoreValue) (p q : Streams) (m n k : ℕ) (down : List (Parcel ℕ)) (made : List (Sent M)) (f f' : Fates) (is : Took ℕ (State ℕ))
+      → CameBy s t p q m down f f' is → Makes name t u n made down → n ≤ k → PutBy name s u p q m k made f f' is
+  came-put s t u p q m n k down made f f' is came makes le = record {
+    state = same-state t u makes.lists q ∙ came.state;
+    sent = makes.sent ∙ came.down_is;
+    tells = came.tells;
+    beside = same-beside t u makes.lists q came.beside;
+    chains = makes.chains;
+    hands = shifts-as s u (λ i. once m i + 0) (λ i. 0 + times_sent name i made) (once m) (λ i. times_sent name i made) (0 + n) k
+        (shifts-both s t u (once m) (λ _. 0) (λ _. 0) (λ i. times_sent name i made) 0 n came.hands makes.hands) (λ i. omega arith) (λ i. omega arith) (omega arith);
+  }

@@ -1,0 +1,217 @@
+-- What a put in a pair takes, with what its messages take after it, is no more than what a delivery from there takes at most.
+use Rattle.std.proofs.Common.{ℕ, suc, ◌≡◌, ◌≤◌, ◌+◌, Bool, true, false, cond, List, [], ◌∷◌, ◌++◌, refl, sym, ap, subst, ◌∙◌, arith}
+use Rattle.std.specs.Prelude.{◌==◌, ◌&&◌, ◌||◌, Option, None, Some}
+use Rattle.std.proofs.lemmas.Bool.Decides.{nat_tests}
+use Rattle.strm_types.specs.declared.flushing.FlushAsked.{FlushAsked}
+use Rattle.strm_types.specs.declared.ioctls.Ioc.{Ioc}
+use Rattle.strm_types.specs.declared.kinds.MsgKind.{MsgKind}
+use Rattle.strm_types.specs.declared.kinds.MsgKind.TheVariants.{Flush, Ioctl}
+use Rattle.strm_types.specs.declared.limits.TheConstants.{MODULES}
+use Rattle.strm_types.specs.declared.names.Side.{Side}
+use Rattle.strm_types.specs.declared.names.Way.{Way}
+use Rattle.strm_types.specs.declared.names.Way.TheVariants.{Up, Down}
+use Rattle.strm_types.specs.declared.spots.Across.{Across}
+use Rattle.strm_types.specs.declared.spots.Spot.{Spot}
+use Rattle.strm_types.specs.Deliver.{Acted, Parcel, Took, toward}
+use Rattle.strm_types.specs.Drivers.{answered, bottom_across, crosses, driver_across, driver_put, freed, ioctl_put, own_flushed, put_across, put_down, reader_flush, taken_in}
+use Rattle.strm_types.specs.Flushing.{is_flush, asked_by, flush_bytes, flush_message, read_flush}
+use Rattle.strm_types.specs.Heads.{flush_up, head_put, is_doubled, is_hangup, obeyed, passed_by, turned_round, waits_for_readers}
+use Rattle.strm_types.specs.Ioctls.{read_ioc, nak_message}
+use Rattle.strm_types.specs.Message.{Message, has_parts}
+use Rattle.strm_types.specs.Names.{is_master, is_open}
+use Rattle.strm_types.specs.Puts.{across_of, is_turned, passed_up, put_at_driver, put_at_head, put_below, put_in}
+use Rattle.strm_types.specs.Queue.{Queue}
+use Rattle.strm_types.specs.State.{Head, State, stream}
+use Rattle.strm_types.proofs.PutsFall.{reads-alone}
+use Rattle.strm_frame.specs.Outboxes.{cost_of}
+use Rattle.strm_pair.specs.Costs.{below_cost, below_takes, cost, cost_at, takes}
+
+-- what goes down from the head costs what a driver makes of it
+below-head : (here : Spot) (turned : Bool) → cost_at (toward Down here) turned ≡ 3
+below-head here turned = ap (λ top. cond top (cond turned 4 0) 3) (let below : (here.at + 1 == 0) ≡ false = grind (arith, nat_tests) in below)
+
+below-few : (way : Way) (turned : Bool) → below_cost way turned ≤ 4
+below-few Down turned = omega arith
+below-few Up true = omega arith
+below-few Up false = omega arith
+
+up-some : (turned : Bool) → 1 ≤ cond turned 4 1
+up-some true = omega arith
+up-some false = omega arith
+
+-- what goes on to the head costs no more there
+up-more : (turned : Bool) → cond turned 4 0 ≤ cond turned 4 1
+up-more true = omega arith
+up-more false = omega arith
+
+few-at : (way : Way) (turned top : Bool) → cond top (cond turned 4 0) (below_cost way turned) ≤ 4
+few-at way true true = omega arith
+few-at way false true = omega arith
+few-at way turned false = below-few way turned
+
+module _ (C : Type 0) where
+  abbrev Few : ℕ → List (Parcel C) → Type 0
+  Few most sent = cost_of cost sent ≤ most
+
+  none-few : (most : ℕ) → Few most []
+  unfolding cost_of
+  none-few most = omega arith
+
+  one-few : (most : ℕ) (to : Spot) (m : Message C) → cost to m ≤ most → Few most (record { to = to; message = m } ∷ [])
+  unfolding cost_of
+  one-few most to m few = omega (arith, few)
+
+  both-cost : (ps qs : List (Parcel C)) → cost_of cost (ps ++ qs) ≡ cost_of cost ps + cost_of cost qs
+  unfolding cost_of
+  both-cost [] qs = omega arith
+  both-cost (p ∷ ps) qs = let e = both-cost ps qs in omega (arith, e)
+
+  both-few : (few more : ℕ) (ps qs : List (Parcel C)) → Few few ps → Few more qs → Few (few + more) (ps ++ qs)
+  both-few few more ps qs first second = let e = both-cost ps qs in omega (arith, e, first, second)
+
+  -- an M_FLUSH for readers isn't turned round
+  reads-few : (asked : FlushAsked) (goes : Bool) (to : Spot) → Few (cost_at to false) (reader_flush goes asked to)
+  reads-few asked false to = none-few (cost_at to false)
+  reads-few asked true to =
+      one-few (cost_at to false) to (flush_message (read_flush asked.band)) (let same = ap (cost_at to) (reads-alone asked.band) in omega (arith, same))
+
+  -- at a driver, where no module stands on the stream across
+  across-few : (side : Side) (across : Across) → across.bottom ≡ 0 → (asked : FlushAsked) (goes : Bool) → Few 0 (reader_flush goes asked (bottom_across side across))
+  across-few side across bottom asked goes =
+      let none = ap (λ at. cost_at (record (bottom_across side across) { at = at }) false) bottom in
+      let few = reads-few asked goes (bottom_across side across) in
+      omega (arith, none, few)
+
+  sent-none : (most : ℕ) (S : Type 0) (b : Bool) (one another : Acted C S) → one.sent ≡ [] → another.sent ≡ [] → Few most (cond b one another).sent
+  sent-none most S true one another first second = subst (λ ps. Few most ps) (sym first) (none-few most)
+  sent-none most S false one another first second = subst (λ ps. Few most ps) (sym second) (none-few most)
+
+  taken_in-few : (most : ℕ) (side : Side) (across : Across) (m : Message C) (q : Queue C) → Few most (taken_in side across m q).sent
+  taken_in-few most side across m q = sent-none most (Queue C) across.ended _ _ refl refl
+
+  crossing-few : (most : ℕ) (side : Side) (across : Across) (m : Message C) (q : Queue C) (goes : Bool) → Few most (cond goes (taken_in side across m q) (freed q)).sent
+  crossing-few most side across m q true = taken_in-few most side across m q
+  crossing-few most side across m q false = none-few most
+
+  -- an answer goes to the head
+  ioctl-few : (side : Side) (across : Across) (here : Spot) (known : Option Ioc) (m : Message C) (q : Queue C) → here.at ≡ 1 → Few 1 (ioctl_put side across here known m q).sent
+  ioctl-few side across here None m q first = none-few 1
+  ioctl-few side across here (Some ioc) m q first = at (ioc.number == 0 || (is_master side && across.is_open))
+    where
+      at : (crosses : Bool) → Few 1 (cond crosses (taken_in side across m q) (answered here ioc q)).sent
+      at true = taken_in-few 1 side across m q
+      at false = one-few 1 (toward Up here) (nak_message ioc) (let same = ap (λ n. cost_at (toward Up (record here { at = n })) false) first in omega (arith, same))
+
+  put_down-few : (side : Side) (across : Across) (here : Spot) (kind : MsgKind) (m : Message C) (q : Queue C) → across.bottom ≡ 0 → here.at ≡ 1 → Few 1 (put_down side across here kind m q).sent
+  put_down-few side across here Flush m q bottom first =
+      let asked = asked_by m.plain in
+      both-few 0 1 _ _ (across-few side across bottom asked (asked.for_write && across.is_open)) (reads-few asked asked.for_read (driver_across side across))
+  put_down-few side across here Ioctl m q bottom first = ioctl-few side across here (read_ioc m.plain) m q first
+  put_down-few side across here kind m q bottom first = crossing-few 1 side across m q (crosses kind)
+
+  put_across-few : (side : Side) (across : Across) (kind : MsgKind) (m : Message C) (q : Queue C) → across.bottom ≡ 0 → Few 0 (put_across side across kind m q).sent
+  put_across-few side across Flush m q bottom = at (asked_by m.plain).for_read
+    where
+      at : (b : Bool) → Few 0 (cond b (record (own_flushed side (asked_by m.plain) q) { sent = reader_flush across.is_open (asked_by m.plain) (bottom_across side across) }) (freed q)).sent
+      at true = across-few side across bottom (asked_by m.plain) across.is_open
+      at false = none-few 0
+  put_across-few side across kind m q bottom = none-few 0
+
+  came-down-few : (side : Side) (across : Across) (here : Spot) (m : Message C) (q : Queue C) → across.bottom ≡ 0 → here.at ≡ 1 → Few 1 (driver_put side across (record here { way = Down }) m q).sent
+  came-down-few side across here m q bottom first = at (has_parts m)
+    where
+      at : (parts : Bool) → Few 1 (cond parts (taken_in side across m q) (put_down side across (record here { way = Down }) m.kind m q)).sent
+      at true = taken_in-few 1 side across m q
+      at false = put_down-few side across (record here { way = Down }) m.kind m q bottom first
+
+  came-up-few : (side : Side) (across : Across) (here : Spot) (m : Message C) (q : Queue C) → across.bottom ≡ 0 → Few 0 (driver_put side across (record here { way = Up }) m q).sent
+  came-up-few side across here m q bottom = at (has_parts m)
+    where
+      at : (parts : Bool) → Few 0 (cond parts (taken_in side across m q) (put_across side across m.kind m q)).sent
+      at true = taken_in-few 0 side across m q
+      at false = put_across-few side across m.kind m q bottom
+
+  -- what a put takes itself, and what it sends on, within a bound
+  abbrev Fits : ℕ → List (Parcel C) → ℕ → Type 0
+  Fits own sent all = own + cost_of cost sent ≤ all
+
+  few-fits : (own most all : ℕ) (sent : List (Parcel C)) → Few most sent → own + most ≤ all → Fits own sent all
+  few-fits own most all sent few low = omega (arith, few, low)
+
+  -- at a head
+  abbrev FitsHead : Message C → List (Parcel C) → Type 0
+  FitsHead m sent = Fits (cond (is_turned m) 1 0) sent (cond (is_turned m) 4 0)
+
+  head-stays : (m : Message C) (sent : List (Parcel C)) → Few 0 sent → FitsHead m sent
+  head-stays m sent few = at (is_turned m)
+    where
+      at : (turned : Bool) → Fits (cond turned 1 0) sent (cond turned 4 0)
+      at true = few-fits 1 0 4 sent few (omega arith)
+      at false = few-fits 0 0 0 sent few (omega arith)
+
+  head-turns : (m : Message C) (sent : List (Parcel C)) → is_turned m ≡ true → Few 3 sent → FitsHead m sent
+  head-turns m sent turned few = subst (λ b. Fits (cond b 1 0) sent (cond b 4 0)) (sym turned) (few-fits 1 3 4 sent few (omega arith))
+
+  round-fits : (here : Spot) (m : Message C) → is_flush m.kind ≡ true → FitsHead m (turned_round here (asked_by m.plain))
+  round-fits here m is = at (asked_by m.plain).for_write refl
+    where
+      at : (b : Bool) → (asked_by m.plain).for_write ≡ b → FitsHead m (cond b (record { to = toward Down here; message = flush_message (flush_bytes (record (asked_by m.plain) { for_read = false })) } ∷ []) [])
+      at false known = head-stays m [] (none-few 0)
+      at true known =
+          let turned = ap (λ b. b && (asked_by m.plain).for_write) is ∙ known in
+          let bytes = flush_bytes (record (asked_by m.plain) { for_read = false }) in
+          let down = below-head here (asked_by bytes).for_write in
+          head-turns m _ turned (one-few 3 (toward Down here) (flush_message bytes) (omega (arith, down)))
+
+  obeyed-fits : (here : Spot) (m : Message C) (h : Head C) → FitsHead m (obeyed here m h).sent
+  obeyed-fits here m h = at (is_flush m.kind) refl
+    where
+      at : (flush : Bool) → is_flush m.kind ≡ flush → FitsHead m (cond flush (flush_up here (asked_by m.plain) h) (passed_by (record h { hung_up = h.hung_up || is_hangup m.kind }))).sent
+      at true is = round-fits here m is
+      at false is = head-stays m [] (none-few 0)
+
+  head-fits : (here : Spot) (m : Message C) (h : Head C) → FitsHead m (head_put here m h).sent
+  head-fits here m h = at (has_parts m)
+    where
+      at : (parts : Bool) → FitsHead m (cond parts (waits_for_readers here m h) (obeyed here m h)).sent
+      at true = head-stays m _ (sent-none 0 (Head C) (is_doubled m h.queue.messages) _ _ refl refl)
+      at false = obeyed-fits here m h
+
+  -- in a pair
+  either-fits : (own all : ℕ) (b : Bool) (one another : Took C (State C)) → Fits own one.sent all → Fits own another.sent all → Fits own (cond b one another).sent all
+  either-fits own all true one another first second = first
+  either-fits own all false one another first second = second
+
+  reached-fits : (side : Side) (here : Spot) (m : Message C) (s : State C) → FitsHead m (put_at_head side here m s).sent
+  reached-fits side here m s =
+      either-fits (cond (is_turned m) 1 0) (cond (is_turned m) 4 0) (is_open (stream side s).opened) _ _ (head-fits here m (stream side s).head) (head-stays m [] (none-few 0))
+
+  up-fits : (here : Spot) (m : Message C) (s : State C) (across : Bool) →
+      Fits (cond across 1 0) (cond across (put_at_driver here.side (record here { way = Up }) m s) (passed_up (record here { way = Up }) m s)).sent (cond (is_turned m) 4 1)
+  up-fits here m s true =
+      let some = up-some (is_turned m) in
+      few-fits 1 0 (cond (is_turned m) 4 1) _ (came-up-few here.side (across_of here.side s) (record here { at = 1 }) m (stream here.side s).driver.queue refl) (omega (arith, some))
+  up-fits here m s false =
+      let more = up-more (is_turned m) in
+      few-fits 0 (cond (is_turned m) 4 0) (cond (is_turned m) 4 1) _ (one-few (cond (is_turned m) 4 0) (record here { at = 0; way = Up }) m (omega arith)) (omega (arith, more))
+
+  below-fits : (way : Way) (here : Spot) (m : Message C) (s : State C) → let to : Spot = record here { way = way } in
+      Fits (below_takes way (is_flush m.kind && here.at == suc MODULES)) (put_below way to m s).sent (below_cost way (is_turned m))
+  below-fits Down here m s =
+      few-fits 2 1 3 _ (came-down-few here.side (across_of here.side s) (record here { at = 1 }) m (stream here.side s).driver.queue refl refl) (omega arith)
+  below-fits Up here m s = up-fits here m s (is_flush m.kind && here.at == suc MODULES)
+
+  put-fits : (way : Way) (here : Spot) (m : Message C) (s : State C) (top : Bool) → let to : Spot = record here { way = way } in
+      Fits (cond top (cond (is_turned m) 1 0) (below_takes way (is_flush m.kind && here.at == suc MODULES)))
+      (cond top (put_at_head here.side to m s) (put_below way to m s)).sent
+      (cond top (cond (is_turned m) 4 0) (below_cost way (is_turned m)))
+  put-fits way here m s true = reached-fits here.side (record here { way = way }) m s
+  put-fits way here m s false = below-fits way here m s
+
+-- what a put takes itself, and what its messages take after it, is within what a delivery from there takes
+pub puts-cost : {C : Type 0} (to : Spot) (m : Message C) (s : State C) → takes to m + cost_of cost (put_in to m s).sent ≤ cost to m
+puts-cost to m s = put-fits _ to.way to m s (to.at == 0)
+
+-- a delivery takes four blocks of each kind at most
+pub cost-few : {C : Type 0} (to : Spot) (m : Message C) → cost to m ≤ 4
+cost-few to m = few-at to.way (is_turned m) (to.at == 0)

@@ -1,0 +1,60 @@
+-- A read of a side's head.
+use Rattle.std.proofs.Common.{ℕ, ◌≡◌, Bool, List, sym, ap, ◌∙◌}
+use Rattle.std.specs.Prelude.{min}
+use Rattle.strm_types.specs.declared.answers.Answer.TheVariants.{Bytes}
+use Rattle.strm_types.specs.declared.limits.TheConstants.{READ_MAX}
+use Rattle.strm_types.specs.declared.names.Side.{Side}
+use Rattle.strm_types.specs.declared.rules.Fates.{Fates}
+use Rattle.strm_types.specs.Deliver.{tallied}
+use Rattle.strm_types.specs.Names.{before, direction_of, enable_some, head_of}
+use Rattle.strm_types.specs.Reads.{head_draw, read_queue, read_lets_go, read_gone}
+use Rattle.strm_types.specs.State as plain
+use Rattle.strm_types.specs.State.{State, stream, with_stream}
+use Rattle.strm_blocks.specs.Blocks.{StoreValue}
+use Rattle.strm_head.specs.declared.head.Head.{Head}
+use Rattle.strm_head.specs.Heads.{head_in}
+use Rattle.strm_queue.specs.Stored.{queue_in, IsHeadQueue, Keeps}
+use Rattle.strm_pair.specs.declared.streams.Streams.{Streams}
+use Rattle.strm_pair.specs.Pairs.{state_in, end_at, with_end, AreBeside}
+use Rattle.strm_pair.specs.PlainCalls.{read_plain, read_lets}
+use Rattle.strm_pair.proofs.Sides.{head-changed, head-state, head-is, only-kept}
+
+module _ (side : Side) (s : StoreValue) (p : Streams) (most n : ℕ) (most_is : most ≡ min n READ_MAX) where
+  -- the head as it stands
+  abbrev here : plain.Head ℕ
+  here = head_in s (end_at side p).head
+
+  pub read-answer : (out : List ℕ) → out ≡ (head_draw here.read_mode here.control_mode most here.queue.messages).given → Bytes out ≡ (read_plain side n (state_in s p)).answer
+  read-answer out given =
+      ap Bytes given ∙ ap (λ m. Bytes (head_draw here.read_mode here.control_mode m here.queue.messages).given) most_is
+      ∙ ap (λ (h : plain.Head ℕ). Bytes (head_draw h.read_mode h.control_mode (min n READ_MAX) h.queue.messages).given) (sym (head-is s p side))
+
+  pub read-told : (old new : Fates) → new ≡ tallied (read_gone (direction_of (head_of side)) here.read_mode here.control_mode most here.queue.messages) old → new ≡ tallied (read_lets side n (state_in s p)) old
+  read-told old new told =
+      told ∙ ap (λ m. tallied (read_gone (direction_of (head_of side)) here.read_mode here.control_mode m here.queue.messages) old) most_is
+      ∙ ap (λ (h : plain.Head ℕ). tallied (read_gone (direction_of (head_of side)) h.read_mode h.control_mode (min n READ_MAX) h.queue.messages) old) (sym (head-is s p side))
+
+  module _ (t : StoreValue) (h : Head) (lets_go : Bool) (beside : AreBeside s p) (keeps : Keeps s t (end_at side p).head.queue h.queue) (modes : h ≡ record (end_at side p).head { queue = h.queue }) where
+    -- the streams behind it
+    abbrev behind : Streams
+    behind = record (with_end side (record (end_at side p) { head = h }) p) { enabled = enable_some lets_go (before (head_of side)) p.enabled }
+
+    pub read-beside : IsHeadQueue t h.queue → AreBeside t behind
+    read-beside ready = head-changed s t p beside side h (only-kept s t (end_at side p).head.queue h.queue keeps) ready.readable
+
+    -- the state behind it, by what the head was
+    abbrev led : plain.Head ℕ → ℕ → State ℕ
+    led x m = record (with_stream side (record (stream side (state_in s p)) { head = record x { queue = read_queue x.read_mode x.control_mode m x.queue } }) (state_in s p)) {
+      enabled = enable_some (read_lets_go x.read_mode x.control_mode m x.queue) (before (head_of side)) p.enabled;
+    }
+
+    pub read-state : queue_in t h.queue ≡ read_queue here.read_mode here.control_mode most here.queue → lets_go ≡ read_lets_go here.read_mode here.control_mode most here.queue → state_in t behind ≡ (read_plain side n (state_in s p)).state
+    read-state queue went =
+        ap (λ (x : State ℕ). record x { enabled = enable_some lets_go (before (head_of side)) p.enabled })
+        (head-state s t p beside side h (only-kept s t (end_at side p).head.queue h.queue keeps)
+        ∙ ap (λ x. with_stream side (record (stream side (state_in s p)) { head = x }) (state_in s p)) (ap (head_in t) modes ∙ ap (λ q. record here { queue = q }) queue))
+        ∙ ap (λ b. record (with_stream side (record (stream side (state_in s p)) { head = record here { queue = read_queue here.read_mode here.control_mode most here.queue } }) (state_in s p)) {
+          enabled = enable_some b (before (head_of side)) p.enabled;
+        }) went
+        ∙ ap (λ m. led here m) most_is
+        ∙ ap (λ x. led x (min n READ_MAX)) (sym (head-is s p side))

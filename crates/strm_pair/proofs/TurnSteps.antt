@@ -1,0 +1,132 @@
+-- A turn of a driver, step by step.
+use Rattle.std.proofs.Common.{ℕ, ◌≡◌, Bool, true, false, cond, List, [], ◌∷◌, map, refl, sym, ap, ◌∙◌}
+use Rattle.std.specs.Prelude.{not, ◌&&◌, Option, None, Some, MatchOption}
+use Rattle.strm_types.specs.declared.answers.Turn.TheVariants.{Blocked}
+use Rattle.strm_types.specs.declared.names.QueueName.{QueueName}
+use Rattle.strm_types.specs.declared.names.Side.{Side}
+use Rattle.strm_types.specs.declared.names.Side.TheVariants.{Master, Slave}
+use Rattle.strm_types.specs.Message.{Message, band_of, is_held}
+use Rattle.strm_types.specs.Names.{other, driver_of, before, is_open, enable_if, enable_found, enable_some}
+use Rattle.strm_types.specs.Queue as plain
+use Rattle.strm_types.specs.Queue.{is_full, is_none_left, left_with, relieved, relieves, with_writer_at}
+use Rattle.strm_types.specs.State.{State, stream}
+use Rattle.strm_types.specs.Turns.{is_stopped, held_back, turn_ended, with_driver, moved_across, stayed_put, driver_serves, driver_turned}
+use Rattle.strm_blocks.specs.Blocks.{StoreValue, block_at}
+use Rattle.strm_blocks.specs.Outcomes.{PeekedFirst}
+use Rattle.strm_blocks.specs.declared.asked.Peek.{Peek}
+use Rattle.strm_msg.specs.Messages.{message_of}
+use Rattle.strm_queue.specs.declared.queue.Queue.{Queue}
+use Rattle.strm_queue.specs.Stored.{queue_in, messages_on, Dequeued}
+use Rattle.strm_queue.proofs.Chains.{stopped-same, held-band, stopped-held}
+use Rattle.strm_pty.specs.Does.{OnlyQueue}
+use Rattle.strm_pair.specs.declared.ends.End.{End}
+use Rattle.strm_pair.specs.declared.streams.Streams.{Streams}
+use Rattle.strm_pair.specs.Pairs.{state_in, end_at, with_end, AreBeside}
+use Rattle.strm_pair.specs.Took.{settled, settling_relieves, TookFirst, waits_at_head}
+use Rattle.strm_pair.proofs.Sides.{driver-changed, driver-state, driver-is, head-is}
+use Rattle.strm_pair.proofs.Peeked.{seen-before}
+
+pub only-dequeued : (s t : StoreValue) (q q' : Queue) (i : ℕ) → Dequeued s t q q' i → OnlyQueue s t q q'
+only-dequeued s t q q' i d = record { ready = d.ready; list = d.list; others = d.others }
+
+took-first : (side : Side) (s t : StoreValue) (p : Streams) (q : Queue) (i : ℕ) → AreBeside s p → Dequeued s t (end_at side p).driver q i → TookFirst side s t p (with_end side (record (end_at side p) { driver = q }) p) i
+took-first side s t p q i beside d =
+    let only = only-dequeued s t (end_at side p).driver q i d in
+    let is = driver-is s p side in
+    record {
+      rest = messages_on t q.list;
+      first = ap (λ (x : plain.Queue ℕ). x.messages) is ∙ d.first;
+      state = driver-state s t p beside side q only
+          ∙ ap (λ x. with_driver side x (state_in s p)) (d.queue ∙ ap (λ x. left_with (messages_on t q.list) x) (sym is));
+      beside = driver-changed s t p beside side q only;
+      hand = d.hand;
+      chain = d.chain;
+      mblks = d.mblks;
+      dblks = d.dblks;
+      frees = d.frees;
+    }
+
+pub took : {A : Type 0} (name : A → ℕ) (side : Side) (s t : StoreValue) (p : Streams) (q : Queue) (result : Option A) → AreBeside s p
+    → MatchOption result (messages_on s (end_at side p).driver.list ≡ []) (λ m. Dequeued s t (end_at side p).driver q (name m))
+    → MatchOption result (messages_on s (end_at side p).driver.list ≡ []) (λ m. TookFirst side s t p (with_end side (record (end_at side p) { driver = q }) p) (name m))
+took name side s t p q None beside none = none
+took name side s t p q (Some m) beside d = took-first side s t p q (name m) beside d
+
+-- the end of a turn
+pub ended-state : (s : StoreValue) (p : Streams) (side : Side) (size : ℕ) (q : Queue) (room more : Bool) → AreBeside s p → OnlyQueue s s (end_at side p).driver q
+    → queue_in s q ≡ settled size (queue_in s (end_at side p).driver)
+    → room ≡ settling_relieves size (queue_in s (end_at side p).driver) → more ≡ not (is_none_left (messages_on s (end_at side p).driver.list))
+    → (names : List QueueName) → names ≡ enable_if more (driver_of side) (cond room (enable_found (before (driver_of side)) p.enabled) p.enabled)
+    → state_in s (record (with_end side (record (end_at side p) { driver = q }) p) { enabled = names }) ≡ turn_ended side size (state_in s p)
+ended-state s p side size q room more beside only queue room_is more_is names named =
+    let st = state_in s p in
+    let d = queue_in s (end_at side p).driver in
+    let same = driver-is s p side in
+    ap (λ (x : State ℕ). record x { enabled = names }) (driver-state s s p beside side q only ∙ ap (λ x. with_driver side x st) queue)
+    ∙ ap (λ ns. record (with_driver side (settled size d) st) { enabled = ns })
+    (named ∙ ap (λ r. enable_if more (driver_of side) r) (found room (before (driver_of side)) p.enabled) ∙ ap (λ m. enable_if m (driver_of side) (enable_some room (before (driver_of side)) p.enabled)) more_is
+    ∙ ap (λ r. enable_if (not (is_none_left d.messages)) (driver_of side) (enable_some r (before (driver_of side)) p.enabled)) room_is)
+    ∙ ap (λ (x : plain.Queue ℕ). record (with_driver side (settled size x) st) {
+      enabled = enable_if (not (is_none_left x.messages)) (driver_of side) (enable_some (settling_relieves size x) (before (driver_of side)) p.enabled);
+    }) (sym same)
+  where
+    found : (b : Bool) (n : Option QueueName) (ns : List QueueName) → cond b (enable_found n ns) ns ≡ enable_some b n ns
+    found true n ns = refl
+    found false n ns = refl
+
+abbrev first_message : List (Message ℕ) → Message ℕ → Message ℕ
+first_message [] m = m
+first_message (x ∷ q) m = x
+
+-- what is seen of the first message tells whether it is stopped
+module _ (s : StoreValue) (k : ℕ) (peek : Peek) (p : PeekedFirst s k peek) (q : plain.Queue ℕ) where
+  seen-stopped : (is_held peek.kind && is_full peek.band.0 q) ≡ is_stopped (message_of p.message) q
+  seen-stopped =
+      ap (λ kind. is_held kind && is_full peek.band.0 q) p.seen.kind ∙ ap (λ band. is_held (block_at 0 p.message).kind && is_full band q) p.seen.band ∙ sym (stopped-same p.message q)
+
+  seen-held : (is_held peek.kind && is_full peek.band.0 q) ≡ true → is_held (block_at 0 p.message).kind ≡ true
+  seen-held is = ap is_held (sym p.seen.kind) ∙ stopped-held (is_held peek.kind) (is_full peek.band.0 q) (sym is)
+
+-- the message is stopped: it stays, and a writer waits for its band
+abbrev pub kept_back : Side → ℕ → State ℕ → State ℕ
+kept_back side band st = waits_at_head (other side) band (with_driver side (held_back (stream side st).driver.queue) st)
+
+serves-stopped : (side : Side) (m : Message ℕ) (rest : List (Message ℕ)) (st : State ℕ) → is_open (stream (other side) st).opened ≡ true → is_stopped m (stream (other side) st).head.queue ≡ true
+    → driver_serves side (m ∷ rest) st ≡ stayed_put Blocked (kept_back side (band_of m) st)
+serves-stopped side m rest st opened stop = rw (opened, stop) refl
+
+serves-moved : (side : Side) (m : Message ℕ) (rest : List (Message ℕ)) (st : State ℕ) → is_open (stream (other side) st).opened ≡ true → is_stopped m (stream (other side) st).head.queue ≡ false
+    → driver_serves side (m ∷ rest) st ≡ moved_across side m rest st
+serves-moved side m rest st opened goes = rw (opened, goes) refl
+
+-- what is seen of both ends is what the state has
+opened-at : (s : StoreValue) (p : Streams) (side : Side) → (stream side (state_in s p)).opened ≡ (end_at side p).opened
+opened-at s p Master = refl
+opened-at s p Slave = refl
+
+module _ (s : StoreValue) (p : Streams) (side : Side) (e x : End) (e_is : e ≡ end_at side p) (x_is : x ≡ end_at (other side) p) (opened : is_open x.opened ≡ true)
+    (peek : Peek) (seen : PeekedFirst s e.driver.list peek) (stops : Bool) (asked : stops ≡ (is_held peek.kind && is_full peek.band.0 (queue_in s x.head.queue))) where
+  is-open-there : is_open (stream (other side) (state_in s p)).opened ≡ true
+  is-open-there = ap is_open (opened-at s p (other side) ∙ ap (λ (y : End). y.opened) (sym x_is)) ∙ opened
+
+  above-is : queue_in s x.head.queue ≡ (stream (other side) (state_in s p)).head.queue
+  above-is = ap (λ (y : End). queue_in s y.head.queue) x_is ∙ sym (ap (λ h. h.queue) (head-is s p (other side)))
+
+  stands : (stream side (state_in s p)).driver.queue.messages ≡ message_of seen.message ∷ map message_of seen.rest
+  stands = ap (λ (q : plain.Queue ℕ). q.messages) (driver-is s p side) ∙ ap (λ (y : End). messages_on s y.driver.list) (sym e_is) ∙ seen-before s e.driver.list peek seen
+
+  stopped-is : is_stopped (message_of seen.message) (stream (other side) (state_in s p)).head.queue ≡ stops
+  stopped-is = ap (λ q. is_stopped (message_of seen.message) q) (sym above-is) ∙ sym (seen-stopped s e.driver.list peek seen (queue_in s x.head.queue)) ∙ sym asked
+
+  pub turned-stopped : stops ≡ true → driver_turned side (state_in s p) ≡ stayed_put Blocked (kept_back side peek.band.0 (state_in s p))
+  turned-stopped stop =
+      let held = seen-held s e.driver.list peek seen (queue_in s x.head.queue) (sym asked ∙ stop) in
+      ap (λ ms. driver_serves side ms (state_in s p)) stands
+      ∙ serves-stopped side (message_of seen.message) (map message_of seen.rest) (state_in s p) is-open-there (stopped-is ∙ stop)
+      ∙ ap (λ b. stayed_put Blocked (kept_back side b (state_in s p))) (held-band seen.message held ∙ sym seen.seen.band)
+
+  pub turned-moved : stops ≡ false → (m : Message ℕ) (rest : List (Message ℕ)) → (stream side (state_in s p)).driver.queue.messages ≡ m ∷ rest → driver_turned side (state_in s p) ≡ moved_across side m rest (state_in s p)
+  turned-moved goes m rest first =
+      let same : message_of seen.message ≡ m = ap (λ ms. first_message ms m) (sym stands ∙ first) in
+      ap (λ ms. driver_serves side ms (state_in s p)) first
+      ∙ serves-moved side m rest (state_in s p) is-open-there (ap (λ y. is_stopped y (stream (other side) (state_in s p)).head.queue) (sym same) ∙ stopped-is ∙ goes)

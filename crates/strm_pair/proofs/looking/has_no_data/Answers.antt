@@ -1,0 +1,13 @@
+-- A visitor sees whether there is one.
+use Rattle.std.proofs.Common.{refl, ap, ◌∙◌}
+use Rattle.std.specs.Prelude.{not}
+use Rattle.strm_types.specs.Message.{is_held}
+use Rattle.strm_blocks.specs.Blocks.{list_at}
+use Rattle.strm_head.proofs.Coming.{finds-kind}
+use Rattle.strm_pair.specs.declared.looking.Ordinary.{Ordinary}
+use Rattle.strm_pair.proofs.looking.has_no_data.Goals as goal
+
+pub returns : goal.returns
+returns g c =
+    ap not (ap (λ (v : Ordinary). v.found) c.visit.ensures
+    ∙ finds-kind (λ (v : Ordinary). v.found) (λ b. record { found = b }) (λ b. refl) is_held (list_at (g.B.Blocks.value c.args.store.now) c.args.queue.now.list))

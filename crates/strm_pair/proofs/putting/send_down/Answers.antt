@@ -1,0 +1,30 @@
+-- What goes down is one message that was made, or none.
+use Rattle.std.proofs.Common.{◌+◌, cond, sym, ap, subst}
+use Rattle.strm_types.specs.declared.kinds.MsgKind.TheVariants.{Flush}
+use Rattle.strm_types.specs.declared.names.Way.TheVariants.{Down}
+use Rattle.strm_types.specs.Deliver.{toward}
+use Rattle.strm_types.specs.Flushing.{flush_bytes, flush_message}
+use Rattle.strm_types.specs.Reads.{is_there}
+use Rattle.strm_head.specs.Heads.{sent_down}
+use Rattle.strm_frame.specs.Outboxes.{sent_of}
+use Rattle.strm_pty.specs.Does.{Makes}
+use Rattle.strm_pty.proofs.Doing.{makes-none, makes-one}
+use Rattle.strm_pair.proofs.putting.send_down.Goals as goal
+
+pub returns-in_default : goal.returns-in_default
+returns-in_default g c =
+    let s = g.B.Blocks.value c.args.store.now in
+    let made = sent_of c.none.result in
+    subst (λ d. Makes g.B.Blocks.name s s (cond (is_there d) 1 0) made (sent_down c.args.here d)) (sym c.in_default.is) (makes-none g.B.Blocks.name s 0 made c.none.ensures)
+
+pub returns : goal.returns
+returns g c =
+    let s = g.B.Blocks.value c.args.store.now in
+    let t = g.B.Blocks.value c.make_flush-message.new.store in
+    let made = sent_of c.one.result in
+    let here = c.args.here in
+    let asked = c.in-Some.asked in
+    subst (λ d. Makes g.B.Blocks.name s t (cond (is_there d) 1 0) made (sent_down here d)) (sym c.in-Some.is)
+    (makes-one g.B.Blocks.name s t (record { to = record here { at = 1; way = Down }; message = c.make_flush-message.result }) Flush (flush_bytes asked) made
+    (record { to = toward Down here; message = flush_message (flush_bytes asked) }) c.make_flush-message.ensures c.one.ensures
+    (ap (λ n. record { to = record here { at = n + 1; way = Down }; message = flush_message (flush_bytes asked) }) (sym c.requires.top)))

@@ -1,0 +1,71 @@
+-- What was sent across is for the driver, and all else goes on.
+use Rattle.std.proofs.Common.{ℕ, ◌≡◌, Bool, true, false, cond, refl, sym, ap, subst, ◌∙◌, arith}
+use Rattle.std.proofs.lemmas.Bool.Decides.{nat_tests}
+use Rattle.std.specs.Prelude.{◌&&◌, ◌==◌}
+use Rattle.strm_types.specs.declared.names.Way.TheVariants.{Up}
+use Rattle.strm_types.specs.Flushing.{is_flush}
+use Rattle.strm_types.specs.Puts.{passed_up, put_at_driver}
+use Rattle.strm_blocks.specs.Blocks.{in_hand}
+use Rattle.strm_msg.proofs.Chains.{kind-is}
+use Rattle.strm_frame.specs.Hands.{HasRoom}
+use Rattle.strm_frame.specs.Outboxes.{message_in, sent_of}
+use Rattle.strm_frame.proofs.Handing.{can-in_hand}
+use Rattle.strm_pair.specs.Costs.{below_takes, is_across}
+use Rattle.strm_pair.specs.Pairs.{state_in}
+use Rattle.strm_pair.specs.PutBy.{PutBy}
+use Rattle.strm_pair.proofs.streams.Streams.put_up.Goals as goal
+use Rattle.strm_pair.proofs.streams.Streams.put_up.Goals.{else-to-via-then-to+else-is_flush, else-to-via-else-to}
+
+and-false : (b : Bool) → (b && false) ≡ false
+and-false true = refl
+and-false false = refl
+
+at-place : (n : ℕ) → n ≡ 4 → (n == 4) ≡ true
+at-place n is = grind (arith, nat_tests)
+
+at-other : (n : ℕ) → (n ≡ 4 → ⊥) → (n == 4) ≡ false
+at-other n ne = grind (arith, nat_tests)
+
+pub kind-requires-clause-in_hand : goal.kind-requires-clause-in_hand
+kind-requires-clause-in_hand g c = can-in_hand (g.B.Blocks.value c.args.store.now) (g.B.Blocks.name c.args.message) (λ i. 0) c.audit.ensures c.requires.can_put
+
+pub put_driver-requires-clause-room : goal.put_driver-requires-clause-room
+put_driver-requires-clause-room g c =
+    let s = g.B.Blocks.value c.args.store.now in
+    let i = g.B.Blocks.name c.args.message in
+    let flush : is_flush (message_in s i).kind ≡ true = ap is_flush (kind-is (in_hand s i) ∙ sym c.kind.ensures) ∙ sym c.is_flush.ensures ∙ c.if-is_flush.true in
+    let across : is_across c.args.to (message_in s i) ≡ true = ap (λ b. b && (c.args.to.at == 4)) flush ∙ at-place c.args.to.at c.if-to.true in
+    subst (λ w. HasRoom s (below_takes w true)) (sym c.requires.up) (subst (λ b. HasRoom s (below_takes Up b)) across c.requires.room)
+
+pub returns-then-is_flush : goal.returns-then-is_flush
+returns-then-is_flush g c =
+    let s = g.B.Blocks.value c.args.store.now in
+    let t = g.B.Blocks.value c.put_driver.new.store in
+    let i = g.B.Blocks.name c.args.message in
+    let name = g.B.Blocks.name in
+    let p = c.args.self.now in
+    let to = c.args.to in
+    let m = message_in s i in
+    let flush : is_flush m.kind ≡ true = ap is_flush (kind-is (in_hand s i) ∙ sym c.kind.ensures) ∙ sym c.is_flush.ensures ∙ c.if-is_flush.true in
+    let across : is_across to m ≡ true = ap (λ b. b && (to.at == 4)) flush ∙ at-place c.args.to.at c.if-to.true in
+    let sent = sent_of c.put_driver.result in
+    subst (λ b. PutBy name s t p c.put_driver.new.self i (cond b 1 0) sent c.args.told.now c.put_driver.new.told (cond b (put_at_driver to.side to m (state_in s p)) (passed_up to m (state_in s p)))) (sym across)
+    (subst (λ w. PutBy name s t p c.put_driver.new.self i (below_takes w true) sent c.args.told.now c.put_driver.new.told (put_at_driver to.side to m (state_in s p))) c.requires.up c.put_driver.ensures)
+
+pub returns : goal.returns
+returns g c =
+    let s = g.B.Blocks.value c.args.store.now in
+    let i = g.B.Blocks.name c.args.message in
+    let name = g.B.Blocks.name in
+    let p = c.args.self.now in
+    let to = c.args.to in
+    let m = message_in s i in
+    let sent = sent_of c.pass_up.result in
+    let f = c.args.told.now in
+    let passes : is_across to m ≡ false = elim c.else-to.branch [
+      | else-to-via-then-to+else-is_flush w ↦
+          (let flush : is_flush m.kind ≡ false = ap is_flush (kind-is (in_hand s i) ∙ sym w.kind.ensures) ∙ sym w.is_flush.ensures ∙ w.if-is_flush.false in
+          ap (λ b. b && (to.at == 4)) flush)
+      | else-to-via-else-to w ↦ ap (λ b. is_flush m.kind && b) (at-other to.at w.if-to.false) ∙ and-false (is_flush m.kind)
+    ] in
+    subst (λ b. PutBy name s s p p i (cond b 1 0) sent f f (cond b (put_at_driver to.side to m (state_in s p)) (passed_up to m (state_in s p)))) (sym passes) (c.pass_up.ensures f)

@@ -1,0 +1,65 @@
+-- The message is alone in hand, and nothing is when all is delivered.
+use Rattle.std.proofs.Common.{ℕ, ◌≡◌, ◌+◌, ◌∷◌, length, List, Option, Bor, refl, ap, ◌∙◌}
+use Rattle.std.specs.Prelude.{option_map}
+use Rattle.strm_blocks.specs.Blocks.{in_hand, StoreValue}
+use Rattle.strm_msg.specs.Messages.{message_of}
+use Rattle.strm_frame.proofs.Handing.{alone-can, none-left}
+use Rattle.strm_types.specs.Deliver.{tallied}
+use Rattle.strm_types.specs.Message.{part}
+use Rattle.strm_types.specs.Puts.{delivered}
+use Rattle.strm_types.specs.declared.names.Way.TheVariants.{Down}
+use Rattle.strm_types.specs.declared.spots.Spot.{Spot}
+use Rattle.strm_pair.specs.Pairs.{state_in}
+use Rattle.strm_pair.proofs.PutBooks.{put-state, put-told}
+use Rattle.strm_pair.proofs.streams.Streams.putmsg.Goals as goal
+
+-- a part's bytes
+abbrev shown : Option (Bor (List ℕ)) → Option (List ℕ)
+shown o = option_map (λ bytes. bytes.now) o
+
+pub deliver-requires-clause-can_put : goal.deliver-requires-clause-can_put
+deliver-requires-clause-can_put g c =
+    let made = g.B.Blocks.value c.make_message.new.store in
+    let i = g.B.Blocks.name c.in-Some.message in
+    let hand = ap (λ (v : StoreValue). v.hand) c.in-Some.ensures.made.after ∙ ap (λ h. record { name = i; chain = in_hand made i } ∷ h) c.requires.held.hand in
+    alone-can made i (in_hand made i) (λ j. 0) hand (λ j. refl)
+
+pub returns-clause-state : goal.returns-clause-state
+returns-clause-state g c =
+    let s = g.B.Blocks.value c.args.store.now in
+    let made = g.B.Blocks.value c.make_message.new.store in
+    let t = g.B.Blocks.value c.deliver.new.store in
+    let p = c.args.self.now in
+    let i = g.B.Blocks.name c.in-Some.message in
+    let m = message_of (in_hand made i) in
+    let same : state_in made p ≡ state_in s p = ap (λ v. state_in v p) c.in-Some.ensures.made.after in
+    let to : Spot = record { side = c.args.side; at = 1; way = Down } in
+    put-state c.args.side c.args.prio (shown c.args.control) (shown c.args.body) (state_in s p) c.in-Some.ensures.none m c.in-Some.ensures.made.shows
+    (state_in t c.deliver.new.stations) (state_in t c.keep_book.new.self) c.book_with-book.result (c.len_of.result + c.len_of-2.result)
+    (c.deliver.ensures.state ∙ ap (λ v. (delivered to m v).state) same)
+    (c.keep_book.ensures.state t)
+    (c.book_with-book.ensures s)
+    (ap (λ n. n + c.len_of-2.result) c.len_of.ensures.value ∙ ap (λ n. length (part (shown c.args.control)) + n) c.len_of-2.ensures.value)
+
+pub returns-clause-held : goal.returns-clause-held
+returns-clause-held g c =
+    let made = g.B.Blocks.value c.make_message.new.store in
+    let t = g.B.Blocks.value c.deliver.new.store in
+    let i = g.B.Blocks.name c.in-Some.message in
+    let hand = ap (λ (v : StoreValue). v.hand) c.in-Some.ensures.made.after ∙ ap (λ h. record { name = i; chain = in_hand made i } ∷ h) c.requires.held.hand in
+    c.keep_book.ensures.held t (record {
+      hand = none-left made t i (in_hand made i) (λ j. 0) (λ j. 0) hand (λ j. refl) c.deliver.ensures.hands;
+      beside = c.deliver.ensures.held;
+    })
+
+pub returns-clause-told : goal.returns-clause-told
+returns-clause-told g c =
+    let s = g.B.Blocks.value c.args.store.now in
+    let made = g.B.Blocks.value c.make_message.new.store in
+    let p = c.args.self.now in
+    let i = g.B.Blocks.name c.in-Some.message in
+    let m = message_of (in_hand made i) in
+    let same : state_in made p ≡ state_in s p = ap (λ v. state_in v p) c.in-Some.ensures.made.after in
+    let to : Spot = record { side = c.args.side; at = 1; way = Down } in
+    put-told c.args.side c.args.prio (shown c.args.control) (shown c.args.body) (state_in s p) c.in-Some.ensures.none m c.in-Some.ensures.made.shows
+    c.args.told.now c.deliver.new.told (c.deliver.ensures.told ∙ ap (λ v. tallied (delivered to m v).gone c.args.told.now) same)

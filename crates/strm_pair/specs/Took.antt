@@ -1,0 +1,50 @@
+-- The first message of a driver's queue, taken off it, and a turn that moves it.
+use Rattle.std.specs.Prelude.{ℕ, ◌≡◌, Bool, not, ◌&&◌, ◌==◌, if◌then◌else◌, List, ◌∷◌}
+use Rattle.strm_types.specs.declared.answers.Turn.{Turn}
+use Rattle.strm_types.specs.declared.names.Side.{Side}
+use Rattle.strm_types.specs.declared.rules.Fates.{Fates}
+use Rattle.strm_types.specs.Deliver.{tallied}
+use Rattle.strm_types.specs.Message.{Message}
+use Rattle.strm_types.specs.Queue.{Queue, left_with, relieved, relieves, with_writer_at}
+use Rattle.strm_types.specs.State.{State, stream, with_stream, with_head_queue}
+use Rattle.strm_types.specs.Turns.{turned_queue, with_driver, moved_across}
+use Rattle.strm_blocks.specs.Blocks.{StoreValue, in_hand}
+use Rattle.strm_msg.specs.Messages.{message_of, IsChain}
+use Rattle.strm_queue.specs.Stored.{FreesBlocks}
+use Rattle.strm_pair.specs.declared.streams.Streams.{Streams}
+use Rattle.strm_pair.specs.Pairs.{state_in, AreBeside}
+
+-- a queue behind a turn that took a message of this size, and whether that lets a writer go
+abbrev pub settled : ℕ → Queue ℕ → Queue ℕ
+settled size q = if not (size == 0) then relieved (turned_queue q) else turned_queue q
+
+abbrev pub settling_relieves : ℕ → Queue ℕ → Bool
+settling_relieves size q = not (size == 0) && relieves (turned_queue q)
+
+-- It is in hand, and as many blocks are free as before.
+pub record TookFirst (side : Side) (old new : StoreValue) (p q : Streams) (name : ℕ) : Type 0 where
+  pub rest : List (Message ℕ)
+  pub first : (stream side (state_in old p)).driver.queue.messages ≡ message_of (in_hand new name) ∷ rest
+  pub state : state_in new q ≡ with_driver side (left_with rest (stream side (state_in old p)).driver.queue) (state_in old p)
+  pub beside : AreBeside new q
+  pub hand : new.hand ≡ record { name = name; chain = in_hand new name } ∷ old.hand
+  pub chain : IsChain (in_hand new name)
+  pub mblks : new.mblks ≡ old.mblks
+  pub dblks : new.dblks ≡ old.dblks
+  pub frees : FreesBlocks old new
+
+-- A turn moved the first message, with all that this gave rise to.
+pub record MovesAcross (side : Side) (old : State ℕ) (turn : Turn) (new : State ℕ) (told told' : Fates) : Type 0 where
+  pub message : Message ℕ
+  pub rest : List (Message ℕ)
+  pub first : (stream side old).driver.queue.messages ≡ message ∷ rest
+  pub answer : turn ≡ (moved_across side message rest old).turn
+  pub state : new ≡ (moved_across side message rest old).state
+  pub tells : told' ≡ tallied (moved_across side message rest old).gone told
+
+-- a writer of a band waits at a side's head
+abbrev pub waits_at_head : Side → ℕ → State ℕ → State ℕ
+waits_at_head side band s =
+    let above = stream side s in
+    let q = above.head.queue in
+    with_stream side (with_head_queue (record q { flows = with_writer_at band q.flows }) above) s

@@ -1,0 +1,185 @@
+//! Messages that putmsg(2) sends down a side's stream, and that getmsg(2) takes off its head.
+
+ghost use Rattle.std.specs.Prelude.{ℕ, ◌≡◌, ◌≤◌, ◌<◌, ◌+◌, ◌^◌, ◌++◌, [], true, length, min, max, None, option_map, List};
+ghost use Rattle.strm_types.specs.declared.limits.TheConstants.{READ_MAX, WRITE_BLOCKS};
+ghost use Rattle.strm_types.specs.Books.{with_written};
+ghost use Rattle.strm_types.specs.Calls.{get_at, put_at, sizes_at};
+ghost use Rattle.strm_types.specs.Cells.{plain};
+ghost use Rattle.strm_types.specs.Deliver.{tallied};
+ghost use Rattle.strm_types.specs.GetQueues.{get_gone};
+ghost use Rattle.strm_types.specs.Journal.{answer_len, reply_in};
+ghost use Rattle.strm_types.specs.Message.{part};
+ghost use Rattle.strm_types.specs.Names.{direction_from, direction_of, head_of};
+ghost use Rattle.strm_types.specs.PutMsg.{put_blocks, put_refusal};
+ghost use Rattle.strm_types.specs.Refused.{in_range};
+ghost use Rattle.strm_types.specs.State.{book, stream, with_book};
+ghost use Rattle.strm_blocks.specs.Blocks.{StoreValue, free_m, free_d};
+ghost use Rattle.strm_pair.specs.Parts.{longest_part};
+
+use crate::streams::Streams;
+use strm_blocks::Blocks;
+use strm_frame::deliver;
+use strm_head::{getmsg, make_message};
+use strm_types::{Answer, Book, Content, Fates, HOPS, Prio, READ_MAX, Side, Spot, Wanted, Way};
+
+// How many bytes a part has, none where it is absent.
+fn len_of(lent: Option<&[u8]>) -> usize
+    ensures value { result ≡ length (part (option_map (λ bytes. bytes.now) lent.entry)) }
+    ensures small { result < 2 ^ 63 }
+{
+    match lent {
+        Some(bytes) => bytes.len(),
+        None => 0,
+    }
+}
+
+// Adds bytes to what a call gives, which has room for them.
+fn append(out: &mut Content, bytes: &[u8])
+    requires { length out.old.items + length bytes.now ≤ 8192 }
+    ensures { out.new.items ≡ out.old.items ++ bytes.now }
+{
+    out.try_extend_from_slice(bytes).unwrap();
+}
+
+impl Streams {
+    ghost use Rattle.strm_pair.specs.Pairs.{state_in, AreHeld, SamePool};
+
+    // The book of what comes from a side, with so many more bytes written.
+    fn book_with(&self, side: Side, count: usize) -> Book
+        requires in_range { (s : StoreValue) → in_range (state_in s self.now) ≡ true }
+        requires few { count < 2 ^ 63 }
+        ensures { (s : StoreValue) → result ≡ with_written count (book (direction_from side) (state_in s self.now)) }
+    {
+        let mut book = match side {
+            Side::Master => self.from_master,
+            Side::Slave => self.from_slave,
+        };
+        book.written += count as u64;
+        book
+    }
+
+    // Keeps a book of what comes from a side.
+    fn keep_book(&mut self, side: Side, book: Book)
+        ensures state { (s : StoreValue) → state_in s self.new ≡ with_book (direction_from side) book (state_in s self.old) }
+        ensures held { (s : StoreValue) → AreHeld s self.old → AreHeld s self.new }
+    {
+        match side {
+            Side::Master => self.from_master = book,
+            Side::Slave => self.from_slave = book,
+        }
+    }
+
+    /// Sends a message of these parts down from a side's head, with all that it gives rise to, and books their bytes as written.
+    /// Without either part nothing is sent.
+    pub fn putmsg<B: Blocks>(
+        &mut self,
+        store: &mut B,
+        side: Side,
+        prio: Prio,
+        control: Option<&[u8]>,
+        body: Option<&[u8]>,
+        told: &mut Fates,
+    )
+        requires held { AreHeld (B.value store.old) self.old }
+        requires allowed { put_refusal prio (option_map (λ bytes. bytes.now) control) (option_map (λ bytes. bytes.now) body) ≡ None }
+        requires in_range { in_range (state_in (B.value store.old) self.old) ≡ true }
+        requires room_m { WRITE_BLOCKS + put_blocks (option_map (λ bytes. bytes.now) control) (option_map (λ bytes. bytes.now) body) ≤ free_m (B.value store.old) }
+        requires room_d { WRITE_BLOCKS + put_blocks (option_map (λ bytes. bytes.now) control) (option_map (λ bytes. bytes.now) body) ≤ free_d (B.value store.old) }
+        ensures state { let c = option_map (λ bytes. bytes.now) control.entry in let b = option_map (λ bytes. bytes.now) body.entry in
+            state_in (B.value store.new) self.new ≡ (put_at plain side prio c b (state_in (B.value store.old) self.old)).state }
+        ensures held { AreHeld (B.value store.new) self.new }
+        ensures pool { SamePool (B.value store.old) (B.value store.new) }
+        ensures told { let c = option_map (λ bytes. bytes.now) control.entry in let b = option_map (λ bytes. bytes.now) body.entry in
+            told.new ≡ tallied (put_at plain side prio c b (state_in (B.value store.old) self.old)).gone told.old }
+    {
+        let Some(message) = make_message(store, prio, control, body) else {
+            return;
+        };
+        let book = self.book_with(side, len_of(control) + len_of(body));
+        let below = Spot {
+            side,
+            at: 1,
+            way: Way::Down,
+        };
+        deliver(store, self, HOPS, below, message, told);
+        self.keep_book(side, book);
+    }
+
+    /// Takes up to `cmax` bytes of the control part and up to `dmax` of the data part of the first message off a side's head into
+    /// `out`, where that message is the one that is asked for.
+    pub fn getmsg<B: Blocks>(
+        &mut self,
+        store: &mut B,
+        side: Side,
+        wanted: Wanted,
+        cmax: u32,
+        dmax: u32,
+        out: &mut Content,
+        told: &mut Fates,
+    ) -> Answer<usize>
+        requires held { AreHeld (B.value store.old) self.old }
+        requires fresh { out.old.items ≡ [] }
+        ensures answer { reply_in result out.new.items ≡ (get_at plain side wanted cmax dmax (state_in (B.value store.old) self.old)).answer }
+        ensures filled { answer_len result ≡ length out.new.items }
+        ensures parts { longest_part result ≤ READ_MAX }
+        ensures most { length out.new.items ≤ min cmax READ_MAX + min dmax READ_MAX }
+        ensures state { state_in (B.value store.new) self.new
+            ≡ (get_at plain side wanted cmax dmax (state_in (B.value store.old) self.old)).state }
+        ensures held { AreHeld (B.value store.new) self.new }
+        ensures pool { SamePool (B.value store.old) (B.value store.new) }
+        ensures told { told.new ≡ tallied (get_gone (direction_of (head_of side)) wanted (min cmax READ_MAX) (min dmax READ_MAX)
+            (stream side (state_in (B.value store.old) self.old)).head.queue.messages) told.old }
+    {
+        let most = (cmax as usize).min(READ_MAX);
+        let most_data = (dmax as usize).min(READ_MAX);
+        let direction = side.head().direction();
+        let mut body = Content::new();
+        let got = match side {
+            Side::Master => getmsg(
+                store,
+                &mut self.master.head.queue,
+                wanted,
+                most,
+                most_data,
+                out,
+                &mut body,
+                direction,
+                told,
+            ),
+            Side::Slave => getmsg(
+                store,
+                &mut self.slave.head.queue,
+                wanted,
+                most,
+                most_data,
+                out,
+                &mut body,
+                direction,
+                told,
+            ),
+        };
+        self.let_go(side.head(), got.lets_go);
+        append(out, body.as_slice());
+        Answer::Msg {
+            prio: got.prio,
+            control: got.control,
+            body: got.body,
+            more_control: got.more_control,
+            more_data: got.more_data,
+        }
+    }
+
+    /// How many bytes of data the first message at a side's head has, and how many messages stand there.
+    pub fn nread<B: Blocks>(&self, store: &B, side: Side) -> Answer<usize>
+        requires { AreHeld (B.value store.now) self.now }
+        ensures answer { (out : List ℕ) → reply_in result out ≡ (sizes_at side (state_in (B.value store.now) self.now)).answer }
+        ensures filled { answer_len result ≡ 0 }
+        ensures parts { longest_part result ≡ 0 }
+    {
+        let waiting = self.end(side).head.nread(store);
+        Answer::Sizes {
+            first: waiting.first,
+            messages: waiting.messages,
+        }
+    }
+}

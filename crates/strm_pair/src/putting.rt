@@ -1,0 +1,308 @@
+//! What stands on the streams of a pair, as delivery sees it: two heads and two drivers (STREAMS Programming Guide, "Put
+//! Procedures").
+
+ghost use Rattle.std.specs.Prelude.{ℕ, ◌≡◌, ◌<◌, ◌≤◌, ◌&&◌, ◌==◌, [], ◌∷◌, suc, true, false, if◌then◌else◌};
+ghost use Rattle.strm_types.specs.declared.limits.TheConstants.{MODULES};
+ghost use Rattle.strm_types.specs.declared.names.Way.TheVariants.{Up};
+ghost use Rattle.strm_types.specs.Flushing.{is_flush, flush_bytes, flush_message};
+ghost use Rattle.strm_types.specs.Names.{before, enable_some, is_open};
+ghost use Rattle.strm_types.specs.Puts.{noted, across_of, put_at_head, put_at_driver, passed_up, put_below, put_in, far};
+ghost use Rattle.strm_types.specs.State.{stream};
+ghost use Rattle.strm_blocks.specs.Blocks.{in_hand, block_at};
+ghost use Rattle.strm_msg.specs.Messages.{IsChain};
+ghost use Rattle.strm_frame.specs.Hands.{CanPut, HasRoom, Shifts, once};
+ghost use Rattle.strm_frame.specs.Outboxes.{message_in, sent_of, times_sent, parcels_in, AreChains};
+ghost use Rattle.strm_types.specs.declared.kinds.MsgKind.TheVariants.{Flush};
+ghost use Rattle.strm_types.specs.Reads.{is_there};
+ghost use Rattle.strm_head.specs.Heads.{sent_down};
+ghost use Rattle.strm_pty.specs.Does.{Makes, MadeOne};
+ghost use Rattle.strm_pair.specs.Costs.{head_takes, is_across, below_takes, cost, takes};
+ghost use Rattle.strm_pair.specs.PutBy.{PutBy, CameBy};
+
+use crate::streams::Streams;
+use strm_blocks::Blocks;
+use strm_frame::{Enabled, Outbox, Sent, Stations};
+use strm_msg::booked_size;
+use strm_pty::{make, put};
+use strm_types::{
+    Across, Band, Fates, FlushAsked, MODULES, MsgKind, Note, Place, QueueName, Rule, Side, Spot,
+    Way,
+};
+
+/// Makes an M_FLUSH that asks for this, in one block of each kind.
+pub(crate) fn make_flush<B: Blocks>(store: &mut B, asked: FlushAsked) -> B::Mp
+    requires { HasRoom (B.value store.old) 1 }
+    ensures { MadeOne (B.value store.old) (B.value store.new) (B.name result) Flush (flush_bytes asked) }
+{
+    let bytes = asked.bytes();
+    make(store, MsgKind::Flush, bytes.as_slice())
+}
+
+// Makes what a head sends down again, if anything.
+fn send_down<B: Blocks>(store: &mut B, here: Spot, down: Option<FlushAsked>) -> Outbox<B::Mp>
+    requires room { HasRoom (B.value store.old) (if is_there down then 1 else 0) }
+    requires top { here.at ≡ 0 }
+    ensures { Makes B.name (B.value store.old) (B.value store.new) (if is_there down then 1 else 0) (sent_of result) (sent_down here down) }
+{
+    let Some(asked) = down else {
+        return Outbox::none();
+    };
+    let message = make_flush(store, asked);
+    Outbox::one(Sent {
+        to: Spot {
+            at: 1,
+            way: Way::Down,
+            ..here
+        },
+        message,
+    })
+}
+
+// Whether a kind is M_FLUSH.
+fn is_flush(kind: MsgKind) -> bool
+    ensures { result ≡ is_flush kind }
+{
+    matches!(kind, MsgKind::Flush)
+}
+
+// Enables what a put says of the queues of a place, one note after the other.
+fn note(enabled: &mut Enabled, side: Side, place: Place, notes: &[Note])
+    ensures { enabled.new ≡ noted side place notes.now enabled.old }
+{
+    let Some((first, rest)) = notes.split_first() else {
+        return;
+    };
+    match *first {
+        Note::Enable(way) => enabled.enable(QueueName { side, place, way }),
+        Note::Room(way) => enabled.enable_found(QueueName { side, place, way }.before()),
+    }
+    note(enabled, side, place, rest);
+}
+
+impl Streams {
+    ghost use Rattle.strm_pair.specs.Pairs.{state_in, AreBeside};
+    ghost use Rattle.strm_blocks.specs.Blocks.{StoreValue};
+
+    /// Enables the nearest earlier queue with service before one that lets a waiting writer go.
+    pub(crate) fn let_go(&mut self, name: QueueName, lets_go: bool)
+        ensures { self.new ≡ record self.old { enabled = enable_some lets_go (before name) self.old.enabled } }
+    {
+        if lets_go {
+            self.enabled.enable_found(name.before());
+        }
+    }
+
+    // Does what a put says of the queues of a place.
+    fn note(&mut self, side: Side, place: Place, notes: &[Note])
+        ensures { self.new ≡ record self.old { enabled = noted side place notes.now self.old.enabled } }
+    {
+        note(&mut self.enabled, side, place, notes);
+    }
+
+    // What the driver of a side is told of the other one.
+    fn across(&self, side: Side) -> Across
+        ensures { (s : StoreValue) → result ≡ across_of side (state_in s self.now) }
+    {
+        Across {
+            is_open: self.end(side.other()).opened.is_open(),
+            bottom: 0,
+            ended: self.master.opened.is_closed(),
+        }
+    }
+
+    // A message that comes to the head of a side that isn't open, where nobody reads: its bytes go.
+    fn lose<B: Blocks>(
+        &self,
+        store: &mut B,
+        to: Spot,
+        message: B::Mp,
+        told: &mut Fates,
+    ) -> Outbox<B::Mp>
+        requires beside { AreBeside (B.value store.old) self.now }
+        requires can_put { CanPut (B.value store.old) (B.name message) (λ _. 0) }
+        requires chain { IsChain (in_hand (B.value store.old) (B.name message)) }
+        requires closed { is_open (stream to.side (state_in (B.value store.old) self.now)).opened ≡ false }
+        ensures { let s = B.value store.old in
+            PutBy B.name s (B.value store.new) self.now self.now (B.name message) 0 (sent_of result) told.old told.new
+            (put_at_head to.side to (message_in s (B.name message)) (state_in s self.now)) }
+    {
+        store.audit();
+        let bytes = booked_size(store, &message);
+        told.tell(to.side.head().direction(), Rule::EndClosed, bytes);
+        store.free(message);
+        Outbox::none()
+    }
+
+    // A message that comes to the head of an open side. What is to go down again comes back.
+    fn come<B: Blocks>(
+        &mut self,
+        store: &mut B,
+        to: Spot,
+        message: B::Mp,
+        told: &mut Fates,
+    ) -> Option<FlushAsked>
+        requires beside { AreBeside (B.value store.old) self.old }
+        requires can_put { CanPut (B.value store.old) (B.name message) (λ _. 0) }
+        requires chain { IsChain (in_hand (B.value store.old) (B.name message)) }
+        requires opened { is_open (stream to.side (state_in (B.value store.old) self.old)).opened ≡ true }
+        ensures { let s = B.value store.old in
+            CameBy s (B.value store.new) self.old self.new (B.name message) (sent_down to result) told.old told.new
+            (put_at_head to.side to (message_in s (B.name message)) (state_in s self.old)) }
+    {
+        store.audit();
+        let came = match to.side {
+            Side::Master => self.master.head.put(store, to, message, told),
+            Side::Slave => self.slave.head.put(store, to, message, told),
+        };
+        self.let_go(to.side.head(), came.lets_go);
+        came.down
+    }
+
+    // A message that comes to the head of a side.
+    fn put_head<B: Blocks>(
+        &mut self,
+        store: &mut B,
+        to: Spot,
+        message: B::Mp,
+        told: &mut Fates,
+    ) -> Outbox<B::Mp>
+        requires beside { AreBeside (B.value store.old) self.old }
+        requires can_put { CanPut (B.value store.old) (B.name message) (λ _. 0) }
+        requires chain { IsChain (in_hand (B.value store.old) (B.name message)) }
+        requires room { HasRoom (B.value store.old) (head_takes (message_in (B.value store.old) (B.name message))) }
+        requires top { to.at ≡ 0 }
+        ensures { let s = B.value store.old in let m = message_in s (B.name message) in
+            PutBy B.name s (B.value store.new) self.old self.new (B.name message) (head_takes m)
+            (sent_of result) told.old told.new (put_at_head to.side to m (state_in s self.old)) }
+    {
+        if !self.end(to.side).opened.is_open() {
+            return self.lose(store, to, message, told);
+        }
+        let down = self.come(store, to, message, told);
+        send_down(store, to, down)
+    }
+
+    // A message that comes to the driver of a side.
+    fn put_driver<B: Blocks>(
+        &mut self,
+        store: &mut B,
+        to: Spot,
+        message: B::Mp,
+        told: &mut Fates,
+    ) -> Outbox<B::Mp>
+        requires beside { AreBeside (B.value store.old) self.old }
+        requires can_put { CanPut (B.value store.old) (B.name message) (λ _. 0) }
+        requires chain { IsChain (in_hand (B.value store.old) (B.name message)) }
+        requires room { HasRoom (B.value store.old) (below_takes to.way true) }
+        ensures { let s = B.value store.old in let m = message_in s (B.name message) in
+            PutBy B.name s (B.value store.new) self.old self.new (B.name message) (below_takes to.way true)
+            (sent_of result) told.old told.new (put_at_driver to.side to m (state_in s self.old)) }
+    {
+        store.audit();
+        let across = self.across(to.side);
+        let here = Spot { at: 1, ..to };
+        let acts = match to.side {
+            Side::Master => put(store, &mut self.master.driver, across, here, message, told),
+            Side::Slave => put(store, &mut self.slave.driver, across, here, message, told),
+        };
+        self.note(to.side, Place::Driver, acts.notes.as_slice());
+        acts.sent
+    }
+
+    // A message at a place where nothing stands goes on to the head.
+    fn pass_up<B: Blocks>(&self, store: &B, to: Spot, message: B::Mp) -> Outbox<B::Mp>
+        requires beside { AreBeside (B.value store.now) self.now }
+        requires chain { IsChain (in_hand (B.value store.now) (B.name message)) }
+        ensures { (told : Fates) → let s = B.value store.now in
+            PutBy B.name s s self.now self.now (B.name message) 0 (sent_of result) told told
+            (passed_up to (message_in s (B.name message)) (state_in s self.now)) }
+    {
+        let _ = store;
+        Outbox::one(Sent {
+            to: Spot { at: 0, ..to },
+            message,
+        })
+    }
+
+    // A message on its way up, behind the head: the driver's place takes what was sent across.
+    fn put_up<B: Blocks>(
+        &mut self,
+        store: &mut B,
+        to: Spot,
+        message: B::Mp,
+        told: &mut Fates,
+    ) -> Outbox<B::Mp>
+        requires beside { AreBeside (B.value store.old) self.old }
+        requires can_put { CanPut (B.value store.old) (B.name message) (λ _. 0) }
+        requires chain { IsChain (in_hand (B.value store.old) (B.name message)) }
+        requires room { HasRoom (B.value store.old) (below_takes Up (is_across to (message_in (B.value store.old) (B.name message)))) }
+        requires up { to.way ≡ Up }
+        ensures { let s = B.value store.old in let m = message_in s (B.name message) in
+            PutBy B.name s (B.value store.new) self.old self.new (B.name message) (below_takes Up (is_across to m))
+            (sent_of result) told.old told.new (put_below Up to m (state_in s self.old)) }
+    {
+        store.audit();
+        if to.at == MODULES + 1 && is_flush(store.kind(&message, 0)) {
+            return self.put_driver(store, to, message, told);
+        }
+        self.pass_up(store, to, message)
+    }
+
+    // A message that is put at a spot.
+    fn put<B: Blocks>(
+        &mut self,
+        store: &mut B,
+        to: Spot,
+        message: B::Mp,
+        told: &mut Fates,
+    ) -> Outbox<B::Mp>
+        requires beside { AreBeside (B.value store.old) self.old }
+        requires can_put { CanPut (B.value store.old) (B.name message) (λ _. 0) }
+        requires chain { IsChain (in_hand (B.value store.old) (B.name message)) }
+        requires room { HasRoom (B.value store.old) (takes to (message_in (B.value store.old) (B.name message))) }
+        ensures { let s = B.value store.old in let m = message_in s (B.name message) in
+            PutBy B.name s (B.value store.new) self.old self.new (B.name message) (takes to m)
+            (sent_of result) told.old told.new (put_in to m (state_in s self.old)) }
+    {
+        if to.at == 0 {
+            return self.put_head(store, to, message, told);
+        }
+        match to.way {
+            Way::Down => self.put_driver(store, to, message, told),
+            Way::Up => self.put_up(store, to, message, told),
+        }
+    }
+}
+
+impl<B: Blocks> Stations<B> for Streams {
+    ghost use Rattle.std.specs.Prelude.{ℕ};
+    ghost use Rattle.strm_types.specs.State.{State};
+    ghost use Rattle.strm_pair.specs.Pairs.{state_in, AreBeside};
+    ghost use Rattle.strm_pair.specs.Framing.{streams-frame};
+
+    ghost Plain = { State ℕ };
+
+    ghost plain = { state_in };
+
+    ghost IsHeld = { AreBeside };
+
+    ghost keeps = { λ p i. 0 };
+
+    ghost puts = { put_in };
+
+    ghost height = { far };
+
+    ghost cost = { cost };
+
+    fn put_at(
+        &mut self,
+        store: &mut B,
+        to: Spot,
+        message: B::Mp,
+        told: &mut Fates,
+    ) -> Outbox<B::Mp> {
+        self.put(store, to, message, told)
+    }
+
+    ghost frame = { streams-frame };
+}

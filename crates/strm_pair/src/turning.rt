@@ -1,0 +1,156 @@
+//! A turn of a driver: what goes from it up the other side's stream (STREAMS Programming Guide, "Service Procedures").
+
+ghost use Rattle.std.specs.Prelude.{◌≡◌, ◌<◌, [], not, false, MatchOption};
+ghost use Rattle.strm_types.specs.declared.limits.TheConstants.{BANDS};
+ghost use Rattle.strm_types.specs.Deliver.{tallied};
+ghost use Rattle.strm_types.specs.Turns.{driver_turned, turn_ended, with_driver};
+ghost use Rattle.strm_types.specs.Queue.{is_none_left};
+ghost use Rattle.strm_types.specs.State.{stream};
+ghost use Rattle.strm_frame.specs.Hands.{HasRoom};
+ghost use Rattle.strm_queue.specs.Stored.{messages_on, queue_in, IsReady};
+ghost use Rattle.strm_pty.specs.Does.{OnlyQueue};
+ghost use Rattle.strm_pair.specs.Took.{settled, settling_relieves, TookFirst, MovesAcross, waits_at_head};
+
+use crate::streams::Streams;
+use strm_blocks::Blocks;
+use strm_frame::{TurnEnd, deliver};
+use strm_msg::message_size;
+use strm_queue::Queue;
+use strm_queue::standing::{dequeue, is_stopped, relieve};
+use strm_types::{Band, Fates, HOPS, Side, Spot, Turn, Way};
+
+// A queue from which a turn took a message of this size, once what came of that is done: it wants to be read where nothing is
+// left, and where bytes went its waiting writers are let go.
+fn settle<B: Blocks>(store: &B, queue: &mut Queue, size: usize) -> TurnEnd
+    requires { IsReady (B.value store.now) queue.old }
+    ensures queue { queue_in (B.value store.now) queue.new ≡ settled size (queue_in (B.value store.now) queue.old) }
+    ensures room { result.room ≡ settling_relieves size (queue_in (B.value store.now) queue.old) }
+    ensures more { result.more ≡ not (is_none_left (messages_on (B.value store.now) queue.old.list)) }
+    ensures only { OnlyQueue (B.value store.now) (B.value store.now) queue.old queue.new }
+{
+    let is_empty = queue.is_empty(store);
+    let more = !is_empty;
+    queue.want_read = queue.want_read || is_empty;
+    if size == 0 {
+        return TurnEnd { room: false, more };
+    }
+    TurnEnd {
+        room: relieve(queue),
+        more,
+    }
+}
+
+impl Streams {
+    ghost use Rattle.strm_blocks.specs.Blocks.{StoreValue};
+    ghost use Rattle.strm_pair.specs.Pairs.{state_in, end_at, AreHeld, SamePool};
+
+    // Takes the first message off the queue of a side's driver.
+    fn take_first<B: Blocks>(&mut self, store: &mut B, side: Side) -> Option<B::Mp>
+        requires { AreHeld (B.value store.old) self.old }
+        ensures { MatchOption result
+            (messages_on (B.value store.old) (end_at side self.old).driver.list ≡ [])
+            (λ m. TookFirst side (B.value store.old) (B.value store.new) self.old self.new (B.name m)) }
+    {
+        match side {
+            Side::Master => dequeue(store, &mut self.master.driver),
+            Side::Slave => dequeue(store, &mut self.slave.driver),
+        }
+    }
+
+    // The end of a turn that took a message of this size off the queue of a side's driver.
+    fn end_turn<B: Blocks>(&mut self, store: &B, side: Side, size: usize)
+        requires { AreHeld (B.value store.now) self.old }
+        ensures state { state_in (B.value store.now) self.new ≡ turn_ended side size (state_in (B.value store.now) self.old) }
+        ensures held { AreHeld (B.value store.now) self.new }
+    {
+        let end = match side {
+            Side::Master => settle(store, &mut self.master.driver, size),
+            Side::Slave => settle(store, &mut self.slave.driver, size),
+        };
+        self.let_go(side.driver(), end.room);
+        self.enabled.enable_if(end.more, side.driver());
+    }
+
+    // A driver's first message goes up the other side's stream, with all that it gives rise to.
+    fn move_across<B: Blocks>(&mut self, store: &mut B, side: Side, told: &mut Fates) -> Turn
+        requires held { AreHeld (B.value store.old) self.old }
+        requires room { HasRoom (B.value store.old) 4 }
+        requires some { is_none_left (messages_on (B.value store.old) (end_at side self.old).driver.list) ≡ false }
+        ensures moves { MovesAcross side (state_in (B.value store.old) self.old) result
+            (state_in (B.value store.new) self.new) told.old told.new }
+        ensures held { AreHeld (B.value store.new) self.new }
+        ensures pool { SamePool (B.value store.old) (B.value store.new) }
+    {
+        let Some(message) = self.take_first(store, side) else {
+            return Turn::Idle;
+        };
+        store.audit();
+        let size = message_size(store, &message);
+        let up = Spot {
+            side: side.other(),
+            at: 0,
+            way: Way::Up,
+        };
+        deliver(store, self, HOPS, up, message, told);
+        self.end_turn(store, side, size);
+        Turn::Moved(size)
+    }
+
+    // A driver's queue keeps what it has, and wants to be read or not.
+    fn keep(&mut self, side: Side, want_read: bool)
+        ensures state { (s : StoreValue) → state_in s self.new
+            ≡ with_driver side (record (stream side (state_in s self.old)).driver.queue { want_read = want_read }) (state_in s self.old) }
+        ensures held { (s : StoreValue) → AreHeld s self.old → AreHeld s self.new }
+    {
+        match side {
+            Side::Master => self.master.driver.want_read = want_read,
+            Side::Slave => self.slave.driver.want_read = want_read,
+        }
+    }
+
+    // A writer waits for room in a band at a side's head.
+    fn wait_at_head(&mut self, side: Side, band: Band)
+        requires { band.0 < BANDS }
+        ensures state { (s : StoreValue) → state_in s self.new ≡ waits_at_head side band.0 (state_in s self.old) }
+        ensures held { (s : StoreValue) → AreHeld s self.old → AreHeld s self.new }
+    {
+        match side {
+            Side::Master => self.master.head.queue.let_wait(band),
+            Side::Slave => self.slave.head.queue.let_wait(band),
+        }
+    }
+
+    /// A turn of a side's driver, which is off the list of enabled queues: its first message goes up the other side's stream,
+    /// unless that isn't open or its head is full.
+    pub(crate) fn turn_driver<B: Blocks>(
+        &mut self,
+        store: &mut B,
+        side: Side,
+        told: &mut Fates,
+    ) -> Turn
+        requires held { AreHeld (B.value store.old) self.old }
+        requires room { HasRoom (B.value store.old) 4 }
+        ensures turn { result ≡ (driver_turned side (state_in (B.value store.old) self.old)).turn }
+        ensures state { state_in (B.value store.new) self.new
+            ≡ (driver_turned side (state_in (B.value store.old) self.old)).state }
+        ensures told { told.new ≡ tallied (driver_turned side (state_in (B.value store.old) self.old)).gone told.old }
+        ensures held { AreHeld (B.value store.new) self.new }
+        ensures pool { SamePool (B.value store.old) (B.value store.new) }
+    {
+        let Some(first) = store.peek(self.end(side).driver.list) else {
+            self.keep(side, true);
+            return Turn::Idle;
+        };
+        let across = self.end(side.other());
+        if !across.opened.is_open() {
+            self.keep(side, false);
+            return Turn::Blocked;
+        }
+        if is_stopped(store, &across.head.queue, first.kind, first.band) {
+            self.keep(side, false);
+            self.wait_at_head(side.other(), first.band);
+            return Turn::Blocked;
+        }
+        self.move_across(store, side, told)
+    }
+}
