@@ -4,7 +4,7 @@ use crate::plans::Plan;
 use std::alloc::Global;
 use strm_blocks::TableStore;
 use strm_pair::Pair;
-use strm_types::{Caller, Config, Event, ReadBytes, Side};
+use strm_types::{Caller, Config, Content, Event, Side};
 
 const MASTER: Caller = Caller { side: Side::Master };
 
@@ -35,20 +35,20 @@ fn calls(
     pair: &mut Pair<TableStore>,
     caller: Caller,
     event: &Event<&[u8]>,
-    out: &mut ReadBytes,
+    out: &mut Content,
 ) -> bool {
     pair.call(caller, event, out).is_ok()
 }
 
 // Opens both sides of a new pair; whether that went well.
-fn opens(pair: &mut Pair<TableStore>, out: &mut ReadBytes) -> bool {
+fn opens(pair: &mut Pair<TableStore>, out: &mut Content) -> bool {
     calls(pair, MASTER, &Event::OpenMaster, out)
         && calls(pair, MASTER, &Event::Unlock, out)
         && calls(pair, SLAVE, &Event::OpenSlave, out)
 }
 
 // A write on the master, and the turns that carry it to the slave's head; whether all went well.
-fn sends(pair: &mut Pair<TableStore>, bytes: &[u8], out: &mut ReadBytes) -> bool {
+fn sends(pair: &mut Pair<TableStore>, bytes: &[u8], out: &mut Content) -> bool {
     if !calls(pair, MASTER, &Event::Write { bytes }, out) {
         return false;
     }
@@ -65,7 +65,7 @@ fn sends(pair: &mut Pair<TableStore>, bytes: &[u8], out: &mut ReadBytes) -> bool
 
 // The rounds on a pair: how many bytes were read.
 fn rounds(pair: &mut Pair<TableStore>, plan: &Plan) -> Option<u64> {
-    let mut out = ReadBytes::new();
+    let mut out = Content::new();
     if !opens(pair, &mut out) {
         return None;
     }

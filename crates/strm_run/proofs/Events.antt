@@ -1,5 +1,5 @@
 -- The calls and turns of a pair, as the plain session has them.
-use Rattle.std.proofs.Common.{◌≡◌, ℕ, zero, suc, ◌+◌, ◌-◌, ◌<◌, ◌≤◌, Bool, true, false, List, [], ◌∷◌, ◌++◌, length, take, Option, None, Some, Result, Ok, Err, IsOk, IfOk, MatchOption, slice_get, refl, arith, sym, ap, ◌∙◌, inl, inr, append_assoc, ◌⊎◌, leb, ◌&&◌, ◌||◌, ◌==◌}
+use Rattle.std.proofs.Common.{◌≡◌, ℕ, zero, suc, ◌+◌, ◌-◌, ◌<◌, ◌≤◌, Bool, true, false, List, [], ◌∷◌, ◌++◌, Option, None, Some, Result, Ok, Err, IsOk, IfOk, MatchOption, slice_get, refl, arith, sym, ap, ◌∙◌, inl, inr, append_assoc, ◌⊎◌, leb, ◌&&◌, ◌||◌, ◌==◌}
 use Rattle.strm_types.specs.declared.answers.Answer.{Answer}
 use Rattle.strm_types.specs.declared.answers.Turn.{Turn}
 use Rattle.strm_types.specs.declared.events.Caller.{Caller}
@@ -15,15 +15,13 @@ use Rattle.strm_types.specs.Cells as cells
 use Rattle.strm_types.specs.State.{State}
 use Rattle.strm_types.specs.Turns.{TurnOutcome, turned, turned_at, whole_turn}
 use Rattle.strm_types.specs.Names.{without}
-use Rattle.strm_types.specs.declared.answers.Answer.TheVariants as answers
-use Rattle.strm_types.specs.Calls.{Request, Reply, map_answer}
-use Rattle.strm_types.specs.Journal.{reply_in, answer_len}
-use Rattle.std.proofs.Math.Seq.{take-length}
+use Rattle.strm_types.specs.Calls.{Request, Reply}
+use Rattle.strm_types.specs.Journal.{reply_in}
 use Rattle.strm_types.specs.Refused.{Free, enough, blocks_asked}
 use Rattle.strm_types.specs.Pair.{PairState, call_refused, queue_refused, AddsEntry}
 use Rattle.strm_run.specs.ScriptAnswers.{Ran, reply_line, turn_line}
 use Rattle.strm_run.specs.ScriptRun as script
-use Rattle.strm_run.specs.ScriptRun.{Supply, Enough, TooFew, is_enough, PlainPair, Happened, call_refusal, turn_refusal, call_happens, turn_happens, call_of, turn_of, is_short, is_enosr, Turns, no_turns, counted, turns_of, by_call, by_flush, by_turn, by_run, by_open, unanswered, new_plain, next_of, rest_of}
+use Rattle.strm_run.specs.ScriptRun.{Supply, Enough, TooFew, is_enough, PlainPair, Happened, call_refusal, turn_refusal, call_happens, turn_happens, call_of, turn_of, is_short, is_enosr, Turns, no_turns, counted, turns_of, by_call, by_flush, by_named, by_turn, by_run, by_open, unanswered, new_plain, next_of, rest_of}
 use Rattle.std.proofs.lemmas.Bool.{le-leb, lt-leb}
 use Rattle.std.proofs.lemmas.Bool.Decides.{nat_tests}
 use Rattle.strm_types.specs.declared.events.Event.TheVariants as calls
@@ -45,9 +43,9 @@ unfolding supply_of
 is_enough-supply_of true = refl
 is_enough-supply_of false = refl
 
--- the answer of a call, with its bytes
+-- the answer of a call, with its bytes, which stand in front of others
 abbrev pub replied : List ℕ → Result (Answer ℕ) Refusal → Result Reply Refusal
-replied bytes (Ok answer) = Ok (map_answer (λ _. bytes) answer)
+replied bytes (Ok answer) = Ok (reply_in answer bytes)
 replied bytes (Err refusal) = Err refusal
 
 -- a call of the code, and a turn, happen as they do to the plain pair
@@ -59,22 +57,14 @@ pub record TurnHappens (old new : PairState) (name : QueueName) (r : Result Turn
   pub supply : Supply
   pub same : turn_of supply (plain old) name ≡ record { answer = r; pair = plain new }
 
--- an answer whose bytes are all that stand apart
-whole-reply : (answer : Answer ℕ) (bytes : List ℕ) → answer_len answer ≡ length bytes → reply_in answer bytes ≡ map_answer (λ _. bytes) answer
-whole-reply answers.Done bytes filled = refl
-whole-reply (answers.Name known) bytes filled = refl
-whole-reply (answers.Count n) bytes filled = refl
-whole-reply (answers.Bytes len) bytes filled = ap answers.Bytes (ap (λ n. take n bytes) filled ∙ take-length bytes)
-
 call_as : (P : Type 0) (o : Option Refusal) (old new : PairState) (caller : Caller) (asked : Request) (bytes : List ℕ) (r : Result (Answer ℕ) Refusal)
     → MatchOption o (IsOk r) (λ x. (r ≡ Err x) × ((new ≡ old) × P))
     → IfOk r (λ answer. AddsEntry old new (Called caller asked (reply_in answer bytes)))
-    → IfOk r (λ answer. answer_len answer ≡ length bytes)
     → call_happens o (plain old) caller asked ≡ record { answer = replied bytes r; pair = plain new }
-call_as P (Some refusal) old new caller asked bytes r h adds filled =
+call_as P (Some refusal) old new caller asked bytes r h adds =
     λ i. record { answer = replied bytes (sym h.0 i); pair = plain (sym h.1.0 i) }
-call_as P None old new caller asked bytes (Err x) h adds filled = cc
-call_as P None old new caller asked bytes (Ok answer) h adds filled =
+call_as P None old new caller asked bytes (Err x) h adds = cc
+call_as P None old new caller asked bytes (Ok answer) h adds =
     (λ i. record {
       answer = Ok (adds.step.answered i);
       pair = record {
@@ -84,7 +74,7 @@ call_as P None old new caller asked bytes (Ok answer) h adds filled =
       };
     })
     ∙ (λ i. record {
-      answer = Ok (whole-reply answer bytes filled i);
+      answer = Ok (reply_in answer bytes);
       pair = record { state = new.state; journal = sym adds.journal i; limits = sym adds.limits i };
     })
 
@@ -100,12 +90,11 @@ asked-supply n free = asked-at n free (enough n free) refl
 pub CallHappens-from : (P : Type 0) (old new : PairState) (caller : Caller) (asked : Request) (bytes : List ℕ) (r : Result (Answer ℕ) Refusal)
     → MatchOption (call_refused old caller asked) (IsOk r) (λ x. (r ≡ Err x) × ((new ≡ old) × P))
     → IfOk r (λ answer. AddsEntry old new (Called caller asked (reply_in answer bytes)))
-    → IfOk r (λ answer. answer_len answer ≡ length bytes)
     → CallHappens old new caller asked bytes r
 unfolding call_of
-CallHappens-from P old new caller asked bytes r h adds filled = record {
+CallHappens-from P old new caller asked bytes r h adds = record {
   supply = supply_of (enough (blocks_asked asked) old.free);
-  same = rw (asked-supply (blocks_asked asked) old.free) (call_as P (call_refused old caller asked) old new caller asked bytes r h adds filled);
+  same = rw (asked-supply (blocks_asked asked) old.free) (call_as P (call_refused old caller asked) old new caller asked bytes r h adds);
 }
 
 -- a driver's turn treats its message whole or not at all
@@ -332,6 +321,15 @@ pub flush_made : (side : Side) (what : FlushQueues) (band : ℕ) (account : List
     → by_flush side what (Some band) account p ≡ by_call (record { side = side }) (calls.Flush what (Some (record { 0 = band }))) account p
 unfolding by_flush
 flush_made side what band account p h = rw (le-leb band 255 h) refl
+
+-- a command that names what no call can name, and one that doesn't
+pub named_none : {A : Type 0} (side : Side) (asked : A → Request) (named : Option A) (account : List Supply) (p : PlainPair) → named ≡ None
+    → by_named side asked named account p ≡ unanswered Einval (Some p) account
+named_none side asked named account p h = ap (λ named. by_named side asked named account p) h
+
+pub named_some : {A : Type 0} (side : Side) (asked : A → Request) (named : Option A) (x : A) (account : List Supply) (p : PlainPair) → named ≡ Some x
+    → by_named side asked named account p ≡ by_call (record { side = side }) (asked x) account p
+named_some side asked named x account p h = ap (λ named. by_named side asked named account p) h
 
 -- an `open`, by its number of blocks
 pub open_refused : (blocks : ℕ) (account : List Supply) → (blocks ≡ 0) ⊎ (4096 < blocks) → by_open blocks account ≡ unanswered Einval None account

@@ -191,6 +191,10 @@ text-found line text h =
     let q = text_from-found x.value readings.Inside text x.second in
     (q.spelled, q.spells, after-found (codes "\"") line x.value x.first ∙ ap (λ k. 34 ∷ k) q.bytes_are)
 
+-- a text behind its first quote, with the one at its end
+pub text_from-spelled : (bytes text : List ℕ) → text_from readings.Inside bytes ≡ Some text → (spelled : List ℕ) × IsText spelled text × (bytes ≡ spelled ++ 34 ∷ [])
+text_from-spelled bytes text h = let q = text_from-found bytes readings.Inside text h in (q.spelled, q.spells, q.bytes_are)
+
 not_x : (c b : ℕ) → escaped c ≡ Some b → c ≡ 120 → ⊥
 unfolding escaped
 not_x c b e same = let none : None ≡ Some b = ap escaped (sym same) ∙ e in cc
@@ -208,7 +212,7 @@ piece-only _ _ rest (Coded h l high low x y) =
     ∙ text_goes readings.Coded (readings.HalfCoded high) h (l ∷ rest) (rw (x, moved_by) refl)
     ∙ text_gives (readings.HalfCoded high) l (16 * high + low) rest (rw (y, moved_by) refl)
 
-text_from-only : (spelled text : List ℕ) → IsText spelled text → text_from readings.Inside (spelled ++ 34 ∷ []) ≡ Some text
+pub text_from-only : (spelled text : List ℕ) → IsText spelled text → text_from readings.Inside (spelled ++ 34 ∷ []) ≡ Some text
 unfolding text_from
 text_from-only spelled [] h = rw (h) refl
 text_from-only spelled (b ∷ text) (piece, rest, p, e, more) =

@@ -8,6 +8,8 @@ pub mod Known
 pub mod Whole
 pub mod PlainTexts
 pub mod Grammar
+pub mod Fronts
+pub mod MessageSpellings
 pub mod Spellings
 mod ScriptRows
 mod RunRows

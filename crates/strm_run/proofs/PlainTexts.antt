@@ -13,11 +13,11 @@ use Rattle.strm_types.specs.Names.{is_enabled}
 use Rattle.strm_types.specs.declared.events.Event.TheVariants as calls
 use Rattle.strm_types.specs.Calls.{Request, Reply}
 use Rattle.strm_types.specs.Refused.{or_else, unless, refused, refused_at_once, refused_by_state, blocks_asked}
-use Rattle.strm_run.specs.Script.{Command, Open, Call, Flush, Turn as TurnOf, Run, Show}
+use Rattle.strm_run.specs.Script.{Command, Open, Call, Flush, Put, Get, Turn as TurnOf, Run, Show}
 use Rattle.strm_run.specs.ScriptReading.{Reading, Silent, Malformed, Spoken, reading}
 use Rattle.strm_run.specs.ScriptAnswers.{printed_line, reply_line, turn_line, Ran, Wrong}
 use Rattle.strm_run.specs.ScriptRun as script
-use Rattle.strm_run.specs.ScriptRun.{Supply, Enough, TooFew, next_of, rest_of, PlainPair, Happened, call_refusal, turn_refusal, call_happens, turn_happens, call_of, turn_of, is_short, is_enosr, turns_of, by_call, by_flush, by_show, by_turn, by_run, by_open, answered, told_from, told_after, first_of, line_if, Told, new_plain}
+use Rattle.strm_run.specs.ScriptRun.{Supply, Enough, TooFew, next_of, rest_of, PlainPair, Happened, call_refusal, turn_refusal, call_happens, turn_happens, call_of, turn_of, is_short, is_enosr, turns_of, by_call, by_flush, prio_of, wanted_of, by_named, by_put, by_get, by_show, by_turn, by_run, by_open, answered, told_from, told_after, first_of, line_if, Told, new_plain}
 use Rattle.strm_run.proofs.Supplies.{is_want, call_happens-short, turn_happens-short, answered-enough}
 use Rattle.strm_run.proofs.Events.{turns_none, turns_err, turns_ok, turns_zero}
 
@@ -125,9 +125,15 @@ flush-same side what band account p h = elim (cases_Bool (nat_le band 255)) [
   | inr e ↦ rw (e) (record { line = refl; pair = refl })
 ]
 
+named-same : {A : Type 0} (side : Side) (asked : A → Request) (named : Option A) (account : List Supply) (p : PlainPair)
+    → (by_named side asked named account p).is_short ≡ false → SameAnswer (by_named side asked named account p) (by_named side asked named [] p)
+unfolding by_call
+named-same side asked None account p h = record { line = refl; pair = refl }
+named-same side asked (Some x) account p h = call_answer Enough p (record { side = side }) (asked x) account h
+
 answered-same : (command : Command) (account : List Supply) (pair : Option PlainPair) → (answered command account pair).is_short ≡ false
     → SameAnswer (answered command account pair) (answered command [] pair)
-unfolding answered by_call by_flush by_show by_turn by_run
+unfolding answered by_call by_flush by_put by_get by_show by_turn by_run
 answered-same (Open blocks) account None h = open-same (unwrap_or blocks 256) account h
 answered-same (Open blocks) account (Some p) h = record { line = refl; pair = refl }
 answered-same (Call side asked) account None h = record { line = refl; pair = refl }
@@ -135,6 +141,10 @@ answered-same (Call side asked) account (Some p) h = call_answer Enough p (recor
 answered-same (Flush side what band) account None h = record { line = refl; pair = refl }
 answered-same (Flush side what None) account (Some p) h = call_answer Enough p (record { side = side }) (calls.Flush what None) account h
 answered-same (Flush side what (Some band)) account (Some p) h = flush-same side what band account p h
+answered-same (Put side prio control body) account None h = record { line = refl; pair = refl }
+answered-same (Put side prio control body) account (Some p) h = named-same side (λ prio. calls.Put prio control body) (prio_of prio) account p h
+answered-same (Get side wanted cmax dmax) account None h = record { line = refl; pair = refl }
+answered-same (Get side wanted cmax dmax) account (Some p) h = named-same side (λ wanted. calls.Get wanted cmax dmax) (wanted_of wanted) account p h
 answered-same (TurnOf name) account None h = record { line = refl; pair = refl }
 answered-same (TurnOf name) account (Some p) h =
     let same = turn-same (next_of account) p name h in

@@ -2,13 +2,13 @@
 use Rattle.std.proofs.Common.{◌≡◌, ℕ, suc, ◌+◌, ◌*◌, ◌<◌, ◌≤◌, Bool, true, false, not, cond, eqb, ltb, ◌||◌, List, [], ◌∷◌, length, take, drop, get_or, Option, None, Some, unwrap_or, refl, arith, sym, ap, ◌∙◌, subst, inl, inr, ◌++◌, append_assoc, append-nil}
 use Rattle.std.proofs.lemmas.List.{at_drop_more, at_drop_all, drop-drop}
 use Rattle.std.proofs.lemmas.Bool.Decides.{nat_tests, eqb_tells}
-use Rattle.std.proofs.lemmas.Bool.{cond-true, cond-false, eq-eqb, ltb-false, cases_Bool}
+use Rattle.std.proofs.lemmas.Bool.{cond-true, cond-false, ne_eqb, eq-eqb, ltb-false, cases_Bool}
 use Rattle.std.specs.List.{position_from, position_or_len}
 use Rattle.std.proofs.lemmas.Iterator.Adapters.{position_from-zero}
 use Rattle.std.proofs.lemmas.List.Sums.{prefix_len-le-length}
 use Rattle.std.proofs.lemmas.List.Folds.{length-prefix_len}
 use Rattle.strm_run.specs.Script.{digit_of}
-use Rattle.strm_run.specs.ScriptReading.{after, number_from, Mode, Inside, Escaped, Coded, HalfCoded, Closed, Breaks, Goes, Gives, moved_by, text_from, with_front, is_closed, is_marked, own_len}
+use Rattle.strm_run.specs.ScriptReading.{after, number_from, Mode, Inside, Escaped, Coded, HalfCoded, Closed, Breaks, Goes, Gives, moved_by, text_from, with_front, is_closed, is_marked, own_len, quoted_len}
 
 -- a word that stands at the front, and one that doesn't
 pub after_front : (word line : List ℕ) → take (length word) line ≡ word → after word line ≡ Some (drop (length word) line)
@@ -60,6 +60,56 @@ text_gives mode b c spelled h = rw (h, text_from) refl
 pub text_ends : (mode : Mode) → text_from mode [] ≡ cond (is_closed mode) (Some []) None
 unfolding text_from
 text_ends mode = refl
+
+-- a text in quotes ends at a quote; a byte that is none, and one that stands behind a backslash, is skipped
+pub quoted_ends : (bytes : List ℕ) → quoted_len false (34 ∷ bytes) ≡ 1
+unfolding quoted_len
+quoted_ends bytes = refl
+
+pub quoted_escapes : (bytes : List ℕ) → quoted_len false (92 ∷ bytes) ≡ suc (quoted_len true bytes)
+unfolding quoted_len
+quoted_escapes bytes = refl
+
+pub quoted_more : (b : ℕ) (bytes : List ℕ) → quoted_len true (b ∷ bytes) ≡ suc (quoted_len false bytes)
+unfolding quoted_len
+quoted_more b bytes = refl
+
+pub quoted_past : (b : ℕ) (bytes : List ℕ) → (b ≡ 34 → ⊥) → quoted_len false (b ∷ bytes) ≡ suc (quoted_len (eqb b 92) bytes)
+unfolding quoted_len
+quoted_past b bytes quote = rw (ne_eqb b 34 quote) refl
+
+pub quoted_skips : (b : ℕ) (bytes : List ℕ) → (b ≡ 34 → ⊥) → (b ≡ 92 → ⊥) → quoted_len false (b ∷ bytes) ≡ suc (quoted_len false bytes)
+quoted_skips b bytes quote backslash =
+    quoted_past b bytes quote ∙ ap (λ escaped. suc (quoted_len escaped bytes)) (ne_eqb b 92 backslash)
+
+quoted_none : (escaped : Bool) → quoted_len escaped [] ≡ 0
+unfolding quoted_len
+quoted_none true = refl
+quoted_none false = refl
+
+-- a text in quotes that is looked at up to a place
+abbrev pub QuotedTo : Bool → ℕ → List ℕ → Type 0
+QuotedTo escaped i bytes = i + quoted_len escaped (drop i bytes) ≡ quoted_len false bytes
+
+pub QuotedTo-ends : (i : ℕ) (bytes : List ℕ) → i < length bytes → QuotedTo false i bytes → get_or bytes i 0 ≡ 34 → i + 1 ≡ quoted_len false bytes
+QuotedTo-ends i bytes within so quote =
+    let one = at_drop_more (quoted_len false) bytes i 0 within ∙ ap (λ b. quoted_len false (b ∷ drop (i + 1) bytes)) quote ∙ quoted_ends (drop (i + 1) bytes) in
+    omega (arith, one, so)
+
+pub QuotedTo-past : (i : ℕ) (bytes : List ℕ) → i < length bytes → QuotedTo false i bytes → (get_or bytes i 0 ≡ 34 → ⊥) → QuotedTo (eqb (get_or bytes i 0) 92) (i + 1) bytes
+QuotedTo-past i bytes within so quote =
+    let one = at_drop_more (quoted_len false) bytes i 0 within ∙ quoted_past (get_or bytes i 0) (drop (i + 1) bytes) quote in
+    omega (arith, one, so)
+
+pub QuotedTo-escaped : (i : ℕ) (bytes : List ℕ) → i < length bytes → QuotedTo true i bytes → QuotedTo false (i + 1) bytes
+QuotedTo-escaped i bytes within so =
+    let one = at_drop_more (quoted_len true) bytes i 0 within ∙ quoted_more (get_or bytes i 0) (drop (i + 1) bytes) in
+    omega (arith, one, so)
+
+pub QuotedTo-all : (escaped : Bool) (i : ℕ) (bytes : List ℕ) → length bytes ≤ i → QuotedTo escaped i bytes → i ≡ quoted_len false bytes
+QuotedTo-all escaped i bytes past so =
+    let none = at_drop_all (quoted_len escaped) bytes i past ∙ quoted_none escaped in
+    omega (arith, none, so)
 
 -- bytes in front of a text, and more behind them
 pub with_front-more : (front more : List ℕ) (text : Option (List ℕ)) → with_front (front ++ more) text ≡ with_front front (with_front more text)

@@ -1,5 +1,5 @@
 -- Which lines spell which command: spellings of each command, and lines that are none.
-use Rattle.std.proofs.Common.{ℕ, ◌≢◌, List, [], ◌∷◌, refl, lit<, lit≤, arith}
+use Rattle.std.proofs.Common.{ℕ, ◌≢◌, List, [], ◌∷◌, refl, inl, inr, lit<, lit≤, arith}
 use Rattle.std.specs.Prelude.{codes, None, Some}
 use Rattle.strm_types.specs.declared.names.Side.TheVariants.{Master, Slave}
 use Rattle.strm_types.specs.declared.names.Way.TheVariants.{Up}
@@ -7,8 +7,13 @@ use Rattle.strm_types.specs.declared.names.Place.TheVariants.{Ldterm}
 use Rattle.strm_types.specs.declared.names.ModuleName.{ModuleName}
 use Rattle.strm_types.specs.declared.names.ModuleName.TheVariants as modules
 use Rattle.strm_types.specs.declared.events.FlushQueues.TheVariants as queues
-use Rattle.strm_types.specs.declared.events.Event.TheVariants.{Unlock, OpenSlave, Shut, Push, Pop, Look, Write, Read}
-use Rattle.strm_run.specs.Script.{Open, Call, Flush, Turn, Run, Show, module_name, IsName, IsUnknown, IsNumber, Itself, Named, Coded, IsSpelled, digit_of, hex_of, escaped}
+use Rattle.strm_types.specs.declared.events.Event.TheVariants.{Unlock, OpenSlave, Shut, Push, Pop, Look, Write, Read, Mode}
+use Rattle.strm_types.specs.declared.modes.Mode.TheVariants as modes
+use Rattle.strm_types.specs.declared.modes.ReadMode.TheVariants.{MessageDiscard}
+use Rattle.strm_types.specs.declared.modes.ControlMode.TheVariants.{Refuse}
+use Rattle.strm_run.specs.declared.commands.NamedPrio.TheVariants as prios
+use Rattle.strm_run.specs.declared.commands.NamedWanted.TheVariants as wanteds
+use Rattle.strm_run.specs.Script.{Open, Call, Flush, Put, Get, Turn, Run, Show, module_name, IsName, IsUnknown, IsNumber, Itself, Named, Coded, IsSpelled, digit_of, hex_of, escaped}
 
 twelve : IsNumber (codes "12") 12
 unfolding digit_of
@@ -80,6 +85,47 @@ flush-is-spelled = refl
 
 pub flush-of-a-band-is-spelled : IsSpelled (Flush Slave queues.Read (Some 12)) (codes "flush s r 12")
 flush-of-a-band-is-spelled = (codes "12", twelve, refl)
+
+-- a put of high priority without a data part, and one of a band without a control part
+pub put-is-spelled : IsSpelled (Put Slave prios.High (Some (97 ∷ [])) None) (codes "put s hi \"a\" -")
+put-is-spelled = record {
+  first = codes "hi";
+  second = codes "\"a\"";
+  third = codes "-";
+  prio_is = refl;
+  control_is = (codes "a", (codes "a", [], Itself 97 (omega arith) (omega arith) (omega arith), refl, refl), refl);
+  body_is = refl;
+  line_is = refl;
+}
+
+pub put-in-a-band-is-spelled : IsSpelled (Put Master (prios.Band 12) None (Some [])) (codes "put m 12 - \"\"")
+put-in-a-band-is-spelled = record {
+  first = codes "12";
+  second = codes "-";
+  third = codes "\"\"";
+  prio_is = twelve;
+  control_is = refl;
+  body_is = ([], refl, refl);
+  line_is = refl;
+}
+
+-- a get of any message with the usual sizes, in both spellings, and one of a band
+pub get-is-spelled : IsSpelled (Get Slave wanteds.Any 1024 1024) (codes "get s")
+get-is-spelled = inl (record { wanted_is = refl; cmax_is = refl; dmax_is = refl; line_is = refl })
+
+pub get-of-a-band-is-spelled : IsSpelled (Get Master (wanteds.Band 12) 12 12) (codes "get m 12 12 12")
+get-of-a-band-is-spelled = inr (record {
+  first = codes "12";
+  second = codes "12";
+  third = codes "12";
+  wanted_is = twelve;
+  cmax_is = twelve;
+  dmax_is = twelve;
+  line_is = refl;
+})
+
+pub modes-are-spelled : IsSpelled (Call Slave (Mode (modes.Read MessageDiscard))) (codes "mode s msgd") × IsSpelled (Call Master (Mode (modes.Control Refuse))) (codes "mode m protnorm")
+modes-are-spelled = (refl, refl)
 
 -- a byte as it is, one by its name, one by its number
 pub write-is-spelled : IsSpelled (Call Master (Write (97 ∷ 10 ∷ 255 ∷ []))) (codes "write m \"a\\n\\xfF\"")

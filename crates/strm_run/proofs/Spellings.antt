@@ -1,5 +1,5 @@
 -- Each command is read where it is spelled, and only there.
-use Rattle.std.proofs.Common.{◌≡◌, ◌≢◌, ℕ, ◌≤◌, true, false, List, [], ◌∷◌, ◌++◌, length, Option, None, Some, option_map, refl, sym, ap, ◌∙◌, inl, inr, ◌⊎◌, append_assoc, append-nil, codes, subst, ltb}
+use Rattle.std.proofs.Common.{◌≡◌, ◌≢◌, ℕ, ◌≤◌, true, false, List, [], ◌∷◌, ◌++◌, length, Option, None, Some, option_map, refl, sym, ap, ◌∙◌, inl, inr, append_assoc, append-nil, codes, subst, ltb}
 use Rattle.std.proofs.lemmas.Bool.{cond-true, cond-false, le-ltb, lt-ltb, ltb-true, leb-true, le-leb, and_parts, cases_Bool}
 use Rattle.strm_types.specs.declared.names.Side.{Side}
 use Rattle.strm_types.specs.declared.names.Side.TheVariants.{Master, Slave}
@@ -12,43 +12,17 @@ use Rattle.strm_types.specs.declared.names.ModuleName.{ModuleName}
 use Rattle.strm_types.specs.declared.names.ModuleName.TheVariants as modules
 use Rattle.strm_types.specs.declared.events.FlushQueues.{FlushQueues}
 use Rattle.strm_types.specs.declared.events.FlushQueues.TheVariants as queues
-use Rattle.strm_types.specs.declared.events.Event.TheVariants.{OpenMaster, Unlock, OpenSlave, Shut, Push, Pop, Look, Write, Read}
+use Rattle.strm_types.specs.declared.events.Event.TheVariants.{OpenMaster, Unlock, OpenSlave, Shut, Push, Pop, Look, Write, Read, Nread}
 use Rattle.strm_types.specs.declared.events.Event.TheVariants as calls
+use Rattle.strm_types.specs.declared.modes.Mode.{Mode}
+use Rattle.strm_run.specs.declared.commands.NamedPrio.{NamedPrio}
+use Rattle.strm_run.specs.declared.commands.NamedWanted.{NamedWanted}
 use Rattle.std.specs.List.{AllByRecursion, list_all}
-use Rattle.strm_run.specs.Script.{Command, Open, Call, Flush, Turn, Run, Show, side_name, place_name, way_name, queue_name, module_name, flush_name, is_letter, is_silent, with_side, IsName, IsNumber, IsFlush, IsSpelled}
-use Rattle.strm_run.specs.ScriptReading.{Silent, Malformed, Spoken, spoken, reading, either_of, and_then, after, at_end, whole, Front, before, number_in, text_in, side_in, place_in, way_in, queue_in, placed_in, sided_in, behind_side, side_alone, module_in, is_name, flush_queues_in, band_in, pushed_in, flushed_in, open_in, named_in, write_in, read_in, turn_in, run_in, sided_call_in, push_in, flush_in, show_in, stream_in, command_in}
+use Rattle.strm_run.specs.Script.{Command, Open, Call, Flush, Put, Get, Turn, Run, Show, mode_name, IsPut, IsGetOf, IsUsualGet, side_name, place_name, way_name, queue_name, module_name, flush_name, is_letter, is_silent, with_side, IsName, IsNumber, IsFlush, IsSpelled}
+use Rattle.strm_run.specs.ScriptReading.{Silent, Malformed, Spoken, spoken, reading, and_then, after, at_end, Front, number_in, text_in, side_in, place_in, way_in, queue_in, placed_in, sided_in, behind_side, side_alone, module_in, is_name, flush_queues_in, band_in, pushed_in, flushed_in, open_in, named_in, write_in, read_in, turn_in, run_in, sided_call_in, push_in, flush_in, show_in, stream_in, put_in, get_in, set_mode_in, message_in, command_in}
 use Rattle.strm_run.proofs.Grammar.{and_then-found, option_map-found, after-found, number-found, number-only, text-found, text-only}
-
--- the one or the other found it
-either-found : {A : Type 0} (a b : Option A) (y : A) → either_of a b ≡ Some y → (a ≡ Some y) ⊎ (b ≡ Some y)
-either-found None b y h = inr h
-either-found (Some x) b y h = inl h
-
-at_end-found : {A : Type 0} (x y : A) (line : List ℕ) → at_end x line ≡ Some y → (x ≡ y) × (line ≡ [])
-at_end-found x y [] h = (cc, refl)
-at_end-found x y (b ∷ line) h = absurd cc
-
-whole-found : {A : Type 0} (word : List ℕ) (x y : A) (line : List ℕ) → whole word x line ≡ Some y → (x ≡ y) × (line ≡ word)
-whole-found word x y line h =
-    let f = and_then-found (at_end x) (after word line) y h in
-    let end = at_end-found x y f.value f.second in
-    (end.0, after-found word line f.value f.first ∙ ap (λ k. word ++ k) end.1 ∙ append-nil word)
-
--- a value stands in front, under its name
-pub record Stands {A : Type 0} (name : A → List ℕ) (line : List ℕ) (found : Front A) : Type 0 where
-  pub line_is : line ≡ name found.value ++ found.rest
-
-before-found : {A : Type 0} (name : A → List ℕ) (x : A) (line : List ℕ) (found : Front A) → before (name x) x line ≡ Some found → Stands name line found
-before-found name x line found h =
-    let m = option_map-found (λ rest. record { value = x; rest = rest }) (after (name x) line) found h in
-    record { line_is = after-found (name x) line m.value m.first ∙ ap (λ (f : Front _). name f.value ++ f.rest) m.second }
-
-side-found : (line : List ℕ) (found : Front Side) → side_in line ≡ Some found → Stands side_name line found
-unfolding side_in
-side-found line found h = elim (either-found _ _ found h) [
-  | inl a ↦ before-found side_name Master line found a
-  | inr b ↦ before-found side_name Slave line found b
-]
+use Rattle.strm_run.proofs.Fronts.{either-found, at_end-found, whole-found, Stands, before-found, side-found}
+use Rattle.strm_run.proofs.MessageSpellings.{behind_side-found, put-found, get-found, set_mode-found, put_on-only, get_of-only, mode_in-only}
 
 place-found : (line : List ℕ) (found : Front Place) → place_in line ≡ Some found → Stands place_name line found
 unfolding place_in
@@ -114,18 +88,6 @@ parts-only Slave Driver Down = refl
 queue-only : (name : QueueName) → queue_in (queue_name name) ≡ Some name
 queue-only name = parts-only name.side name.place name.way
 
--- what stands behind a side and a space
-behind-found : (inside : Side → List ℕ → Option Command) (line : List ℕ) (command : Command) → behind_side inside line ≡ Some command
-    → (side : Side) × (rest : List ℕ) × (line ≡ side_name side ++ 32 ∷ rest) × (inside side rest ≡ Some command)
-behind-found inside line command h =
-    let side = and_then-found (λ (side : Front Side). and_then (inside side.value) (after (codes " ") side.rest)) (side_in line) command h in
-    let gap = and_then-found (inside side.value.value) (after (codes " ") side.value.rest) command side.second in (
-      side.value.value,
-      gap.value,
-      (side-found line side.value side.first).line_is ∙ ap (λ k. side_name side.value.value ++ k) (after-found (codes " ") side.value.rest gap.value gap.first),
-      gap.second,
-    )
-
 -- each command is read only where it is spelled
 open-found : (line : List ℕ) (command : Command) → open_in line ≡ Some command → IsSpelled command line
 unfolding open_in
@@ -149,7 +111,7 @@ write-found : (line : List ℕ) (command : Command) → write_in line ≡ Some c
 unfolding write_in
 write-found line command h =
     let rest = and_then-found (behind_side (λ side rest. option_map (λ text. Call side (Write text)) (text_in rest))) (after (codes "write ") line) command h in
-    let side = behind-found (λ side rest. option_map (λ text. Call side (Write text)) (text_in rest)) rest.value command rest.second in
+    let side = behind_side-found (λ side rest. option_map (λ text. Call side (Write text)) (text_in rest)) rest.value command rest.second in
     let text = option_map-found (λ text. Call side.0 (Write text)) (text_in side.1) command side.3 in
     let spelled = text-found side.1 text.value text.first in
     subst (λ c. IsSpelled c line) text.second (
@@ -164,7 +126,7 @@ read-found : (line : List ℕ) (command : Command) → read_in line ≡ Some com
 unfolding read_in
 read-found line command h =
     let rest = and_then-found (behind_side (λ side rest. option_map (λ n. Call side (Read n)) (number_in rest))) (after (codes "read ") line) command h in
-    let side = behind-found (λ side rest. option_map (λ n. Call side (Read n)) (number_in rest)) rest.value command rest.second in
+    let side = behind_side-found (λ side rest. option_map (λ n. Call side (Read n)) (number_in rest)) rest.value command rest.second in
     let n = option_map-found (λ n. Call side.0 (Read n)) (number_in side.1) command side.3 in
     subst (λ c. IsSpelled c line) n.second (
       side.1,
@@ -274,7 +236,7 @@ push-found : (line : List ℕ) (command : Command) → push_in line ≡ Some com
 unfolding push_in
 push-found line command h =
     let rest = and_then-found (behind_side pushed_in) (after (codes "push ") line) command h in
-    let side = behind-found pushed_in rest.value command rest.second in
+    let side = behind_side-found pushed_in rest.value command rest.second in
     let spelled = after-found (codes "push ") line rest.value rest.first
     ∙ ap (λ k. codes "push " ++ k) (side.2 ∙ sym (append_assoc (side_name side.0) (codes " ") side.1)) in
     elim (cases_Bool (is_name side.1)) [
@@ -328,7 +290,7 @@ unfolding flush_in
 flush-found line command h =
     let inside = λ (side : Side) (rest : List ℕ). and_then (flushed_in side) (flush_queues_in rest) in
     let rest = and_then-found (behind_side inside) (after (codes "flush ") line) command h in
-    let side = behind-found inside rest.value command rest.second in
+    let side = behind_side-found inside rest.value command rest.second in
     let what = and_then-found (flushed_in side.0) (flush_queues_in side.1) command side.3 in
     let band = option_map-found (λ band. Flush side.0 what.value.value band) (band_in what.value.rest) command what.second in
     subst (λ c. IsSpelled c line) band.second
@@ -356,6 +318,16 @@ stream-found line command h = elim (either-found _ _ command h) [
   ]
 ]
 
+message-found : (line : List ℕ) (command : Command) → message_in line ≡ Some command → IsSpelled command line
+unfolding message_in
+message-found line command h = elim (either-found _ _ command h) [
+  | inl a ↦ put-found line command a
+  | inr b ↦ elim (either-found _ _ command b) [
+    | inl a ↦ get-found line command a
+    | inr b ↦ set_mode-found line command b
+  ]
+]
+
 command-found : (line : List ℕ) (command : Command) → command_in line ≡ Some command → IsSpelled command line
 unfolding command_in
 command-found line command h = elim (either-found _ _ command h) [
@@ -370,7 +342,10 @@ command-found line command h = elim (either-found _ _ command h) [
           | inl a ↦ turn-found line command a
           | inr b ↦ elim (either-found _ _ command b) [
             | inl a ↦ run-found line command a
-            | inr b ↦ stream-found line command b
+            | inr b ↦ elim (either-found _ _ command b) [
+              | inl a ↦ stream-found line command a
+              | inr b ↦ message-found line command b
+            ]
           ]
         ]
       ]
@@ -412,6 +387,27 @@ band-rest side what digits =
     append_assoc (with_side (codes "flush ") side) (flush_name what ++ codes " ") digits
     ∙ ap (λ k. with_side (codes "flush ") side ++ k) (append_assoc (flush_name what) (codes " ") digits)
 
+-- a put, a get and a mode
+put-only : (side : Side) (prio : NamedPrio) (control body : Option (List ℕ)) (line : List ℕ) → IsPut side prio control body line → IsRead (Put side prio control body) line
+unfolding command_in open_in named_in write_in read_in turn_in run_in stream_in sided_call_in push_in flush_in show_in message_in put_in side_in
+put-only Master prio control body line is = rw (is.line_is, put_on-only Master prio control body line is) (refl, refl)
+put-only Slave prio control body line is = rw (is.line_is, put_on-only Slave prio control body line is) (refl, refl)
+
+get-only : (side : Side) (wanted : NamedWanted) (cmax dmax : ℕ) (line : List ℕ) → IsGetOf side wanted cmax dmax line → IsRead (Get side wanted cmax dmax) line
+unfolding command_in open_in named_in write_in read_in turn_in run_in stream_in sided_call_in push_in flush_in show_in message_in put_in get_in side_in
+get-only Master wanted cmax dmax line is = rw (is.line_is, get_of-only Master wanted cmax dmax line is) (refl, refl)
+get-only Slave wanted cmax dmax line is = rw (is.line_is, get_of-only Slave wanted cmax dmax line is) (refl, refl)
+
+usual_get-only : (side : Side) (wanted : NamedWanted) (cmax dmax : ℕ) (line : List ℕ) → IsUsualGet side wanted cmax dmax line → IsRead (Get side wanted cmax dmax) line
+unfolding command_in open_in named_in write_in read_in turn_in run_in stream_in sided_call_in push_in flush_in show_in message_in put_in get_in side_in
+usual_get-only Master wanted cmax dmax line is = rw (is.line_is, is.wanted_is, is.cmax_is, is.dmax_is) (refl, refl)
+usual_get-only Slave wanted cmax dmax line is = rw (is.line_is, is.wanted_is, is.cmax_is, is.dmax_is) (refl, refl)
+
+mode-only : (side : Side) (mode : Mode) (line : List ℕ) → line ≡ with_side (codes "mode ") side ++ mode_name mode → IsRead (Call side (calls.Mode mode)) line
+unfolding command_in open_in named_in write_in read_in turn_in run_in stream_in sided_call_in push_in flush_in show_in message_in put_in get_in set_mode_in side_in
+mode-only Master mode line h = rw (h, mode_in-only mode) (refl, refl)
+mode-only Slave mode line h = rw (h, mode_in-only mode) (refl, refl)
+
 -- each command is read where it is spelled, and its line isn't silent
 command-only : (command : Command) (line : List ℕ) → IsSpelled command line → IsRead command line
 unfolding command_in open_in named_in write_in read_in turn_in run_in stream_in sided_call_in push_in flush_in show_in side_in side_alone
@@ -434,6 +430,13 @@ command-only (Call Master (Write text)) line (spelled, spells, e) = rw (e, text-
 command-only (Call Slave (Write text)) line (spelled, spells, e) = rw (e, text-only spelled text spells) (refl, refl)
 command-only (Call Master (Read n)) line (digits, number, e) = rw (e, number-only digits n number) (refl, refl)
 command-only (Call Slave (Read n)) line (digits, number, e) = rw (e, number-only digits n number) (refl, refl)
+command-only (Call side (calls.Put prio control body)) line h = absurd h
+command-only (Call side (calls.Get wanted cmax dmax)) line h = absurd h
+command-only (Call side (calls.Mode mode)) line h = mode-only side mode line h
+command-only (Call side Nread) line h = absurd h
+command-only (Put side prio control body) line h = put-only side prio control body line h
+command-only (Get side wanted cmax dmax) line (inl h) = usual_get-only side wanted cmax dmax line h
+command-only (Get side wanted cmax dmax) line (inr h) = get-only side wanted cmax dmax line h
 command-only (Flush side what None) line h =
     flush-only side what None [] line refl (h ∙ ap (λ k. with_side (codes "flush ") side ++ k) (sym (append-nil (flush_name what))))
 command-only (Flush side what (Some n)) line (digits, number, h) =

@@ -12,14 +12,18 @@ use Rattle.std.specs.Prelude.{◌==◌}
 use Rattle.strm_types.specs.declared.modes.ControlMode.{ControlMode}
 use Rattle.strm_types.specs.Message.{Message}
 use Rattle.strm_types.specs.Reads.{finds_none, starts_refused, read_refusal}
+use Rattle.strm_types.specs.declared.modes.Prio.{Prio}
+use Rattle.strm_types.specs.declared.modes.Wanted.{Wanted}
+use Rattle.strm_types.specs.Gets.{is_wanted, get_refusal}
+use Rattle.strm_types.specs.PutMsg.{is_no_prio, is_too_long, put_refusal}
 use Rattle.strm_types.specs.State.{State, stream}
 use Rattle.strm_types.specs.declared.events.Event.TheVariants as calls
 use Rattle.strm_types.specs.Calls.{Request}
 use Rattle.strm_types.specs.Refused.{or_else, unless, at_end, refused_at_once, refused_by_state}
-use Rattle.strm_run.specs.Script.{Command, Open, Call, Flush, Turn as TurnOf, Run, Show}
+use Rattle.strm_run.specs.Script.{Command, Open, Call, Flush, Put, Get, Turn as TurnOf, Run, Show}
 use Rattle.strm_run.specs.ScriptReading.{Reading, Silent, Malformed, Spoken, reading}
 use Rattle.strm_run.specs.ScriptRun as script
-use Rattle.strm_run.specs.ScriptRun.{Supply, Enough, TooFew, PlainPair, Happened, call_refusal, turn_refusal, call_happens, turn_happens, call_of, turn_of, is_short, is_enosr, turns_of, no_turns, counted, by_call, by_flush, by_show, by_turn, by_run, by_open, answered, told_from, new_plain}
+use Rattle.strm_run.specs.ScriptRun.{Supply, Enough, TooFew, PlainPair, Happened, call_refusal, turn_refusal, call_happens, turn_happens, call_of, turn_of, is_short, is_enosr, turns_of, no_turns, counted, by_call, by_flush, prio_of, wanted_of, by_named, by_put, by_get, by_show, by_turn, by_run, by_open, answered, told_from, new_plain}
 use Rattle.strm_run.proofs.Events.{turns_none, turns_err, turns_ok, turns_zero}
 
 -- a refusal is for want of blocks
@@ -40,6 +44,16 @@ none-want : is_want None ≡ false
 unfolding is_want
 none-want = refl
 
+-- what a put is refused for by its arguments alone
+put-want : (prio : Prio) (control body : Option (List ℕ)) → is_want (put_refusal prio control body) ≡ false
+unfolding is_want
+put-want prio control body = at (is_no_prio prio control) (is_too_long control body)
+  where
+    at : (a b : Bool) → is_want (cond a (Some Einval) (cond b (Some Erange) None)) ≡ false
+    at true b = refl
+    at false true = refl
+    at false false = refl
+
 at_once-want : (s : State ℕ) (caller : Caller) (asked : Request) → is_want (refused_at_once s caller asked) ≡ false
 at_once-want s caller calls.OpenMaster = none-want
 at_once-want s caller calls.Unlock = or_else-want _ _ (unless-want _ Enxio refl) (unless-want _ Einval refl)
@@ -53,6 +67,11 @@ at_once-want s caller (calls.Flush what band) =
     or_else-want _ _ (unless-want _ Enxio refl) (or_else-want _ _ (unless-want _ Einval refl) (unless-want _ Erange refl))
 at_once-want s caller (calls.Write cells) = or_else-want _ _ (unless-want _ Enxio refl) (unless-want _ Erange refl)
 at_once-want s caller (calls.Read n) = unless-want _ Enxio refl
+at_once-want s caller (calls.Put prio control body) =
+    or_else-want _ _ (unless-want _ Enxio refl) (or_else-want _ _ (put-want prio control body) (unless-want _ Erange refl))
+at_once-want s caller (calls.Get wanted cmax dmax) = or_else-want _ _ (unless-want _ Enxio refl) (unless-want _ Einval refl)
+at_once-want s caller (calls.Mode mode) = unless-want _ Enxio refl
+at_once-want s caller calls.Nread = unless-want _ Enxio refl
 
 -- a read is refused for what stands there
 read-want : (control : ControlMode) (end : Bool) (n : ℕ) (q : List (Message ℕ)) → is_want (read_refusal control end n q) ≡ false
@@ -66,6 +85,16 @@ read-want control end n q = at (n == 0) (finds_none control q) end (starts_refus
     at false false end true = refl
     at false false end false = refl
 
+-- a get is refused for the first message, or where there is none
+fits-want : (here : Bool) → is_want (cond here None (Some Eagain)) ≡ false
+unfolding is_want
+fits-want true = refl
+fits-want false = refl
+
+get-want : (wanted : Wanted) (end : Bool) (q : List (Message ℕ)) → is_want (get_refusal wanted end q) ≡ false
+get-want wanted end [] = fits-want end
+get-want wanted end (m ∷ q) = fits-want (is_wanted wanted m)
+
 by_state-want : (s : State ℕ) (caller : Caller) (asked : Request) → is_want (refused_by_state s caller asked) ≡ false
 by_state-want s caller calls.OpenMaster = unless-want _ Einval refl
 by_state-want s caller calls.Unlock = none-want
@@ -77,6 +106,10 @@ by_state-want s caller calls.Look = unless-want false Einval refl
 by_state-want s caller (calls.Flush what band) = none-want
 by_state-want s caller (calls.Write cells) = unless-want _ Eagain refl
 by_state-want s caller (calls.Read n) = let h = (stream caller.side s).head in read-want h.control_mode (at_end caller.side s) n h.queue.messages
+by_state-want s caller (calls.Put prio control body) = unless-want _ Eagain refl
+by_state-want s caller (calls.Get wanted cmax dmax) = get-want wanted (at_end caller.side s) (stream caller.side s).head.queue.messages
+by_state-want s caller (calls.Mode mode) = none-want
+by_state-want s caller calls.Nread = none-want
 
 pub call_happens-short : (o : Option Refusal) (p : PlainPair) (caller : Caller) (asked : Request) → is_short (call_happens o p caller asked).answer ≡ is_want o
 unfolding is_want
@@ -157,9 +190,16 @@ flush-enough side what band p = elim (cases_Bool (nat_le band 255)) [
   | inr e ↦ rw (e) (record { not_short = refl; none_left = refl })
 ]
 
+-- a command that names what a call can name, or can't
+named-enough : {A : Type 0} (side : Side) (asked : A → Request) (named : Option A) (p : PlainPair)
+    → AllEnough (by_named side asked named [] p).is_short (by_named side asked named [] p).account
+unfolding by_call
+named-enough side asked None p = record { not_short = refl; none_left = refl }
+named-enough side asked (Some x) p = record { not_short = call-enough p _ (asked x); none_left = refl }
+
 -- a command whose events get their blocks
 pub answered-enough : (command : Command) (pair : Option PlainPair) → AllEnough (answered command [] pair).is_short (answered command [] pair).account
-unfolding answered by_call by_flush by_show by_turn by_run by_open
+unfolding answered by_call by_flush by_put by_get by_show by_turn by_run by_open
 answered-enough (Open blocks) None = open-enough (unwrap_or blocks 256)
 answered-enough (Open blocks) (Some p) = record { not_short = refl; none_left = refl }
 answered-enough (Call side asked) None = record { not_short = refl; none_left = refl }
@@ -167,6 +207,10 @@ answered-enough (Call side asked) (Some p) = record { not_short = call-enough p 
 answered-enough (Flush side what band) None = record { not_short = refl; none_left = refl }
 answered-enough (Flush side what None) (Some p) = record { not_short = call-enough p _ (calls.Flush what None); none_left = refl }
 answered-enough (Flush side what (Some band)) (Some p) = flush-enough side what band p
+answered-enough (Put side prio control body) None = record { not_short = refl; none_left = refl }
+answered-enough (Put side prio control body) (Some p) = named-enough side (λ prio. calls.Put prio control body) (prio_of prio) p
+answered-enough (Get side wanted cmax dmax) None = record { not_short = refl; none_left = refl }
+answered-enough (Get side wanted cmax dmax) (Some p) = named-enough side (λ wanted. calls.Get wanted cmax dmax) (wanted_of wanted) p
 answered-enough (TurnOf name) None = record { not_short = refl; none_left = refl }
 answered-enough (TurnOf name) (Some p) = record { not_short = turn-enough p name; none_left = refl }
 answered-enough (Run n) None = record { not_short = refl; none_left = refl }

@@ -4,7 +4,7 @@ use Rattle.strm_types.specs.Calls.{map_event}
 use Rattle.strm_run.specs.Script as script
 use Rattle.strm_run.specs.ScriptReading as readings
 use Rattle.strm_run.specs.declared.commands.Command.{Command}
-use Rattle.strm_run.specs.declared.commands.Command.TheVariants.{Open, Call, Flush, Turn, Run, Show}
+use Rattle.strm_run.specs.declared.commands.Command.TheVariants.{Open, Call, Flush, Put, Get, Turn, Run, Show}
 use Rattle.strm_run.specs.declared.commands.Reading.{Reading}
 use Rattle.strm_run.specs.declared.commands.Reading.TheVariants.{Silent, Malformed, Spoken}
 
@@ -12,6 +12,9 @@ abbrev pub command_of : Command → script.Command
 command_of (Open blocks) = script.Open blocks
 command_of (Call side event) = script.Call side (map_event (λ bytes. bytes.items) event)
 command_of (Flush side what band) = script.Flush side what band
+command_of (Put side prio control body) =
+    script.Put side prio (option_map (λ bytes. bytes.items) control) (option_map (λ bytes. bytes.items) body)
+command_of (Get side wanted cmax dmax) = script.Get side wanted cmax dmax
 command_of (Turn name) = script.Turn name
 command_of (Run turns) = script.Run turns
 command_of (Show side) = script.Show side

@@ -1,5 +1,5 @@
 -- The commands of a script, and how each is spelled: one command a line, words parted by one space.
-use Rattle.std.specs.Prelude.{◌≡◌, ◌≢◌, ℕ, ◌≤◌, ◌<◌, ◌+◌, ◌-◌, ◌*◌, nat_le, ◌==◌, ◌&&◌, Bool, true, if◌then◌else◌, List, [], ◌∷◌, ◌++◌, length, codes, Option, None, Some}
+use Rattle.std.specs.Prelude.{◌≡◌, ◌≢◌, ℕ, ◌≤◌, ◌<◌, ◌+◌, ◌-◌, ◌*◌, nat_le, ◌==◌, ◌&&◌, Bool, true, if◌then◌else◌, List, [], ◌∷◌, ◌++◌, length, codes, Option, None, Some, ◌⊎◌}
 use Rattle.std.specs.List.{AllByRecursion}
 use Rattle.strm_types.specs.declared.names.Side.{Side}
 use Rattle.strm_types.specs.declared.names.Side.TheVariants.{Master, Slave}
@@ -12,15 +12,25 @@ use Rattle.strm_types.specs.declared.names.ModuleName.{ModuleName}
 use Rattle.strm_types.specs.declared.names.ModuleName.TheVariants as modules
 use Rattle.strm_types.specs.declared.events.FlushQueues.{FlushQueues}
 use Rattle.strm_types.specs.declared.events.FlushQueues.TheVariants as queues
-use Rattle.strm_types.specs.declared.events.Event.TheVariants.{OpenMaster, Unlock, OpenSlave, Shut, Push, Pop, Look, Write, Read}
+use Rattle.strm_types.specs.declared.events.Event.TheVariants.{OpenMaster, Unlock, OpenSlave, Shut, Push, Pop, Look, Write, Read, Nread}
 use Rattle.strm_types.specs.declared.events.Event.TheVariants as calls
+use Rattle.strm_types.specs.declared.modes.Mode.{Mode}
+use Rattle.strm_types.specs.declared.modes.Mode.TheVariants as modes
+use Rattle.strm_types.specs.declared.modes.ReadMode.TheVariants.{ByteStream, MessageKeep, MessageDiscard}
+use Rattle.strm_types.specs.declared.modes.ControlMode.TheVariants.{Refuse, Data, Discard}
 use Rattle.strm_types.specs.Calls.{Request}
+use Rattle.strm_run.specs.declared.commands.NamedPrio.{NamedPrio}
+use Rattle.strm_run.specs.declared.commands.NamedPrio.TheVariants as prios
+use Rattle.strm_run.specs.declared.commands.NamedWanted.{NamedWanted}
+use Rattle.strm_run.specs.declared.commands.NamedWanted.TheVariants as wanteds
 
 -- a command
 pub data Command : Type 0 where
   Open : Option ℕ → Command  -- with so many blocks of each kind, or as many as is usual
   Call : Side → Request → Command  -- on a side's stream
   Flush : Side → FlushQueues → Option ℕ → Command  -- of all bands or of one, whose number may be none that a band has
+  Put : Side → NamedPrio → Option (List ℕ) → Option (List ℕ) → Command  -- of a control part and a data part, each there or absent
+  Get : Side → NamedWanted → ℕ → ℕ → Command  -- of at most so many bytes of the control part, and of the data part
   Turn : QueueName → Command
   Run : ℕ → Command  -- so many turns at most
   Show : Side → Command  -- what stands on the queues of a side's stream
@@ -64,6 +74,19 @@ abbrev pub flush_name : FlushQueues → List ℕ
 flush_name queues.Read = codes "r"
 flush_name queues.Write = codes "w"
 flush_name queues.Both = codes "rw"
+
+-- the word of a mode that I_SRDOPT of streamio(7I) sets: RNORM, RMSGN, RMSGD, RPROTNORM, RPROTDAT, RPROTDIS
+abbrev pub mode_name : Mode → List ℕ
+mode_name (modes.Read ByteStream) = codes "norm"
+mode_name (modes.Read MessageKeep) = codes "msgn"
+mode_name (modes.Read MessageDiscard) = codes "msgd"
+mode_name (modes.Control Refuse) = codes "protnorm"
+mode_name (modes.Control Data) = codes "protdat"
+mode_name (modes.Control Discard) = codes "protdis"
+
+-- the most bytes of each part that a get takes where a script names no sizes
+abbrev pub usual_size : ℕ
+usual_size = 1024
 
 -- the value of a decimal digit
 unfoldable pub digit_of : ℕ → Option ℕ
@@ -141,13 +164,56 @@ abbrev pub IsFlush : Side → FlushQueues → Option ℕ → List ℕ → Type 0
 IsFlush side what None line = line ≡ with_side (codes "flush ") side ++ flush_name what
 IsFlush side what (Some n) line = IsWithNumber (with_side (codes "flush ") side ++ (flush_name what ++ codes " ")) n line
 
+-- a priority: `hi`, or the number of a band
+abbrev pub IsPrio : NamedPrio → List ℕ → Type 0
+IsPrio prios.High word = word ≡ codes "hi"
+IsPrio (prios.Band n) word = IsNumber word n
+
+-- which message is wanted: `any`, `hi`, or the number of a band
+abbrev pub IsWanted : NamedWanted → List ℕ → Type 0
+IsWanted wanteds.Any word = word ≡ codes "any"
+IsWanted wanteds.High word = word ≡ codes "hi"
+IsWanted (wanteds.Band n) word = IsNumber word n
+
+-- a part of a message: `-` where it is absent, else its text in quotes
+abbrev pub IsPart : Option (List ℕ) → List ℕ → Type 0
+IsPart None word = word ≡ codes "-"
+IsPart (Some text) word = IsWithText [] text word
+
+-- a put: a priority, a control part and a data part
+pub record IsPut (side : Side) (prio : NamedPrio) (control body : Option (List ℕ)) (line : List ℕ) : Type 0 where
+  pub first : List ℕ
+  pub second : List ℕ
+  pub third : List ℕ
+  pub prio_is : IsPrio prio first
+  pub control_is : IsPart control second
+  pub body_is : IsPart body third
+  pub line_is : line ≡ with_side (codes "put ") side ++ (first ++ (codes " " ++ (second ++ (codes " " ++ third))))
+
+-- a get of a message that is named, with a size for each part
+pub record IsGetOf (side : Side) (wanted : NamedWanted) (cmax dmax : ℕ) (line : List ℕ) : Type 0 where
+  pub first : List ℕ
+  pub second : List ℕ
+  pub third : List ℕ
+  pub wanted_is : IsWanted wanted first
+  pub cmax_is : IsNumber second cmax
+  pub dmax_is : IsNumber third dmax
+  pub line_is : line ≡ with_side (codes "get ") side ++ (first ++ (codes " " ++ (second ++ (codes " " ++ third))))
+
+-- a get of any message, with the usual sizes
+pub record IsUsualGet (side : Side) (wanted : NamedWanted) (cmax dmax : ℕ) (line : List ℕ) : Type 0 where
+  pub wanted_is : wanted ≡ wanteds.Any
+  pub cmax_is : cmax ≡ usual_size
+  pub dmax_is : dmax ≡ usual_size
+  pub line_is : line ≡ codes "get " ++ side_name side
+
 -- a push of a module, or of a name that no module has
 abbrev pub IsPush : Side → Option ModuleName → List ℕ → Type 0
 IsPush side (Some known) line = line ≡ with_side (codes "push ") side ++ module_name known
 IsPush side None line = (name : List ℕ) × IsUnknown name × (line ≡ with_side (codes "push ") side ++ name)
 
--- How a call on a side's stream is spelled. What opens the master is `open`, which also makes the pair; a flush is a
--- command of its own.
+-- How a call on a side's stream is spelled. What opens the master is `open`, which also makes the pair; a flush, a put and a
+-- get are commands of their own, and nothing spells I_NREAD.
 abbrev pub IsCall : Side → Request → List ℕ → Type 0
 IsCall side OpenMaster line = ⊥
 IsCall side Unlock line = (side ≡ Master) × (line ≡ codes "unlock")
@@ -159,6 +225,10 @@ IsCall side Look line = line ≡ codes "look " ++ side_name side
 IsCall side (calls.Flush what band) line = ⊥
 IsCall side (Write text) line = IsWithText (with_side (codes "write ") side) text line
 IsCall side (Read n) line = IsWithNumber (with_side (codes "read ") side) n line
+IsCall side (calls.Put prio control body) line = ⊥
+IsCall side (calls.Get wanted cmax dmax) line = ⊥
+IsCall side (calls.Mode mode) line = line ≡ with_side (codes "mode ") side ++ mode_name mode
+IsCall side Nread line = ⊥
 
 -- how a command is spelled
 abbrev pub IsSpelled : Command → List ℕ → Type 0
@@ -166,6 +236,8 @@ IsSpelled (Open None) line = line ≡ codes "open"
 IsSpelled (Open (Some n)) line = IsWithNumber (codes "open ") n line
 IsSpelled (Call side asked) line = IsCall side asked line
 IsSpelled (Flush side what band) line = IsFlush side what band line
+IsSpelled (Put side prio control body) line = IsPut side prio control body line
+IsSpelled (Get side wanted cmax dmax) line = IsUsualGet side wanted cmax dmax line ⊎ IsGetOf side wanted cmax dmax line
 IsSpelled (Turn name) line = line ≡ codes "turn " ++ queue_name name
 IsSpelled (Run n) line = IsWithNumber (codes "run ") n line
 IsSpelled (Show side) line = line ≡ codes "show " ++ side_name side

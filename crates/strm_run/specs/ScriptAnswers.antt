@@ -1,12 +1,15 @@
 -- The answer lines of a script.
-use Rattle.std.specs.Prelude.{ℕ, ◌/◌, ◌%◌, ◌+◌, nat_lt, nat_le, ◌==◌, ◌&&◌, ◌||◌, Bool, if◌then◌else◌, List, [], ◌∷◌, ◌++◌, length, codes, Result, Ok, Err}
+use Rattle.std.specs.Prelude.{ℕ, ◌/◌, ◌%◌, ◌+◌, nat_lt, nat_le, ◌==◌, ◌&&◌, ◌||◌, Bool, true, false, if◌then◌else◌, List, [], ◌∷◌, ◌++◌, length, codes, Option, None, Some, Result, Ok, Err}
 use Rattle.std.specs.List.{flat_map}
 use Rattle.std.specs.Fmt.{decimal}
 use Rattle.strm_types.specs.declared.answers.Turn.{Turn}
 use Rattle.strm_types.specs.declared.answers.Turn.TheVariants.{Moved, Blocked, Idle}
 use Rattle.strm_types.specs.declared.refusals.Refusal.{Refusal}
 use Rattle.strm_types.specs.declared.refusals.Refusal.TheVariants.{Einval, Eagain, Enxio, Ebadmsg, Enosr, Erange, JournalFull, NoMinor, NoMemory, StillShared}
-use Rattle.strm_types.specs.declared.answers.Answer.TheVariants.{Done, Name, Count, Bytes}
+use Rattle.strm_types.specs.declared.answers.Answer.TheVariants.{Done, Name, Count, Bytes, Msg}
+use Rattle.strm_types.specs.declared.answers.Answer.TheVariants as answers
+use Rattle.strm_types.specs.declared.modes.Prio.{Prio}
+use Rattle.strm_types.specs.declared.modes.Prio.TheVariants.{High, Band}
 use Rattle.strm_types.specs.declared.names.ModuleName.{ModuleName}
 use Rattle.strm_types.specs.declared.names.Side.{Side}
 use Rattle.strm_types.specs.Calls.{Reply}
@@ -19,6 +22,8 @@ pub data Line : Type 0 where
   Named : ModuleName → Line
   Number : ℕ → Line
   Text : List ℕ → Line
+  Message : Prio → Option (List ℕ) → Option (List ℕ) → Bool → Bool → Line  -- its parts, and whether there is more of each
+  Waiting : ℕ → ℕ → Line  -- bytes of the first message, and messages; no command asks for them
   Held : Line
   Empty : Line
   Ran : ℕ → Line
@@ -67,12 +72,32 @@ refusal_name StillShared = codes "StillShared"
 abbrev pub size_text : QueueSize → List ℕ
 size_text size = queue_in_stream size.name ++ (codes " " ++ (decimal size.messages ++ (codes " " ++ decimal size.bytes)))
 
+-- `hi`, or the number of a band
+abbrev pub prio_text : Prio → List ℕ
+prio_text High = codes "hi"
+prio_text (Band band) = decimal band.0
+
+-- a part of a message: its text in quotes, which may be empty, or `-` where it is absent
+abbrev pub part_text : Option (List ℕ) → List ℕ
+part_text None = codes "-"
+part_text (Some bytes) = quoted bytes
+
+-- what there is more of: `c` of the control part, `d` of the data part, `-` for neither
+abbrev pub more_text : Bool → Bool → List ℕ
+more_text false false = codes "-"
+more_text true false = codes "c"
+more_text false true = codes "d"
+more_text true true = codes "cd"
+
 -- the text of an answer line
 unfoldable pub line_text : Line → List ℕ
 line_text Plain = codes "ok"
 line_text (Named known) = codes "name " ++ module_name known
 line_text (Number n) = codes "ok " ++ decimal n
 line_text (Text bytes) = codes "data " ++ decimal (length bytes) ++ codes " " ++ quoted bytes
+line_text (Message prio control body more_control more_data) =
+    codes "msg " ++ (prio_text prio ++ (codes " " ++ (part_text control ++ (codes " " ++ (part_text body ++ (codes " " ++ more_text more_control more_data))))))
+line_text (Waiting first messages) = codes "ok " ++ (decimal first ++ (codes " " ++ decimal messages))
 line_text Held = codes "blocked"
 line_text Empty = codes "idle"
 line_text (Ran n) = codes "ran " ++ decimal n
@@ -90,6 +115,8 @@ reply_line (Ok Done) = Plain
 reply_line (Ok (Name known)) = Named known
 reply_line (Ok (Count n)) = Number n
 reply_line (Ok (Bytes bytes)) = Text bytes
+reply_line (Ok (Msg prio control body more_control more_data)) = Message prio control body more_control more_data
+reply_line (Ok (answers.Sizes first messages)) = Waiting first messages
 reply_line (Err refusal) = Refused refusal
 
 -- what a turn is answered by

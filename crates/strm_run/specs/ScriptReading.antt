@@ -1,6 +1,6 @@
 -- What a line of a script says, computed. `IsSpelled` says the same without an order of reading; that the two agree is
 -- the contract of public functions of the crate that reads scripts.
-use Rattle.std.specs.Prelude.{ℕ, ◌+◌, ◌*◌, nat_lt, nat_le, ◌==◌, ◌&&◌, ◌||◌, Bool, true, false, if◌then◌else◌, List, [], ◌∷◌, ◌++◌, length, codes, Option, None, Some, option_map}
+use Rattle.std.specs.Prelude.{ℕ, ◌+◌, ◌*◌, nat_lt, nat_le, ◌==◌, ◌&&◌, ◌||◌, suc, Bool, true, false, if◌then◌else◌, List, [], ◌∷◌, ◌++◌, length, take, drop, codes, Option, None, Some, option_map}
 use Rattle.std.specs.List.{position_or_len, list_all}
 use Rattle.strm_types.specs.declared.names.Side.{Side}
 use Rattle.strm_types.specs.declared.names.Side.TheVariants.{Master, Slave}
@@ -14,7 +14,16 @@ use Rattle.strm_types.specs.declared.names.ModuleName.TheVariants as modules
 use Rattle.strm_types.specs.declared.events.FlushQueues.{FlushQueues}
 use Rattle.strm_types.specs.declared.events.FlushQueues.TheVariants as queues
 use Rattle.strm_types.specs.declared.events.Event.TheVariants.{Unlock, OpenSlave, Shut, Push, Pop, Look, Write, Read}
-use Rattle.strm_run.specs.Script.{Command, Open, Call, Flush, Turn, Run, Show, line_max, number_max, digit_of, is_letter, hex_of, escaped, is_silent}
+use Rattle.strm_types.specs.declared.events.Event.TheVariants as calls
+use Rattle.strm_types.specs.declared.modes.Mode.{Mode as HeadMode}
+use Rattle.strm_types.specs.declared.modes.Mode.TheVariants as modes
+use Rattle.strm_types.specs.declared.modes.ReadMode.TheVariants.{ByteStream, MessageKeep, MessageDiscard}
+use Rattle.strm_types.specs.declared.modes.ControlMode.TheVariants.{Refuse, Data, Discard}
+use Rattle.strm_run.specs.declared.commands.NamedPrio.{NamedPrio}
+use Rattle.strm_run.specs.declared.commands.NamedPrio.TheVariants as prios
+use Rattle.strm_run.specs.declared.commands.NamedWanted.{NamedWanted}
+use Rattle.strm_run.specs.declared.commands.NamedWanted.TheVariants as wanteds
+use Rattle.strm_run.specs.Script.{Command, Open, Call, Flush, Put, Get, Turn, Run, Show, usual_size, line_max, number_max, digit_of, is_letter, hex_of, escaped, is_silent}
 
 -- what a line says
 pub data Reading : Type 0 where
@@ -68,6 +77,16 @@ number_from value (b ∷ digits) =
 unfoldable pub number_in : List ℕ → Option ℕ
 number_in digits = if nat_lt 0 (length digits) && nat_le (length digits) 10 then number_from 0 digits else None
 
+-- a space, at which a word ends
+abbrev pub is_space : ℕ → Bool
+is_space b = b == 32
+
+-- the number that a word at the front spells, and what follows the word
+unfoldable pub number_at : List ℕ → Option (Front ℕ)
+number_at line =
+    let n = position_or_len is_space line in
+    option_map (λ number. record { value = number; rest = drop n line }) (number_in (take n line))
+
 -- how far the spelling of a text has come
 pub data Mode : Type 0 where
   Inside : Mode  -- between two pieces
@@ -119,6 +138,29 @@ text_from mode (b ∷ spelled) =
 -- the text in quotes that the bytes spell
 unfoldable pub text_in : List ℕ → Option (List ℕ)
 text_in line = and_then (text_from Inside) (after (codes "\"") line)
+
+-- how many bytes are left of a text in quotes: up to and with the first quote before which no backslash stands, or all where there
+-- is none. The flag says whether a backslash stands before them.
+unfoldable pub quoted_len : Bool → List ℕ → ℕ
+quoted_len escaped [] = 0
+quoted_len true (b ∷ bytes) = suc (quoted_len false bytes)
+quoted_len false (b ∷ bytes) = if b == 34 then 1 else suc (quoted_len (b == 92) bytes)
+
+-- the text that bytes spell up to the quote at its end, and what follows it
+unfoldable pub inside_at : List ℕ → Option (Front (List ℕ))
+inside_at line =
+    let n = quoted_len false line in
+    option_map (λ text. record { value = text; rest = drop n line }) (text_from Inside (take n line))
+
+-- a text in quotes at the front, and what follows it
+unfoldable pub text_at : List ℕ → Option (Front (List ℕ))
+text_at line = and_then inside_at (after (codes "\"") line)
+
+-- a part of a message at the front, which may be absent
+unfoldable pub part_at : List ℕ → Option (Front (Option (List ℕ)))
+part_at line =
+    either_of (before (codes "-") None line)
+    (option_map (λ (text : Front (List ℕ)). record { value = Some text.value; rest = text.rest }) (text_at line))
 
 -- a side, a place or a way, at the front
 unfoldable pub side_in : List ℕ → Option (Front Side)
@@ -172,6 +214,29 @@ flush_queues_in line =
 unfoldable pub band_in : List ℕ → Option (Option ℕ)
 band_in line = either_of (at_end None line) (option_map (λ n. Some n) (and_then number_in (after (codes " ") line)))
 
+-- a priority at the front
+unfoldable pub prio_at : List ℕ → Option (Front NamedPrio)
+prio_at line =
+    either_of (before (codes "hi") prios.High line)
+    (option_map (λ (band : Front ℕ). record { value = prios.Band band.value; rest = band.rest }) (number_at line))
+
+-- which message is wanted, at the front
+unfoldable pub wanted_at : List ℕ → Option (Front NamedWanted)
+wanted_at line =
+    either_of (before (codes "any") wanteds.Any line)
+    (either_of (before (codes "hi") wanteds.High line)
+    (option_map (λ (band : Front ℕ). record { value = wanteds.Band band.value; rest = band.rest }) (number_at line)))
+
+-- the mode whose word a text is
+unfoldable pub mode_in : List ℕ → Option HeadMode
+mode_in line =
+    either_of (whole (codes "norm") (modes.Read ByteStream) line)
+    (either_of (whole (codes "msgn") (modes.Read MessageKeep) line)
+    (either_of (whole (codes "msgd") (modes.Read MessageDiscard) line)
+    (either_of (whole (codes "protnorm") (modes.Control Refuse) line)
+    (either_of (whole (codes "protdat") (modes.Control Data) line)
+    (whole (codes "protdis") (modes.Control Discard) line)))))
+
 -- each command where the line spells it
 unfoldable pub open_in : List ℕ → Option Command
 open_in line =
@@ -184,9 +249,12 @@ named_in line =
     either_of (whole (codes "unlock") (Call Master Unlock) line)
     (whole (codes "slave") (Call Slave OpenSlave) line)
 
--- what stands behind a side and a space
+-- what stands behind a value and a space, and so behind a side
+abbrev pub behind : {A : Type 0} → (A → List ℕ → Option Command) → Option (Front A) → Option Command
+behind inside found = and_then (λ front. and_then (inside front.value) (after (codes " ") front.rest)) found
+
 abbrev pub behind_side : (Side → List ℕ → Option Command) → List ℕ → Option Command
-behind_side inside line = and_then (λ side. and_then (inside side.value) (after (codes " ") side.rest)) (side_in line)
+behind_side inside line = behind inside (side_in line)
 
 unfoldable pub write_in : List ℕ → Option Command
 write_in line =
@@ -235,6 +303,51 @@ stream_in line =
     (either_of (flush_in line)
     (show_in line)))
 
+-- a put of this priority and control part, where a data part and nothing else follows
+abbrev pub body_put : Side → NamedPrio → Option (List ℕ) → List ℕ → Option Command
+body_put side prio control line =
+    and_then (λ (body : Front (Option (List ℕ))). at_end (Put side prio control body.value) body.rest) (part_at line)
+
+-- a put of this priority, where its parts follow
+abbrev pub parts_put : Side → NamedPrio → List ℕ → Option Command
+parts_put side prio line = behind (body_put side prio) (part_at line)
+
+abbrev pub put_on : Side → List ℕ → Option Command
+put_on side line = behind (parts_put side) (prio_at line)
+
+unfoldable pub put_in : List ℕ → Option Command
+put_in line = and_then (behind_side put_on) (after (codes "put ") line)
+
+-- a get of what is wanted, where the size of each part follows
+abbrev pub size_got : Side → NamedWanted → ℕ → List ℕ → Option Command
+size_got side wanted cmax line = option_map (λ dmax. Get side wanted cmax dmax) (number_in line)
+
+abbrev pub sizes_got : Side → NamedWanted → List ℕ → Option Command
+sizes_got side wanted line = behind (size_got side wanted) (number_at line)
+
+abbrev pub get_of : Side → List ℕ → Option Command
+get_of side line = behind (sizes_got side) (wanted_at line)
+
+-- a get on a side, of any message where nothing follows
+abbrev pub get_on : Front Side → Option Command
+get_on side =
+    either_of (at_end (Get side.value wanteds.Any usual_size usual_size) side.rest)
+    (and_then (get_of side.value) (after (codes " ") side.rest))
+
+unfoldable pub get_in : List ℕ → Option Command
+get_in line = and_then get_on (and_then side_in (after (codes "get ") line))
+
+unfoldable pub set_mode_in : List ℕ → Option Command
+set_mode_in line =
+    and_then (behind_side (λ side rest. option_map (λ mode. Call side (calls.Mode mode)) (mode_in rest))) (after (codes "mode ") line)
+
+-- what a side's stream is asked for about messages
+unfoldable pub message_in : List ℕ → Option Command
+message_in line =
+    either_of (put_in line)
+    (either_of (get_in line)
+    (set_mode_in line))
+
 -- the command that a line spells
 unfoldable pub command_in : List ℕ → Option Command
 command_in line =
@@ -244,7 +357,8 @@ command_in line =
     (either_of (read_in line)
     (either_of (turn_in line)
     (either_of (run_in line)
-    (stream_in line))))))
+    (either_of (stream_in line)
+    (message_in line)))))))
 
 -- the command, if the line is well formed
 abbrev pub spoken : Option Command → Reading

@@ -1,5 +1,5 @@
 -- What a script writes: its answers, in the order of its lines.
-use Rattle.std.specs.Prelude.{ℕ, zero, suc, nat_le, ◌&&◌, ◌||◌, ◌==◌, Bool, true, false, if◌then◌else◌, List, [], ◌∷◌, ◌++◌, length, map, Option, None, Some, Result, Ok, Err, unwrap_or, slice_get}
+use Rattle.std.specs.Prelude.{ℕ, zero, suc, nat_le, ◌&&◌, ◌||◌, ◌==◌, Bool, true, false, if◌then◌else◌, List, [], ◌∷◌, ◌++◌, length, map, Option, None, Some, option_map, Result, Ok, Err, unwrap_or, slice_get}
 use Rattle.strm_types.specs.declared.limits.Config.{Config}
 use Rattle.strm_types.specs.declared.answers.Turn.{Turn}
 use Rattle.strm_types.specs.declared.events.Caller.{Caller}
@@ -15,15 +15,24 @@ use Rattle.strm_types.specs.declared.events.FlushQueues.{FlushQueues}
 use Rattle.strm_pair.specs.Shows.{messages_at}
 use Rattle.strm_types.specs.declared.entries.Entry.TheVariants.{Called, Turned}
 use Rattle.strm_types.specs.declared.events.Event.TheVariants as calls
+use Rattle.strm_types.specs.declared.kinds.Band as bands
+use Rattle.strm_types.specs.declared.modes.Prio.{Prio}
+use Rattle.strm_types.specs.declared.modes.Prio.TheVariants as sent
+use Rattle.strm_types.specs.declared.modes.Wanted.{Wanted}
+use Rattle.strm_types.specs.declared.modes.Wanted.TheVariants as wanted
 use Rattle.strm_types.specs.Cells.{plain}
 use Rattle.strm_types.specs.Turns.{turned, whole_turn}
 use Rattle.strm_types.specs.Calls.{Request, Reply, called}
 use Rattle.strm_types.specs.Journal.{PlainEntry}
 use Rattle.strm_types.specs.Refused.{refused, turn_refused, blocks_asked}
-use Rattle.strm_run.specs.Script.{Command, Open, Call, Flush, Turn as TurnOf, Run, Show, lines_of}
+use Rattle.strm_run.specs.Script.{Command, Open, Call, Flush, Put, Get, Turn as TurnOf, Run, Show, lines_of}
 use Rattle.strm_run.specs.ScriptReading.{Silent, Malformed, Spoken, reading}
 use Rattle.strm_run.specs.ScriptAnswers.{Line, Sizes, Refused, Wrong, Ran, printed_line, reply_line, turn_line}
 use Rattle.strm_run.specs.declared.answers.QueueSize.{QueueSize}
+use Rattle.strm_run.specs.declared.commands.NamedPrio.{NamedPrio}
+use Rattle.strm_run.specs.declared.commands.NamedPrio.TheVariants as prios
+use Rattle.strm_run.specs.declared.commands.NamedWanted.{NamedWanted}
+use Rattle.strm_run.specs.declared.commands.NamedWanted.TheVariants as wanteds
 
 -- What the pool of blocks had for an event. An account says it of each call and each turn of a script, in their order;
 -- behind its end the pool has enough.
@@ -138,6 +147,32 @@ by_flush side what (Some band) account p =
     then by_call (record { side = side }) (calls.Flush what (Some (record { 0 = band }))) account p
     else unanswered Einval (Some p) account
 
+-- the band of a number that a call can name: none above 255
+unfoldable pub band_of : ℕ → Option bands.Band
+band_of n = if nat_le n 255 then Some (record { 0 = n }) else None
+
+-- the priority of a put, and the message that a get wants, where a call can name them
+abbrev pub prio_of : NamedPrio → Option Prio
+prio_of prios.High = Some sent.High
+prio_of (prios.Band n) = option_map sent.Band (band_of n)
+
+abbrev pub wanted_of : NamedWanted → Option Wanted
+wanted_of wanteds.Any = Some wanted.Any
+wanted_of wanteds.High = Some wanted.High
+wanted_of (wanteds.Band n) = option_map wanted.Band (band_of n)
+
+-- a call by a command, where what the command names is what a call can name, else it is refused before any call
+abbrev pub by_named : {A : Type 0} → Side → (A → Request) → Option A → List Supply → PlainPair → Answered
+by_named side asked None account p = unanswered Einval (Some p) account
+by_named side asked (Some x) account p = by_call (record { side = side }) (asked x) account p
+
+-- a put and a get by a command; a band above 255 is refused before any call
+unfoldable pub by_put : Side → NamedPrio → Option (List ℕ) → Option (List ℕ) → List Supply → PlainPair → Answered
+by_put side prio control body account p = by_named side (λ prio. calls.Put prio control body) (prio_of prio) account p
+
+unfoldable pub by_get : Side → NamedWanted → ℕ → ℕ → List Supply → PlainPair → Answered
+by_get side wanted cmax dmax account p = by_named side (λ wanted. calls.Get wanted cmax dmax) (wanted_of wanted) account p
+
 -- the queues of a side's stream, from the head down
 abbrev pub queues_down : Side → List QueueName
 queues_down side = head_of side ∷ driver_of side ∷ []
@@ -218,6 +253,8 @@ answered (Open blocks) account None = by_open (unwrap_or blocks usual_blocks) ac
 answered (Open blocks) account (Some p) = unanswered Einval (Some p) account
 answered (Call side asked) account pair = with_pair (by_call (record { side = side }) asked) account pair
 answered (Flush side what band) account pair = with_pair (by_flush side what band) account pair
+answered (Put side prio control body) account pair = with_pair (by_put side prio control body) account pair
+answered (Get side wanted cmax dmax) account pair = with_pair (by_get side wanted cmax dmax) account pair
 answered (TurnOf name) account pair = with_pair (by_turn name) account pair
 answered (Run n) account pair = with_pair (by_run n) account pair
 answered (Show side) account pair = with_pair (by_show side) account pair

@@ -1,13 +1,15 @@
 //! The answer lines of a script, as they are printed.
 
-ghost use Rattle.std.specs.Prelude.{◌≡◌, ◌<◌, Some, take};
+ghost use Rattle.std.specs.Prelude.{◌≡◌, ◌<◌, Some, Ok, take, drop, option_map};
 ghost use Rattle.std.specs.List.{position_from, position_or_len};
 ghost use Rattle.strm_run.specs.Script.{side_name, place_name, way_name, module_name};
+ghost use Rattle.strm_types.specs.Journal.{part_in, reply_in};
 ghost use Rattle.strm_run.specs.ScriptAnswers.{hex_digit, is_escaped, printed, quoted, size_text, line_text, refusal_name};
+ghost use Rattle.strm_run.specs.ScriptAnswers.{prio_text, part_text, more_text, reply_line};
 ghost use Rattle.strm_run.specs.Lines.{line_of};
 
 use std::fmt;
-use strm_types::{Answer, ModuleName, Place, QueueName, Refusal, Side, Turn, Way};
+use strm_types::{Answer, ModuleName, Place, Prio, QueueName, Refusal, Side, Turn, Way};
 
 /// How much stands on a queue: how many messages, and how many bytes they have.
 #[derive(Clone, Copy)]
@@ -38,7 +40,7 @@ pub enum Line {
     Wrong(u64),
 }
 
-/// An answer line with the bytes that a call gave, as it is printed.
+/// An answer line with the bytes that a call gave, as it is printed. A length beyond them is that of all.
 #[derive(Clone, Copy)]
 pub struct Shown<'a> {
     pub line: &'a Line,
@@ -218,22 +220,143 @@ impl fmt::Display for QueueSize {
     }
 }
 
+/// So many bytes in front, or all where there are fewer.
+fn front(bytes: &[u8], len: usize) -> &[u8]
+    ensures { result.now ≡ take len bytes.now }
+{
+    &bytes[..len.min(bytes.len())]
+}
+
+/// What follows so many bytes.
+fn behind(bytes: &[u8], len: usize) -> &[u8]
+    ensures { result.now ≡ drop len bytes.now }
+{
+    &bytes[len.min(bytes.len())..]
+}
+
+/// A part over its bytes, which stand in front.
+fn part(stored: Option<usize>, bytes: &[u8]) -> Option<&[u8]>
+    ensures { option_map (λ bytes. bytes.now) result ≡ part_in stored bytes.now }
+{
+    match stored {
+        Some(len) => Some(front(bytes, len)),
+        None => None,
+    }
+}
+
+/// The priority of a message, as it is printed.
+#[derive(Drop)]
+struct ShownPrio(Prio);
+
+impl fmt::Display for ShownPrio {
+    ghost output = { λ p. Some (prio_text p.0) };
+
+    fn fmt<W: fmt::Write>(&self, f: &mut fmt::Formatter<W>) -> fmt::Result {
+        match self.0 {
+            Prio::High => write!(f, "hi"),
+            Prio::Band(band) => {
+                let number = band.0;
+                write!(f, "{number}")
+            }
+        }
+    }
+}
+
+/// A part of a message, as it is printed.
+#[derive(Drop)]
+struct ShownPart<'a>(Option<&'a [u8]>);
+
+impl fmt::Display for ShownPart<'_> {
+    ghost output = { λ p. Some (part_text (option_map (λ bytes. bytes.now) p.0)) };
+
+    fn fmt<W: fmt::Write>(&self, f: &mut fmt::Formatter<W>) -> fmt::Result {
+        match self.0 {
+            Some(bytes) => {
+                let text = Quoted(bytes);
+                write!(f, "{text}")
+            }
+            None => write!(f, "-"),
+        }
+    }
+}
+
+/// What there is more of in a message, as it is printed.
+#[derive(Drop)]
+struct More {
+    control: bool,
+    body: bool,
+}
+
+impl fmt::Display for More {
+    ghost output = { λ more. Some (more_text more.control more.body) };
+
+    fn fmt<W: fmt::Write>(&self, f: &mut fmt::Formatter<W>) -> fmt::Result {
+        match (self.control, self.body) {
+            (false, false) => write!(f, "-"),
+            (true, false) => write!(f, "c"),
+            (false, true) => write!(f, "d"),
+            (true, true) => write!(f, "cd"),
+        }
+    }
+}
+
+/// What a call was answered, with the bytes that it gave, as it is printed.
+#[derive(Drop)]
+struct ShownAnswer<'a> {
+    answer: &'a Answer<usize>,
+    bytes: &'a [u8],
+}
+
+impl fmt::Display for ShownAnswer<'_> {
+    ghost output = { λ shown. Some (line_text (reply_line (Ok (reply_in shown.answer.now shown.bytes.now)))) };
+
+    #[tactic(auto, unfolding(crate::specs::ScriptAnswers::line_text))]
+    fn fmt<W: fmt::Write>(&self, f: &mut fmt::Formatter<W>) -> fmt::Result {
+        match self.answer {
+            Answer::Done => write!(f, "ok"),
+            Answer::Name(module) => {
+                let module = module_name(*module);
+                write!(f, "name {module}")
+            }
+            Answer::Count(n) => write!(f, "ok {n}"),
+            Answer::Bytes(len) => {
+                let bytes = front(self.bytes, *len);
+                let count = bytes.len();
+                let text = Quoted(bytes);
+                write!(f, "data {count} {text}")
+            }
+            Answer::Msg {
+                prio,
+                control,
+                body,
+                more_control,
+                more_data,
+            } => {
+                let prio = ShownPrio(*prio);
+                let data = behind(self.bytes, control.unwrap_or(0));
+                let body = ShownPart(part(*body, data));
+                let control = ShownPart(part(*control, self.bytes));
+                let more = More {
+                    control: *more_control,
+                    body: *more_data,
+                };
+                write!(f, "msg {prio} {control} {body} {more}")
+            }
+            Answer::Sizes { first, messages } => write!(f, "ok {first} {messages}"),
+        }
+    }
+}
+
 impl fmt::Display for Shown<'_> {
     ghost output = { λ shown. Some (line_text (line_of shown.bytes.now shown.line.now)) };
 
     #[tactic(auto, unfolding(crate::specs::ScriptAnswers::line_text))]
     fn fmt<W: fmt::Write>(&self, f: &mut fmt::Formatter<W>) -> fmt::Result {
         match self.line {
-            Line::Done(Answer::Done) => write!(f, "ok"),
-            Line::Done(Answer::Name(module)) => {
-                let module = module_name(*module);
-                write!(f, "name {module}")
-            }
-            Line::Done(Answer::Count(n)) => write!(f, "ok {n}"),
-            Line::Done(Answer::Bytes(_)) => {
-                let count = self.bytes.len();
-                let text = Quoted(self.bytes);
-                write!(f, "data {count} {text}")
+            Line::Done(answer) => {
+                let bytes = self.bytes;
+                let shown = ShownAnswer { answer, bytes };
+                write!(f, "{shown}")
             }
             Line::Turned(Turn::Moved(n)) => write!(f, "ok {n}"),
             Line::Turned(Turn::Blocked) => write!(f, "blocked"),

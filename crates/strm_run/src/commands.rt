@@ -2,6 +2,21 @@
 
 use strm_types::{Event, FlushQueues, QueueName, Side};
 
+/// A priority, as a script names it. The number may be none that a band has.
+#[derive(Clone, Copy)]
+pub enum NamedPrio {
+    High,
+    Band(u32),
+}
+
+/// Which message a `get` asks for, as a script names it. The number may be none that a band has.
+#[derive(Clone, Copy)]
+pub enum NamedWanted {
+    Any,
+    High,
+    Band(u32),
+}
+
 /// A command, as a line of a script gives it.
 #[derive(Drop)]
 pub enum Command {
@@ -19,6 +34,20 @@ pub enum Command {
         side: Side,
         what: FlushQueues,
         band: Option<u32>,
+    },
+    /// Sends a message down a side's stream.
+    Put {
+        side: Side,
+        prio: NamedPrio,
+        control: Option<Vec<u8>>,
+        body: Option<Vec<u8>>,
+    },
+    /// Takes the first message from a side's stream head, at most so many bytes of each part.
+    Get {
+        side: Side,
+        wanted: NamedWanted,
+        cmax: u32,
+        dmax: u32,
     },
     /// Gives a queue its turn.
     Turn {

@@ -13,7 +13,7 @@ use crate::session::answer;
 use std::alloc::{AllocError, Global};
 use strm_blocks::TableStore;
 use strm_pair::Pair;
-use strm_types::ReadBytes;
+use strm_types::Content;
 
 /// Why a script ends before its input does.
 #[derive(Clone, Copy)]
@@ -38,7 +38,7 @@ pub struct Engine {
     /// The answers that aren't written yet.
     pub answers: Vec<u8>,
     /// The bytes that the last call gave.
-    pub out: ReadBytes,
+    pub out: Content,
 }
 
 /// Puts an answer line behind the others. Want of memory changes nothing.
@@ -65,7 +65,7 @@ impl Engine {
             line: Vec::new(alloc),
             short: None,
             answers: Vec::new(alloc),
-            out: ReadBytes::new(),
+            out: Content::new(),
         }
     }
 

@@ -5,18 +5,24 @@ ghost use Rattle.strm_run.specs.Script as script;
 ghost use Rattle.strm_run.specs.Script.{IsSpelled};
 ghost use Rattle.strm_run.specs.ScriptReading.{open_in, named_in, write_in, read_in, turn_in, run_in};
 ghost use Rattle.strm_run.specs.ScriptReading.{sided_call_in, push_in, flush_in, show_in, stream_in};
+ghost use Rattle.strm_run.specs.ScriptReading.{parts_put, put_in, get_of, get_in, set_mode_in, message_in};
 ghost use Rattle.strm_run.specs.ScriptReading.{command_in, reading, Spoken};
 ghost use Rattle.strm_run.specs.Commands.{commands_of, reading_of};
 
-use crate::commands::{Command, Reading};
-use crate::numbers::number;
-use crate::texts::text;
-use crate::words::{after, band, flush_queues, is_name, module, queue, side, side_behind};
+use crate::commands::{Command, NamedPrio, NamedWanted, Reading};
+use crate::numbers::{number, number_at};
+use crate::texts::{part, text};
+use crate::words::{
+    after, band, flush_queues, is_name, mode, module, prio, queue, side, side_behind, wanted,
+};
 use std::alloc::{AllocError, Global};
 use strm_types::{Event, Side};
 
 /// The most bytes of a line, without its LF.
 pub const LINE_MAX: usize = 4096;
+
+/// The most bytes of each part that a `get` takes where a script names no sizes.
+const USUAL_SIZE: u32 = 1024;
 
 /// `open`, or `open N`.
 #[tactic(auto, unfolding(crate::specs::ScriptReading::open_in))]
@@ -168,6 +174,115 @@ fn of_stream(line: &[u8]) -> Option<Command>
     show(line)
 }
 
+/// A put of this side and priority, where its parts follow.
+fn put_parts(
+    alloc: Global,
+    side: Side,
+    prio: NamedPrio,
+    line: &[u8],
+) -> Result<Option<Command>, AllocError>
+    ensures { IfOk result (λ found. commands_of found ≡ parts_put side prio line.now) }
+{
+    let Some((control, rest)) = part(alloc, line)? else {
+        return Ok(None);
+    };
+    let Some(rest) = after(rest, b" ") else {
+        return Ok(None);
+    };
+    let Some((body, rest)) = part(alloc, rest)? else {
+        return Ok(None);
+    };
+    if !rest.is_empty() {
+        return Ok(None);
+    }
+    Ok(Some(Command::Put {
+        side,
+        prio,
+        control,
+        body,
+    }))
+}
+
+/// `put X PRIO CTL DATA`.
+#[tactic(auto, unfolding(crate::specs::ScriptReading::put_in))]
+fn put(alloc: Global, line: &[u8]) -> Result<Option<Command>, AllocError>
+    ensures { IfOk result (λ found. commands_of found ≡ put_in line.now) }
+{
+    let Some(rest) = after(line, b"put ") else {
+        return Ok(None);
+    };
+    let Some((side, rest)) = side(rest) else {
+        return Ok(None);
+    };
+    let Some(rest) = after(rest, b" ") else {
+        return Ok(None);
+    };
+    let Some((prio, rest)) = prio(rest) else {
+        return Ok(None);
+    };
+    let Some(rest) = after(rest, b" ") else {
+        return Ok(None);
+    };
+    put_parts(alloc, side, prio, rest)
+}
+
+/// A get on a side, where what is wanted and the size of each part follow.
+fn sized_get(side: Side, line: &[u8]) -> Option<Command>
+    ensures { commands_of result ≡ get_of side line.now }
+{
+    let (wanted, rest) = wanted(line)?;
+    let (cmax, rest) = number_at(after(rest, b" ")?)?;
+    let dmax = number(after(rest, b" ")?)?;
+    Some(Command::Get {
+        side,
+        wanted,
+        cmax,
+        dmax,
+    })
+}
+
+/// `get X`, or `get X WANTED CMAX DMAX`.
+#[tactic(auto, unfolding(crate::specs::ScriptReading::get_in))]
+fn get(line: &[u8]) -> Option<Command>
+    ensures { commands_of result ≡ get_in line.now }
+{
+    let (side, rest) = side(after(line, b"get ")?)?;
+    if rest.is_empty() {
+        return Some(Command::Get {
+            side,
+            wanted: NamedWanted::Any,
+            cmax: USUAL_SIZE,
+            dmax: USUAL_SIZE,
+        });
+    }
+    sized_get(side, after(rest, b" ")?)
+}
+
+/// `mode X MODE`.
+#[tactic(auto, unfolding(crate::specs::ScriptReading::set_mode_in))]
+fn set_mode(line: &[u8]) -> Option<Command>
+    ensures { commands_of result ≡ set_mode_in line.now }
+{
+    let (side, rest) = side(after(line, b"mode ")?)?;
+    let mode = mode(after(rest, b" ")?)?;
+    let event = Event::Mode { mode };
+    Some(Command::Call { side, event })
+}
+
+/// What a side's stream is asked for about messages.
+#[tactic(auto, unfolding(crate::specs::ScriptReading::message_in))]
+fn of_message(alloc: Global, line: &[u8]) -> Result<Option<Command>, AllocError>
+    ensures { IfOk result (λ found. commands_of found ≡ message_in line.now) }
+{
+    if let Some(command) = put(alloc, line)? {
+        return Ok(Some(command));
+    }
+    if let Some(command) = get(line) {
+        return Ok(Some(command));
+    }
+    Ok(set_mode(line))
+}
+
 /// The command that a line spells.
 #[tactic(auto, unfolding(crate::specs::ScriptReading::command_in))]
 fn command(alloc: Global, line: &[u8]) -> Result<Option<Command>, AllocError>
@@ -191,7 +306,10 @@ fn command(alloc: Global, line: &[u8]) -> Result<Option<Command>, AllocError>
     if let Some(command) = run(line) {
         return Ok(Some(command));
     }
-    Ok(of_stream(line))
+    if let Some(command) = of_stream(line) {
+        return Ok(Some(command));
+    }
+    of_message(alloc, line)
 }
 
 /// What a line says, by its length, its first byte and its command.

@@ -4,6 +4,7 @@ ghost use Rattle.std.specs.Prelude.{◌≡◌, false, Some, None, IfOk, OnErr, o
 ghost use Rattle.strm_types.specs.Calls.{request};
 ghost use Rattle.strm_run.specs.ScriptAnswers as script;
 ghost use Rattle.strm_run.specs.ScriptRun.{by_call, by_flush, by_turn, by_run, by_open, answered};
+ghost use Rattle.strm_run.specs.ScriptRun.{by_put, by_get, band_of, prio_of, wanted_of};
 ghost use Rattle.strm_run.specs.ScriptRun.{script_limits, is_enosr, size_at};
 ghost use Rattle.strm_types.specs.Names.{head_of, driver_of};
 ghost use Rattle.strm_run.specs.Commands.{command_of};
@@ -11,11 +12,13 @@ ghost use Rattle.strm_run.specs.Plain.{plain};
 ghost use Rattle.strm_run.specs.Outcomes.{LeadsTo, Leads};
 
 use crate::answers::{Line, QueueSize};
-use crate::commands::Command;
+use crate::commands::{Command, NamedPrio, NamedWanted};
 use std::alloc::{AllocError, Global};
 use strm_blocks::TableStore;
 use strm_pair::Pair;
-use strm_types::{Band, Caller, Config, Event, FlushQueues, QueueName, ReadBytes, Refusal, Side};
+use strm_types::{
+    Band, Caller, Config, Content, Event, FlushQueues, Prio, QueueName, Refusal, Side, Wanted,
+};
 
 /// How many blocks of each kind a pair gets where a script names no number.
 const USUAL_BLOCKS: u32 = 256;
@@ -66,7 +69,7 @@ fn call(
     pair: &mut Pair<TableStore>,
     side: Side,
     event: &Event<&[u8]>,
-    out: &mut ReadBytes,
+    out: &mut Content,
 ) -> Answered
     ensures { LeadsTo (λ account. by_call (record { side = side }) (request event.now) account (plain pair.old))
         result out.new.items (Some (plain pair.new)) }
@@ -89,7 +92,7 @@ fn flush(
     side: Side,
     what: FlushQueues,
     band: Option<u32>,
-    out: &mut ReadBytes,
+    out: &mut Content,
 ) -> Answered
     ensures { LeadsTo (λ account. by_flush side what band account (plain pair.old))
         result out.new.items (Some (plain pair.new)) }
@@ -104,6 +107,97 @@ fn flush(
         }
     };
     call(pair, side, &Event::Flush { what, band }, out)
+}
+
+/// The band of a number that a call can name: none above 255.
+#[tactic(auto, unfolding(crate::specs::ScriptRun::band_of))]
+fn band(number: u32) -> Option<Band>
+    ensures { result ≡ band_of number }
+{
+    if number <= BAND_MAX {
+        Some(Band(number as u8))
+    } else {
+        None
+    }
+}
+
+/// The priority of a put, where a call can name it.
+fn prio(named: NamedPrio) -> Option<Prio>
+    ensures { result ≡ prio_of named }
+{
+    match named {
+        NamedPrio::High => Some(Prio::High),
+        NamedPrio::Band(number) => {
+            let band = band(number)?;
+            Some(Prio::Band(band))
+        }
+    }
+}
+
+/// The message that a get wants, where a call can name it.
+fn wanted(named: NamedWanted) -> Option<Wanted>
+    ensures { result ≡ wanted_of named }
+{
+    match named {
+        NamedWanted::Any => Some(Wanted::Any),
+        NamedWanted::High => Some(Wanted::High),
+        NamedWanted::Band(number) => {
+            let band = band(number)?;
+            Some(Wanted::Band(band))
+        }
+    }
+}
+
+/// A part over its bytes where they stand.
+fn lend(part: &Option<Vec<u8>>) -> Option<&[u8]>
+    ensures { option_map (λ bytes. bytes.now) result ≡ option_map (λ bytes. bytes.items) part.now }
+{
+    match part {
+        Some(bytes) => Some(bytes.as_slice()),
+        None => None,
+    }
+}
+
+/// A put by a command. A band above 255 is refused before any call.
+fn put(
+    pair: &mut Pair<TableStore>,
+    side: Side,
+    named: NamedPrio,
+    control: Option<&[u8]>,
+    body: Option<&[u8]>,
+    out: &mut Content,
+) -> Answered
+    ensures { LeadsTo (λ account. by_put side named (option_map (λ bytes. bytes.now) control.entry)
+        (option_map (λ bytes. bytes.now) body.entry) account (plain pair.old))
+        result out.new.items (Some (plain pair.new)) }
+{
+    let Some(prio) = prio(named) else {
+        return refused(Refusal::Einval);
+    };
+    let event = Event::Put {
+        prio,
+        control,
+        body,
+    };
+    call(pair, side, &event, out)
+}
+
+/// A get by a command. A band above 255 is refused before any call.
+fn get(
+    pair: &mut Pair<TableStore>,
+    side: Side,
+    named: NamedWanted,
+    cmax: u32,
+    dmax: u32,
+    out: &mut Content,
+) -> Answered
+    ensures { LeadsTo (λ account. by_get side named cmax dmax account (plain pair.old))
+        result out.new.items (Some (plain pair.new)) }
+{
+    let Some(wanted) = wanted(named) else {
+        return refused(Refusal::Einval);
+    };
+    call(pair, side, &Event::Get { wanted, cmax, dmax }, out)
 }
 
 /// How much stands on a queue.
@@ -176,7 +270,7 @@ fn run(pair: &mut Pair<TableStore>, turns: u32) -> Answered
 }
 
 /// A command where the pair is there.
-fn on_pair(pair: &mut Pair<TableStore>, command: &Command, out: &mut ReadBytes) -> Answered
+fn on_pair(pair: &mut Pair<TableStore>, command: &Command, out: &mut Content) -> Answered
     ensures { LeadsTo (λ account. answered (command_of command.now) account (Some (plain pair.old)))
         result out.new.items (Some (plain pair.new)) }
 {
@@ -184,6 +278,18 @@ fn on_pair(pair: &mut Pair<TableStore>, command: &Command, out: &mut ReadBytes) 
         Command::Open { blocks: _ } => refused(Refusal::Einval),
         Command::Call { side, event } => call(pair, *side, &event.lend(), out),
         Command::Flush { side, what, band } => flush(pair, *side, *what, *band, out),
+        Command::Put {
+            side,
+            prio,
+            control,
+            body,
+        } => put(pair, *side, *prio, lend(control), lend(body), out),
+        Command::Get {
+            side,
+            wanted,
+            cmax,
+            dmax,
+        } => get(pair, *side, *wanted, *cmax, *dmax, out),
         Command::Turn { name } => turn(pair, *name),
         Command::Run { turns } => run(pair, *turns),
         Command::Show { side } => show(pair, *side),
@@ -208,7 +314,7 @@ fn open(
     alloc: Global,
     pair: &mut Option<Pair<TableStore>>,
     blocks: u32,
-    out: &mut ReadBytes,
+    out: &mut Content,
 ) -> Result<Answered, AllocError>
     requires { pair.old ≡ None }
     ensures ok { IfOk result (λ found. LeadsTo (by_open blocks) found out.new.items (option_map plain pair.new)) }
@@ -232,7 +338,7 @@ pub fn answer(
     alloc: Global,
     pair: &mut Option<Pair<TableStore>>,
     command: &Command,
-    out: &mut ReadBytes,
+    out: &mut Content,
 ) -> Result<Answered, AllocError>
     ensures ok { IfOk result (λ found. LeadsTo
         (λ account. answered (command_of command.now) account (option_map plain pair.old))

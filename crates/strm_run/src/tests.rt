@@ -1,6 +1,7 @@
-//! Scripts run from memory to memory: the titled scenes of `scripts`, and readers, writers and lines that no scene can
+//! Scripts run from memory to memory: the titled scenes of `scripts` and `messages`, and readers, writers and lines that no scene can
 //! show.
 
+mod messages;
 mod no_memory;
 mod scripts;
 
@@ -104,6 +105,7 @@ fn each_scene_answers_as_it_says(rt: HostRuntime) -> Result<(), Fail> {
     plays_scenes(&rt, rt.alloc(), &scripts::WRITING_AND_READING)?;
     plays_scenes(&rt, rt.alloc(), &scripts::TURNS)?;
     plays_scenes(&rt, rt.alloc(), &scripts::STREAMS)?;
+    plays_scenes(&rt, rt.alloc(), &messages::MESSAGES)?;
     plays_scenes(&rt, rt.alloc(), &scripts::LINES_AND_TEXTS)
 }
 
@@ -130,7 +132,19 @@ fn a_last_line_may_lack_its_end(rt: HostRuntime) {
 }
 
 // Lines about a stream that are malformed.
-const MALFORMED_LINES: [&[u8]; 20] = [
+const MALFORMED_LINES: [&[u8]; 32] = [
+    b"put m 0 -",
+    b"put m 0 - - ",
+    b"put m any - -",
+    b"put m 0 -- -",
+    b"put m 0 \"a\"\"b\"",
+    b"put m 0 \"a\\\" \"b\"",
+    b"put m 4294967296 - -",
+    b"get m any 1",
+    b"get m any 1 2 3",
+    b"get m low 1 2",
+    b"mode m",
+    b"mode m NORM",
     b"close",
     b"close x",
     b"close m ",

@@ -1,11 +1,13 @@
 //! Texts of a line, with their escapes.
 
-ghost use Rattle.std.specs.Prelude.{◌≡◌, ◌≤◌, IfOk, IfSome};
+ghost use Rattle.std.specs.Prelude.{◌≡◌, ◌≤◌, IfOk, IfSome, false, length};
 ghost use Rattle.std.specs.Option.{option_map};
 ghost use Rattle.strm_run.specs.Script.{hex_of, escaped};
 ghost use Rattle.std.specs.List.{position_from, position_or_len};
 ghost use Rattle.strm_run.specs.ScriptReading.{moved_by, text_in, text_from, is_closed, is_marked, own_len};
+ghost use Rattle.strm_run.specs.ScriptReading.{quoted_len, inside_at, text_at, part_at};
 ghost use Rattle.strm_run.specs.ScriptReading as readings;
+ghost use Rattle.strm_run.specs.Views.{front_as};
 ghost use Rattle.strm_run.specs.Modes.{mode_of, move_of, IsMode, IsMove};
 
 use crate::words::after;
@@ -190,6 +192,64 @@ pub fn text(alloc: Global, bytes: &[u8]) -> Result<Option<Vec<u8>>, AllocError>
 {
     match after(bytes, b"\"") {
         Some(inside) => spelled(alloc, inside),
+        None => Ok(None),
+    }
+}
+
+/// How many bytes are left of a text in quotes, up to and with the quote at its end, or all where there is none.
+fn quoted_len(bytes: &[u8]) -> usize
+    ensures same { result ≡ quoted_len false bytes.now }
+    ensures within { result ≤ length bytes.now }
+{
+    let mut escaped = false;
+    let mut len = 0usize;
+    for byte in bytes {
+        len += 1;
+        if escaped {
+            escaped = false;
+        } else if *byte == b'"' {
+            return len;
+        } else {
+            escaped = *byte == b'\\';
+        }
+    }
+    len
+}
+
+/// The text that bytes spell up to the quote at its end, and what follows it.
+#[tactic(auto, unfolding(crate::specs::ScriptReading::inside_at))]
+fn inside_at(alloc: Global, bytes: &[u8]) -> Result<Option<(Vec<u8>, &[u8])>, AllocError>
+    ensures { IfOk result (λ found. option_map (front_as (λ text. text.items)) found ≡ inside_at bytes.now) }
+{
+    let len = quoted_len(bytes);
+    match spelled(alloc, &bytes[..len])? {
+        Some(text) => Ok(Some((text, &bytes[len..]))),
+        None => Ok(None),
+    }
+}
+
+/// A text in quotes at the front, and what follows it.
+#[tactic(auto, unfolding(crate::specs::ScriptReading::text_at))]
+fn text_at(alloc: Global, bytes: &[u8]) -> Result<Option<(Vec<u8>, &[u8])>, AllocError>
+    ensures { IfOk result (λ found. option_map (front_as (λ text. text.items)) found ≡ text_at bytes.now) }
+{
+    match after(bytes, b"\"") {
+        Some(inside) => inside_at(alloc, inside),
+        None => Ok(None),
+    }
+}
+
+/// A part of a message at the front, a text in quotes or `-` for none, and what follows it.
+#[tactic(auto, unfolding(crate::specs::ScriptReading::part_at))]
+pub fn part(alloc: Global, bytes: &[u8]) -> Result<Option<(Option<Vec<u8>>, &[u8])>, AllocError>
+    ensures { IfOk result (λ found. option_map (front_as (λ part. option_map (λ text. text.items) part)) found
+        ≡ part_at bytes.now) }
+{
+    if let Some(rest) = after(bytes, b"-") {
+        return Ok(Some((None, rest)));
+    }
+    match text_at(alloc, bytes)? {
+        Some((text, rest)) => Ok(Some((Some(text), rest))),
         None => Ok(None),
     }
 }

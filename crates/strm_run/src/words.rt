@@ -6,10 +6,14 @@ ghost use Rattle.std.specs.List.{list_all};
 ghost use Rattle.strm_run.specs.Script.{is_letter};
 ghost use Rattle.strm_run.specs.ScriptReading.{and_then, after, side_in, place_in, way_in, queue_in};
 ghost use Rattle.strm_run.specs.ScriptReading.{side_alone, module_in, is_name, flush_queues_in, band_in};
+ghost use Rattle.strm_run.specs.ScriptReading.{prio_at, wanted_at, mode_in};
 ghost use Rattle.strm_run.specs.Views.{front_of};
 
-use crate::numbers::number;
-use strm_types::{FlushQueues, ModuleName, Place, QueueName, Side, Way};
+use crate::commands::{NamedPrio, NamedWanted};
+use crate::numbers::{number, number_at};
+use strm_types::{
+    ControlMode, FlushQueues, Mode, ModuleName, Place, QueueName, ReadMode, Side, Way,
+};
 
 /// What follows a word at the front of a text.
 pub fn after<'a>(text: &'a [u8], word: &[u8]) -> Option<&'a [u8]>
@@ -148,4 +152,47 @@ pub fn band(text: &[u8]) -> Option<Option<u32>>
     }
     let number = number(after(text, b" ")?)?;
     Some(Some(number))
+}
+
+/// A priority at the front, `hi` or the number of a band, and what follows it.
+#[tactic(auto, unfolding(crate::specs::ScriptReading::prio_at))]
+pub fn prio(text: &[u8]) -> Option<(NamedPrio, &[u8])>
+    ensures { option_map front_of result ≡ prio_at text.now }
+{
+    if let Some(rest) = after(text, b"hi") {
+        return Some((NamedPrio::High, rest));
+    }
+    let (band, rest) = number_at(text)?;
+    Some((NamedPrio::Band(band), rest))
+}
+
+/// Which message is wanted, `any`, `hi` or the number of a band, at the front, and what follows it.
+#[tactic(auto, unfolding(crate::specs::ScriptReading::wanted_at))]
+pub fn wanted(text: &[u8]) -> Option<(NamedWanted, &[u8])>
+    ensures { option_map front_of result ≡ wanted_at text.now }
+{
+    if let Some(rest) = after(text, b"any") {
+        return Some((NamedWanted::Any, rest));
+    }
+    if let Some(rest) = after(text, b"hi") {
+        return Some((NamedWanted::High, rest));
+    }
+    let (band, rest) = number_at(text)?;
+    Some((NamedWanted::Band(band), rest))
+}
+
+/// The mode of a stream head whose word a text is.
+#[tactic(auto, unfolding(crate::specs::ScriptReading::mode_in))]
+pub fn mode(text: &[u8]) -> Option<Mode>
+    ensures { result ≡ mode_in text.now }
+{
+    match text {
+        b"norm" => Some(Mode::Read(ReadMode::ByteStream)),
+        b"msgn" => Some(Mode::Read(ReadMode::MessageKeep)),
+        b"msgd" => Some(Mode::Read(ReadMode::MessageDiscard)),
+        b"protnorm" => Some(Mode::Control(ControlMode::Refuse)),
+        b"protdat" => Some(Mode::Control(ControlMode::Data)),
+        b"protdis" => Some(Mode::Control(ControlMode::Discard)),
+        _ => None,
+    }
 }

@@ -7,8 +7,8 @@ use std::test::Fail;
 use strm_blocks::TableStore;
 use strm_pair::Pair;
 use strm_types::{
-    Answer, Band, Caller, Config, Event, FlushQueues, Place, QueueName, ReadBytes, Refusal, Side,
-    Way,
+    Answer, Band, Caller, Config, Content, Event, FlushQueues, Mode, Place, Prio, QueueName,
+    ReadMode, Refusal, Side, Wanted, Way,
 };
 
 const MASTER: Caller = Caller { side: Side::Master };
@@ -33,7 +33,7 @@ static BYTES: [u8; 300] = [b'z'; 300];
 type Came = Result<Answer<usize>, Refusal>;
 
 // Calls, each with what it answers. All turns that can be made are made behind each of them.
-const CALLS: [(Caller, Event<&'static [u8]>, Came); 15] = [
+const CALLS: [(Caller, Event<&'static [u8]>, Came); 20] = [
     (MASTER, Event::OpenMaster, Ok(Answer::Done)),
     (MASTER, Event::Unlock, Ok(Answer::Done)),
     (SLAVE, Event::OpenSlave, Ok(Answer::Done)),
@@ -44,6 +44,60 @@ const CALLS: [(Caller, Event<&'static [u8]>, Came); 15] = [
     ),
     (SLAVE, Event::Read { n: 4096 }, Ok(Answer::Bytes(300))),
     (SLAVE, Event::Read { n: 4096 }, Err(Refusal::Eagain)),
+    (
+        MASTER,
+        Event::Put {
+            prio: Prio::Band(Band(1)),
+            control: Some(b"ab"),
+            body: Some(b"cde"),
+        },
+        Ok(Answer::Done),
+    ),
+    (
+        SLAVE,
+        Event::Nread,
+        Ok(Answer::Sizes {
+            first: 3,
+            messages: 1,
+        }),
+    ),
+    (
+        SLAVE,
+        Event::Get {
+            wanted: Wanted::Any,
+            cmax: 1,
+            dmax: 9,
+        },
+        Ok(Answer::Msg {
+            prio: Prio::Band(Band(1)),
+            control: Some(1),
+            body: Some(3),
+            more_control: true,
+            more_data: false,
+        }),
+    ),
+    (
+        SLAVE,
+        Event::Get {
+            wanted: Wanted::Any,
+            cmax: 9,
+            dmax: 9,
+        },
+        Ok(Answer::Msg {
+            prio: Prio::Band(Band(1)),
+            control: Some(1),
+            body: None,
+            more_control: false,
+            more_data: false,
+        }),
+    ),
+    (
+        SLAVE,
+        Event::Mode {
+            mode: Mode::Read(ReadMode::MessageDiscard),
+        },
+        Ok(Answer::Done),
+    ),
     (
         SLAVE,
         Event::Write { bytes: &BYTES },
@@ -119,7 +173,7 @@ fn turns(pair: &mut Pair<TableStore>) -> bool {
 }
 
 // Makes each call and the turns behind it: the first call that doesn't go as it says, if any.
-fn first_wrong(pair: &mut Pair<TableStore>, out: &mut ReadBytes) -> Option<usize> {
+fn first_wrong(pair: &mut Pair<TableStore>, out: &mut Content) -> Option<usize> {
     for at in 0..CALLS.len() {
         let (caller, event, came) = &CALLS[at];
         if pair.call(*caller, event, out) != *came || !turns(pair) {
@@ -136,7 +190,7 @@ fn calls_take_no_memory(rt: HostRuntime) -> Result<(), Fail> {
     let Ok(mut pair) = Pair::new(alloc, SIZES, store) else {
         return Err(Fail::from(AllocError));
     };
-    let mut out = ReadBytes::new();
+    let mut out = Content::new();
     let taken = all_memory(alloc)?;
     let is_left = taken.len() < MOST_TAKEN && Vec::<u8>::with_capacity(alloc, 1).is_ok();
     let first = first_wrong(&mut pair, &mut out);

@@ -8,7 +8,7 @@ use Rattle.strm_run.specs.Plain.{plain}
 use Rattle.strm_run.specs.Outcomes.{LeadsTo}
 use Rattle.strm_run.specs.declared.session.Answered.{Answered}
 use Rattle.strm_run.specs.declared.commands.Command.{Command}
-use Rattle.strm_run.specs.declared.commands.Command.TheVariants.{Open, Call, Flush, Turn, Run, Show}
+use Rattle.strm_run.specs.declared.commands.Command.TheVariants.{Open, Call, Flush, Put, Get, Turn, Run, Show}
 use Rattle.strm_run.proofs.Events.{leads_unanswered, leads_same}
 use Rattle.strm_run.proofs.session.answer.Goals as goal
 
@@ -19,6 +19,8 @@ unfolding answered
 closed (Open blocks) h account = absurd (h blocks refl)
 closed (Call side event) h account = refl
 closed (Flush side what band) h account = refl
+closed (Put side prio control body) h account = refl
+closed (Get side wanted cmax dmax) h account = refl
 closed (Turn name) h account = refl
 closed (Run turns) h account = refl
 closed (Show side) h account = refl

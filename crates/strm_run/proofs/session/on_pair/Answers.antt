@@ -1,8 +1,9 @@
 use Rattle.std.proofs.Common.{◌≡◌, ℕ, List, Option, Some, ap, sym, refl}
 use Rattle.strm_types.specs.declared.names.Side.{Side}
 use Rattle.strm_types.specs.Calls.{Request}
-use Rattle.strm_run.specs.Script.{Call}
-use Rattle.strm_run.specs.ScriptRun.{PlainPair, answered, by_call, by_show}
+use Rattle.strm_run.specs.Script.{Call, Put}
+use Rattle.strm_run.specs.declared.commands.NamedPrio.{NamedPrio}
+use Rattle.strm_run.specs.ScriptRun.{PlainPair, answered, by_call, by_put, by_show}
 use Rattle.strm_types.specs.declared.refusals.Refusal.TheVariants.{Einval}
 use Rattle.strm_run.specs.Commands.{command_of}
 use Rattle.strm_run.specs.Plain.{plain}
@@ -54,3 +55,21 @@ pub returns-in-Show : goal.returns-in-Show
 unfolding answered by_show
 returns-in-Show c = known _ _ _ _ _ _ c.in-Show.is
     (leads_looked _ _ _ _ (λ account. ap (λ (x : Answered). record { line = line_of c.args.out.now.items x.line; pair = Some (plain c.args.pair.now); account = account; is_short = x.short }) (sym c.show.ensures)))
+
+-- a put, whose parts are lent
+puts : (bytes : List ℕ) (side : Side) (prio : NamedPrio) (control body asked_control asked_body : Option (List ℕ)) (found : Answered) (old : PlainPair) (new : Option PlainPair)
+    → asked_control ≡ control → asked_body ≡ body
+    → LeadsTo (λ account. by_put side prio asked_control asked_body account old) found bytes new
+    → LeadsTo (λ account. answered (Put side prio control body) account (Some old)) found bytes new
+unfolding answered
+puts bytes side prio control body asked_control asked_body found old new c d h =
+    leads_same bytes (λ account. answered (Put side prio control body) account (Some old)) (λ account. by_put side prio asked_control asked_body account old) new found
+    (λ account. (λ i. by_put side prio (sym c i) (sym d i) account old)) h
+
+pub returns-in-Put : goal.returns-in-Put
+unfolding answered
+returns-in-Put c = known _ _ _ _ _ _ c.in-Put.is (puts _ _ _ _ _ _ _ _ _ _ c.lend-in-Put.ensures c.lend-in-Put-2.ensures c.put.ensures)
+
+pub returns-in-Get : goal.returns-in-Get
+unfolding answered
+returns-in-Get c = known _ _ _ _ _ _ c.in-Get.is c.get.ensures

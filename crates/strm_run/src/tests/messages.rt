@@ -1,0 +1,241 @@
+//! Scenes of messages with parts: putmsg(2), getmsg(2), and the modes of a stream head that I_SRDOPT sets.
+
+use super::WELL;
+use super::scripts::Scene;
+
+/// What is put on one side and got on the other.
+pub const MESSAGES: [Scene; 9] = [
+    (
+        "High priority comes first, then the bands, and each in the order of its puts",
+        WELL,
+        r#"open
+  ok
+unlock
+  ok
+slave
+  ok
+put m 0 - "a"
+  ok
+put m 1 - "b"
+  ok
+put m hi "c" -
+  ok
+put m 1 - "d"
+  ok
+run 10
+  ran 4
+get s
+  msg hi "c" - -
+get s
+  msg 1 - "b" -
+get s
+  msg 1 - "d" -
+get s
+  msg 0 - "a" -
+get s
+  err EAGAIN
+"#,
+    ),
+    (
+        "A get of less than a message tells what there is more of, and leaves it",
+        WELL,
+        r#"open
+  ok
+unlock
+  ok
+slave
+  ok
+put m 0 "abc" "wxyz"
+  ok
+run 10
+  ran 1
+get s any 2 3
+  msg 0 "ab" "wxy" cd
+get s
+  msg 0 "c" "z" -
+"#,
+    ),
+    (
+        "A size of 0 gives a part as empty, and one that is absent stays so",
+        WELL,
+        r#"open
+  ok
+unlock
+  ok
+slave
+  ok
+put m 3 "a" -
+  ok
+put m 0 "" "b"
+  ok
+run 10
+  ran 2
+get s any 0 0
+  msg 3 "" - c
+get s any 1 0
+  msg 3 "a" - -
+get s any 9 0
+  msg 0 "" "" d
+get s
+  msg 0 - "b" -
+"#,
+    ),
+    (
+        "The first message has to be the one that is wanted",
+        WELL,
+        r#"open
+  ok
+unlock
+  ok
+slave
+  ok
+put s 1 - "b"
+  ok
+run 10
+  ran 1
+get m hi 9 9
+  err EAGAIN
+get m 2 9 9
+  err EAGAIN
+get m 1 9 9
+  msg 1 - "b" -
+put s hi "c" "d"
+  ok
+run 10
+  ran 1
+get m 7 9 9
+  msg hi "c" "d" -
+"#,
+    ),
+    (
+        "What is written is got, and the data part of what is put is read",
+        WELL,
+        r#"open
+  ok
+unlock
+  ok
+slave
+  ok
+write m "\x00\"z"
+  ok 3
+put m 0 - "ab"
+  ok
+run 10
+  ran 2
+get s
+  msg 0 - "\x00\"z" -
+read s 9
+  data 2 "ab"
+"#,
+    ),
+    (
+        "At the end of input a get gives neither part, and a put goes nowhere",
+        WELL,
+        r#"open
+  ok
+unlock
+  ok
+slave
+  ok
+put m 0 - "a"
+  ok
+run 10
+  ran 1
+close m
+  ok
+get s
+  msg 0 - "a" -
+get s
+  msg 0 - - -
+get s hi 1 1
+  msg 0 - - -
+put s 0 - "a"
+  err ENXIO
+"#,
+    ),
+    (
+        "High priority wants a control part, bands are from 0 to 7, and parts have their limits",
+        WELL,
+        r#"open
+  ok
+put s 256 - "a"
+  err EINVAL
+put s 255 - "a"
+  err ENXIO
+get s 256 1 1
+  err EINVAL
+get s 255 1 1
+  err ENXIO
+put m hi - "a"
+  err EINVAL
+put m 8 - "a"
+  err EINVAL
+get m 8 1 1
+  err EINVAL
+put m 0 "zzzzzzzzzzzzzzzzzzzzzzzzzzzzzzzzzzzzzzzzzzzzzzzzzzzzzzzzzzzzzzzz" -
+  ok
+put m 0 "zzzzzzzzzzzzzzzzzzzzzzzzzzzzzzzzzzzzzzzzzzzzzzzzzzzzzzzzzzzzzzzzz" -
+  err ERANGE
+put m 0 - -
+  ok
+"#,
+    ),
+    (
+        "A mode of reads and one of control parts are set apart from each other",
+        WELL,
+        r#"open
+  ok
+mode s norm
+  err ENXIO
+unlock
+  ok
+slave
+  ok
+put m 0 "c" "ab"
+  ok
+put m 0 "d" "ef"
+  ok
+put m 0 - "gh"
+  ok
+run 10
+  ran 3
+read s 9
+  err EBADMSG
+mode s msgn
+  ok
+mode s protdat
+  ok
+read s 2
+  data 2 "ca"
+read s 9
+  data 1 "b"
+mode s msgd
+  ok
+mode s protdis
+  ok
+read s 1
+  data 1 "e"
+mode s norm
+  ok
+mode s protnorm
+  ok
+read s 9
+  data 2 "gh"
+"#,
+    ),
+    (
+        "Nothing about messages is there before the opening",
+        WELL,
+        r#"put m 0 - "a"
+  err ENXIO
+put s 256 - -
+  err ENXIO
+get m
+  err ENXIO
+get s 256 1 1
+  err ENXIO
+mode m msgd
+  err ENXIO
+"#,
+    ),
+];
