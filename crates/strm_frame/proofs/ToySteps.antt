@@ -25,7 +25,7 @@ use Rattle.strm_frame.specs.Serves.{later_cost}
 use Rattle.strm_frame.specs.Hands.{once, OnlyOwn, CanPut, Handles, Hands, HasRoom, Spends}
 use Rattle.strm_frame.proofs.Handing.{alone-can, once-apart}
 use Rattle.strm_frame.proofs.Shifting.{shifts-joined}
-use Rattle.strm_frame.specs.Toys.{Stock, is_flush, onward, far_at, counts, nothing, stays, stocked, stocks, turns, idle, stock_sends, stock_serves}
+use Rattle.strm_frame.specs.Toys.{Stock, is_flush, onward, far_at, counts, nothing, stays, stocked, stocks, turns, idle, stock_sends, serves_of, stock_serves}
 
 -- a message that comes up, turned or not
 up-falls : (turned : Bool) (here : Spot) → 0 < here.at → here.at ≤ 3 →
@@ -103,18 +103,11 @@ pub none-listed : (chains : List (List Block)) (answer : Bool) → answer ≡ is
 none-listed [] answer asked is = refl
 none-listed (chain ∷ chains) answer asked is = absurd (let no = sym asked ∙ is in cc)
 
-abbrev serves-of : Spot → Stock → List (Message ℕ) → Serving ℕ Stock
-serves-of here p [] = idle p
-serves-of here p (m ∷ rest) = stock_sends here p m rest
-
-serves-as : (here : Spot) (again : Bool) (p : Stock) (all : List (Message ℕ)) → p.queue.messages ≡ all → stock_serves here again p ≡ serves-of here p all
-serves-as here again p all is = ap (serves-of here p) is
-
 pub serves-none : (here : Spot) (again : Bool) (p : Stock) → p.queue.messages ≡ [] → stock_serves here again p ≡ idle p
-serves-none here again p none = serves-as here again p [] none
+serves-none here again p none = ap (serves_of here p) none
 
 pub serves-first : (here : Spot) (again : Bool) (p : Stock) (m : Message ℕ) (rest : List (Message ℕ)) → p.queue.messages ≡ m ∷ rest → stock_serves here again p ≡ stock_sends here p m rest
-serves-first here again p m rest first = serves-as here again p (m ∷ rest) first
+serves-first here again p m rest first = ap (serves_of here p) first
 
 -- the first message came in hand, and nothing else changed there
 pub took-own : (s t : StoreValue) (q q' : Queue) (i : ℕ) → Dequeued s t q q' i → OnlyOwn s t (once q.list) (once q'.list)

@@ -110,12 +110,13 @@ stock_sends here p m rest = record {
   again = false;
 }
 
+-- and does nothing where none stands
+abbrev pub serves_of : Spot → Stock → List (Message ℕ) → Serving ℕ Stock
+serves_of here p [] = idle p
+serves_of here p (m ∷ rest) = stock_sends here p m rest
+
 abbrev pub stock_serves : Spot → Bool → Stock → Serving ℕ Stock
-stock_serves here again p = first p.queue.messages
-  where
-    first : List (Message ℕ) → Serving ℕ Stock
-    first [] = idle p
-    first (m ∷ rest) = stock_sends here p m rest
+stock_serves here again p = serves_of here p p.queue.messages
 
 -- how far a message has to go from there that the service procedure sends
 abbrev pub stock_far : Spot → ℕ
