@@ -1,27 +1,24 @@
 -- A turn of a stream of two modules, step by step.
-use Rattle.std.proofs.Common.{ℕ, zero, suc, ◌≡◌, ◌≢◌, ◌≤◌, ◌<◌, ◌==◌, ◌+◌, ◌-◌, true, false, cond, Bool, List, [], ◌∷◌, length, map, refl, sym, ap, subst, ◌∙◌, arith}
-use Rattle.std.proofs.lemmas.Bool.Decides.{nat_tests}
+use Rattle.std.proofs.Common.{ℕ, zero, suc, ◌≡◌, ◌≢◌, ◌≤◌, ◌<◌, ◌+◌, true, cond, Bool, List, [], ◌∷◌, length, refl, sym, ap, subst, ◌∙◌, arith}
 use Rattle.std.proofs.lemmas.List.Sums.{sum_by-cons}
-use Rattle.strm_types.specs.declared.names.ModuleName.{ModuleName}
 use Rattle.strm_types.specs.declared.names.Way.{Way}
 use Rattle.strm_types.specs.declared.names.Way.TheVariants.{Up, Down}
 use Rattle.strm_types.specs.declared.spots.Spot.{Spot}
 use Rattle.strm_types.specs.Message.{Message}
 use Rattle.strm_types.specs.Deliver.{Acted, AreLower}
 use Rattle.strm_types.specs.Modules.{act_among}
-use Rattle.strm_blocks.specs.Blocks.{Block, StoreValue, empty_store, in_hand, list_at, held, times_in}
+use Rattle.strm_blocks.specs.Blocks.{StoreValue, empty_store, in_hand, list_at, times_in}
 use Rattle.strm_msg.specs.Messages.{IsChain, AreMessages}
 use Rattle.strm_queue.specs.declared.queue.Queue.{Queue}
 use Rattle.strm_queue.specs.Kept.{AreCounted}
 use Rattle.strm_queue.specs.Stored.{IsReady}
 use Rattle.strm_frame.specs.declared.parcels.Sent.{Sent}
-use Rattle.strm_frame.specs.Hands.{once, CanPut, Handles, Hands, SameFor}
+use Rattle.strm_frame.specs.Hands.{once, CanPut, Handles, Hands}
 use Rattle.strm_frame.specs.Outboxes.{times_sent, parcels_in, AreChains}
 use Rattle.strm_frame.specs.Stacks.{all_of}
 use Rattle.strm_frame.specs.Toys.{Stock, far, far_at, stock_serves, serves_of}
-use Rattle.strm_frame.specs.Rigs.{is_end, took_at, left_at, rig_puts, AreTwo, AtRest, rig-frame}
+use Rattle.strm_frame.specs.Rigs.{is_end, took_at, left_at, rig_puts, AtRest}
 use Rattle.strm_frame.proofs.Handing.{once-self, no-hand}
-use Rattle.strm_blocks.proofs.Laws.{in_hand-held}
 use Rattle.strm_msg.proofs.Hands.{other-name}
 
 -- nothing is kept
@@ -29,24 +26,7 @@ pub kept-none : {X : Type 0} (xs : List X) (i : ℕ) → all_of (λ x j. 0) xs i
 kept-none [] i = refl
 kept-none (x ∷ xs) i = let c = sum_by-cons (λ y. 0) x xs in let ih = kept-none xs i in omega arith
 
--- a message that came in hand
-pub two-came : {X : Type 0} (name : X → ModuleName) (queue : X → Queue) (s t : StoreValue) (i : ℕ) (chain : List Block) (xs : List X) → t ≡ held s i chain → AreTwo queue s xs → AreTwo queue t xs
-two-came name queue s t i chain xs is are =
-    let same : SameFor s t (all_of (λ x j. 0) xs) = record {
-      lists = ap (λ v. v.lists) is;
-      mblks = ap (λ v. v.mblks) is;
-      dblks = ap (λ v. v.dblks) is;
-      kept = λ j some. absurd (let z = kept-none xs j in omega arith);
-    } in
-    (rig-frame name queue s t xs same are).1
-
--- it is the only one
-pub came-alone : (s t : StoreValue) (i : ℕ) (chain : List Block) → t ≡ held s i chain → s.hand ≡ [] → t.hand ≡ record { name = i; chain = in_hand t i } ∷ []
-came-alone s t i chain is empty =
-    let same : in_hand t i ≡ chain = ap (λ v. in_hand v i) is ∙ in_hand-held s i chain in
-    ap (λ v. v.hand) is ∙ ap (λ hs. record { name = i; chain = chain } ∷ hs) empty ∙ ap (λ xs. record { name = i; chain = xs } ∷ []) (sym same)
-
--- it has not far to go
+-- a message has not far to go
 pub near-low : (to : Spot) (m : Message ℕ) → to.at ≤ 3 → far to m < 16
 near-low to m near = by-way to.way
   where
@@ -104,12 +84,9 @@ module _ {M : Type 0} (name : M → ℕ) (s t : StoreValue) (kept keeps : ℕ �
         let c = carried.counts j in let a = times-now j in let e = ap (times_sent name j) split in let n = ap (times_sent name j) one in
         let k = keeps_none j in let z = keeps_none' j in omega arith)
 
--- a message that has left, and one at a module
+-- a message that has left
 pub rig-ends : (to : Spot) (m : Message ℕ) (ps : List Stock) (answer : Bool) → answer ≡ is_end to.at → answer ≡ true → rig_puts to m ps ≡ left_at ps
 rig-ends to m ps answer asked is = ap (λ v. cond v (left_at ps) (took_at to m ps)) (sym asked ∙ is)
-
-pub rig-on : (to : Spot) (m : Message ℕ) (ps : List Stock) (answer : Bool) → answer ≡ is_end to.at → answer ≡ false → rig_puts to m ps ≡ took_at to m ps
-rig-on to m ps answer asked is = ap (λ v. cond v (left_at ps) (took_at to m ps)) (sym asked ∙ is)
 
 -- nothing stands on a list of a new store
 ready-none : (s : StoreValue) (q : Queue) → list_at s q.list ≡ [] → AreCounted q.flows [] → IsReady s q

@@ -18,7 +18,6 @@ use Rattle.strm_msg.proofs.Chains.{kind-is}
 use Rattle.strm_msg.proofs.Hands.{stays-chain}
 use Rattle.std.proofs.lemmas.List.Sums.{sum_by-cons}
 use Rattle.strm_types.specs.Queue.{is_none_left}
-use Rattle.strm_types.specs.Service.{Serving}
 use Rattle.strm_frame.specs.declared.parcels.Sent.{Sent}
 use Rattle.strm_frame.specs.Outboxes.{message_in, times_sent, parcels_in, cost_of}
 use Rattle.strm_frame.specs.Serves.{later_cost}

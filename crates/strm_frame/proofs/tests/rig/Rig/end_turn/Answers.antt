@@ -1,5 +1,5 @@
 -- The end of a turn keeps what stands there, and notes change the enabled list alone.
-use Rattle.std.proofs.Common.{◌≡◌, ◌∙◌, ap}
+use Rattle.std.proofs.Common.{◌∙◌}
 use Rattle.strm_frame.proofs.tests.rig.Rig.end_turn.Goals as goal
 
 pub returns : goal.returns

@@ -1,5 +1,5 @@
 -- Nothing stands on either queue.
-use Rattle.std.proofs.Common.{◌≡◌, [], ◌∷◌, ◌++◌, ap, ◌∙◌}
+use Rattle.std.proofs.Common.{[], ◌∷◌, ◌++◌, ap, ◌∙◌}
 use Rattle.strm_types.specs.declared.names.ModuleName.TheVariants.{Ldterm, Pckt}
 use Rattle.strm_frame.specs.declared.tests.stock.Stock.{Stock}
 use Rattle.strm_frame.proofs.RigSteps.{two-new}

@@ -1,5 +1,4 @@
 -- The message is the only one in hand, and none is when all is delivered.
-use Rattle.std.proofs.Common.{ℕ, ◌≡◌, arith}
 use Rattle.strm_blocks.specs.Blocks.{in_hand}
 use Rattle.strm_frame.specs.Outboxes.{message_in}
 use Rattle.strm_frame.specs.Stacks.{all_of}

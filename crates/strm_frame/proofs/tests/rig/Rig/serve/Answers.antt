@@ -1,10 +1,9 @@
 -- What was sent is delivered, and nothing is left in hand.
-use Rattle.std.proofs.Common.{ℕ, ◌≡◌, ◌∙◌, map, false, subst, arith}
+use Rattle.std.proofs.Common.{◌∙◌, map, false, subst, arith}
 use Rattle.strm_types.specs.declared.names.Side.TheVariants.{Slave}
 use Rattle.strm_types.specs.declared.names.Way.TheVariants.{Down}
 use Rattle.strm_types.specs.declared.spots.Spot.{Spot}
-use Rattle.strm_blocks.specs.Blocks.{in_hand}
-use Rattle.strm_frame.specs.Hands.{CanPut, Handles, Hands}
+use Rattle.strm_frame.specs.Hands.{Hands}
 use Rattle.strm_frame.specs.declared.stack.Stream.{Stream}
 use Rattle.strm_frame.specs.declared.tests.stock.Stock as toy
 use Rattle.strm_frame.specs.Stacks.{all_of}

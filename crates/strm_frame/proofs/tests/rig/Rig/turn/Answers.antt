@@ -1,5 +1,5 @@
 -- What is asked changes nothing, and a writer that waits leaves each queue on its list.
-use Rattle.std.proofs.Common.{◌≡◌, length, ◌∙◌, ap, arith}
+use Rattle.std.proofs.Common.{◌∙◌, arith}
 use Rattle.strm_frame.proofs.tests.rig.Rig.turn.Goals as goal
 
 pub asks-requires : goal.asks-requires

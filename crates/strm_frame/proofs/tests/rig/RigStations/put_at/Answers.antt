@@ -1,7 +1,5 @@
 -- Past both modules the message is freed, and else it is put at one.
-use Rattle.std.proofs.Common.{ℕ, ◌≡◌, [], sym, ap, ◌∙◌}
-use Rattle.strm_types.specs.Deliver.{Took}
-use Rattle.strm_types.specs.Modules.{put_among}
+use Rattle.std.proofs.Common.{sym, ap, ◌∙◌}
 use Rattle.strm_blocks.specs.Blocks.{dropped}
 use Rattle.strm_frame.specs.Hands.{once}
 use Rattle.strm_frame.specs.Outboxes.{message_in}

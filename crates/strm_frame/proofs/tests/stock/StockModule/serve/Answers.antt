@@ -1,5 +1,5 @@
 -- The first message is sent on, if there is one.
-use Rattle.std.proofs.Common.{ℕ, ◌≡◌, List, [], ◌∷◌, sym, ap, ◌∙◌}
+use Rattle.std.proofs.Common.{ℕ, [], ◌∷◌, sym, ap, ◌∙◌}
 use Rattle.strm_types.specs.declared.spots.Spot.{Spot}
 use Rattle.strm_types.specs.Service.{Serving}
 use Rattle.strm_blocks.specs.Blocks.{list_at}
