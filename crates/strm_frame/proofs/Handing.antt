@@ -235,7 +235,8 @@ times-alone s n chain i is =
 pub alone-can : (s : StoreValue) (n : ℕ) (chain : List Block) (keeps : ℕ → ℕ) → s.hand ≡ record { name = n; chain = chain } ∷ [] → ((i : ℕ) → keeps i ≡ 0) → CanPut s n keeps
 alone-can s n chain keeps is none = record { apart = λ i. let t = times-alone s n chain i is in let z = none i in omega arith }
 
-no-hand : (hand : List Held) → ((i : ℕ) → times_in i hand ≡ 0) → hand ≡ []
+-- none is in hand whose name stands there
+pub no-hand : (hand : List Held) → ((i : ℕ) → times_in i hand ≡ 0) → hand ≡ []
 no-hand [] none = refl
 no-hand (h ∷ hand) none =
     let c = sum_by-cons (λ (x : Held). cond {A = ℕ} (eqb x.name h.name) 1 0) h hand in

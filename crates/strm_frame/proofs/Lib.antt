@@ -5,3 +5,4 @@ pub mod Beside
 pub mod Nearest
 pub mod Emptiness
 pub mod ToySteps
+pub mod RigSteps

@@ -1,5 +1,5 @@
 -- What toys do, step by step.
-use Rattle.std.proofs.Common.{ℕ, ◌≡◌, ◌<◌, ◌≤◌, ◌==◌, true, false, Bool, List, [], ◌∷◌, ◌∙◌, cond, ap, refl, subst, sym, arith}
+use Rattle.std.proofs.Common.{ℕ, ◌≡◌, ◌<◌, ◌≤◌, ◌==◌, eqb, true, false, Bool, List, [], ◌∷◌, map, ◌∙◌, cond, ap, refl, subst, sym, arith}
 use Rattle.strm_types.specs.declared.limits.TheConstants.{MODULES}
 use Rattle.strm_types.specs.declared.kinds.MsgKind.{MsgKind}
 use Rattle.strm_types.specs.declared.names.Way.{Way}
@@ -9,16 +9,22 @@ use Rattle.strm_types.specs.Deliver.{toward}
 use Rattle.std.proofs.lemmas.Bool.Decides.{nat_tests}
 use Rattle.strm_types.specs.Message.{Message}
 use Rattle.strm_types.specs.declared.kinds.MsgKind.TheVariants as kinds
-use Rattle.strm_blocks.specs.Blocks.{StoreValue}
+use Rattle.strm_blocks.specs.Blocks.{Block, Held, StoreValue, IsStore, in_hand, block_at, dropped, times_in}
 use Rattle.strm_queue.specs.declared.queue.Queue.{Queue}
-use Rattle.strm_queue.specs.Stored.{Changes}
+use Rattle.strm_queue.specs.Stored.{Changes, FreesBlocks, Dequeued}
 use Rattle.strm_msg.specs.Made.{MadeOf, copies_of, pieces}
+use Rattle.strm_msg.specs.Messages.{message_of}
+use Rattle.strm_msg.proofs.Chains.{kind-is}
+use Rattle.strm_msg.proofs.Hands.{stays-chain}
+use Rattle.std.proofs.lemmas.List.Sums.{sum_by-cons}
+use Rattle.strm_types.specs.Queue.{is_none_left}
 use Rattle.strm_frame.specs.declared.parcels.Sent.{Sent}
-use Rattle.strm_frame.specs.Outboxes.{parcels_in, cost_of}
+use Rattle.strm_frame.specs.Outboxes.{message_in, times_sent, parcels_in, cost_of}
 use Rattle.strm_frame.specs.Serves.{later_cost}
-use Rattle.strm_frame.specs.Hands.{once, OnlyOwn, CanPut, HasRoom}
+use Rattle.strm_frame.specs.Hands.{once, OnlyOwn, CanPut, Handles, Hands, HasRoom, Spends}
 use Rattle.strm_frame.proofs.Handing.{alone-can, once-apart}
-use Rattle.strm_frame.specs.Toys.{is_flush, onward, far_at, counts}
+use Rattle.strm_frame.proofs.Shifting.{shifts-joined}
+use Rattle.strm_frame.specs.Toys.{Stock, is_flush, onward, far_at, counts, nothing, stays, stocked, stocks, turns, idle, stock_sends, serves_of, stock_serves}
 
 -- a message that comes up, turned or not
 up-falls : (turned : Bool) (here : Spot) → 0 < here.at → here.at ≤ 3 →
@@ -69,3 +75,64 @@ own-list s t q q' is = record {
   lists = λ k none. is.others k (λ e. once-apart q.list k none (sym e));
   owns_same = λ k. ap (λ l. once l k) is.list;
 }
+
+pub down-falls : (here to : Spot) → 0 < here.at → here.at ≤ MODULES → to ≡ toward Down here → far_at to.way to.at < far_at Down here.at
+down-falls here to some few is = subst (λ (t : Spot). far_at t.way t.at < far_at Down here.at) (sym is) (omega arith)
+
+-- a message that stays, and one that doesn't
+pub kind-stays : (s : StoreValue) (i : ℕ) (way : Way) (kind : MsgKind) (answer is : Bool) → kind ≡ (block_at 0 (in_hand s i)).kind → answer ≡ stays kind way → answer ≡ is → stays (message_in s i).kind way ≡ is
+kind-stays s i way kind answer is seen asked so = ap (λ k. stays k way) (kind-is (in_hand s i) ∙ sym seen) ∙ sym asked ∙ so
+
+pub stocks-stay : (here : Spot) (m : Message ℕ) (p : Stock) → stays m.kind here.way ≡ true → stocks here m p ≡ stocked m p
+stocks-stay here m p is = ap (λ v. cond v (stocked m p) (turns here m p)) is
+
+pub stocks-on : (here : Spot) (m : Message ℕ) (p : Stock) → stays m.kind here.way ≡ false → stocks here m p ≡ turns here m p
+stocks-on here m p is = ap (λ v. cond v (stocked m p) (turns here m p)) is
+
+pub joined-hands : (s t : StoreValue) (i : ℕ) (q q' : Queue) → IsStore s → CanPut s i (λ _. 0) → Changes (dropped s i) t q q' → FreesBlocks s t → Hands s t i (λ _. 0) (λ _. 0) (λ _. 0)
+joined-hands s t i q q' st can is frees =
+    let h = shifts-joined s t i q q' st can is frees in
+    record { counts = λ j. let c = h.counts j in omega arith; others = λ j apart kept some. h.others j apart some }
+
+pub frees-spends : (s t : StoreValue) (most : ℕ) → FreesBlocks s t → Spends s t most 0
+frees-spends s t most frees = record { mblks = (let m = frees.mblks in omega arith); dblks = (let d = frees.dblks in omega arith) }
+
+-- a service procedure with nothing before it, and one with a message
+pub none-listed : (chains : List (List Block)) (answer : Bool) → answer ≡ is_none_left chains → answer ≡ true → map message_of chains ≡ []
+none-listed [] answer asked is = refl
+none-listed (chain ∷ chains) answer asked is = absurd (let no = sym asked ∙ is in cc)
+
+pub serves-none : (here : Spot) (again : Bool) (p : Stock) → p.queue.messages ≡ [] → stock_serves here again p ≡ idle p
+serves-none here again p none = ap (serves_of here p) none
+
+pub serves-first : (here : Spot) (again : Bool) (p : Stock) (m : Message ℕ) (rest : List (Message ℕ)) → p.queue.messages ≡ m ∷ rest → stock_serves here again p ≡ stock_sends here p m rest
+serves-first here again p m rest first = ap (serves_of here p) first
+
+-- the first message came in hand, and nothing else changed there
+pub took-own : (s t : StoreValue) (q q' : Queue) (i : ℕ) → Dequeued s t q q' i → OnlyOwn s t (once q.list) (once q'.list)
+took-own s t q q' i d = record {
+  lists = λ k none. d.others k (λ e. once-apart q.list k none (sym e));
+  owns_same = λ k. ap (λ l. once l k) d.list;
+}
+
+pub took-hands : {M : Type 0} (name : M → ℕ) (s t : StoreValue) (q q' : Queue) (x : Sent M) (all : List (Sent M)) → all ≡ x ∷ [] → Dequeued s t q q' (name x.message)
+    → Handles s t (λ _. 0) (λ _. 0) (λ _. 0) (λ i. times_sent name i all)
+unfolding times_sent once
+took-hands name s t q q' x all one d =
+    let n = name x.message in
+    record {
+      counts = λ j.
+          let a = ap (times_in j) d.hand in
+          let h = sum_by-cons (λ (y : Held). cond {A = ℕ} (eqb y.name j) 1 0) (record { name = n; chain = in_hand t n }) s.hand in
+          let o = ap (times_sent name j) one in
+          omega arith;
+      others = λ j none kept some.
+          ap (λ hs. in_hand (record s { hand = hs }) j) d.hand
+          ∙ stays-chain s n (in_hand t n) j (λ e. (let f = d.fresh in let w = ap (λ k. times_in k s.hand) e in absurd (omega arith)));
+    }
+
+pub one-room : {M : Type 0} (name : M → ℕ) (s : StoreValue) (turn_cost : Spot → Bool → ℕ) (here : Spot) (x : Sent M) (all : List (Sent M)) → all ≡ x ∷ [] → HasRoom s (later_cost nothing turn_cost here false (parcels_in name s all))
+unfolding cost_of parcels_in
+one-room name s turn_cost here x all one =
+    let e = ap (λ xs. cost_of (nothing {C = ℕ}) (parcels_in name s xs)) one in
+    record { mblks = omega arith; dblks = omega arith }

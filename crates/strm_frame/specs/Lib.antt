@@ -5,3 +5,4 @@ pub mod Stacks
 pub mod StackLaws
 pub mod Toys
 pub mod ToyLaws
+pub mod Rigs

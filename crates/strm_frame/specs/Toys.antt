@@ -1,17 +1,18 @@
 -- What the toys of the tests do.
 use Rattle.std.specs.Prelude.{ℕ, List, Option, None, Some, ◌+◌, ◌-◌, ◌%◌, ◌^◌, ◌==◌, if◌then◌else◌, Bool, true, false, [], ◌∷◌}
 use Rattle.strm_types.specs.declared.kinds.MsgKind.{MsgKind}
-use Rattle.strm_types.specs.declared.kinds.MsgKind.TheVariants.{Flush}
+use Rattle.strm_types.specs.declared.kinds.MsgKind.TheVariants.{Data, Flush}
 use Rattle.strm_types.specs.declared.names.ModuleName.{ModuleName}
 use Rattle.strm_types.specs.declared.names.Way.{Way}
 use Rattle.strm_types.specs.declared.names.Way.TheVariants.{Up, Down}
 use Rattle.strm_types.specs.declared.spots.Spot.{Spot}
-use Rattle.strm_types.specs.declared.spots.Note.{Note}
-use Rattle.strm_types.specs.declared.spots.Note.TheVariants.{Room}
-use Rattle.strm_types.specs.Queue.{Queue}
-use Rattle.strm_types.specs.Message.{Message}
+use Rattle.strm_types.specs.declared.spots.Note.TheVariants.{Enable}
+use Rattle.strm_types.specs.Queue.{Queue, put_on, put_enables, left_with, is_none_left}
+use Rattle.strm_types.specs.Message.{Message, size_of}
 use Rattle.strm_types.specs.Deliver.{Took, Acted, toward}
 use Rattle.strm_types.specs.Service.{Serving}
+use Rattle.strm_frame.specs.declared.service.Asks.{Asks}
+use Rattle.strm_frame.specs.declared.service.Asks.TheVariants as asked
 
 abbrev pub is_flush : MsgKind → Bool
 is_flush Flush = true
@@ -71,6 +72,50 @@ abbrev pub with_stock : Way → Queue ℕ → Stock → Stock
 with_stock Up q p = p
 with_stock Down q p = record p { queue = q }
 
--- that queues before it have room again
-abbrev pub room_notes : Bool → List Note
-room_notes room = if room then Room Down ∷ [] else []
+-- an M_DATA message that goes down stays on the queue
+abbrev pub stays : MsgKind → Way → Bool
+stays Data Down = true
+stays _ _ = false
+
+-- the queue with a message that stays, which enables it as putq(9F) says
+abbrev pub stocked : Message ℕ → Stock → Acted ℕ Stock
+stocked m p = record {
+  state = record p { queue = put_on m p.queue };
+  notes = if put_enables m p.queue then Enable Down ∷ [] else [];
+  sent = [];
+  gone = [];
+}
+
+-- what a message does: it stays on the queue, or goes on as at a module that turns flushes
+abbrev pub stocks : Spot → Message ℕ → Stock → Acted ℕ Stock
+stocks here m p = if stays m.kind here.way then stocked m p else turns here m p
+
+-- room in band 0 is asked for, whatever stands first
+abbrev pub stock_asks : Way → Stock → Asks
+stock_asks Up p = asked.Empty
+stock_asks Down p = if is_none_left p.queue.messages then asked.Empty else asked.Room (record { 0 = 0 })
+
+-- the service procedure sends the first message on, whole
+abbrev pub stock_sends : Spot → Stock → Message ℕ → List (Message ℕ) → Serving ℕ Stock
+stock_sends here p m rest = record {
+  acted = record {
+    state = record p { queue = left_with rest p.queue };
+    notes = [];
+    sent = record { to = toward Down here; message = m } ∷ [];
+    gone = [];
+  };
+  bytes = size_of m;
+  again = false;
+}
+
+-- and does nothing where none stands
+abbrev pub serves_of : Spot → Stock → List (Message ℕ) → Serving ℕ Stock
+serves_of here p [] = idle p
+serves_of here p (m ∷ rest) = stock_sends here p m rest
+
+abbrev pub stock_serves : Spot → Bool → Stock → Serving ℕ Stock
+stock_serves here again p = serves_of here p p.queue.messages
+
+-- how far a message has to go from there that the service procedure sends
+abbrev pub stock_far : Spot → ℕ
+stock_far here = far_at Down here.at

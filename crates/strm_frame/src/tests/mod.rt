@@ -1,8 +1,10 @@
 //! Deliveries and stacks of modules, by toys.
 
 mod counter;
+mod rig;
 mod stock;
 mod turner;
+mod turns;
 
 use crate::{Enabled, Stream, deliver};
 use counter::Counter;

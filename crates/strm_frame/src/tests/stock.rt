@@ -1,15 +1,18 @@
-//! A module with a write queue, which the tests fill. It sends each M_FLUSH that comes up down again, and passes all else.
+//! A module with a write queue. M_DATA that goes down stays there until its service procedure sends it on. It sends each
+//! M_FLUSH that comes up down again, and passes all else.
 
 ghost use Rattle.std.specs.Prelude.{◌≡◌};
-ghost use Rattle.strm_frame.specs.Toys.{room_notes};
+ghost use Rattle.std.specs.Prelude.{if◌then◌else◌, [], ◌∷◌};
+ghost use Rattle.strm_frame.specs.Toys.{stays};
 
 use crate::tests::turner::onward;
 use crate::{Acts, Asks, Module, Outbox, Sent, Served, TurnEnd, clear_queue, end_queue_turn};
 use arrayvec::ArrayVec;
 use strm_blocks::Blocks;
+use strm_msg::message_size;
 use strm_queue::Queue;
-use strm_queue::standing::{is_full, sizes};
-use strm_types::{Band, Fates, ModuleName, Note, Rule, Side, Spot, Way};
+use strm_queue::standing::{dequeue, enqueue, is_full, sizes};
+use strm_types::{Band, Fates, ModuleName, MsgKind, Note, Rule, Side, Spot, Way};
 
 #[derive(Drop)]
 pub struct Stock {
@@ -26,24 +29,29 @@ impl Default for Stock {
     }
 }
 
-// That queues before it have room again.
-fn room_notes(room: bool) -> ArrayVec<Note, 4>
-    ensures { result.items ≡ room_notes room }
+// A note, where a condition holds.
+fn note_if(holds: bool, note: Note) -> ArrayVec<Note, 4>
+    ensures { result.items ≡ (if holds then note ∷ [] else []) }
 {
     let mut notes = ArrayVec::new();
-    if room {
-        notes.push(Note::Room(Way::Down));
+    if holds {
+        notes.push(note);
     }
     notes
 }
 
+// Whether a message of a kind stays on the queue.
+fn stays(kind: MsgKind, way: Way) -> bool
+    ensures { result ≡ stays kind way }
+{
+    matches!((kind, way), (MsgKind::Data, Way::Down))
+}
+
 impl<B: Blocks> Module<B> for Stock {
-    ghost use Rattle.std.specs.Prelude.{[]};
     ghost use Rattle.strm_queue.specs.Stored.{IsReady};
     ghost use Rattle.strm_frame.specs.Hands.{once};
-    ghost use Rattle.strm_frame.specs.Toys.{turns, far, nothing, idle, stock_queue, with_stock};
+    ghost use Rattle.strm_frame.specs.Toys.{stocks, far, nothing, stock_queue, with_stock, stock_asks, stock_serves, stock_far};
     ghost use Rattle.strm_frame.specs.ToyLaws.{stock_in, stock-frame};
-    ghost use Rattle.strm_frame.specs.declared.service.Asks.TheVariants.{Empty};
 
     ghost Plain = { Rattle.strm_frame.specs.Toys.Stock };
 
@@ -57,7 +65,7 @@ impl<B: Blocks> Module<B> for Stock {
 
     ghost keeps = { λ x i. 0 };
 
-    ghost puts = { turns };
+    ghost puts = { stocks };
 
     ghost queue_of = { stock_queue };
 
@@ -67,11 +75,11 @@ impl<B: Blocks> Module<B> for Stock {
 
     ghost without_line = { λ p. p };
 
-    ghost asks = { λ way p. Empty };
+    ghost asks = { stock_asks };
 
-    ghost serves = { λ here again p. idle p };
+    ghost serves = { stock_serves };
 
-    ghost turn_height = { λ here. 0 };
+    ghost turn_height = { stock_far };
 
     ghost turn_cost = { λ here again. 0 };
 
@@ -86,6 +94,13 @@ impl<B: Blocks> Module<B> for Stock {
     fn put(&mut self, store: &mut B, here: Spot, message: B::Mp, _told: &mut Fates) -> Acts<B::Mp> {
         store.audit();
         let kind = store.kind(&message, 0);
+        if stays(kind, here.way) {
+            let enables = enqueue(store, &mut self.queue, message);
+            return Acts {
+                notes: note_if(enables, Note::Enable(Way::Down)),
+                sent: Outbox::none(),
+            };
+        }
         Acts {
             notes: ArrayVec::new(),
             sent: Outbox::one(Sent {
@@ -123,23 +138,44 @@ impl<B: Blocks> Module<B> for Stock {
         }
     }
 
-    fn asks(&self, _store: &B, _way: Way) -> Asks {
-        Asks::Empty
+    fn asks(&self, store: &B, way: Way) -> Asks {
+        match way {
+            Way::Down if !self.queue.is_empty(store) => Asks::Room(Band(0)),
+            Way::Down | Way::Up => Asks::Empty,
+        }
     }
 
     fn serve(
         &mut self,
-        _store: &mut B,
-        _here: Spot,
+        store: &mut B,
+        here: Spot,
         _again: bool,
         _told: &mut Fates,
     ) -> Served<B::Mp> {
+        if self.queue.is_empty(store) {
+            return Served {
+                acts: Acts {
+                    notes: ArrayVec::new(),
+                    sent: Outbox::none(),
+                },
+                bytes: 0,
+                again: false,
+            };
+        }
+        let Some(message) = dequeue(store, &mut self.queue) else {
+            unreachable!()
+        };
+        store.audit();
+        let bytes = message_size(store, &message);
         Served {
             acts: Acts {
                 notes: ArrayVec::new(),
-                sent: Outbox::none(),
+                sent: Outbox::one(Sent {
+                    to: here.toward(Way::Down),
+                    message,
+                }),
             },
-            bytes: 0,
+            bytes,
             again: false,
         }
     }
@@ -162,7 +198,7 @@ impl<B: Blocks> Module<B> for Stock {
         told: &mut Fates,
     ) -> ArrayVec<Note, 4> {
         let room = clear_queue(store, &mut self.queue, side.direction(), rule, told);
-        room_notes(room)
+        note_if(room, Note::Room(Way::Down))
     }
 
     ghost frame = { λ s t x same held. stock-frame s t x.name x.queue (λ _. 0) same held };

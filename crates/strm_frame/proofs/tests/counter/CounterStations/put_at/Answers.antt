@@ -1,12 +1,10 @@
 -- At the top the message is freed, and else it goes on.
-use Rattle.std.proofs.Common.{ℕ, ◌≡◌, ◌<◌, ◌-◌, true, false, [], ◌∷◌, refl, sym, ap, ◌∙◌, arith, cond}
+use Rattle.std.proofs.Common.{◌<◌, ◌-◌, sym, ◌∙◌, arith}
 use Rattle.std.proofs.lemmas.Bool.Decides.{nat_tests}
 use Rattle.strm_types.specs.declared.names.Way.TheVariants.{Up}
-use Rattle.strm_types.specs.declared.spots.Spot.{Spot}
-use Rattle.strm_types.specs.Deliver.{Parcel, Took}
 use Rattle.strm_frame.specs.Hands.{once}
 use Rattle.strm_frame.specs.Outboxes.{message_in}
-use Rattle.strm_frame.specs.Toys.{upward, nothing, counts}
+use Rattle.strm_frame.specs.Toys.{upward, nothing}
 use Rattle.strm_frame.proofs.Handing.{can-in_hand, freed-hands, freed-spends, none-hands, none-spends, none-chains, none-lower, no-parts, one-parts, one-chains, one-lower, one-hands, one-spends}
 use Rattle.strm_frame.proofs.ToySteps.{counts-top, counts-on}
 use Rattle.strm_frame.proofs.tests.counter.CounterStations.put_at.Goals as goal
