@@ -1,6 +1,6 @@
 -- Where a get finds the message that it asks for.
 use Rattle.std.specs.Prelude.{◌&&◌}
-use Rattle.std.proofs.Common.{ℕ, ◌≡◌, ◌<◌, ◌+◌, Bool, true, false, cond, not, List, [], ◌∷◌, length, refl, sym, ap, subst, ◌∙◌, arith, length-append}
+use Rattle.std.proofs.Common.{ℕ, ◌≡◌, ◌<◌, ◌+◌, Bool, true, false, cond, not, List, [], ◌∷◌, ◌++◌, length, refl, sym, ap, subst, ◌∙◌, arith, length-append}
 use Rattle.strm_types.specs.declared.modes.Wanted.{Wanted}
 use Rattle.strm_types.specs.declared.names.Dir.{Dir}
 use Rattle.strm_types.specs.declared.rules.Rule.TheVariants.{Read}
@@ -85,12 +85,11 @@ module _ (wanted : Wanted) (cmax dmax : ℕ) where
       went-waits none = went-is true (none-cells (part g.control) (part g.body) (omega (arith, count_is, none)))
 
 -- what was taken is what the get gives, whether a writer is let go or not
-pub gives-found : (first result : Gotten) (control body : List ℕ) (g h : Got ℕ) → result.control ≡ first.control → result.body ≡ first.body → result.prio ≡ first.prio
-    → result.more_control ≡ first.more_control → result.more_data ≡ first.more_data → g ≡ h → Gives first control body g → Gives result control body h
-gives-found first result control body g h control_same body_same prio_same more_control_same more_data_same is gives =
-    subst (Gives result control body) is (record {
-      control_is = gives.control_is;
-      body_is = gives.body_is;
+pub gives-found : (first result : Gotten) (out : List ℕ) (g h : Got ℕ) → result.control ≡ first.control → result.body ≡ first.body → result.prio ≡ first.prio
+    → result.more_control ≡ first.more_control → result.more_data ≡ first.more_data → g ≡ h → Gives first out g → Gives result out h
+gives-found first result out g h control_same body_same prio_same more_control_same more_data_same is gives =
+    subst (Gives result out) is (record {
+      given = gives.given;
       control_there = control_same ∙ gives.control_there;
       body_there = body_same ∙ gives.body_there;
       prio = prio_same ∙ gives.prio;
@@ -98,13 +97,7 @@ gives-found first result control body g h control_same body_same prio_same more_
       more_data = more_data_same ∙ gives.more_data;
     })
 
-pub count-found : (first : Gotten) (control body : List ℕ) (g h : Got ℕ) {n m : ℕ} → n ≡ length control → m ≡ length body → g ≡ h → Gives first control body g
-    → n + m ≡ length (part h.control) + length (part h.body)
-count-found first control body g h n_is m_is is gives =
-    omega (
-      arith,
-      n_is,
-      m_is,
-      ap length (gives.control_is ∙ ap (λ (x : Got ℕ). part x.control) is),
-      ap length (gives.body_is ∙ ap (λ (x : Got ℕ). part x.body) is),
-    )
+pub count-found : (first : Gotten) (out : List ℕ) (g h : Got ℕ) {n : ℕ} → n ≡ length out → g ≡ h → Gives first out g
+    → n ≡ length (part h.control) + length (part h.body)
+count-found first out g h n_is is gives =
+    omega (arith, n_is, ap length (gives.given ∙ ap (λ (x : Got ℕ). part x.control ++ part x.body) is), length-append (part h.control) (part h.body))

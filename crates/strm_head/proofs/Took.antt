@@ -1,5 +1,5 @@
 -- What a get took of the first message is what it takes by the definition.
-use Rattle.std.proofs.Common.{ℕ, ◌≡◌, ◌<◌, min, Bool, true, false, cond, List, [], ◌∷◌, length, map, take, drop, Option, refl, sym, ap, subst, ◌∙◌, unwrap_or}
+use Rattle.std.proofs.Common.{ℕ, ◌≡◌, ◌<◌, min, Bool, true, false, cond, List, [], ◌∷◌, ◌++◌, length, map, take, drop, Option, refl, sym, ap, subst, ◌∙◌, unwrap_or}
 use Rattle.std.specs.Prelude.{nat_lt, option_map, ◌||◌}
 use Rattle.strm_types.specs.Flush.{is_data_kind}
 use Rattle.strm_types.specs.Gets.{Got, got_none, left_behind, parts_of}
@@ -95,13 +95,22 @@ module _ (s got cut : StoreValue) (q : Queue) (i cmax dmax n d : ℕ) (within : 
   rest-low = subst (λ c. kept.band_of (rest_left first.more second.more c) < 8) (sym in_cut) (chain-low rest rest_one)
 
   -- what was given
-  module _ (result : Gotten) (control body : List ℕ) (control_is : control ≡ take n (control_bytes (in_hand got i))) (body_is : body ≡ take d (data_bytes (in_hand got i)))
+  module _ (result : Gotten) (out : List ℕ) (out_is : out ≡ take n (control_bytes (in_hand got i)) ++ take d (data_bytes (in_hand got i)))
       (control_result : result.control ≡ first.given) (body_result : result.body ≡ second.given) (prio_is : result.prio ≡ prio_at (message_of (in_hand got i)))
       (more_control_is : result.more_control ≡ first.more) (more_data_is : result.more_data ≡ second.more) where
-    gives : Gives result control body (parts_of cmax dmax m others)
+    control-given : take n (control_bytes (in_hand got i)) ≡ part (option_map (take cmax) m.control)
+    control-given =
+        taken-is cmax n (control_blocks chain) (take n (control_bytes (in_hand got i))) n_least (ap (λ c. take n (control_bytes c)) here)
+        ∙ ap (λ (x : Message ℕ). part (option_map (take cmax) x.control)) (sym (parted chain readable))
+
+    body-given : take d (data_bytes (in_hand got i)) ≡ part (option_map (take dmax) m.body)
+    body-given =
+        taken-is dmax d (data_blocks chain) (take d (data_bytes (in_hand got i))) d_least (ap (λ c. take d (data_bytes c)) here)
+        ∙ ap (λ (x : Message ℕ). part (option_map (take dmax) x.body)) (sym (parted chain readable))
+
+    gives : Gives result out (parts_of cmax dmax m others)
     gives = record {
-      control_is = taken-is cmax n (control_blocks chain) control n_least (control_is ∙ ap (λ c. take n (control_bytes c)) here) ∙ ap (λ (x : Message ℕ). part (option_map (take cmax) x.control)) (sym (parted chain readable));
-      body_is = taken-is dmax d (data_blocks chain) body d_least (body_is ∙ ap (λ c. take d (data_bytes c)) here) ∙ ap (λ (x : Message ℕ). part (option_map (take dmax) x.body)) (sym (parted chain readable));
+      given = out_is ∙ ap (λ xs. xs ++ take d (data_bytes (in_hand got i))) control-given ∙ ap (λ xs. part (option_map (take cmax) m.control) ++ xs) body-given;
       control_there = control_result ∙ given-is cmax (control_blocks chain) control_len control_there first.given first_given ∙ ap (λ (x : Message ℕ). option_map (λ (cells : List ℕ). length cells) (option_map (take cmax) x.control)) (sym (parted chain readable));
       body_there = body_result ∙ given-is dmax (data_blocks chain) data_len data_there second.given second_given ∙ ap (λ (x : Message ℕ). option_map (λ (cells : List ℕ). length cells) (option_map (take dmax) x.body)) (sym (parted chain readable));
       prio = prio_is ∙ ap (λ c. prio_at (message_of c)) here;
@@ -128,9 +137,9 @@ module _ (s got cut : StoreValue) (q : Queue) (i cmax dmax n d : ℕ) (within : 
           ∙ ap (λ v. left_behind (nat_lt cmax (length (part m.control)) || v) cmax dmax m others) more_data
 
       pub took : (flows : plain_flows q'.flows ≡ plain_flows q.flows) (want : q'.want_read ≡ false) (no_enable : q'.no_enable ≡ q.no_enable)
-          (x : Message ℕ) (xs : List (Message ℕ)) → messages_on s q.list ≡ x ∷ xs → TakesFirst result control body s new q q' (parts_of cmax dmax x xs)
+          (x : Message ℕ) (xs : List (Message ℕ)) → messages_on s q.list ≡ x ∷ xs → TakesFirst result out s new q q' (parts_of cmax dmax x xs)
       took flows want no_enable x xs stood =
-          subst (TakesFirst result control body s new q q') (ap (of_first cmax dmax) (sym (before s got q.list i within p) ∙ stood))
+          subst (TakesFirst result out s new q q') (ap (of_first cmax dmax) (sym (before s got q.list i within p) ∙ stood))
           (record { gives = gives; queue = queue-left s new q q' _ left-is same flows want no_enable })
 
       pub keeps : AreCounted q'.flows (list_at new q'.list) → Keeps s new q q'

@@ -1,5 +1,5 @@
 -- What a get takes of the first message of a head, and what it leaves of that message's blocks (getmsg(2)).
-use Rattle.std.specs.Prelude.{ℕ, Bool, if◌then◌else◌, ◌≡◌, List, length, option_map}
+use Rattle.std.specs.Prelude.{ℕ, Bool, if◌then◌else◌, ◌≡◌, List, ◌++◌, length, option_map}
 use Rattle.strm_types.specs.declared.kinds.MsgKind.TheVariants as kinds
 use Rattle.strm_types.specs.declared.modes.Prio.{Prio}
 use Rattle.strm_types.specs.declared.modes.Prio.TheVariants.{High, Band}
@@ -36,11 +36,10 @@ prio_at m = if is_high_priority m.kind then High else Band (record { 0 = m.band 
 abbrev pub prio_of : Got ℕ → Prio
 prio_of g = if g.high then High else Band (record { 0 = g.band })
 
--- What a get handed back is what it takes by the definition: the bytes of both parts, how many those are, where the part is
--- there, the priority, MORECTL and MOREDATA.
-pub record Gives (result : Gotten) (control body : List ℕ) (g : Got ℕ) : Type 0 where
-  pub control_is : control ≡ part g.control
-  pub body_is : body ≡ part g.body
+-- What a get handed back is what it takes by the definition: the bytes of the control part and then those of the data part, how
+-- many those are, where the part is there, the priority, MORECTL and MOREDATA.
+pub record Gives (result : Gotten) (out : List ℕ) (g : Got ℕ) : Type 0 where
+  pub given : out ≡ part g.control ++ part g.body
   pub control_there : result.control ≡ option_map (λ cells. length cells) g.control
   pub body_there : result.body ≡ option_map (λ cells. length cells) g.body
   pub prio : result.prio ≡ prio_of g
@@ -48,6 +47,6 @@ pub record Gives (result : Gotten) (control body : List ℕ) (g : Got ℕ) : Typ
   pub more_data : result.more_data ≡ g.more_data
 
 -- The same, and the queue is left with what the get leaves.
-pub record TakesFirst (result : Gotten) (control body : List ℕ) (old new : StoreValue) (q q' : Queue) (g : Got ℕ) : Type 0 where
-  pub gives : Gives result control body g
+pub record TakesFirst (result : Gotten) (out : List ℕ) (old new : StoreValue) (q q' : Queue) (g : Got ℕ) : Type 0 where
+  pub gives : Gives result out g
   pub queue : queue_in new q' ≡ left_with g.left (queue_in old q)

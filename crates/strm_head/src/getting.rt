@@ -1,6 +1,6 @@
 //! What a head gives to getmsg(2) and getpmsg(2).
 
-ghost use Rattle.std.specs.Prelude.{◌≡◌, ◌≤◌, ◌<◌, ℕ, [], ◌∷◌, List, length, take, min, not, ◌||◌, true, nat_lt, unwrap_or, option_map, Option};
+ghost use Rattle.std.specs.Prelude.{◌≡◌, ◌≤◌, ◌<◌, ◌+◌, ◌++◌, ℕ, [], ◌∷◌, List, length, take, min, not, ◌||◌, true, nat_lt, unwrap_or, option_map, Option};
 ghost use Rattle.strm_types.specs.Flush.{is_data_kind};
 ghost use Rattle.strm_types.specs.Gets.{head_get, parts_of};
 ghost use Rattle.strm_types.specs.GetQueues.{gets_none, get_queue, get_lets_go, get_told};
@@ -89,28 +89,27 @@ fn take_control_into<B: Blocks>(store: &mut B, message: &B::Mp, count: usize, ou
     take_control(store, message, out.as_mut_slice());
 }
 
-// Takes the first so many bytes off a message's data part into an empty buffer.
+// Takes the first so many bytes off a message's data part, behind what a buffer has.
 fn take_data_into<B: Blocks>(store: &mut B, message: &B::Mp, count: usize, out: &mut Content)
     requires in_hand { IsInHand (B.value store.old) (B.name message.now) }
     requires has { count ≤ length (data_bytes (in_hand (B.value store.old) (B.name message.now))) }
-    requires room { count ≤ 4096 }
-    requires fresh { out.old.items ≡ [] }
-    ensures given { out.new.items ≡ take count (data_bytes (in_hand (B.value store.old) (B.name message.now))) }
+    requires room { length out.old.items + count ≤ 8192 }
+    ensures given { out.new.items ≡ out.old.items ++ take count (data_bytes (in_hand (B.value store.old) (B.name message.now))) }
     ensures trimmed { let chain = in_hand (B.value store.old) (B.name message.now) in
         B.value store.new ≡ changed (B.value store.old) (B.name message.now) (without_data count chain) }
 {
+    let from = out.len();
     grow(out, count);
-    take_data(store, message, out.as_mut_slice());
+    take_data(store, message, &mut out.as_mut_slice()[from..]);
 }
 
-// Takes so many bytes off the parts of a message into empty buffers.
+// Takes so many bytes off the parts of a message into an empty buffer, those of the control part first.
 fn take_parts<B: Blocks>(
     store: &mut B,
     message: &B::Mp,
     count: usize,
     data_count: usize,
-    control: &mut Content,
-    body: &mut Content,
+    out: &mut Content,
 )
     requires in_hand { IsInHand (B.value store.old) (B.name message.now) }
     requires chain { IsChain (in_hand (B.value store.old) (B.name message.now)) }
@@ -118,15 +117,14 @@ fn take_parts<B: Blocks>(
     requires has_data { data_count ≤ length (data_bytes (in_hand (B.value store.old) (B.name message.now))) }
     requires room { count ≤ 4096 }
     requires data_room { data_count ≤ 4096 }
-    requires fresh { control.old.items ≡ [] }
-    requires data_fresh { body.old.items ≡ [] }
-    ensures control { control.new.items ≡ take count (control_bytes (in_hand (B.value store.old) (B.name message.now))) }
-    ensures body { body.new.items ≡ take data_count (data_bytes (in_hand (B.value store.old) (B.name message.now))) }
+    requires fresh { out.old.items ≡ [] }
+    ensures given { let chain = in_hand (B.value store.old) (B.name message.now) in
+        out.new.items ≡ take count (control_bytes chain) ++ take data_count (data_bytes chain) }
     ensures cut { let chain = in_hand (B.value store.old) (B.name message.now) in
         B.value store.new ≡ changed (B.value store.old) (B.name message.now) (cut_by count data_count chain) }
 {
-    take_control_into(store, message, count, control);
-    take_data_into(store, message, data_count, body);
+    take_control_into(store, message, count, out);
+    take_data_into(store, message, data_count, out);
 }
 
 // Makes a message whose bytes were taken what is left of it: the blocks of a part of which nothing is left get the kind of the
@@ -185,16 +183,14 @@ fn take_first<B: Blocks>(
     queue: &mut Queue,
     cmax: usize,
     dmax: usize,
-    control: &mut Content,
-    body: &mut Content,
+    out: &mut Content,
 ) -> Gotten
     requires ready { IsHeadQueue (B.value store.old) queue.old }
     requires control_most { cmax ≤ 4096 }
     requires data_most { dmax ≤ 4096 }
-    requires fresh { control.old.items ≡ [] }
-    requires data_fresh { body.old.items ≡ [] }
+    requires fresh { out.old.items ≡ [] }
     ensures took { (m : Message ℕ) (rest : List (Message ℕ)) → messages_on (B.value store.old) queue.old.list ≡ m ∷ rest →
-        TakesFirst result control.new.items body.new.items (B.value store.old) (B.value store.new) queue.old queue.new
+        TakesFirst result out.new.items (B.value store.old) (B.value store.new) queue.old queue.new
         (parts_of cmax dmax m rest) }
     ensures keeps { Keeps (B.value store.old) (B.value store.new) queue.old queue.new }
 {
@@ -210,8 +206,7 @@ fn take_first<B: Blocks>(
         &message,
         first.given.unwrap_or(0),
         second.given.unwrap_or(0),
-        control,
-        body,
+        out,
     );
     put_rest(store, queue, message, first.more, second.more);
     Gotten {
@@ -234,8 +229,8 @@ fn finds<B: Blocks>(store: &B, queue: &Queue, wanted: Wanted) -> bool
     }
 }
 
-/// Gives up to `cmax` bytes of the control part and up to `dmax` of the data part of the first message, where it is the one that
-/// is asked for: getmsg(2), getpmsg(2). It tells that bytes of the direction went to a reader, and says whether a waiting writer
+/// Gives up to `cmax` bytes of the control part and then up to `dmax` of the data part of the first message, where it is the one
+/// that is asked for: getmsg(2), getpmsg(2). It tells that bytes of the direction went to a reader, and says whether a waiting writer
 /// is let go. What is left of the message is put back, without a part of which nothing is left; one that has no control part any
 /// more is M_DATA, of band 0 where it was of high priority. Where there is nothing to take nothing changes, and both parts are
 /// absent. It takes no block, copies each byte once, and takes a step for each block of the message.
@@ -245,17 +240,15 @@ pub fn getmsg<B: Blocks>(
     wanted: Wanted,
     cmax: usize,
     dmax: usize,
-    control: &mut Content,
-    body: &mut Content,
+    out: &mut Content,
     direction: Dir,
     fates: &mut Fates,
 ) -> Gotten
     requires ready { IsHeadQueue (B.value store.old) queue.old }
     requires control_most { cmax ≤ 4096 }
     requires data_most { dmax ≤ 4096 }
-    requires fresh { control.old.items ≡ [] }
-    requires data_fresh { body.old.items ≡ [] }
-    ensures gives { Gives result control.new.items body.new.items
+    requires fresh { out.old.items ≡ [] }
+    ensures gives { Gives result out.new.items
         (head_get wanted cmax dmax (messages_on (B.value store.old) queue.old.list)) }
     ensures queue { queue_in (B.value store.new) queue.new ≡ get_queue wanted cmax dmax (queue_in (B.value store.old) queue.old) }
     ensures went { result.lets_go ≡ get_lets_go wanted cmax dmax (queue_in (B.value store.old) queue.old) }
@@ -266,8 +259,8 @@ pub fn getmsg<B: Blocks>(
     if !finds(store, queue, wanted) {
         return NOTHING;
     }
-    let mut got = take_first(store, queue, cmax, dmax, control, body);
-    let count = control.len() + body.len();
+    let mut got = take_first(store, queue, cmax, dmax, out);
+    let count = out.len();
     fates.tell(direction, Rule::Read, count);
     got.lets_go = count > 0 && relieve(queue);
     got

@@ -1,5 +1,5 @@
 -- A get from a side's head: what it hands back is the answer.
-use Rattle.std.proofs.Common.{ℕ, ◌≡◌, ◌≤◌, List, [], ◌++◌, length, min, append-nil, Option, refl, sym, ap, subst, ◌∙◌, arith}
+use Rattle.std.proofs.Common.{ℕ, ◌≡◌, ◌≤◌, ◌+◌, List, [], ◌++◌, length, min, append-nil, length-append, Option, refl, sym, ap, subst, ◌∙◌, arith}
 use Rattle.std.specs.Prelude.{None, Some, option_map}
 use Rattle.strm_types.specs.declared.answers.Answer.{Answer}
 use Rattle.strm_types.specs.declared.answers.Answer.TheVariants.{Msg}
@@ -38,11 +38,11 @@ abbrev pub got_at : Side → Wanted → ℕ → ℕ → StoreValue → Streams �
 got_at side wanted cmax dmax s p = head_get wanted (min cmax READ_MAX) (min dmax READ_MAX) (stream side (state_in s p)).head.queue.messages
 
 pub gives-is : (side : Side) (wanted : Wanted) (cmax dmax most most_data : ℕ) (s : StoreValue) (p : Streams) → most ≡ min cmax READ_MAX → most_data ≡ min dmax READ_MAX
-    → (got : Gotten) (control body : List ℕ) → Gives got control body (head_get wanted most most_data (messages_on s (end_at side p).head.queue.list)) → Gives got control body (got_at side wanted cmax dmax s p)
-gives-is side wanted cmax dmax most most_data s p most_is data_is got control body gives =
-    subst (λ (h : plain_state.Head ℕ). Gives got control body (head_get wanted (min cmax READ_MAX) (min dmax READ_MAX) h.queue.messages)) (sym (head-is s p side))
-    (subst (λ n. Gives got control body (head_get wanted (min cmax READ_MAX) n (messages_on s (end_at side p).head.queue.list))) data_is
-    (subst (λ n. Gives got control body (head_get wanted n most_data (messages_on s (end_at side p).head.queue.list))) most_is gives))
+    → (got : Gotten) (out : List ℕ) → Gives got out (head_get wanted most most_data (messages_on s (end_at side p).head.queue.list)) → Gives got out (got_at side wanted cmax dmax s p)
+gives-is side wanted cmax dmax most most_data s p most_is data_is got out gives =
+    subst (λ (h : plain_state.Head ℕ). Gives got out (head_get wanted (min cmax READ_MAX) (min dmax READ_MAX) h.queue.messages)) (sym (head-is s p side))
+    (subst (λ n. Gives got out (head_get wanted (min cmax READ_MAX) n (messages_on s (end_at side p).head.queue.list))) data_is
+    (subst (λ n. Gives got out (head_get wanted n most_data (messages_on s (end_at side p).head.queue.list))) most_is gives))
 
 -- the answer of what was got
 abbrev answered : Gotten → Answer ℕ
@@ -51,39 +51,42 @@ answered got = Msg got.prio got.control got.body got.more_control got.more_data
 abbrev reply_of : Got ℕ → Reply
 reply_of g = Msg (prio_got g) g.control g.body g.more_control g.more_data
 
-module _ (got : Gotten) (control body out : List ℕ) (g : Got ℕ) (gives : Gives got control body g) (joined : out ≡ control ++ body) where
+module _ (got : Gotten) (out : List ℕ) (g : Got ℕ) (gives : Gives got out g) where
   shape : answered got ≡ map_answer (λ (cells : List ℕ). length cells) (reply_of g)
   shape = rw (gives.prio, gives.control_there, gives.body_there, gives.more_control, gives.more_data) refl
-
-  content : out ≡ part g.control ++ part g.body
-  content = joined ∙ ap (λ xs. xs ++ body) gives.control_is ∙ ap (λ xs. part g.control ++ xs) gives.body_is
 
   pub got-answer : reply_in (answered got) out ≡ Msg (prio_got g) (option_map (bytes_of plain) g.control) (option_map (bytes_of plain) g.body) g.more_control g.more_data
   got-answer =
       ap (λ a. reply_in a out) shape
-      ∙ ap (λ xs. reply_in (map_answer (λ (cells : List ℕ). length cells) (reply_of g)) xs) (content ∙ sym (append-nil (part g.control ++ part g.body)))
+      ∙ ap (λ xs. reply_in (map_answer (λ (cells : List ℕ). length cells) (reply_of g)) xs) (gives.given ∙ sym (append-nil (part g.control ++ part g.body)))
       ∙ reply-back (reply_of g) []
       ∙ ap (λ c. Msg (prio_got g) c g.body g.more_control g.more_data) (part-plain g.control)
       ∙ ap (λ b. Msg (prio_got g) (option_map (bytes_of plain) g.control) b g.more_control g.more_data) (part-plain g.body)
 
   pub got-filled : answer_len (answered got) ≡ length out
-  got-filled = ap answer_len shape ∙ reply-size (reply_of g) ∙ ap (λ (xs : List ℕ). length xs) (sym content)
+  got-filled = ap answer_len shape ∙ reply-size (reply_of g) ∙ ap (λ (xs : List ℕ). length xs) (sym gives.given)
 
 -- how much is got
-module _ (got : Gotten) (control body : List ℕ) (side : Side) (wanted : Wanted) (cmax dmax : ℕ) (s : StoreValue) (p : Streams) (gives : Gives got control body (got_at side wanted cmax dmax s p)) where
+module _ (got : Gotten) (out : List ℕ) (side : Side) (wanted : Wanted) (cmax dmax : ℕ) (s : StoreValue) (p : Streams) (gives : Gives got out (got_at side wanted cmax dmax s p)) where
   abbrev g : Got ℕ
   g = got_at side wanted cmax dmax s p
 
-  pub control-few : length control ≤ min cmax READ_MAX
-  control-few = omega (arith, ap (λ (xs : List ℕ). length xs) gives.control_is, get-control wanted (min cmax READ_MAX) (min dmax READ_MAX) (stream side (state_in s p)).head.queue.messages)
+  control-few : length (part g.control) ≤ min cmax READ_MAX
+  control-few = get-control wanted (min cmax READ_MAX) (min dmax READ_MAX) (stream side (state_in s p)).head.queue.messages
 
-  pub body-few : length body ≤ min dmax READ_MAX
-  body-few = omega (arith, ap (λ (xs : List ℕ). length xs) gives.body_is, get-data wanted (min cmax READ_MAX) (min dmax READ_MAX) (stream side (state_in s p)).head.queue.messages)
+  body-few : length (part g.body) ≤ min dmax READ_MAX
+  body-few = get-data wanted (min cmax READ_MAX) (min dmax READ_MAX) (stream side (state_in s p)).head.queue.messages
+
+  pub got-few : length out ≤ min cmax READ_MAX + min dmax READ_MAX
+  got-few =
+      let first = control-few in
+      let second = body-few in
+      omega (arith, first, second, ap (λ (xs : List ℕ). length xs) gives.given, length-append (part g.control) (part g.body))
 
   pub got-parts : longest_part (answered got) ≤ READ_MAX
   got-parts =
       let first = control-few in
       let second = body-few in
-      let control_len : part_len got.control ≡ length control = ap part_len gives.control_there ∙ part-size g.control ∙ ap (λ (xs : List ℕ). length xs) (sym gives.control_is) in
-      let body_len : part_len got.body ≡ length body = ap part_len gives.body_there ∙ part-size g.body ∙ ap (λ (xs : List ℕ). length xs) (sym gives.body_is) in
+      let control_len : part_len got.control ≡ length (part g.control) = ap part_len gives.control_there ∙ part-size g.control in
+      let body_len : part_len got.body ≡ length (part g.body) = ap part_len gives.body_there ∙ part-size g.body in
       omega (arith, first, second, control_len, body_len)

@@ -33,14 +33,6 @@ fn len_of(lent: Option<&[u8]>) -> usize
     }
 }
 
-// Adds bytes to what a call gives, which has room for them.
-fn append(out: &mut Content, bytes: &[u8])
-    requires { length out.old.items + length bytes.now ≤ 8192 }
-    ensures { out.new.items ≡ out.old.items ++ bytes.now }
-{
-    out.try_extend_from_slice(bytes).unwrap();
-}
-
 impl Streams {
     ghost use Rattle.strm_pair.specs.Pairs.{state_in, AreHeld, SamePool};
 
@@ -133,7 +125,6 @@ impl Streams {
         let most = (cmax as usize).min(READ_MAX);
         let most_data = (dmax as usize).min(READ_MAX);
         let direction = side.head().direction();
-        let mut body = Content::new();
         let got = match side {
             Side::Master => getmsg(
                 store,
@@ -142,7 +133,6 @@ impl Streams {
                 most,
                 most_data,
                 out,
-                &mut body,
                 direction,
                 told,
             ),
@@ -153,13 +143,11 @@ impl Streams {
                 most,
                 most_data,
                 out,
-                &mut body,
                 direction,
                 told,
             ),
         };
         self.let_go(side.head(), got.lets_go);
-        append(out, body.as_slice());
         Answer::Msg {
             prio: got.prio,
             control: got.control,

@@ -14,8 +14,8 @@ use strm_types::{Band, Content, Dir, Fates, Prio, Refusal, Wanted};
 // The priority and the parts of a message.
 type Sent<'a> = (Prio, Option<&'a [u8]>, Option<&'a [u8]>);
 
-// What a get hands back, and the bytes of the two parts that it gives.
-type Got<'a> = (Gotten, &'a [u8], &'a [u8]);
+// What a get hands back, and the bytes that it gives, those of the control part first.
+type Got<'a> = (Gotten, &'a [u8]);
 
 // A message comes up to a head, where it is one and two blocks are free.
 fn stands<B: Blocks>(store: &mut B, head: &mut Head, sent: Sent<'_>)
@@ -44,8 +44,7 @@ fn gives<B: Blocks>(
     requires body { asked.2 ≤ 4096 }
     ensures { IsHeadQueue (B.value store.new) head.new.queue }
 {
-    let mut control = Content::new();
-    let mut body = Content::new();
+    let mut out = Content::new();
     let mut fates = Fates::none();
     let got = getmsg(
         store,
@@ -53,18 +52,13 @@ fn gives<B: Blocks>(
         asked.0,
         asked.1,
         asked.2,
-        &mut control,
-        &mut body,
+        &mut out,
         Dir::MasterToSlave,
         &mut fates,
     );
     assert_eq!(rt; got, wanted.0);
-    assert_eq!(rt; control.as_slice(), wanted.1);
-    assert_eq!(rt; body.as_slice(), wanted.2);
-    assert_eq!(rt;
-        fates.from_master[0],
-        control.len() as u64 + body.len() as u64
-    );
+    assert!(rt; out.as_slice() == wanted.1);
+    assert_eq!(rt; fates.from_master[0], out.len() as u64);
 }
 
 // Gets from a head at which a message stands, and then what is left.
@@ -116,6 +110,8 @@ const AB: &[u8] = b"ab";
 
 const CDE: &[u8] = b"cde";
 
+const ABCDE: &[u8] = b"abcde";
+
 const EMPTY: &[u8] = b"";
 
 const BOTH: Sent<'static> = (BANDED, Some(AB), Some(CDE));
@@ -124,9 +120,9 @@ const HIGH: Sent<'static> = (Prio::High, Some(AB), Some(CDE));
 
 #[test]
 fn gets_give_the_message_that_is_asked_for(rt: HostRuntime) -> Result<(), Fail> {
-    let none: Got<'_> = (got(None, None, ORDINARY), EMPTY, EMPTY);
-    let whole: Got<'_> = (got(Some(2), Some(3), BANDED), AB, CDE);
-    let high: Got<'_> = (got(Some(2), Some(3), Prio::High), AB, CDE);
+    let none: Got<'_> = (got(None, None, ORDINARY), EMPTY);
+    let whole: Got<'_> = (got(Some(2), Some(3), BANDED), ABCDE);
+    let high: Got<'_> = (got(Some(2), Some(3), Prio::High), ABCDE);
     let rows: [(Sent<'_>, Wanted, Got<'_>, Got<'_>); 8] = [
         (BOTH, Wanted::Any, whole, none),
         (BOTH, Wanted::Band(Band(2)), whole, none),
@@ -137,7 +133,7 @@ fn gets_give_the_message_that_is_asked_for(rt: HostRuntime) -> Result<(), Fail> 
         (
             (ORDINARY, None, Some(EMPTY)),
             Wanted::Any,
-            (got(None, Some(0), ORDINARY), EMPTY, EMPTY),
+            (got(None, Some(0), ORDINARY), EMPTY),
             none,
         ),
         ((ORDINARY, None, None), Wanted::Any, none, none),
@@ -157,10 +153,9 @@ fn gets_leave_what_they_have_no_room_for(rt: HostRuntime) -> Result<(), Fail> {
             9,
             (
                 with_more(got(Some(1), Some(3), BANDED), true, false),
-                b"a",
-                CDE,
+                b"acde",
             ),
-            (got(Some(1), None, BANDED), b"b", EMPTY),
+            (got(Some(1), None, BANDED), b"b"),
         ),
         (
             BOTH,
@@ -168,21 +163,16 @@ fn gets_leave_what_they_have_no_room_for(rt: HostRuntime) -> Result<(), Fail> {
             1,
             (
                 with_more(got(Some(2), Some(1), BANDED), false, true),
-                AB,
-                b"c",
+                b"abc",
             ),
-            (got(None, Some(2), BANDED), EMPTY, b"de"),
+            (got(None, Some(2), BANDED), b"de"),
         ),
         (
             BOTH,
             0,
             0,
-            (
-                with_more(got(Some(0), Some(0), BANDED), true, true),
-                EMPTY,
-                EMPTY,
-            ),
-            (got(Some(2), Some(3), BANDED), AB, CDE),
+            (with_more(got(Some(0), Some(0), BANDED), true, true), EMPTY),
+            (got(Some(2), Some(3), BANDED), ABCDE),
         ),
         (
             HIGH,
@@ -191,9 +181,8 @@ fn gets_leave_what_they_have_no_room_for(rt: HostRuntime) -> Result<(), Fail> {
             (
                 with_more(got(Some(2), Some(0), Prio::High), false, true),
                 AB,
-                EMPTY,
             ),
-            (got(None, Some(3), ORDINARY), EMPTY, CDE),
+            (got(None, Some(3), ORDINARY), CDE),
         ),
         (
             HIGH,
@@ -201,10 +190,9 @@ fn gets_leave_what_they_have_no_room_for(rt: HostRuntime) -> Result<(), Fail> {
             9,
             (
                 with_more(got(Some(1), Some(3), Prio::High), true, false),
-                b"a",
-                CDE,
+                b"acde",
             ),
-            (got(Some(1), None, Prio::High), b"b", EMPTY),
+            (got(Some(1), None, Prio::High), b"b"),
         ),
     ];
     for (sent, cmax, dmax, first, rest) in rows {

@@ -14,14 +14,14 @@ returns-then-count-gt0-clause-gives g c =
     let q = messages_on (g.B.Blocks.value c.args.store.now) c.args.queue.now.list in
     let f = found c.args.wanted c.args.cmax c.args.dmax q (sym c.finds.ensures ∙ c.if-not-finds.false) in
     let t = c.take_first-got.ensures.took f.message f.rest f.stood in
-    gives-found c.take_first-got.result _ c.take_first-got.new.control.items c.take_first-got.new.body.items _ _ refl refl refl refl refl f.got t.gives
+    gives-found c.take_first-got.result _ c.take_first-got.new.out.items _ _ refl refl refl refl refl f.got t.gives
 
 pub returns-else-count-gt0-clause-gives : goal.returns-else-count-gt0-clause-gives
 returns-else-count-gt0-clause-gives g c =
     let q = messages_on (g.B.Blocks.value c.args.store.now) c.args.queue.now.list in
     let f = found c.args.wanted c.args.cmax c.args.dmax q (sym c.finds.ensures ∙ c.if-not-finds.false) in
     let t = c.take_first-got.ensures.took f.message f.rest f.stood in
-    gives-found c.take_first-got.result _ c.take_first-got.new.control.items c.take_first-got.new.body.items _ _ refl refl refl refl refl f.got t.gives
+    gives-found c.take_first-got.result _ c.take_first-got.new.out.items _ _ refl refl refl refl refl f.got t.gives
 
 pub returns-then-count-gt0-clause-told : goal.returns-then-count-gt0-clause-told
 returns-then-count-gt0-clause-told g c =
@@ -29,8 +29,8 @@ returns-then-count-gt0-clause-told g c =
     let f = found c.args.wanted c.args.cmax c.args.dmax q (sym c.finds.ensures ∙ c.if-not-finds.false) in
     let t = c.take_first-got.ensures.took f.message f.rest f.stood in
     c.tell.ensures
-    ∙ told-found c.args.wanted c.args.cmax c.args.dmax c.args.direction q c.args.fates.now (c.len.result + c.len-2.result) f.some
-    (count-found c.take_first-got.result c.take_first-got.new.control.items c.take_first-got.new.body.items _ _ c.len.ensures.value c.len-2.ensures.value f.got t.gives)
+    ∙ told-found c.args.wanted c.args.cmax c.args.dmax c.args.direction q c.args.fates.now c.len-count.result f.some
+    (count-found c.take_first-got.result c.take_first-got.new.out.items _ _ c.len-count.ensures.value f.got t.gives)
 
 pub returns-else-count-gt0-clause-told : goal.returns-else-count-gt0-clause-told
 returns-else-count-gt0-clause-told g c =
@@ -38,8 +38,8 @@ returns-else-count-gt0-clause-told g c =
     let f = found c.args.wanted c.args.cmax c.args.dmax q (sym c.finds.ensures ∙ c.if-not-finds.false) in
     let t = c.take_first-got.ensures.took f.message f.rest f.stood in
     c.tell.ensures
-    ∙ told-found c.args.wanted c.args.cmax c.args.dmax c.args.direction q c.args.fates.now (c.len.result + c.len-2.result) f.some
-    (count-found c.take_first-got.result c.take_first-got.new.control.items c.take_first-got.new.body.items _ _ c.len.ensures.value c.len-2.ensures.value f.got t.gives)
+    ∙ told-found c.args.wanted c.args.cmax c.args.dmax c.args.direction q c.args.fates.now c.len-count.result f.some
+    (count-found c.take_first-got.result c.take_first-got.new.out.items _ _ c.len-count.ensures.value f.got t.gives)
 
 pub returns-then-count-gt0-clause-keeps : goal.returns-then-count-gt0-clause-keeps
 returns-then-count-gt0-clause-keeps g c =
@@ -68,7 +68,7 @@ returns-then-count-gt0-clause-queue g c =
     let q = queue_in s c.args.queue.now in
     let f = found c.args.wanted c.args.cmax c.args.dmax q.messages (sym c.finds.ensures ∙ c.if-not-finds.false) in
     let t = c.take_first-got.ensures.took f.message f.rest f.stood in
-    let count = count-found c.take_first-got.result c.take_first-got.new.control.items c.take_first-got.new.body.items _ _ c.len.ensures.value c.len-2.ensures.value refl t.gives in
+    let count = count-found c.take_first-got.result c.take_first-got.new.out.items _ _ c.len-count.ensures.value refl t.gives in
     c.relieve.ensures.queue (g.B.Blocks.value c.take_first-got.new.store) c.take_first-got.ensures.keeps.ready ∙ ap relieved t.queue ∙ queue-goes c.args.wanted c.args.cmax c.args.dmax q _ f.got f.some _ count (omega (arith, c.if-count-gt0.true))
 
 pub returns-else-count-gt0-clause-queue : goal.returns-else-count-gt0-clause-queue
@@ -77,7 +77,7 @@ returns-else-count-gt0-clause-queue g c =
     let q = queue_in s c.args.queue.now in
     let f = found c.args.wanted c.args.cmax c.args.dmax q.messages (sym c.finds.ensures ∙ c.if-not-finds.false) in
     let t = c.take_first-got.ensures.took f.message f.rest f.stood in
-    let count = count-found c.take_first-got.result c.take_first-got.new.control.items c.take_first-got.new.body.items _ _ c.len.ensures.value c.len-2.ensures.value refl t.gives in
+    let count = count-found c.take_first-got.result c.take_first-got.new.out.items _ _ c.len-count.ensures.value refl t.gives in
     t.queue ∙ queue-waits c.args.wanted c.args.cmax c.args.dmax q _ f.got f.some _ count (omega (arith, c.if-count-gt0.false))
 
 pub returns-then-count-gt0-clause-went : goal.returns-then-count-gt0-clause-went
@@ -86,7 +86,7 @@ returns-then-count-gt0-clause-went g c =
     let q = queue_in s c.args.queue.now in
     let f = found c.args.wanted c.args.cmax c.args.dmax q.messages (sym c.finds.ensures ∙ c.if-not-finds.false) in
     let t = c.take_first-got.ensures.took f.message f.rest f.stood in
-    let count = count-found c.take_first-got.result c.take_first-got.new.control.items c.take_first-got.new.body.items _ _ c.len.ensures.value c.len-2.ensures.value refl t.gives in
+    let count = count-found c.take_first-got.result c.take_first-got.new.out.items _ _ c.len-count.ensures.value refl t.gives in
     c.relieve.ensures.went (g.B.Blocks.value c.take_first-got.new.store) c.take_first-got.ensures.keeps.ready ∙ ap relieves t.queue ∙ went-goes c.args.wanted c.args.cmax c.args.dmax q _ f.got f.some _ count (omega (arith, c.if-count-gt0.true))
 
 pub returns-else-count-gt0-clause-went : goal.returns-else-count-gt0-clause-went
@@ -95,8 +95,8 @@ returns-else-count-gt0-clause-went g c =
     let q = queue_in s c.args.queue.now in
     let f = found c.args.wanted c.args.cmax c.args.dmax q.messages (sym c.finds.ensures ∙ c.if-not-finds.false) in
     let t = c.take_first-got.ensures.took f.message f.rest f.stood in
-    let count = count-found c.take_first-got.result c.take_first-got.new.control.items c.take_first-got.new.body.items _ _ c.len.ensures.value c.len-2.ensures.value refl t.gives in
-    let n = c.len.result + c.len-2.result in
+    let count = count-found c.take_first-got.result c.take_first-got.new.out.items _ _ c.len-count.ensures.value refl t.gives in
+    let n = c.len-count.result in
     let zero : n ≡ 0 = omega (arith, c.if-count-gt0.false) in
     let none : nat_lt 0 n ≡ false = grind (arith, nat_tests) in
     none ∙ went-waits c.args.wanted c.args.cmax c.args.dmax q _ f.got f.some n count zero

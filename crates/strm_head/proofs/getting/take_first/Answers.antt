@@ -27,7 +27,7 @@ returns-clause-took g c =
     took s got cut q i c.args.cmax c.args.dmax c.unwrap_or.result c.unwrap_or-2.result (has-list s q c.audit.ensures) c.in-Some.ensures.taken c.requires.ready
     c.control_len.result c.data_len.result c.piece_of-first.result c.piece_of-second.result c.control_len.ensures c.data_len.ensures
     c.piece_of-first.ensures.given c.piece_of-first.ensures.more c.piece_of-second.ensures.given c.piece_of-second.ensures.more c.unwrap_or.ensures c.unwrap_or-2.ensures c.take_parts.ensures.cut
-    _ c.take_parts.new.control.items c.take_parts.new.body.items c.take_parts.ensures.control c.take_parts.ensures.body refl refl c.prio_of-prio.ensures refl refl
+    _ c.take_parts.new.out.items c.take_parts.ensures.given refl refl c.prio_of-prio.ensures refl refl
     new c.getq.new.self.list q' c.getq.ensures.list c.put_rest.ensures.left (c.put_rest.ensures.others.list ∙ c.getq.ensures.list)
     (c.put_rest.ensures.flows ∙ c.getq.ensures.flows) (c.put_rest.ensures.others.want_read ∙ c.in-Some.ensures.want_read) (c.put_rest.ensures.others.no_enable ∙ c.getq.ensures.no_enable)
 
@@ -44,5 +44,5 @@ returns-clause-keeps g c =
     c.control_len.result c.data_len.result c.piece_of-first.result c.piece_of-second.result c.control_len.ensures c.data_len.ensures
     c.piece_of-first.ensures.given c.piece_of-first.ensures.more c.piece_of-second.ensures.given c.piece_of-second.ensures.more c.unwrap_or.ensures c.unwrap_or-2.ensures c.take_parts.ensures.cut
     (record { control = c.piece_of-first.result.given; body = c.piece_of-second.result.given; prio = c.prio_of-prio.result; more_control = c.piece_of-first.result.more; more_data = c.piece_of-second.result.more; lets_go = false })
-    c.take_parts.new.control.items c.take_parts.new.body.items c.take_parts.ensures.control c.take_parts.ensures.body refl refl c.prio_of-prio.ensures refl refl
+    c.take_parts.new.out.items c.take_parts.ensures.given refl refl c.prio_of-prio.ensures refl refl
     new c.getq.new.self.list q' c.getq.ensures.list c.put_rest.ensures.left (c.put_rest.ensures.others.list ∙ c.getq.ensures.list) c.put_rest.ensures.counted

@@ -1,98 +1,75 @@
 -- What the head of either side gives.
-use Rattle.std.proofs.Common.{◌≡◌, ◌++◌, length, length-append, sym, ap, subst, ◌∙◌, refl, arith}
+use Rattle.std.proofs.Common.{sym, subst, ◌∙◌, refl}
 use Rattle.strm_types.specs.declared.names.Side.TheVariants.{Master, Slave}
 use Rattle.strm_head.specs.Getting.{Gives}
-use Rattle.strm_pair.proofs.GetSteps.{got_at, gives-is, got-answer, got-filled, control-few, body-few, got-parts}
+use Rattle.strm_pair.proofs.GetSteps.{got_at, gives-is, got-answer, got-filled, got-few, got-parts}
 use Rattle.strm_pair.proofs.ReadSteps.{read-beside}
 use Rattle.strm_pair.proofs.streams.Streams.getmsg.Goals as goal
 use Rattle.strm_pair.proofs.streams.Streams.getmsg.Goals.{in-Master, in-Slave}
-
-pub append-requires : goal.append-requires
-append-requires g c =
-    let s = g.B.Blocks.value c.args.store.now in
-    let p = c.args.self.now in
-    let m = c.match-side in
-    let gives : Gives m.got m.out.items m.body.items (got_at c.args.side c.args.wanted c.args.cmax c.args.dmax s p) =
-    elim m.branch [
-      | in-Master w ↦
-          rw (w.got-is, w.out-is, w.body-is) (subst (λ sd. Gives w.getmsg-got.result w.getmsg-got.new.control.items w.getmsg-got.new.body.items (got_at sd c.args.wanted c.args.cmax c.args.dmax s p)) (sym w.in-Master.is)
-          (gives-is Master c.args.wanted c.args.cmax c.args.dmax c.min-most.result c.min-most_data.result s p c.min-most.ensures c.min-most_data.ensures w.getmsg-got.result w.getmsg-got.new.control.items w.getmsg-got.new.body.items w.getmsg-got.ensures.gives))
-      | in-Slave w ↦
-          rw (w.got-is, w.out-is, w.body-is) (subst (λ sd. Gives w.getmsg-got-in-Slave.result w.getmsg-got-in-Slave.new.control.items w.getmsg-got-in-Slave.new.body.items (got_at sd c.args.wanted c.args.cmax c.args.dmax s p)) (sym w.in-Slave.is)
-          (gives-is Slave c.args.wanted c.args.cmax c.args.dmax c.min-most.result c.min-most_data.result s p c.min-most.ensures c.min-most_data.ensures w.getmsg-got-in-Slave.result w.getmsg-got-in-Slave.new.control.items w.getmsg-got-in-Slave.new.body.items w.getmsg-got-in-Slave.ensures.gives))
-    ] in
-    let first = control-few m.got m.out.items m.body.items c.args.side c.args.wanted c.args.cmax c.args.dmax s p gives in
-    let second = body-few m.got m.out.items m.body.items c.args.side c.args.wanted c.args.cmax c.args.dmax s p gives in
-    omega (arith, first, second, ap length c.as_slice.ensures.value)
 
 pub returns-clause-answer : goal.returns-clause-answer
 returns-clause-answer g c =
     let s = g.B.Blocks.value c.args.store.now in
     let p = c.args.self.now in
     let m = c.match-side in
-    let gives : Gives m.got m.out.items m.body.items (got_at c.args.side c.args.wanted c.args.cmax c.args.dmax s p) =
+    let gives : Gives m.got m.out.items (got_at c.args.side c.args.wanted c.args.cmax c.args.dmax s p) =
     elim m.branch [
       | in-Master w ↦
-          rw (w.got-is, w.out-is, w.body-is) (subst (λ sd. Gives w.getmsg-got.result w.getmsg-got.new.control.items w.getmsg-got.new.body.items (got_at sd c.args.wanted c.args.cmax c.args.dmax s p)) (sym w.in-Master.is)
-          (gives-is Master c.args.wanted c.args.cmax c.args.dmax c.min-most.result c.min-most_data.result s p c.min-most.ensures c.min-most_data.ensures w.getmsg-got.result w.getmsg-got.new.control.items w.getmsg-got.new.body.items w.getmsg-got.ensures.gives))
+          rw (w.got-is, w.out-is) (subst (λ sd. Gives w.getmsg-got.result w.getmsg-got.new.out.items (got_at sd c.args.wanted c.args.cmax c.args.dmax s p)) (sym w.in-Master.is)
+          (gives-is Master c.args.wanted c.args.cmax c.args.dmax c.min-most.result c.min-most_data.result s p c.min-most.ensures c.min-most_data.ensures w.getmsg-got.result w.getmsg-got.new.out.items w.getmsg-got.ensures.gives))
       | in-Slave w ↦
-          rw (w.got-is, w.out-is, w.body-is) (subst (λ sd. Gives w.getmsg-got-in-Slave.result w.getmsg-got-in-Slave.new.control.items w.getmsg-got-in-Slave.new.body.items (got_at sd c.args.wanted c.args.cmax c.args.dmax s p)) (sym w.in-Slave.is)
-          (gives-is Slave c.args.wanted c.args.cmax c.args.dmax c.min-most.result c.min-most_data.result s p c.min-most.ensures c.min-most_data.ensures w.getmsg-got-in-Slave.result w.getmsg-got-in-Slave.new.control.items w.getmsg-got-in-Slave.new.body.items w.getmsg-got-in-Slave.ensures.gives))
+          rw (w.got-is, w.out-is) (subst (λ sd. Gives w.getmsg-got-in-Slave.result w.getmsg-got-in-Slave.new.out.items (got_at sd c.args.wanted c.args.cmax c.args.dmax s p)) (sym w.in-Slave.is)
+          (gives-is Slave c.args.wanted c.args.cmax c.args.dmax c.min-most.result c.min-most_data.result s p c.min-most.ensures c.min-most_data.ensures w.getmsg-got-in-Slave.result w.getmsg-got-in-Slave.new.out.items w.getmsg-got-in-Slave.ensures.gives))
     ] in
-    let joined : c.append.new.out.items ≡ m.out.items ++ m.body.items = c.append.ensures ∙ ap (λ xs. m.out.items ++ xs) c.as_slice.ensures.value in
-    got-answer m.got m.out.items m.body.items c.append.new.out.items (got_at c.args.side c.args.wanted c.args.cmax c.args.dmax s p) gives joined
+    got-answer m.got m.out.items (got_at c.args.side c.args.wanted c.args.cmax c.args.dmax s p) gives
 
 pub returns-clause-filled : goal.returns-clause-filled
 returns-clause-filled g c =
     let s = g.B.Blocks.value c.args.store.now in
     let p = c.args.self.now in
     let m = c.match-side in
-    let gives : Gives m.got m.out.items m.body.items (got_at c.args.side c.args.wanted c.args.cmax c.args.dmax s p) =
+    let gives : Gives m.got m.out.items (got_at c.args.side c.args.wanted c.args.cmax c.args.dmax s p) =
     elim m.branch [
       | in-Master w ↦
-          rw (w.got-is, w.out-is, w.body-is) (subst (λ sd. Gives w.getmsg-got.result w.getmsg-got.new.control.items w.getmsg-got.new.body.items (got_at sd c.args.wanted c.args.cmax c.args.dmax s p)) (sym w.in-Master.is)
-          (gives-is Master c.args.wanted c.args.cmax c.args.dmax c.min-most.result c.min-most_data.result s p c.min-most.ensures c.min-most_data.ensures w.getmsg-got.result w.getmsg-got.new.control.items w.getmsg-got.new.body.items w.getmsg-got.ensures.gives))
+          rw (w.got-is, w.out-is) (subst (λ sd. Gives w.getmsg-got.result w.getmsg-got.new.out.items (got_at sd c.args.wanted c.args.cmax c.args.dmax s p)) (sym w.in-Master.is)
+          (gives-is Master c.args.wanted c.args.cmax c.args.dmax c.min-most.result c.min-most_data.result s p c.min-most.ensures c.min-most_data.ensures w.getmsg-got.result w.getmsg-got.new.out.items w.getmsg-got.ensures.gives))
       | in-Slave w ↦
-          rw (w.got-is, w.out-is, w.body-is) (subst (λ sd. Gives w.getmsg-got-in-Slave.result w.getmsg-got-in-Slave.new.control.items w.getmsg-got-in-Slave.new.body.items (got_at sd c.args.wanted c.args.cmax c.args.dmax s p)) (sym w.in-Slave.is)
-          (gives-is Slave c.args.wanted c.args.cmax c.args.dmax c.min-most.result c.min-most_data.result s p c.min-most.ensures c.min-most_data.ensures w.getmsg-got-in-Slave.result w.getmsg-got-in-Slave.new.control.items w.getmsg-got-in-Slave.new.body.items w.getmsg-got-in-Slave.ensures.gives))
+          rw (w.got-is, w.out-is) (subst (λ sd. Gives w.getmsg-got-in-Slave.result w.getmsg-got-in-Slave.new.out.items (got_at sd c.args.wanted c.args.cmax c.args.dmax s p)) (sym w.in-Slave.is)
+          (gives-is Slave c.args.wanted c.args.cmax c.args.dmax c.min-most.result c.min-most_data.result s p c.min-most.ensures c.min-most_data.ensures w.getmsg-got-in-Slave.result w.getmsg-got-in-Slave.new.out.items w.getmsg-got-in-Slave.ensures.gives))
     ] in
-    let joined : c.append.new.out.items ≡ m.out.items ++ m.body.items = c.append.ensures ∙ ap (λ xs. m.out.items ++ xs) c.as_slice.ensures.value in
-    got-filled m.got m.out.items m.body.items c.append.new.out.items (got_at c.args.side c.args.wanted c.args.cmax c.args.dmax s p) gives joined
+    got-filled m.got m.out.items (got_at c.args.side c.args.wanted c.args.cmax c.args.dmax s p) gives
 
 pub returns-clause-parts : goal.returns-clause-parts
 returns-clause-parts g c =
     let s = g.B.Blocks.value c.args.store.now in
     let p = c.args.self.now in
     let m = c.match-side in
-    let gives : Gives m.got m.out.items m.body.items (got_at c.args.side c.args.wanted c.args.cmax c.args.dmax s p) =
+    let gives : Gives m.got m.out.items (got_at c.args.side c.args.wanted c.args.cmax c.args.dmax s p) =
     elim m.branch [
       | in-Master w ↦
-          rw (w.got-is, w.out-is, w.body-is) (subst (λ sd. Gives w.getmsg-got.result w.getmsg-got.new.control.items w.getmsg-got.new.body.items (got_at sd c.args.wanted c.args.cmax c.args.dmax s p)) (sym w.in-Master.is)
-          (gives-is Master c.args.wanted c.args.cmax c.args.dmax c.min-most.result c.min-most_data.result s p c.min-most.ensures c.min-most_data.ensures w.getmsg-got.result w.getmsg-got.new.control.items w.getmsg-got.new.body.items w.getmsg-got.ensures.gives))
+          rw (w.got-is, w.out-is) (subst (λ sd. Gives w.getmsg-got.result w.getmsg-got.new.out.items (got_at sd c.args.wanted c.args.cmax c.args.dmax s p)) (sym w.in-Master.is)
+          (gives-is Master c.args.wanted c.args.cmax c.args.dmax c.min-most.result c.min-most_data.result s p c.min-most.ensures c.min-most_data.ensures w.getmsg-got.result w.getmsg-got.new.out.items w.getmsg-got.ensures.gives))
       | in-Slave w ↦
-          rw (w.got-is, w.out-is, w.body-is) (subst (λ sd. Gives w.getmsg-got-in-Slave.result w.getmsg-got-in-Slave.new.control.items w.getmsg-got-in-Slave.new.body.items (got_at sd c.args.wanted c.args.cmax c.args.dmax s p)) (sym w.in-Slave.is)
-          (gives-is Slave c.args.wanted c.args.cmax c.args.dmax c.min-most.result c.min-most_data.result s p c.min-most.ensures c.min-most_data.ensures w.getmsg-got-in-Slave.result w.getmsg-got-in-Slave.new.control.items w.getmsg-got-in-Slave.new.body.items w.getmsg-got-in-Slave.ensures.gives))
+          rw (w.got-is, w.out-is) (subst (λ sd. Gives w.getmsg-got-in-Slave.result w.getmsg-got-in-Slave.new.out.items (got_at sd c.args.wanted c.args.cmax c.args.dmax s p)) (sym w.in-Slave.is)
+          (gives-is Slave c.args.wanted c.args.cmax c.args.dmax c.min-most.result c.min-most_data.result s p c.min-most.ensures c.min-most_data.ensures w.getmsg-got-in-Slave.result w.getmsg-got-in-Slave.new.out.items w.getmsg-got-in-Slave.ensures.gives))
     ] in
-    got-parts m.got m.out.items m.body.items c.args.side c.args.wanted c.args.cmax c.args.dmax s p gives
+    got-parts m.got m.out.items c.args.side c.args.wanted c.args.cmax c.args.dmax s p gives
 
 pub returns-clause-most : goal.returns-clause-most
 returns-clause-most g c =
     let s = g.B.Blocks.value c.args.store.now in
     let p = c.args.self.now in
     let m = c.match-side in
-    let gives : Gives m.got m.out.items m.body.items (got_at c.args.side c.args.wanted c.args.cmax c.args.dmax s p) =
+    let gives : Gives m.got m.out.items (got_at c.args.side c.args.wanted c.args.cmax c.args.dmax s p) =
     elim m.branch [
       | in-Master w ↦
-          rw (w.got-is, w.out-is, w.body-is) (subst (λ sd. Gives w.getmsg-got.result w.getmsg-got.new.control.items w.getmsg-got.new.body.items (got_at sd c.args.wanted c.args.cmax c.args.dmax s p)) (sym w.in-Master.is)
-          (gives-is Master c.args.wanted c.args.cmax c.args.dmax c.min-most.result c.min-most_data.result s p c.min-most.ensures c.min-most_data.ensures w.getmsg-got.result w.getmsg-got.new.control.items w.getmsg-got.new.body.items w.getmsg-got.ensures.gives))
+          rw (w.got-is, w.out-is) (subst (λ sd. Gives w.getmsg-got.result w.getmsg-got.new.out.items (got_at sd c.args.wanted c.args.cmax c.args.dmax s p)) (sym w.in-Master.is)
+          (gives-is Master c.args.wanted c.args.cmax c.args.dmax c.min-most.result c.min-most_data.result s p c.min-most.ensures c.min-most_data.ensures w.getmsg-got.result w.getmsg-got.new.out.items w.getmsg-got.ensures.gives))
       | in-Slave w ↦
-          rw (w.got-is, w.out-is, w.body-is) (subst (λ sd. Gives w.getmsg-got-in-Slave.result w.getmsg-got-in-Slave.new.control.items w.getmsg-got-in-Slave.new.body.items (got_at sd c.args.wanted c.args.cmax c.args.dmax s p)) (sym w.in-Slave.is)
-          (gives-is Slave c.args.wanted c.args.cmax c.args.dmax c.min-most.result c.min-most_data.result s p c.min-most.ensures c.min-most_data.ensures w.getmsg-got-in-Slave.result w.getmsg-got-in-Slave.new.control.items w.getmsg-got-in-Slave.new.body.items w.getmsg-got-in-Slave.ensures.gives))
+          rw (w.got-is, w.out-is) (subst (λ sd. Gives w.getmsg-got-in-Slave.result w.getmsg-got-in-Slave.new.out.items (got_at sd c.args.wanted c.args.cmax c.args.dmax s p)) (sym w.in-Slave.is)
+          (gives-is Slave c.args.wanted c.args.cmax c.args.dmax c.min-most.result c.min-most_data.result s p c.min-most.ensures c.min-most_data.ensures w.getmsg-got-in-Slave.result w.getmsg-got-in-Slave.new.out.items w.getmsg-got-in-Slave.ensures.gives))
     ] in
-    let first = control-few m.got m.out.items m.body.items c.args.side c.args.wanted c.args.cmax c.args.dmax s p gives in
-    let second = body-few m.got m.out.items m.body.items c.args.side c.args.wanted c.args.cmax c.args.dmax s p gives in
-    let joined : c.append.new.out.items ≡ m.out.items ++ m.body.items = c.append.ensures ∙ ap (λ xs. m.out.items ++ xs) c.as_slice.ensures.value in
-    omega (arith, first, second, ap length joined, length-append m.out.items m.body.items)
+    got-few m.got m.out.items c.args.side c.args.wanted c.args.cmax c.args.dmax s p gives
 
 pub returns-clause-held : goal.returns-clause-held
 returns-clause-held g c =
