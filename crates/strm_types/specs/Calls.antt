@@ -1,11 +1,13 @@
 -- The calls on a pair: what each one does where nothing refuses it.
-use Rattle.std.specs.Prelude.{ℕ, ◌+◌, false, not, min, if◌then◌else◌, List, [], ◌++◌, length, Option, option_map}
+use Rattle.std.specs.Prelude.{ℕ, suc, ◌+◌, false, not, min, if◌then◌else◌, List, [], ◌++◌, length, Option, option_map}
 use denote.Ref.{Bor}
 use Rattle.strm_types.specs.declared.limits.TheConstants.{READ_MAX}
 use Rattle.strm_types.specs.declared.answers.Answer.{Answer}
-use Rattle.strm_types.specs.declared.answers.Answer.TheVariants.{Done, Name, Count, Bytes, Msg, Sizes}
+use Rattle.strm_types.specs.declared.answers.Answer.TheVariants.{Done, Name, Count, Bytes, Msg, Sizes, Pending, Nak, Signals}
 use Rattle.strm_types.specs.declared.events.Event.{Event}
-use Rattle.strm_types.specs.declared.events.Event.TheVariants.{OpenMaster, Unlock, OpenSlave, Shut, Push, Pop, Look, Flush, Write, Read, Put, Get, Mode, Nread}
+use Rattle.strm_types.specs.declared.events.Event.TheVariants.{OpenMaster, Unlock, OpenSlave, Shut, Push, Pop, Look, Flush, Write, Read, Put, Get, Mode, Nread, Ioctl, IoctlResult}
+use Rattle.strm_types.specs.declared.events.Event.TheVariants as events
+use Rattle.strm_types.specs.declared.slots.Slot.TheVariants.{Waiting}
 use Rattle.strm_types.specs.declared.events.Caller.{Caller}
 use Rattle.strm_types.specs.declared.modes.Mode as modes
 use Rattle.strm_types.specs.declared.modes.Prio.{Prio}
@@ -16,7 +18,7 @@ use Rattle.strm_types.specs.declared.names.Openness.TheVariants.{Open}
 use Rattle.strm_types.specs.declared.names.Way.TheVariants.{Down}
 use Rattle.strm_types.specs.Cells.{Cells, cells_written, bytes_of}
 use Rattle.strm_types.specs.Names.{driver_of, head_of, direction_from, before, enable_if, enable_some}
-use Rattle.strm_types.specs.State.{State, stream, with_stream, with_driver_queue, with_head_queue, new_head, with_mode, book, with_book, map_state}
+use Rattle.strm_types.specs.State.{State, stream, with_stream, with_driver_queue, with_head_queue, new_head, with_mode, with_ioctl, with_signals, book, with_book, map_state}
 use Rattle.strm_types.specs.Books.{with_written}
 use Rattle.strm_types.specs.Reads.{head_draw, read_queue, read_lets_go}
 use Rattle.strm_types.specs.Write.{written}
@@ -25,9 +27,11 @@ use Rattle.strm_types.specs.Emptied.{closed_at}
 use Rattle.strm_types.specs.Deliver.{Carried}
 use Rattle.strm_types.specs.GetQueues.{get_queue, get_lets_go}
 use Rattle.strm_types.specs.Gets.{head_get, prio_got, first_data}
+use Rattle.strm_types.specs.Ioctls.{asking, ioctl_message}
 use Rattle.strm_types.specs.Message.{Message, part}
 use Rattle.strm_types.specs.PutMsg.{put_message, no_parts}
 use Rattle.strm_types.specs.Puts.{delivered, flushed_on}
+use Rattle.strm_types.specs.Slots.{told_of, slot_behind}
 
 -- a call over other things that stand for its bytes
 abbrev pub map_event : {A B : Type 0} → (A → B) → Event A → Event B
@@ -45,6 +49,9 @@ map_event f (Put prio control body) = Put prio (option_map f control) (option_ma
 map_event f (Get wanted cmax dmax) = Get wanted cmax dmax
 map_event f (Mode mode) = Mode mode
 map_event f Nread = Nread
+map_event f (Ioctl command body) = Ioctl command (f body)
+map_event f (IoctlResult number) = IoctlResult number
+map_event f events.Signals = events.Signals
 
 -- an answer over other things that stand for its bytes
 abbrev pub map_answer : {A B : Type 0} → (A → B) → Answer A → Answer B
@@ -54,6 +61,9 @@ map_answer f (Count n) = Count n
 map_answer f (Bytes bytes) = Bytes (f bytes)
 map_answer f (Msg prio control body more_control more_data) = Msg prio (option_map f control) (option_map f body) more_control more_data
 map_answer f (Sizes first messages) = Sizes first messages
+map_answer f (Pending number) = Pending number
+map_answer f (Nak refusal) = Nak refusal
+map_answer f (Signals bytes) = Signals (f bytes)
 
 -- a call with its bytes, and an answer with its bytes
 abbrev pub Request : Type 0
@@ -66,16 +76,18 @@ Reply = Answer (List ℕ)
 abbrev pub request : Event (Bor (List ℕ)) → Request
 request event = map_event (λ bytes. bytes.now) event
 
--- the bytes of a call: the whole payload of a write, the control part of a putmsg and then its data part
+-- the bytes of a call: the whole payload of a write, the control part of a putmsg and then its data part, what an ioctl sends
 abbrev pub payload_of : Request → List ℕ
 payload_of (Write bytes) = bytes
 payload_of (Put prio control body) = part control ++ part body
+payload_of (Ioctl command body) = body
 payload_of _ = []
 
 -- the bytes of an answer
 abbrev pub content_of : Reply → List ℕ
 content_of (Bytes bytes) = bytes
 content_of (Msg prio control body more_control more_data) = part control ++ part body
+content_of (Signals bytes) = bytes
 content_of _ = []
 
 -- what a call leads to
@@ -169,6 +181,25 @@ module _ {C : Type 0} where
   abbrev pub sizes_at : Side → State C → Outcome C
   sizes_at side s = let q = (stream side s).head.queue.messages in record { answer = Sizes (first_data q) (length q); state = s }
 
+  -- an ioctl begins on a side's stream: it has the next number of the pair, and waits for its answer
+  abbrev pub ioctl_begun : Side → ℕ → State C → State C
+  ioctl_begun side command s = record (with_ioctl side (Waiting s.next_ioctl command) s) { next_ioctl = suc s.next_ioctl }
+
+  -- its M_IOCTL goes down from the head
+  abbrev pub ioctl_sent : Side → ℕ → List ℕ → State C → Carried C (State C)
+  ioctl_sent side command body s =
+      delivered (record { side = side; at = 1; way = Down }) (ioctl_message (asking command s.next_ioctl) body) (ioctl_begun side command s)
+
+  -- the caller is told what became of the ioctl under way
+  abbrev pub ioctl_told : Side → State C → Outcome C
+  ioctl_told side s =
+      let slot = (stream side s).head.ioctl in
+      record { answer = told_of slot; state = with_ioctl side (slot_behind slot) s }
+
+  -- the signals that wait at a side's head are handed out
+  abbrev pub signals_told : Side → State C → Outcome C
+  signals_told side s = record { answer = Signals (stream side s).head.signals; state = with_signals side [] s }
+
   -- What a call leads to where nothing refuses it. No module is known yet, so a push, a pop and a look are always refused.
   abbrev pub called : Cells C → Caller → Request → State C → Outcome C
   called cells caller OpenMaster s = done (opened_master s)
@@ -185,3 +216,6 @@ module _ {C : Type 0} where
   called cells caller (Get wanted cmax dmax) s = get_at cells caller.side wanted cmax dmax s
   called cells caller (Mode mode) s = done (mode_set caller.side mode s)
   called cells caller Nread s = sizes_at caller.side s
+  called cells caller (Ioctl command body) s = ioctl_told caller.side (ioctl_sent caller.side command body s).state
+  called cells caller (IoctlResult number) s = ioctl_told caller.side s
+  called cells caller events.Signals s = signals_told caller.side s

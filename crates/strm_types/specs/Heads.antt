@@ -1,29 +1,32 @@
 -- What a stream head does with a message that comes up to it (STREAMS Programming Guide, "Stream Head" and "Flush Handling";
 -- streamio(7I)).
-use Rattle.std.specs.Prelude.{Bool, true, false, ◌&&◌, ◌||◌, if◌then◌else◌, List, [], ◌∷◌}
+use Rattle.std.specs.Prelude.{ℕ, Bool, true, false, ◌&&◌, ◌==◌, if◌then◌else◌, List, [], ◌∷◌, Option, None, Some, unwrap_or}
 use Rattle.std.specs.List.{list_any}
 use Rattle.strm_types.specs.declared.flushing.FlushAsked.{FlushAsked}
+use Rattle.strm_types.specs.declared.ioctls.Ioc.{Ioc}
 use Rattle.strm_types.specs.declared.kinds.MsgKind.{MsgKind}
-use Rattle.strm_types.specs.declared.kinds.MsgKind.TheVariants.{Pcproto, Hangup}
+use Rattle.strm_types.specs.declared.kinds.MsgKind.TheVariants.{Pcproto, Hangup, Flush, Sig, Pcsig, Setopts, Ioctl, Iocack, Iocnak}
 use Rattle.strm_types.specs.declared.names.Way.TheVariants.{Up, Down}
+use Rattle.strm_types.specs.declared.options.Marks.{Marks}
+use Rattle.strm_types.specs.declared.options.Options.{Options}
 use Rattle.strm_types.specs.declared.rules.Rule.TheVariants.{Flushed, Doubled}
 use Rattle.strm_types.specs.declared.spots.Note.TheVariants.{Room}
 use Rattle.strm_types.specs.declared.spots.Spot.{Spot}
 use Rattle.strm_types.specs.Deliver.{Acted, Parcel, toward}
 use Rattle.strm_types.specs.Emptied.{of_data, cells_gone, queue_behind, writer_goes}
-use Rattle.strm_types.specs.Flushing.{is_flush, asked_by, flush_bytes, flush_message}
+use Rattle.strm_types.specs.Flushing.{asked_by, flush_bytes, flush_message}
+use Rattle.strm_types.specs.Ioctls.{read_ioc, nak_message}
 use Rattle.strm_types.specs.Message.{Message, cells_of, has_parts}
 use Rattle.strm_types.specs.Names.{direction_at}
-use Rattle.strm_types.specs.Queue.{put_on}
+use Rattle.strm_types.specs.Options.{options_in}
+use Rattle.strm_types.specs.Queue.{Queue, marked, put_on}
+use Rattle.strm_types.specs.Signals.{signal_in, with_signal}
+use Rattle.strm_types.specs.Slots.{slot_answered}
 use Rattle.strm_types.specs.State.{Head}
 
 abbrev pub is_pcproto : MsgKind → Bool
 is_pcproto Pcproto = true
 is_pcproto _ = false
-
-abbrev pub is_hangup : MsgKind → Bool
-is_hangup Hangup = true
-is_hangup _ = false
 
 module _ {C : Type 0} where
   -- the message is freed
@@ -61,11 +64,33 @@ module _ {C : Type 0} where
   abbrev pub flush_up : Spot → FlushAsked → Head C → Acted C (Head C)
   flush_up here asked h = record (if asked.for_read then head_flushed here asked h else passed_by h) { sent = turned_round here asked }
 
-  -- A message without parts: an M_FLUSH is obeyed, an M_HANGUP says that the other end is gone, and all others are freed.
-  abbrev pub obeyed : Spot → Message C → Head C → Acted C (Head C)
-  obeyed here m h =
-      if is_flush m.kind then flush_up here (asked_by m.plain) h
-      else passed_by (record h { hung_up = h.hung_up || is_hangup m.kind })
+  -- the queue with the marks that are given
+  abbrev pub with_marks_given : Option Marks → Queue C → Queue C
+  with_marks_given None q = q
+  with_marks_given (Some marks) q = marked marks.high marks.low q
+
+  -- the head with the options that are given
+  abbrev pub with_options : Options → Head C → Head C
+  with_options options h = record h { read_mode = unwrap_or options.mode h.read_mode; queue = with_marks_given options.marks h.queue }
+
+  -- An M_IOCTL that comes up wants an answer unless its number is 0. Nobody above knows its command, so an M_IOCNAK goes down.
+  abbrev pub nak_down : Spot → Option Ioc → List (Parcel C)
+  nak_down here None = []
+  nak_down here (Some ioc) = if ioc.number == 0 then [] else record { to = toward Down here; message = nak_message ioc } ∷ []
+
+  -- A message without parts, by its kind: an M_FLUSH is obeyed; an M_HANGUP says that the other end is gone; M_SIG and M_PCSIG
+  -- leave a signal; M_SETOPTS sets options; M_IOCACK and M_IOCNAK answer the ioctl under way; an M_IOCTL is answered; and all
+  -- others are freed.
+  abbrev pub obeyed : Spot → MsgKind → List ℕ → Head C → Acted C (Head C)
+  obeyed here Flush bytes h = flush_up here (asked_by bytes) h
+  obeyed here Hangup bytes h = passed_by (record h { hung_up = true })
+  obeyed here Sig bytes h = passed_by (record h { signals = with_signal (signal_in bytes) h.signals })
+  obeyed here Pcsig bytes h = passed_by (record h { signals = with_signal (signal_in bytes) h.signals })
+  obeyed here Setopts bytes h = passed_by (with_options (options_in bytes) h)
+  obeyed here Iocack bytes h = passed_by (record h { ioctl = slot_answered true bytes h.ioctl })
+  obeyed here Iocnak bytes h = passed_by (record h { ioctl = slot_answered false bytes h.ioctl })
+  obeyed here Ioctl bytes h = record (passed_by h) { sent = nak_down here (read_ioc bytes) }
+  obeyed here kind bytes h = passed_by h
 
   abbrev pub head_put : Spot → Message C → Head C → Acted C (Head C)
-  head_put here m h = if has_parts m then waits_for_readers here m h else obeyed here m h
+  head_put here m h = if has_parts m then waits_for_readers here m h else obeyed here m.kind m.plain h

@@ -1,10 +1,11 @@
 -- The journal: entries of calls and turns, and the bytes that an entry takes.
 use Rattle.std.specs.Prelude.{ℕ, min, List, [], ◌∷◌, ◌+◌, length, sum_by, take, drop, Option, option_map, unwrap_or}
-use Rattle.strm_types.specs.declared.limits.TheConstants.{READ_MAX}
+use Rattle.strm_types.specs.declared.limits.TheConstants.{READ_MAX, IOCTL_MAX, SIGNALS_MAX}
 use Rattle.strm_types.specs.declared.answers.Answer.{Answer}
 use Rattle.strm_types.specs.declared.answers.Answer.TheVariants.{Bytes, Msg}
+use Rattle.strm_types.specs.declared.answers.Answer.TheVariants as answers
 use Rattle.strm_types.specs.declared.events.Event.{Event}
-use Rattle.strm_types.specs.declared.events.Event.TheVariants.{Write, Read, Put, Get}
+use Rattle.strm_types.specs.declared.events.Event.TheVariants.{Write, Read, Put, Get, Ioctl, IoctlResult, Signals}
 use Rattle.strm_types.specs.declared.entries.Entry.{Entry}
 use Rattle.strm_types.specs.declared.entries.Entry.TheVariants.{Called, Turned}
 use Rattle.strm_types.specs.Calls.{Request, Reply, payload_of, content_of, map_event, map_answer}
@@ -17,6 +18,9 @@ PlainEntry = Entry (List ℕ)
 abbrev pub content_max : Request → ℕ
 content_max (Read n) = min n READ_MAX
 content_max (Get wanted cmax dmax) = min cmax READ_MAX + min dmax READ_MAX
+content_max (Ioctl command body) = IOCTL_MAX
+content_max (IoctlResult number) = IOCTL_MAX
+content_max Signals = SIGNALS_MAX
 content_max _ = 0
 
 -- how many bytes of the journal's buffer an entry takes
@@ -36,11 +40,13 @@ part_len o = unwrap_or o 0
 abbrev pub event_len : Event ℕ → ℕ
 event_len (Write len) = len
 event_len (Put prio control body) = part_len control + part_len body
+event_len (Ioctl command len) = len
 event_len _ = 0
 
 abbrev pub answer_len : Answer ℕ → ℕ
 answer_len (Bytes len) = len
 answer_len (Msg prio control body more_control more_data) = part_len control + part_len body
+answer_len (answers.Signals len) = len
 answer_len _ = 0
 
 abbrev pub entry_len : Entry ℕ → ℕ

@@ -2,9 +2,9 @@
 use Rattle.std.specs.Prelude.{◌≡◌, ℕ, ◌+◌, min, Bool, false, List, [], ◌∷◌, take}
 use Rattle.strm_types.specs.declared.limits.TheConstants.{READ_MAX}
 use Rattle.strm_types.specs.declared.names.Side.{Side}
-use Rattle.strm_types.specs.declared.events.Event.TheVariants.{Shut, Flush, Write, Read, Put, Get}
+use Rattle.strm_types.specs.declared.events.Event.TheVariants.{Shut, Flush, Write, Read, Put, Get, Ioctl}
 use Rattle.strm_types.specs.declared.entries.Entry.TheVariants.{Called, Turned}
-use Rattle.strm_types.specs.Calls.{message_put, put_at}
+use Rattle.strm_types.specs.Calls.{message_put, put_at, ioctl_sent}
 use Rattle.strm_types.specs.Cells.{Cells, cells_written}
 use Rattle.strm_types.specs.GetQueues.{get_gone}
 use Rattle.strm_types.specs.Message.{cells_of}
@@ -56,6 +56,7 @@ module _ {C : Type 0} where
   gone cells s (Called caller (Get wanted cmax dmax) answer) =
       get_gone (direction_of (head_of caller.side)) wanted (min cmax READ_MAX) (min dmax READ_MAX) (stream caller.side s).head.queue.messages
   gone cells s (Called caller (Put prio control body) answer) = (put_at cells caller.side prio control body s).gone
+  gone cells s (Called caller (Ioctl command body) answer) = (ioctl_sent caller.side command body s).gone
   gone cells s (Called caller (Flush what band) answer) = (flushed_on band caller.side what s).gone
   gone cells s (Called caller Shut answer) = (closed_at caller.side s).gone
   gone cells s (Called caller asked answer) = []

@@ -36,3 +36,7 @@ pub mod Step
 pub mod Kept
 pub mod Pair
 pub mod Numbers
+pub mod Signals
+pub mod Slots
+pub mod Options
+pub mod Within

@@ -117,6 +117,14 @@ with_writer_at band [] = []
 with_writer_at zero (flow ∷ flows) = with_writer flow ∷ flows
 with_writer_at (suc band) (flow ∷ flows) = flow ∷ with_writer_at band flows
 
+-- a band's flow with other marks
+abbrev pub with_marks : ℕ → ℕ → Flow → Flow
+with_marks high low flow = record flow { high = high; low = low }
+
+-- the queue with the same marks in each of its bands
+abbrev pub marked : {C : Type 0} → ℕ → ℕ → Queue C → Queue C
+marked high low q = record q { flows = map (with_marks high low) q.flows }
+
 -- an empty queue with the same marks in each of its bands
 abbrev pub new_queue : {C : Type 0} → ℕ → ℕ → Queue C
 new_queue high low = record {

@@ -17,12 +17,13 @@ use Rattle.strm_types.specs.Message.{Message, is_held}
 use Rattle.strm_types.specs.Names.{is_master, is_enabled, is_open, is_never, is_closed}
 use Rattle.strm_types.specs.Queue.{is_full}
 use Rattle.strm_types.specs.State.{State, stream}
+use Rattle.strm_types.specs.Slots.{is_free, result_refusal}
 use Rattle.strm_types.specs.Write.{chunk_count}
 use Rattle.strm_types.specs.Reads.{read_refusal}
 use Rattle.strm_types.specs.Gets.{get_refusal}
 use Rattle.strm_types.specs.PutMsg.{put_blocks, put_refusal, put_waits}
-use Rattle.strm_types.specs.declared.limits.TheConstants.{BANDS, WRITE_BLOCKS, CHANGE_BLOCKS, CLOSE_BLOCKS}
-use Rattle.strm_types.specs.declared.events.Event.TheVariants.{OpenMaster, Unlock, OpenSlave, Shut, Push, Pop, Look, Flush, Write, Read, Put, Get}
+use Rattle.strm_types.specs.declared.limits.TheConstants.{BANDS, WRITE_BLOCKS, CHANGE_BLOCKS, CLOSE_BLOCKS, IOCTL_BLOCKS, IOCTL_END, IOCTL_MAX}
+use Rattle.strm_types.specs.declared.events.Event.TheVariants.{OpenMaster, Unlock, OpenSlave, Shut, Push, Pop, Look, Flush, Write, Read, Put, Get, Ioctl, IoctlResult}
 use Rattle.strm_types.specs.Books as books
 use Rattle.strm_types.specs.Calls.{Request, payload_of}
 use Rattle.strm_types.specs.Journal.{PlainEntry, content_max, room_used}
@@ -50,14 +51,16 @@ unless false refusal = Some refusal
 abbrev pub enough : ℕ → Free → Bool
 enough need free = nat_le need free.mblks && nat_le need free.dblks
 
--- how many blocks of each kind a call may take: a write one for each of its messages, a putmsg one for each of its parts
+-- how many blocks of each kind a call may take: a write one for each of its messages, a putmsg one for each of its parts, an
+-- ioctl one for its header and one for what is sent with it
 abbrev pub blocks_taken : Request → ℕ
 blocks_taken (Write bytes) = chunk_count (length bytes)
 blocks_taken (Put prio control body) = put_blocks control body
+blocks_taken (Ioctl command body) = 2
 blocks_taken _ = 0
 
 -- how many blocks of each kind have to be free for a call: a write and a putmsg want 32 more than they may take, a flush, a
--- push and a pop want 8, a close 2
+-- push and a pop want 8, a close 2, an ioctl 34
 abbrev pub blocks_asked : Request → ℕ
 blocks_asked (Write bytes) = WRITE_BLOCKS + chunk_count (length bytes)
 blocks_asked (Put prio control body) = WRITE_BLOCKS + put_blocks control body
@@ -65,6 +68,7 @@ blocks_asked (Push name) = CHANGE_BLOCKS
 blocks_asked Pop = CHANGE_BLOCKS
 blocks_asked (Flush what band) = CHANGE_BLOCKS
 blocks_asked Shut = CLOSE_BLOCKS
+blocks_asked (Ioctl command body) = IOCTL_BLOCKS
 blocks_asked _ = 0
 
 -- the journal takes one more entry with so many bytes
@@ -109,6 +113,10 @@ module _ {C : Type 0} where
   abbrev pub in_range : State C → Bool
   in_range s = books.has_room s.from_master && books.has_room s.from_slave
 
+  -- an ioctl sends no more than it may, and there is a number for it
+  abbrev pub may_ask : List ℕ → State C → Bool
+  may_ask body s = nat_le (length body) IOCTL_MAX && nat_lt s.next_ioctl IOCTL_END
+
   -- what a call is refused for before all else: its side, then its arguments, and then the books
   abbrev pub refused_at_once : State C → Caller → Request → Option Refusal
   refused_at_once s caller OpenMaster = None
@@ -125,6 +133,8 @@ module _ {C : Type 0} where
       or_else (unless (goes_down caller.side s) Enxio) (or_else (put_refusal prio control body) (unless (in_range s) Erange))
   refused_at_once s caller (Get wanted cmax dmax) =
       or_else (unless (is_open (stream caller.side s).opened) Enxio) (unless (asks_a_band wanted) Einval)
+  refused_at_once s caller (Ioctl command body) =
+      or_else (unless (goes_down caller.side s) Enxio) (unless (may_ask body s && in_range s) Erange)
   refused_at_once s caller _ = unless (is_open (stream caller.side s).opened) Enxio
 
   -- what a call is refused for after all else: what the state says
@@ -138,6 +148,8 @@ module _ {C : Type 0} where
       read_refusal h.control_mode (at_end caller.side s) n h.queue.messages
   refused_by_state s caller (Put prio control body) = unless (not (put_waits prio control body (stream caller.side s).driver.queue)) Eagain
   refused_by_state s caller (Get wanted cmax dmax) = get_refusal wanted (at_end caller.side s) (stream caller.side s).head.queue.messages
+  refused_by_state s caller (Ioctl command body) = unless (is_free (stream caller.side s).head.ioctl) Eagain
+  refused_by_state s caller (IoctlResult number) = result_refusal number (stream caller.side s).head.ioctl
   refused_by_state s caller Pop = Some Einval
   refused_by_state s caller Look = Some Einval
   refused_by_state s caller _ = None

@@ -15,15 +15,20 @@ use Rattle.strm_types.specs.declared.modes.ControlMode.{ControlMode}
 use Rattle.strm_types.specs.declared.modes.ControlMode.TheVariants.{Refuse}
 use Rattle.strm_types.specs.declared.modes.Mode.{Mode}
 use Rattle.strm_types.specs.declared.modes.Mode.TheVariants.{Read, Control}
+use Rattle.strm_types.specs.declared.slots.Slot.TheVariants.{Free}
 use Rattle.strm_types.specs.Books.{new_book}
+use Rattle.strm_types.specs.Slots.{PlainSlot}
 use Rattle.strm_types.specs.Queue.{Queue, IsOrdered, new_queue, map_queue}
 
--- a stream head: what it has for its readers, how they read it, and whether an M_HANGUP came up, as the other end is gone
+-- a stream head: what it has for its readers, how they read it, whether an M_HANGUP came up, as the other end is gone, the
+-- signals that came up, and the ioctl that is under way
 pub record Head (C : Type 0) : Type 0 where
   pub queue : Queue C
   pub read_mode : ReadMode
   pub control_mode : ControlMode
   pub hung_up : Bool
+  pub signals : List ℕ
+  pub ioctl : PlainSlot
 
 -- a driver: what it has for the other side
 pub record Driver (C : Type 0) : Type 0 where
@@ -49,7 +54,7 @@ pub record State (C : Type 0) : Type 0 where
 module _ {C : Type 0} where
   -- a head as it is made: marks 5120 and 1024, RNORM and RPROTNORM
   abbrev pub new_head : Head C
-  new_head = record { queue = new_queue 5120 1024; read_mode = ByteStream; control_mode = Refuse; hung_up = false }
+  new_head = record { queue = new_queue 5120 1024; read_mode = ByteStream; control_mode = Refuse; hung_up = false; signals = []; ioctl = Free }
 
   -- a driver as it is made: marks 512 and 128
   abbrev pub new_driver : Driver C
@@ -96,6 +101,13 @@ module _ {C : Type 0} where
   with_mode (Read mode) h = record h { read_mode = mode }
   with_mode (Control mode) h = record h { control_mode = mode }
 
+  -- a side's stream with another ioctl under way, and with other signals that wait
+  abbrev pub with_ioctl : Side → PlainSlot → State C → State C
+  with_ioctl side slot s = let above = stream side s in with_stream side (record above { head = record above.head { ioctl = slot } }) s
+
+  abbrev pub with_signals : Side → List ℕ → State C → State C
+  with_signals side signals s = let above = stream side s in with_stream side (record above { head = record above.head { signals = signals } }) s
+
   abbrev pub with_head_queue : Queue C → Stream C → Stream C
   with_head_queue q t = record t { head = record t.head { queue = q } }
 
@@ -116,7 +128,14 @@ messages_in s = length s.master.head.queue.messages + length s.master.driver.que
 
 -- the same state of other cells, as where their origins are forgotten
 abbrev pub map_head : {C D : Type 0} → (C → D) → Head C → Head D
-map_head f h = record { queue = map_queue f h.queue; read_mode = h.read_mode; control_mode = h.control_mode; hung_up = h.hung_up }
+map_head f h = record {
+  queue = map_queue f h.queue;
+  read_mode = h.read_mode;
+  control_mode = h.control_mode;
+  hung_up = h.hung_up;
+  signals = h.signals;
+  ioctl = h.ioctl;
+}
 
 abbrev pub map_stream : {C D : Type 0} → (C → D) → Stream C → Stream D
 map_stream f t = record {

@@ -7,6 +7,7 @@ ghost use Rattle.strm_types.specs.Journal.{answer_len, part_in, part_len, reply_
 use crate::limits::{CONTENT_MAX, READ_MAX};
 use crate::modes::Prio;
 use crate::names::ModuleName;
+use crate::refusals::Refusal;
 use arrayvec::ArrayVec;
 
 /// The bytes that one read gives, or one part of a getmsg(2).
@@ -41,6 +42,12 @@ pub enum Answer<T> {
         first: usize,
         messages: usize,
     },
+    /// An ioctl is under way, and has this number.
+    Pending(u32),
+    /// An ioctl was answered with M_IOCNAK, for this reason. That is an answer and no refusal.
+    Nak(Refusal),
+    /// The signals that waited, a byte each.
+    Signals(T),
 }
 
 // A part over its bytes, which stand in front of others.
@@ -79,6 +86,9 @@ impl Answer<usize> {
                 more_data,
             },
             Answer::Sizes { first, messages } => Answer::Sizes { first, messages },
+            Answer::Pending(number) => Answer::Pending(number),
+            Answer::Nak(refusal) => Answer::Nak(refusal),
+            Answer::Signals(len) => Answer::Signals(&bytes[..len]),
         }
     }
 }

@@ -81,6 +81,20 @@ pub enum Event<T> {
     /// Asks how many messages the caller's stream head has, and how many bytes of data the first one: `I_NREAD` of
     /// `streamio(7I)`.
     Nread,
+    /// Sends a command down the caller's stream, with at most 256 bytes, else ERANGE: `ioctl(2)`, I_STR of `streamio(7I)`. One is
+    /// under way on a stream until its answer was given; till then another is EAGAIN. Where the answer comes at once it is given,
+    /// else the number of the ioctl is.
+    Ioctl {
+        command: u32,
+        body: T,
+    },
+    /// Asks for the answer of the ioctl of this number, which is given once. While that waits the call is EAGAIN, and where it
+    /// isn't the one under way EINVAL.
+    IoctlResult {
+        number: u32,
+    },
+    /// Takes the signals that came up to the caller's stream head, each once, in the order in which they came first.
+    Signals,
 }
 
 // The bytes of a part, none where it is absent.
@@ -125,6 +139,8 @@ impl<'a> Event<&'a [u8]> {
             Event::Push { .. } | Event::Pop | Event::Look => (&[], &[]),
             Event::Flush { .. } | Event::Read { .. } => (&[], &[]),
             Event::Get { .. } | Event::Mode { .. } | Event::Nread => (&[], &[]),
+            Event::Ioctl { body, .. } => (body, &[]),
+            Event::IoctlResult { .. } | Event::Signals => (&[], &[]),
         }
     }
 
@@ -162,6 +178,12 @@ impl<'a> Event<&'a [u8]> {
             },
             Event::Mode { mode } => Event::Mode { mode: *mode },
             Event::Nread => Event::Nread,
+            Event::Ioctl { command, body } => Event::Ioctl {
+                command: *command,
+                body: body.len(),
+            },
+            Event::IoctlResult { number } => Event::IoctlResult { number: *number },
+            Event::Signals => Event::Signals,
         }
     }
 }
@@ -203,6 +225,12 @@ impl Event<Vec<u8>> {
             },
             Event::Mode { mode } => Event::Mode { mode: *mode },
             Event::Nread => Event::Nread,
+            Event::Ioctl { command, body } => Event::Ioctl {
+                command: *command,
+                body: body.as_slice(),
+            },
+            Event::IoctlResult { number } => Event::IoctlResult { number: *number },
+            Event::Signals => Event::Signals,
         }
     }
 }

@@ -1,7 +1,7 @@
 //! The headers of ioctl messages (streamio(7I): I_STR; sys/stream.h: `struct iocblk`).
 
 ghost use Rattle.std.specs.Prelude.{◌≡◌, ◌≤◌, ◌+◌, length, Some};
-ghost use Rattle.strm_types.specs.Ioctls.{ioc_bytes, read_ioc, refused, word_at, word_bytes};
+ghost use Rattle.strm_types.specs.Ioctls.{asking, ioc_bytes, read_ioc, refused, word_at, word_bytes};
 
 use crate::refusals::Refusal;
 
@@ -15,8 +15,24 @@ pub struct Ioc {
     pub result: u32,
 }
 
+/// The commands that terminals have, by their numbers (termio(7I), ptm(7D)): the termios, read or set at once, behind the
+/// output, or behind the output with the input flushed; the size of the window, read or set; and a signal for the other side.
+pub const TCGETS: u32 = 1;
+
+pub const TCSETS: u32 = 2;
+
+pub const TCSETSW: u32 = 3;
+
+pub const TCSETSF: u32 = 4;
+
+pub const TIOCGWINSZ: u32 = 5;
+
+pub const TIOCSWINSZ: u32 = 6;
+
+pub const TIOCSIGNAL: u32 = 7;
+
 // The number of 32 bits that stands so many bytes on, its most significant byte first.
-fn word_at(bytes: &[u8], at: usize) -> u32
+pub(crate) fn word_at(bytes: &[u8], at: usize) -> u32
     requires { at + 4 ≤ length bytes.now }
     ensures { result ≡ word_at at bytes.now }
 {
@@ -24,6 +40,18 @@ fn word_at(bytes: &[u8], at: usize) -> u32
 }
 
 impl Ioc {
+    /// The header of a command that gets this number.
+    pub fn asking(command: u32, number: u32) -> Ioc
+        ensures { result ≡ asking command number }
+    {
+        Ioc {
+            command,
+            number,
+            error: 0,
+            result: 0,
+        }
+    }
+
     /// Reads the header that a message's bytes begin with; `None` exactly where they are fewer than 16.
     pub fn read(bytes: &[u8]) -> Option<Ioc>
         ensures { result ≡ read_ioc bytes.now }

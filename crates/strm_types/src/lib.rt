@@ -17,9 +17,11 @@ pub mod laws;
 mod limits;
 mod modes;
 mod names;
+mod options;
 pub mod put_laws;
 mod refusals;
 mod rules;
+mod slots;
 mod spots;
 
 pub use answers::{Answer, Content, ReadBytes, Turn};
@@ -27,14 +29,17 @@ pub use books::{BOOK_MAX, Book};
 pub use entries::Entry;
 pub use events::{Caller, Event, FlushQueues};
 pub use flushing::FlushAsked;
-pub use ioctls::Ioc;
+pub use ioctls::{Ioc, TCGETS, TCSETS, TCSETSF, TCSETSW, TIOCGWINSZ, TIOCSIGNAL, TIOCSWINSZ};
 pub use kinds::{Band, MsgKind};
 pub use limits::{
     BANDS, BLOCK_SIZE, CHANGE_BLOCKS, CLOSE_BLOCKS, CONTENT_MAX, CONTROL_MAX, Config, DATA_MAX,
-    HIGH_PRIORITY_RANK, HOPS, LISTS, MODULES, READ_MAX, TURN_BLOCKS, WRITE_BLOCKS, chunk_count,
+    HIGH_PRIORITY_RANK, HOPS, IOCTL_BLOCKS, IOCTL_END, IOCTL_MAX, LISTS, MODULES, READ_MAX,
+    SIGNAL_LAST, SIGNALS_MAX, TURN_BLOCKS, WRITE_BLOCKS, chunk_count,
 };
 pub use modes::{ControlMode, Mode, Prio, ReadMode, Wanted};
 pub use names::{Dir, ModuleName, Openness, Place, QueueName, Side, Way, line};
+pub use options::{Marks, Options};
 pub use refusals::{NoMemory, Refusal};
 pub use rules::{Fates, RULES, Rule};
+pub use slots::Slot;
 pub use spots::{Across, Note, Spot};

@@ -32,8 +32,23 @@ pub const CONTROL_MAX: usize = 64;
 
 pub const DATA_MAX: usize = 256;
 
+/// The most bytes that an ioctl(2) sends behind its header, and that its answer gives.
+pub const IOCTL_MAX: usize = 256;
+
+/// The number that no ioctl gets: a pair numbers its ioctls from 1, up to the one before it.
+pub const IOCTL_END: u32 = 4294967295;
+
+/// The last signal: a signal is a number from 1 to this one.
+pub const SIGNAL_LAST: usize = 31;
+
+/// How many bytes the journal has to have room for where a call asks for the signals that wait.
+pub const SIGNALS_MAX: usize = 32;
+
 /// How many blocks of each kind have to be free for a write or a putmsg(2), beside those that it takes.
 pub const WRITE_BLOCKS: usize = 32;
+
+/// How many blocks of each kind have to be free for an ioctl(2).
+pub const IOCTL_BLOCKS: usize = 34;
 
 /// How many blocks of each kind have to be free for a turn of a driver.
 pub const TURN_BLOCKS: usize = 8;

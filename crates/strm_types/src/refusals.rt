@@ -1,7 +1,7 @@
 //! Why a call is refused.
 
 ghost use Rattle.std.specs.Prelude.{◌≡◌};
-ghost use Rattle.strm_types.specs.Numbers.{number_of};
+ghost use Rattle.strm_types.specs.Numbers.{number_of, refusal_numbered};
 
 use thiserror::Error;
 
@@ -41,5 +41,23 @@ impl Refusal {
         ensures { result ≡ number_of self }
     {
         self as u8
+    }
+
+    /// The refusal of a number, as an M_IOCNAK has it; EINVAL for a number that none has.
+    pub fn numbered(number: u32) -> Refusal
+        ensures { result ≡ refusal_numbered number }
+    {
+        match number {
+            2 => Refusal::Eagain,
+            3 => Refusal::Enxio,
+            4 => Refusal::Ebadmsg,
+            5 => Refusal::Enosr,
+            6 => Refusal::Erange,
+            7 => Refusal::JournalFull,
+            8 => Refusal::NoMinor,
+            9 => Refusal::NoMemory,
+            10 => Refusal::StillShared,
+            _ => Refusal::Einval,
+        }
     }
 }

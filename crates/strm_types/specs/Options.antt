@@ -1,0 +1,35 @@
+-- What an M_SETOPTS sets at a stream head (STREAMS Programming Guide, "Stream Head": struct stroptions; streamio(7I): I_SRDOPT).
+use Rattle.std.specs.Prelude.{ℕ, Bool, ◌&&◌, ◌==◌, nat_le, if◌then◌else◌, List, [], ◌∷◌, length, Option, None, Some}
+use Rattle.strm_types.specs.declared.modes.ReadMode.{ReadMode}
+use Rattle.strm_types.specs.declared.modes.ReadMode.TheVariants.{ByteStream, MessageKeep, MessageDiscard}
+use Rattle.strm_types.specs.declared.options.Marks.{Marks}
+use Rattle.strm_types.specs.declared.options.Options.{Options}
+use Rattle.strm_types.specs.Ioctls.{word_at}
+
+-- the read mode of a number: RNORM, RMSGD and RMSGN
+abbrev pub mode_numbered : ℕ → Option ReadMode
+mode_numbered n =
+    if n == 0 then Some ByteStream
+    else (if n == 1 then Some MessageDiscard
+    else (if n == 2 then Some MessageKeep else None))
+
+-- whether two numbers may be a high-water and a low-water mark
+abbrev pub are_marks : ℕ → ℕ → Bool
+are_marks high low = nat_le 1 high && nat_le low high
+
+-- the marks that eight bytes give, the high one first
+abbrev pub marks_in : List ℕ → Option Marks
+marks_in bytes =
+    let high = word_at 0 bytes in
+    let low = word_at 4 bytes in
+    if are_marks high low then Some (record { high = high; low = low }) else None
+
+abbrev pub nothing_set : Options
+nothing_set = record { mode = None; marks = None }
+
+-- One byte is a read mode; eight more are the marks. With another number of bytes nothing is set.
+abbrev pub options_in : List ℕ → Options
+options_in [] = nothing_set
+options_in (mode ∷ rest) =
+    if length rest == 0 then record { mode = mode_numbered mode; marks = None }
+    else (if length rest == 8 then record { mode = mode_numbered mode; marks = marks_in rest } else nothing_set)
