@@ -1,26 +1,50 @@
 -- What a head beside its store stands for, and what a put at it hands back.
 use Rattle.std.specs.Prelude.{ℕ, Bool, if◌then◌else◌, List, [], ◌∷◌, Option, None, Some}
+use Rattle.arrayvec.specs.ArrayVec.{ArrayVec}
 use Rattle.strm_types.specs.declared.flushing.FlushAsked.{FlushAsked}
-use Rattle.strm_types.specs.declared.names.Way.TheVariants.{Up, Down}
+use Rattle.strm_types.specs.declared.ioctls.Ioc.{Ioc}
+use Rattle.strm_types.specs.declared.names.Way.TheVariants as ways
+use Rattle.strm_types.specs.declared.slots.Slot.{Slot}
 use Rattle.strm_types.specs.declared.spots.Note.{Note}
 use Rattle.strm_types.specs.declared.spots.Note.TheVariants.{Room}
 use Rattle.strm_types.specs.declared.spots.Spot.{Spot}
 use Rattle.strm_types.specs.Deliver.{Parcel, toward}
 use Rattle.strm_types.specs.Flushing.{flush_bytes, flush_message}
+use Rattle.strm_types.specs.Ioctls.{nak_message}
+use Rattle.strm_types.specs.Message.{Message}
+use Rattle.strm_types.specs.Slots.{PlainSlot, map_slot}
 use Rattle.strm_types.specs.State as state
 use Rattle.strm_blocks.specs.Blocks.{StoreValue}
 use Rattle.strm_queue.specs.Stored.{queue_in}
 use Rattle.strm_head.specs.declared.head.Head.{Head}
+use Rattle.strm_head.specs.declared.putting.Down.{Down}
+use Rattle.strm_head.specs.declared.putting.Down.TheVariants.{Flush, Nak}
+
+-- the slot with its bytes
+abbrev pub plain_slot : Slot (ArrayVec ℕ) → PlainSlot
+plain_slot slot = map_slot (λ b. b.items) slot
 
 -- the plain head
 abbrev pub head_in : StoreValue → Head → state.Head ℕ
-head_in s h = record { queue = queue_in s h.queue; read_mode = h.read_mode; control_mode = h.control_mode; hung_up = h.hung_up }
+head_in s h = record {
+  queue = queue_in s h.queue;
+  read_mode = h.read_mode;
+  control_mode = h.control_mode;
+  hung_up = h.hung_up;
+  signals = h.signals;
+  ioctl = plain_slot h.ioctl;
+}
 
 -- what becomes of the enabled list where a waiting writer is let go
 abbrev pub notes_of : Bool → List Note
-notes_of lets_go = if lets_go then Room Up ∷ [] else []
+notes_of lets_go = if lets_go then Room ways.Up ∷ [] else []
 
--- the M_FLUSH that goes down again, if one does
-abbrev pub sent_down : Spot → Option FlushAsked → List (Parcel ℕ)
+-- what goes down: an M_FLUSH, or the M_IOCNAK that answers an M_IOCTL
+abbrev pub down_message : Down → Message ℕ
+down_message (Flush asked) = flush_message (flush_bytes asked)
+down_message (Nak ioc) = nak_message ioc
+
+-- it goes to the place below, if there is one
+abbrev pub sent_down : Spot → Option Down → List (Parcel ℕ)
 sent_down here None = []
-sent_down here (Some asked) = record { to = toward Down here; message = flush_message (flush_bytes asked) } ∷ []
+sent_down here (Some down) = record { to = toward ways.Down here; message = down_message down } ∷ []

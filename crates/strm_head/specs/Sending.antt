@@ -1,5 +1,5 @@
 -- A message that was made to go down a stream.
-use Rattle.std.specs.Prelude.{ℕ, ◌≡◌, ◌+◌, List, Option, option_map}
+use Rattle.std.specs.Prelude.{ℕ, ◌≡◌, ◌+◌, List, [], ◌∷◌, Option, option_map}
 use Rattle.std.specs.Borrow.{Bor}
 use Rattle.strm_types.specs.declared.kinds.MsgKind.{MsgKind}
 use Rattle.strm_types.specs.declared.kinds.MsgKind.TheVariants.{Proto, Pcproto}
@@ -17,6 +17,11 @@ lent part = option_map (λ bytes. bytes.now) part
 abbrev pub control_kind : Prio → MsgKind
 control_kind High = Pcproto
 control_kind (Band band) = Proto
+
+-- how many blocks of each kind an M_IOCTL takes: one for its header, and one for its bytes where there are some
+abbrev pub ioctl_blocks : List ℕ → ℕ
+ioctl_blocks [] = 1
+ioctl_blocks (_ ∷ _) = 2
 
 -- One message was made, in so many blocks of each kind, and nothing else changed. It stands for this one.
 pub record Sends (old new : StoreValue) (name : ℕ) (message : Message ℕ) (blocks : ℕ) : Type 0 where

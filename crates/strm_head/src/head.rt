@@ -5,14 +5,18 @@ ghost use Rattle.strm_types.specs.Reads.{read_refusal, head_draw, read_queue, re
 ghost use Rattle.strm_types.specs.Gets.{get_refusal, first_data};
 ghost use Rattle.strm_queue.specs.Stored.{messages_on, queue_in, IsHeadQueue, Keeps};
 
+use crate::ioctls::IoctlBytes;
+use crate::signals::Signals;
 use crate::standing::{finds_none, first_len, starts_refused};
 use crate::{reading, standing};
 use strm_blocks::Blocks;
 use strm_queue::Queue;
 use strm_queue::standing::sizes;
-use strm_types::{Content, ControlMode, Dir, Fates, Mode, READ_MAX, ReadMode, Refusal, Wanted};
+use strm_types::{
+    Content, ControlMode, Dir, Fates, Mode, READ_MAX, ReadMode, Refusal, SIGNALS_MAX, Slot, Wanted,
+};
 
-/// A stream head: the queue of what waits for its readers, and how they read it.
+/// A stream head: the queue of what waits for its readers, how they read it, and what it keeps of what came up.
 #[derive(Drop)]
 pub struct Head {
     pub queue: Queue,
@@ -20,6 +24,10 @@ pub struct Head {
     pub control_mode: ControlMode,
     /// Whether an M_HANGUP came up, as the other end is gone.
     pub hung_up: bool,
+    /// The signals that came up and that nobody took yet.
+    pub signals: Signals,
+    /// The ioctl that is under way on the stream.
+    pub ioctl: Slot<IoctlBytes>,
 }
 
 /// What waits for readers (streamio(7I): I_NREAD): how many bytes the data part of the first message has, and how many
@@ -35,23 +43,28 @@ impl Head {
     ghost use Rattle.strm_types.specs.State.{with_mode};
     ghost use Rattle.strm_head.specs.Heads.{head_in};
 
-    /// A head on an empty queue: RNORM and RPROTNORM.
+    /// A head on an empty queue: RNORM and RPROTNORM. No signal waits, and no ioctl is under way.
     pub fn new(queue: Queue) -> Head
         ensures queue { result.queue ≡ queue }
         ensures read_mode { result.read_mode ≡ ByteStream }
         ensures control_mode { result.control_mode ≡ Refuse }
         ensures hung_up { result.hung_up ≡ false }
+        ensures signals { result.signals ≡ [] }
+        ensures ioctl { result.ioctl ≡ Free }
     {
         Head {
             queue,
             read_mode: ReadMode::ByteStream,
             control_mode: ControlMode::Refuse,
             hung_up: false,
+            signals: Signals::new(),
+            ioctl: Slot::Free,
         }
     }
 
     ghost use Rattle.strm_types.specs.declared.modes.ReadMode.TheVariants.{ByteStream};
     ghost use Rattle.strm_types.specs.declared.modes.ControlMode.TheVariants.{Refuse};
+    ghost use Rattle.strm_types.specs.declared.slots.Slot.TheVariants.{Free};
 
     /// Sets how reads treat the ends of messages. The control mode stays.
     pub fn set_read_mode(&mut self, mode: ReadMode)
@@ -76,6 +89,18 @@ impl Head {
             Mode::Read(read_mode) => self.set_read_mode(read_mode),
             Mode::Control(control_mode) => self.set_control_mode(control_mode),
         }
+    }
+
+    /// Takes the signals that wait, a byte each, in the order in which they came first. They are in `out`, which is empty before.
+    pub fn take_signals(&mut self, out: &mut Content)
+        requires { out.old.items ≡ [] }
+        ensures given { out.new.items ≡ self.old.signals }
+        ensures few { length out.new.items ≤ SIGNALS_MAX }
+        ensures state { (s : StoreValue) → head_in s self.new ≡ record (head_in s self.old) { signals = [] } }
+        ensures queue { self.new.queue ≡ self.old.queue }
+    {
+        out.try_extend_from_slice(self.signals.as_slice()).unwrap();
+        self.signals.clear();
     }
 
     /// What a read of up to `n` bytes is refused for, before it takes anything: EAGAIN where it finds nothing and the input
@@ -115,6 +140,7 @@ impl Head {
             messages: sizes(store, &self.queue).0,
         }
     }
+
     /// Gives up to `n` bytes of what waits, tells by which rules bytes of the direction go, and says whether a waiting writer
     /// is let go. Where `read_refusal` refuses the read, or there is nothing to take, nothing changes. The cost is a step for
     /// each block of the messages that are taken or passed over, and of the first one that stays.

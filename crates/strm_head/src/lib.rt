@@ -1,20 +1,24 @@
-//! A stream head, on one queue of any store: its modes, what its readers take and by which rule it goes, and what a putmsg sends
-//! (read(2), getmsg(2), putmsg(2), streamio(7I): I_SRDOPT, I_NREAD).
+//! A stream head, on one queue of any store: its modes, what its readers take and by which rule it goes, what a putmsg and an ioctl
+//! send, and what comes up to it (read(2), getmsg(2), putmsg(2), ioctl(2), streamio(7I): I_SRDOPT, I_NREAD, I_STR).
 #![tactic(auto)]
 
 mod getting;
 mod head;
+mod ioctls;
 mod parts;
 mod putting;
 mod reading;
 mod sending;
+mod signals;
 mod standing;
 
 pub use getting::{Gotten, getmsg};
 pub use head::{Head, Waiting};
-pub use putting::Came;
+pub use ioctls::{IoctlBytes, make_ioctl};
+pub use putting::{Came, Down};
 pub use reading::read;
 pub use sending::{make_message, put_refusal};
+pub use signals::Signals;
 
 #[cfg(test)]
 mod tests;

@@ -1,32 +1,48 @@
 //! What a head does with a message that comes up (STREAMS Programming Guide, "Stream Head" and "Flush Handling").
 
-ghost use Rattle.std.specs.Prelude.{◌≡◌, ◌≤◌, ◌<◌, ◌&&◌, Bool, true, false, length};
+ghost use Rattle.std.specs.Prelude.{◌≡◌, ◌&&◌, ℕ, true, false, List, MatchOption};
 ghost use Rattle.std.specs.List.{list_any};
 ghost use Rattle.strm_types.specs.Deliver.{tallied};
 ghost use Rattle.strm_types.specs.Flushing.{asked_by, is_flush};
-ghost use Rattle.strm_types.specs.Heads.{is_pcproto, is_hangup, waits_for_readers, head_flushed, flush_up, head_put};
+ghost use Rattle.strm_types.specs.Heads.{is_pcproto, waits_for_readers, head_flushed, flush_up, with_marks_given, with_options, nak_down, obeyed, head_put};
+ghost use Rattle.strm_types.specs.Ioctls.{read_ioc};
+ghost use Rattle.strm_types.specs.Options.{are_marks, options_in};
 ghost use Rattle.strm_types.specs.Refused.{is_a_band};
 ghost use Rattle.strm_types.specs.Flush.{is_data_kind};
-ghost use Rattle.strm_blocks.specs.Blocks.{IsInHand, in_hand, dropped, list_at, block_at};
+ghost use Rattle.strm_types.specs.Signals.{signal_in, with_signal};
+ghost use Rattle.strm_types.specs.Slots.{slot_answered};
+ghost use Rattle.strm_types.specs.State as state;
+ghost use Rattle.strm_blocks.specs.Blocks.{Block, StoreValue, IsInHand, in_hand, dropped, list_at, block_at};
 ghost use Rattle.strm_msg.specs.Bytes.{bytes_of};
 ghost use Rattle.strm_msg.specs.Messages.{message_of, IsChain};
-ghost use Rattle.strm_queue.specs.Stored.{messages_on, IsHeadQueue, HoldsReadable, Changes, FreesBlocks};
-ghost use Rattle.strm_head.specs.Heads.{head_in, notes_of, sent_down};
+ghost use Rattle.strm_queue.specs.Kept.{AreCounted};
+ghost use Rattle.strm_queue.specs.Queues.{OnlyCounts};
+ghost use Rattle.strm_queue.specs.Stored.{messages_on, queue_in, IsReady, IsHeadQueue, HoldsReadable, Changes, FreesBlocks};
+ghost use Rattle.strm_head.specs.Heads.{head_in, notes_of, plain_slot, sent_down};
 
 use crate::head::Head;
+use crate::ioctls::HEADER;
 use strm_blocks::{Blocks, Peek, Visitor};
 use strm_msg::{booked_size, first_bytes};
 use strm_queue::Queue;
 use strm_queue::emptying::{Chosen, empty, going};
-use strm_queue::standing::enqueue;
-use strm_types::{Fates, FlushAsked, MsgKind, Rule, Spot, Way};
+use strm_queue::standing::{enqueue, mark_all};
+use strm_types::{Fates, FlushAsked, IOCTL_MAX, Ioc, Marks, MsgKind, Options, Rule, Spot};
 
-/// What a put at a head hands back: whether a waiting writer is let go, and what the M_FLUSH asks for that goes down again,
-/// if one does.
+/// A message that goes down from a head for one that came up.
+#[derive(Clone, Copy, Debug, PartialEq, Eq)]
+pub enum Down {
+    /// An M_FLUSH, which asks for this.
+    Flush(FlushAsked),
+    /// The M_IOCNAK that answers an M_IOCTL with this header: EINVAL, as nobody knows its command.
+    Nak(Ioc),
+}
+
+/// What a put at a head hands back: whether a waiting writer is let go, and what goes down, if anything does.
 #[derive(Clone, Copy, Debug, PartialEq, Eq)]
 pub struct Came {
     pub lets_go: bool,
-    pub down: Option<FlushAsked>,
+    pub down: Option<Down>,
 }
 
 const NOTHING: Came = Came {
@@ -87,11 +103,19 @@ fn is_flush(kind: MsgKind) -> bool
     matches!(kind, MsgKind::Flush)
 }
 
-// Whether a kind is M_HANGUP.
-fn is_hangup(kind: MsgKind) -> bool
-    ensures { result ≡ is_hangup kind }
+// The header of an M_IOCTL that wants an answer: its number isn't 0.
+fn nak_of<B: Blocks>(store: &B, message: &B::Mp) -> Option<Down>
+    requires { IsInHand (B.value store.now) (B.name message.now) }
+    ensures { (here : Spot) → sent_down here result
+        ≡ nak_down here (read_ioc (bytes_of (in_hand (B.value store.now) (B.name message.now)))) }
 {
-    matches!(kind, MsgKind::Hangup)
+    let mut bytes = [0u8; HEADER];
+    let count = first_bytes(store, message, &mut bytes);
+    let ioc = Ioc::read(&bytes[..count])?;
+    if ioc.number == 0 {
+        return None;
+    }
+    Some(Down::Nak(ioc))
 }
 
 impl Head {
@@ -169,10 +193,10 @@ impl Head {
         ensures frees { FreesBlocks (B.value store.old) (B.value store.new) }
     {
         let down = if asked.for_write {
-            Some(FlushAsked {
+            Some(Down::Flush(FlushAsked {
                 for_read: false,
                 ..asked
-            })
+            }))
         } else {
             None
         };
@@ -186,9 +210,93 @@ impl Head {
         Came { lets_go, down }
     }
 
+    // M_HANGUP: the other end is gone.
+    fn hang_up(&mut self)
+        ensures { self.new ≡ record self.old { hung_up = true } }
+    {
+        self.hung_up = true;
+    }
+
+    // M_SIG and M_PCSIG: a signal waits, if the message names one. A second byte says that it doesn't.
+    fn take_signal<B: Blocks>(&mut self, store: &B, message: &B::Mp)
+        requires { IsInHand (B.value store.now) (B.name message.now) }
+        ensures { let bytes = bytes_of (in_hand (B.value store.now) (B.name message.now)) in
+            self.new ≡ record self.old { signals = with_signal (signal_in bytes) self.old.signals } }
+    {
+        let mut bytes = [0u8; 2];
+        let count = first_bytes(store, message, &mut bytes);
+        self.signals.post(&bytes[..count]);
+    }
+
+    // Sets the marks of all bands, where they are given.
+    fn set_marks(&mut self, marks: Option<Marks>)
+        requires { MatchOption marks (Unit {0}) (λ m. are_marks m.high m.low ≡ true) }
+        ensures state { (s : StoreValue) → IsReady s self.old.queue →
+            head_in s self.new ≡ record (head_in s self.old) { queue = with_marks_given marks (queue_in s self.old.queue) } }
+        ensures counted { (q : List (List Block)) → AreCounted self.old.queue.flows q → AreCounted self.new.queue.flows q }
+        ensures others { OnlyCounts self.old.queue self.new.queue }
+    {
+        if let Some(marks) = marks {
+            mark_all(&mut self.queue, marks);
+        }
+    }
+
+    // M_SETOPTS: the read mode and the marks, each where it is given. An eleventh byte would say as much as a tenth.
+    fn set_options<B: Blocks>(&mut self, store: &B, message: &B::Mp)
+        requires { IsInHand (B.value store.now) (B.name message.now) }
+        ensures state { let bytes = bytes_of (in_hand (B.value store.now) (B.name message.now)) in
+            (s : StoreValue) → IsReady s self.old.queue → head_in s self.new ≡ with_options (options_in bytes) (head_in s self.old) }
+        ensures counted { (q : List (List Block)) → AreCounted self.old.queue.flows q → AreCounted self.new.queue.flows q }
+        ensures others { OnlyCounts self.old.queue self.new.queue }
+    {
+        let mut bytes = [0u8; 10];
+        let count = first_bytes(store, message, &mut bytes);
+        let options = Options::read(&bytes[..count]);
+        self.read_mode = options.mode.unwrap_or(self.read_mode);
+        self.set_marks(options.marks);
+    }
+
+    // M_IOCACK and M_IOCNAK: the answer of the ioctl under way, if it is that.
+    fn take_ioctl_answer<B: Blocks>(&mut self, store: &B, message: &B::Mp, is_ack: bool)
+        requires { IsInHand (B.value store.now) (B.name message.now) }
+        ensures state { let bytes = bytes_of (in_hand (B.value store.now) (B.name message.now)) in
+            (s : StoreValue) → head_in s self.new ≡ record (head_in s self.old) { ioctl = slot_answered is_ack bytes (plain_slot self.old.ioctl) } }
+        ensures queue { self.new.queue ≡ self.old.queue }
+    {
+        let mut bytes = [0u8; HEADER + IOCTL_MAX];
+        let count = first_bytes(store, message, &mut bytes);
+        self.take_answer(is_ack, &bytes[..count]);
+    }
+
+    // Does what a message says that has no parts and isn't an M_FLUSH, by its kind. Says what goes down.
+    fn heed<B: Blocks>(&mut self, store: &B, kind: MsgKind, message: &B::Mp) -> Option<Down>
+        requires in_hand { IsInHand (B.value store.now) (B.name message.now) }
+        requires kind { is_flush kind ≡ false }
+        ensures state { let bytes = bytes_of (in_hand (B.value store.now) (B.name message.now)) in
+            (s : StoreValue) → (here : Spot) → IsReady s self.old.queue →
+            head_in s self.new ≡ (obeyed here kind bytes (head_in s self.old)).state }
+        ensures sent { let bytes = bytes_of (in_hand (B.value store.now) (B.name message.now)) in
+            (h : state.Head ℕ) → (here : Spot) → sent_down here result ≡ (obeyed here kind bytes h).sent }
+        ensures counted { (q : List (List Block)) → AreCounted self.old.queue.flows q → AreCounted self.new.queue.flows q }
+        ensures others { OnlyCounts self.old.queue self.new.queue }
+    {
+        match kind {
+            MsgKind::Hangup => self.hang_up(),
+            MsgKind::Sig | MsgKind::Pcsig => self.take_signal(store, message),
+            MsgKind::Setopts => self.set_options(store, message),
+            MsgKind::Iocack => self.take_ioctl_answer(store, message, true),
+            MsgKind::Iocnak => self.take_ioctl_answer(store, message, false),
+            MsgKind::Ioctl => return nak_of(store, message),
+            _ => {}
+        }
+        None
+    }
+
     /// Takes a message that comes up: `put(9E)` at the top of a stream. M_DATA, M_PROTO and M_PCPROTO wait for the readers, but
     /// for a second M_PCPROTO, which goes. An M_FLUSH with FLUSHR flushes the queue, and one with FLUSHW goes down again
-    /// without FLUSHR. An M_HANGUP says that the other end is gone. All others are freed. No block is taken.
+    /// without FLUSHR. An M_HANGUP says that the other end is gone. M_SIG and M_PCSIG leave a signal. An M_SETOPTS sets the
+    /// read mode and the marks. M_IOCACK and M_IOCNAK answer the ioctl under way. An M_IOCTL that wants an answer is answered
+    /// with M_IOCNAK. All others are freed. No block is taken.
     pub fn put<B: Blocks>(
         &mut self,
         store: &mut B,
@@ -223,8 +331,11 @@ impl Head {
             store.free(message);
             return self.obey(store, here, asked, told);
         }
-        self.hung_up = self.hung_up || is_hangup(kind);
+        let down = self.heed(store, kind, &message);
         store.free(message);
-        NOTHING
+        Came {
+            lets_go: false,
+            down,
+        }
     }
 }

@@ -65,7 +65,7 @@ fn control_kind(prio: Prio) -> MsgKind
 }
 
 // Makes a message of one block.
-fn make<B: Blocks>(store: &mut B, kind: MsgKind, band: Band, bytes: &[u8]) -> B::Mp
+pub(crate) fn make<B: Blocks>(store: &mut B, kind: MsgKind, band: Band, bytes: &[u8]) -> B::Mp
     requires few { length bytes.now ≤ 256 }
     requires room_m { 0 < free_m (B.value store.old) }
     requires room_d { 0 < free_d (B.value store.old) }

@@ -6,7 +6,7 @@ ghost use Rattle.std.specs.Prelude.{◌≡◌, ◌≤◌, [], length};
 ghost use Rattle.strm_blocks.specs.Blocks.{list_at};
 ghost use Rattle.strm_queue.specs.Stored.{IsHeadQueue};
 
-use crate::{Came, Head, Waiting};
+use crate::{Came, Down, Head, Waiting};
 use std::alloc::Global;
 use std::process::Abort;
 use std::test::Fail;
@@ -206,11 +206,11 @@ fn answers(
 fn turned(band: Option<Band>) -> Came {
     Came {
         lets_go: false,
-        down: Some(FlushAsked {
+        down: Some(Down::Flush(FlushAsked {
             for_read: false,
             for_write: true,
             band,
-        }),
+        })),
     }
 }
 

@@ -1,6 +1,6 @@
 //! A queue.
 
-ghost use Rattle.std.specs.Prelude.{◌≡◌, ◌<◌, ◌≤◌, ◌+◌, ◌^◌, ℕ, true, false, List, [], length, MatchOption, Some, None, if◌then◌else◌, slice_set, slice_index_or, sum_by};
+ghost use Rattle.std.specs.Prelude.{◌≡◌, ◌<◌, ◌≤◌, ◌+◌, ◌^◌, ℕ, true, false, List, [], length, MatchOption, Some, None, if◌then◌else◌, slice_set, slice_index_or, sum_by, map};
 ghost use Rattle.strm_types.specs.Message.{is_high_priority};
 ghost use Rattle.strm_blocks.specs.Blocks.{IsInHand, in_hand, list_at, placed, dropped, put, put_back, block_at};
 ghost use Rattle.strm_blocks.specs.Outcomes.{Popped, Unpopped, flushed};
@@ -8,8 +8,7 @@ ghost use Rattle.strm_queue.specs.Kept.{AreCounted, bytes_of, data_bytes_of, dat
 ghost use Rattle.strm_blocks.specs.Blocks.{Block};
 ghost use Rattle.strm_queue.specs.Flows.{count_in, added_to, removed_from, flushed_of, marked_with, relieves, relieved, plain_flows};
 ghost use Rattle.strm_queue.specs.Flushes.{takes_all};
-ghost use Rattle.strm_types.specs.Queue.{with_writer_at};
-ghost use Rattle.strm_types.specs.Queue.{is_none_left};
+ghost use Rattle.strm_types.specs.Queue.{with_writer_at, with_marks, is_none_left};
 ghost use Rattle.strm_types.specs.Refused.{is_a_band};
 ghost use Rattle.strm_types.specs.declared.kinds.Band.{Band};
 ghost use Rattle.std.specs.Prelude.{replicate};
@@ -19,7 +18,7 @@ use crate::flow::Flow;
 use crate::flush::Flush;
 use crate::share::{Share, share_of};
 use strm_blocks::{Blocks, FlushWhat};
-use strm_types::{BANDS, Band};
+use strm_types::{BANDS, Band, Marks};
 
 /// A queue: the number of its list in a store, the flow control of its bands from 0 up, and its flags. Want-read says
 /// that a message of band 0 that is put enables the queue; no-enable that only a message of high priority does.
@@ -297,6 +296,21 @@ impl Queue {
         let band = usize::from(band.0);
         let flow = self.flows[band];
         self.flows[band] = flow.marked(high, low);
+    }
+
+    /// Sets the same marks in each band. A band is full from then on exactly where its count is at or above the new high-water
+    /// mark, and a writer that waits does so still.
+    pub fn mark_bands(&mut self, marks: Marks)
+        requires some { 1 ≤ marks.high }
+        requires order { marks.low ≤ marks.high }
+        ensures flows { plain_flows self.new.flows ≡ map (with_marks marks.high marks.low) (plain_flows self.old.flows) }
+        ensures counted { (q : List (List Block)) → AreCounted self.old.flows q → AreCounted self.new.flows q }
+        ensures others { OnlyCounts self.old self.new }
+    {
+        for band in 0..BANDS {
+            let flow = self.flows[band];
+            self.flows[band] = flow.marked(marks.high, marks.low);
+        }
     }
 
     /// Whether no message stands on the queue's list. The cost is a step for each block of the first message.

@@ -1,12 +1,12 @@
 //! A queue beside its store, as the plain messages that stand there: what is counted and full, and who is let go (STREAMS
 //! Programming Guide, "Flow Control").
 
-ghost use Rattle.std.specs.Prelude.{◌≡◌, ◌<◌, ◌+◌, ◌-◌, ◌^◌, ◌&&◌, Bool, min, true, [], length, List, MatchOption};
+ghost use Rattle.std.specs.Prelude.{◌≡◌, ◌<◌, ◌≤◌, ◌+◌, ◌-◌, ◌^◌, ◌&&◌, Bool, min, true, [], length, List, MatchOption};
 ghost use Rattle.strm_types.specs.declared.kinds.MsgKind.{MsgKind};
 ghost use Rattle.strm_types.specs.Message.{is_held};
 ghost use Rattle.strm_types.specs.Emptied.{cells_gone, of_data};
 ghost use Rattle.strm_types.specs.Refused.{is_a_band};
-ghost use Rattle.strm_types.specs.Queue.{put_on, put_enables, bytes_of, count_of, is_full, relieved, relieves};
+ghost use Rattle.strm_types.specs.Queue.{put_on, put_enables, bytes_of, count_of, is_full, marked, relieved, relieves};
 ghost use Rattle.strm_blocks.specs.Blocks.{Block, StoreValue, IsInHand, block_at, in_hand, list_at, dropped};
 ghost use Rattle.strm_msg.specs.Messages.{message_of, IsChain};
 ghost use Rattle.strm_queue.specs.Kept.{AreCounted};
@@ -15,7 +15,7 @@ ghost use Rattle.strm_queue.specs.Stored.{queue_in, messages_on, Holds, IsReady,
 
 use crate::queue::Queue;
 use strm_blocks::{Blocks, Peek, Visitor};
-use strm_types::{BANDS, Band, MsgKind};
+use strm_types::{BANDS, Band, Marks, MsgKind};
 
 /// How many bytes count in a band of a queue.
 pub fn count<B: Blocks>(store: &B, queue: &Queue, band: Band) -> usize
@@ -102,6 +102,18 @@ pub fn relieve(queue: &mut Queue) -> bool
     ensures others { OnlyCounts queue.old queue.new }
 {
     queue.back_enable()
+}
+
+/// Sets the same high-water and low-water mark in each band of a queue, as an M_SETOPTS does at a stream head: `strqset(9F)`
+/// with QHIWAT and QLOWAT for each. The messages stay, and so do the writers that wait.
+pub fn mark_all(queue: &mut Queue, marks: Marks)
+    requires some { 1 ≤ marks.high }
+    requires order { marks.low ≤ marks.high }
+    ensures queue { (s : StoreValue) → IsReady s queue.old → queue_in s queue.new ≡ marked marks.high marks.low (queue_in s queue.old) }
+    ensures counted { (q : List (List Block)) → AreCounted queue.old.flows q → AreCounted queue.new.flows q }
+    ensures others { OnlyCounts queue.old queue.new }
+{
+    queue.mark_bands(marks);
 }
 
 /// Puts a message in hand on a queue, and says whether that enables a queue with a service procedure: `putq(9F)`.
