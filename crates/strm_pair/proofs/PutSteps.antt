@@ -27,17 +27,19 @@ use Rattle.strm_types.specs.declared.names.Side.{Side}
 use Rattle.strm_types.specs.declared.names.Way.TheVariants.{Up, Down}
 use Rattle.strm_types.specs.declared.rules.Fates.{Fates}
 use Rattle.strm_types.specs.declared.spots.Spot.{Spot}
-use Rattle.strm_types.specs.Deliver.{Acted, Parcel, Took, tallied}
-use Rattle.strm_types.specs.Flushing.{is_flush, asked_by}
-use Rattle.strm_types.specs.Heads.{flush_up, head_put, is_doubled, is_hangup, obeyed, passed_by, waits_for_readers}
+use Rattle.strm_types.specs.Deliver.{Acted, Parcel, Took, tallied, toward}
+use Rattle.strm_types.specs.Flushing.{is_flush, asked_by, flush_bytes, flush_message}
+use Rattle.strm_types.specs.Heads.{head_put, is_doubled, obeyed, turned_round, waits_for_readers}
 use Rattle.strm_types.specs.Message.{Message, cells_of, has_parts}
 use Rattle.strm_types.specs.Names.{before, direction_at, enable_found, enable_some, head_of, is_open}
-use Rattle.strm_types.specs.Puts.{across_of, is_turned, noted, passed_up, put_at_driver, put_at_head}
+use Rattle.strm_types.specs.Puts.{across_of, is_turned, turns_round, noted, passed_up, put_at_driver, put_at_head}
 use Rattle.strm_types.specs.Reads.{is_there}
 use Rattle.strm_types.specs.State.{Head, State, stream, with_stream, with_driver_queue}
 use Rattle.strm_blocks.specs.Blocks.{StoreValue, in_hand}
 use Rattle.strm_msg.specs.Messages.{IsChain}
-use Rattle.strm_head.specs.Heads.{notes_of, sent_down}
+use Rattle.strm_head.specs.declared.putting.Down.{Down}
+use Rattle.strm_head.specs.declared.putting.Down.TheVariants as downs
+use Rattle.strm_head.specs.Heads.{down_message, notes_of, sent_down}
 use Rattle.strm_frame.specs.declared.parcels.Sent.{Sent}
 use Rattle.strm_frame.specs.Hands.{once, HasRoom, Shifts}
 use Rattle.strm_frame.specs.Outboxes.{message_in, times_sent, parcels_in, AreChains}
@@ -56,24 +58,20 @@ sent-nothing : (S : Type 0) (b : Bool) (one another : Acted ℕ S) → one.sent 
 sent-nothing S true one another first second = first
 sent-nothing S false one another first second = second
 
+round-none : (here : Spot) (asked : FlushAsked) → asked.for_write ≡ false → turned_round {C = ℕ} here asked ≡ []
+round-none here asked is = ap (λ b. cond b (record { to = toward Down here; message = flush_message (flush_bytes (record asked { for_read = false })) } ∷ []) []) is
+
+obeys-none : (here : Spot) (kind : MsgKind) (bytes : List ℕ) (h : Head ℕ) → turns_round kind bytes ≡ false → (obeyed here kind bytes h).sent ≡ []
+obeys-none here Flush bytes h is = round-none here (asked_by bytes) is
+obeys-none here Ioctl bytes h is = absurd (cc)
+obeys-none here kind bytes h is = refl
+
 not-turned : (here : Spot) (m : Message ℕ) (h : Head ℕ) → is_turned m ≡ false → (head_put here m h).sent ≡ []
 not-turned here m h is = at (has_parts m)
   where
-    asked : Bool → List (Parcel ℕ) → List (Parcel ℕ)
-    asked b ps = cond b ps []
-
-    round : (flush write : Bool) (ps : List (Parcel ℕ)) → (flush && write) ≡ false → flush ≡ true → asked write ps ≡ []
-    round true false ps none some = refl
-    round true true ps none some = absurd (cc)
-    round false write ps none some = absurd (cc)
-
-    obeys : (flush : Bool) → is_flush m.kind ≡ flush → (cond flush (flush_up here (asked_by m.plain) h) (passed_by (record h { hung_up = h.hung_up || is_hangup m.kind }))).sent ≡ []
-    obeys false known = refl
-    obeys true known = round (is_flush m.kind) (asked_by m.plain).for_write _ is known
-
-    at : (parts : Bool) → (cond parts (waits_for_readers here m h) (obeyed here m h)).sent ≡ []
+    at : (parts : Bool) → (cond parts (waits_for_readers here m h) (obeyed here m.kind m.plain h)).sent ≡ []
     at true = sent-nothing (Head ℕ) (is_doubled m h.queue.messages) _ _ refl refl
-    at false = obeys (is_flush m.kind) refl
+    at false = obeys-none here m.kind m.plain h is
 
 reached-sent : (side : Side) (here : Spot) (m : Message ℕ) (s : State ℕ) → is_turned m ≡ false → (put_at_head side here m s).sent ≡ []
 reached-sent side here m s is = either (is_open (stream side s).opened) _ _ (not-turned here m (stream side s).head is) refl
@@ -82,18 +80,23 @@ reached-sent side here m s is = either (is_open (stream side s).opened) _ _ (not
     either true one another first second = first
     either false one another first second = second
 
-down-none : (here : Spot) (down : Option FlushAsked) → sent_down here down ≡ [] → is_there down ≡ false
+-- it is a message without parts
+pub down-plain : (d : Down) → record { kind = (down_message d).kind; band = 0; control = None; body = None; plain = (down_message d).plain } ≡ down_message d
+down-plain (downs.Flush asked) = refl
+down-plain (downs.Nak ioc) = refl
+
+down-none : (here : Spot) (down : Option Down) → sent_down here down ≡ [] → is_there down ≡ false
 down-none here None none = refl
 down-none here (Some asked) none = absurd (cc)
 
-down-few : (b : Bool) (down : Option FlushAsked) → (b ≡ false → is_there down ≡ false) → cond {A = ℕ} (is_there down) 1 0 ≤ cond b 1 0
+down-few : (b : Bool) (down : Option Down) → (b ≡ false → is_there down ≡ false) → cond {A = ℕ} (is_there down) 1 0 ≤ cond b 1 0
 down-few true None none = omega arith
 down-few true (Some asked) none = omega arith
 down-few false None none = omega arith
 down-few false (Some asked) none = let e = none refl in absurd (cc)
 
 -- it takes a block only where something is turned round
-pub down-takes : (side : Side) (here : Spot) (m : Message ℕ) (s : State ℕ) (down : Option FlushAsked) → sent_down here down ≡ (put_at_head side here m s).sent → cond {A = ℕ} (is_there down) 1 0 ≤ head_takes m
+pub down-takes : (side : Side) (here : Spot) (m : Message ℕ) (s : State ℕ) (down : Option Down) → sent_down here down ≡ (put_at_head side here m s).sent → cond {A = ℕ} (is_there down) 1 0 ≤ head_takes m
 down-takes side here m s down is = down-few (is_turned m) down (λ none. down-none here down (is ∙ reached-sent side here m s none))
 
 pub room-less : (s t : StoreValue) (gone come : ℕ → ℕ) (n k : ℕ) → Shifts s t gone come 0 → k ≤ n → HasRoom s n → HasRoom t k
@@ -120,7 +123,7 @@ at_head side s t = record {
 open-is : (side : Side) (here : Spot) (m : Message ℕ) (s : State ℕ) → is_open (stream side s).opened ≡ true → put_at_head side here m s ≡ at_head side s (head_put here m (stream side s).head)
 open-is side here m s opened = rw opened refl
 
-module _ (side : Side) (s t : StoreValue) (p : Streams) (h : heads.Head) (i : ℕ) (to : Spot) (m : Message ℕ) (lets_go : Bool) (down : Option FlushAsked) (f f' : Fates) where
+module _ (side : Side) (s t : StoreValue) (p : Streams) (h : heads.Head) (i : ℕ) (to : Spot) (m : Message ℕ) (lets_go : Bool) (down : Option Down) (f f' : Fates) where
   -- what the head did
   abbrev Did : Acted ℕ (Head ℕ)
   Did = head_put to m (head_in s (end_at side p).head)

@@ -15,11 +15,11 @@ use Rattle.strm_types.specs.declared.spots.Spot.{Spot}
 use Rattle.strm_types.specs.Deliver.{Acted, Parcel, Took, toward}
 use Rattle.strm_types.specs.Drivers.{answered, bottom_across, crosses, driver_across, driver_put, freed, ioctl_put, own_flushed, put_across, put_down, reader_flush, taken_in}
 use Rattle.strm_types.specs.Flushing.{is_flush, asked_by, flush_bytes, flush_message, read_flush}
-use Rattle.strm_types.specs.Heads.{flush_up, head_put, is_doubled, is_hangup, obeyed, passed_by, turned_round, waits_for_readers}
+use Rattle.strm_types.specs.Heads.{head_put, is_doubled, nak_down, obeyed, turned_round, waits_for_readers}
 use Rattle.strm_types.specs.Ioctls.{read_ioc, nak_message}
 use Rattle.strm_types.specs.Message.{Message, has_parts}
 use Rattle.strm_types.specs.Names.{is_master, is_open}
-use Rattle.strm_types.specs.Puts.{across_of, is_turned, passed_up, put_at_driver, put_at_head, put_below, put_in}
+use Rattle.strm_types.specs.Puts.{across_of, is_turned, passed_up, put_at_driver, put_at_head, put_below, put_in, turns_round}
 use Rattle.strm_types.specs.Queue.{Queue}
 use Rattle.strm_types.specs.State.{Head, State, stream}
 use Rattle.strm_types.proofs.PutsFall.{reads-alone}
@@ -139,52 +139,54 @@ module _ (C : Type 0) where
   few-fits own most all sent few low = omega (arith, few, low)
 
   -- at a head
-  abbrev FitsHead : Message C → List (Parcel C) → Type 0
-  FitsHead m sent = Fits (cond (is_turned m) 1 0) sent (cond (is_turned m) 4 0)
+  abbrev FitsHead : Bool → List (Parcel C) → Type 0
+  FitsHead turned sent = Fits (cond turned 1 0) sent (cond turned 4 0)
 
-  head-stays : (m : Message C) (sent : List (Parcel C)) → Few 0 sent → FitsHead m sent
-  head-stays m sent few = at (is_turned m)
+  head-stays : (turned : Bool) (sent : List (Parcel C)) → Few 0 sent → FitsHead turned sent
+  head-stays true sent few = few-fits 1 0 4 sent few (omega arith)
+  head-stays false sent few = few-fits 0 0 0 sent few (omega arith)
+
+  head-turns : (here : Spot) (m : Message C) → FitsHead true (record { to = toward Down here; message = m } ∷ [])
+  head-turns here m = let down = below-head here (is_turned m) in few-fits 1 3 4 _ (one-few 3 (toward Down here) m (omega (arith, down))) (omega arith)
+
+  round-fits : (here : Spot) (asked : FlushAsked) → FitsHead asked.for_write (turned_round here asked)
+  round-fits here asked = at asked.for_write
     where
-      at : (turned : Bool) → Fits (cond turned 1 0) sent (cond turned 4 0)
-      at true = few-fits 1 0 4 sent few (omega arith)
-      at false = few-fits 0 0 0 sent few (omega arith)
+      again : Message C
+      again = flush_message (flush_bytes (record asked { for_read = false }))
 
-  head-turns : (m : Message C) (sent : List (Parcel C)) → is_turned m ≡ true → Few 3 sent → FitsHead m sent
-  head-turns m sent turned few = subst (λ b. Fits (cond b 1 0) sent (cond b 4 0)) (sym turned) (few-fits 1 3 4 sent few (omega arith))
+      at : (b : Bool) → FitsHead b (cond b (record { to = toward Down here; message = again } ∷ []) [])
+      at false = head-stays false [] (none-few 0)
+      at true = head-turns here again
 
-  round-fits : (here : Spot) (m : Message C) → is_flush m.kind ≡ true → FitsHead m (turned_round here (asked_by m.plain))
-  round-fits here m is = at (asked_by m.plain).for_write refl
+  nak-fits : (here : Spot) (known : Option Ioc) → FitsHead true (nak_down here known)
+  nak-fits here None = head-stays true [] (none-few 0)
+  nak-fits here (Some ioc) = at (ioc.number == 0)
     where
-      at : (b : Bool) → (asked_by m.plain).for_write ≡ b → FitsHead m (cond b (record { to = toward Down here; message = flush_message (flush_bytes (record (asked_by m.plain) { for_read = false })) } ∷ []) [])
-      at false known = head-stays m [] (none-few 0)
-      at true known =
-          let turned = ap (λ b. b && (asked_by m.plain).for_write) is ∙ known in
-          let bytes = flush_bytes (record (asked_by m.plain) { for_read = false }) in
-          let down = below-head here (asked_by bytes).for_write in
-          head-turns m _ turned (one-few 3 (toward Down here) (flush_message bytes) (omega (arith, down)))
+      at : (none : Bool) → FitsHead true (cond none [] (record { to = toward Down here; message = nak_message ioc } ∷ []))
+      at true = head-stays true [] (none-few 0)
+      at false = head-turns here (nak_message ioc)
 
-  obeyed-fits : (here : Spot) (m : Message C) (h : Head C) → FitsHead m (obeyed here m h).sent
-  obeyed-fits here m h = at (is_flush m.kind) refl
-    where
-      at : (flush : Bool) → is_flush m.kind ≡ flush → FitsHead m (cond flush (flush_up here (asked_by m.plain) h) (passed_by (record h { hung_up = h.hung_up || is_hangup m.kind }))).sent
-      at true is = round-fits here m is
-      at false is = head-stays m [] (none-few 0)
+  obeyed-fits : (here : Spot) (kind : MsgKind) (bytes : List ℕ) (h : Head C) → FitsHead (turns_round kind bytes) (obeyed here kind bytes h).sent
+  obeyed-fits here Flush bytes h = round-fits here (asked_by bytes)
+  obeyed-fits here Ioctl bytes h = nak-fits here (read_ioc bytes)
+  obeyed-fits here kind bytes h = head-stays false [] (none-few 0)
 
-  head-fits : (here : Spot) (m : Message C) (h : Head C) → FitsHead m (head_put here m h).sent
+  head-fits : (here : Spot) (m : Message C) (h : Head C) → FitsHead (is_turned m) (head_put here m h).sent
   head-fits here m h = at (has_parts m)
     where
-      at : (parts : Bool) → FitsHead m (cond parts (waits_for_readers here m h) (obeyed here m h)).sent
-      at true = head-stays m _ (sent-none 0 (Head C) (is_doubled m h.queue.messages) _ _ refl refl)
-      at false = obeyed-fits here m h
+      at : (parts : Bool) → FitsHead (is_turned m) (cond parts (waits_for_readers here m h) (obeyed here m.kind m.plain h)).sent
+      at true = head-stays (is_turned m) _ (sent-none 0 (Head C) (is_doubled m h.queue.messages) _ _ refl refl)
+      at false = obeyed-fits here m.kind m.plain h
 
   -- in a pair
   either-fits : (own all : ℕ) (b : Bool) (one another : Took C (State C)) → Fits own one.sent all → Fits own another.sent all → Fits own (cond b one another).sent all
   either-fits own all true one another first second = first
   either-fits own all false one another first second = second
 
-  reached-fits : (side : Side) (here : Spot) (m : Message C) (s : State C) → FitsHead m (put_at_head side here m s).sent
+  reached-fits : (side : Side) (here : Spot) (m : Message C) (s : State C) → FitsHead (is_turned m) (put_at_head side here m s).sent
   reached-fits side here m s =
-      either-fits (cond (is_turned m) 1 0) (cond (is_turned m) 4 0) (is_open (stream side s).opened) _ _ (head-fits here m (stream side s).head) (head-stays m [] (none-few 0))
+      either-fits (cond (is_turned m) 1 0) (cond (is_turned m) 4 0) (is_open (stream side s).opened) _ _ (head-fits here m (stream side s).head) (head-stays (is_turned m) [] (none-few 0))
 
   up-fits : (here : Spot) (m : Message C) (s : State C) (across : Bool) →
       Fits (cond across 1 0) (cond across (put_at_driver here.side (record here { way = Up }) m s) (passed_up (record here { way = Up }) m s)).sent (cond (is_turned m) 4 1)

@@ -13,7 +13,7 @@ use Rattle.strm_types.specs.State.{State, stream, with_stream, with_driver_queue
 use Rattle.strm_blocks.specs.Blocks.{Block, StoreValue, empty_store, list_at}
 use Rattle.strm_msg.specs.Messages.{message_of}
 use Rattle.strm_head.specs.declared.head.Head.{Head}
-use Rattle.strm_head.specs.Heads.{head_in}
+use Rattle.strm_head.specs.Heads.{head_in, plain_slot}
 use Rattle.strm_queue.specs.declared.queue.Queue.{Queue}
 use Rattle.strm_queue.specs.Flows.{plain_flows}
 use Rattle.strm_queue.specs.Stored.{queue_in, HoldsReadable, IsHeadQueue, IsReady, Keeps, Changes}
@@ -68,7 +68,7 @@ queue-same s t q same = ap (λ l. record { messages = map message_of l; flows = 
 abbrev stream_of : End → state.Queue ℕ → state.Queue ℕ → streams.Stream ℕ
 stream_of e h d = record {
   opened = e.opened;
-  head = record { queue = h; read_mode = e.head.read_mode; control_mode = e.head.control_mode; hung_up = e.head.hung_up };
+  head = record { queue = h; read_mode = e.head.read_mode; control_mode = e.head.control_mode; hung_up = e.head.hung_up; signals = e.head.signals; ioctl = plain_slot e.head.ioctl };
   driver = record { queue = d };
 }
 

@@ -1,5 +1,5 @@
 -- How many blocks of each kind a delivery takes at most: a driver makes two messages at most of an M_FLUSH, and one of what
--- was sent across; a head makes one of an M_FLUSH that goes down again.
+-- was sent across; a head makes one of an M_FLUSH that goes down again, or of an M_IOCTL.
 use Rattle.std.specs.Prelude.{ℕ, suc, Bool, ◌&&◌, ◌==◌, if◌then◌else◌}
 use Rattle.strm_types.specs.declared.limits.TheConstants.{MODULES}
 use Rattle.strm_types.specs.declared.names.Way.{Way}

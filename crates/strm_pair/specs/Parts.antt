@@ -1,7 +1,7 @@
 -- How long the parts of an answer are, and what holds a message of a priority back.
 use Rattle.std.specs.Prelude.{ℕ, Bool, false, max}
 use Rattle.strm_types.specs.declared.answers.Answer.{Answer}
-use Rattle.strm_types.specs.declared.answers.Answer.TheVariants.{Bytes, Msg}
+use Rattle.strm_types.specs.declared.answers.Answer.TheVariants.{Bytes, Msg, Signals}
 use Rattle.strm_types.specs.declared.modes.Prio.{Prio}
 use Rattle.strm_types.specs.declared.modes.Prio.TheVariants.{High, Band}
 use Rattle.strm_types.specs.Journal.{part_len}
@@ -10,6 +10,7 @@ use Rattle.strm_types.specs.Queue.{Queue, is_full}
 -- how many bytes the longest part of an answer has: what a read gives is one part, what a getmsg gives two
 abbrev pub longest_part : Answer ℕ → ℕ
 longest_part (Bytes len) = len
+longest_part (Signals len) = len
 longest_part (Msg prio control body more_control more_data) = max (part_len control) (part_len body)
 longest_part _ = 0
 

@@ -55,5 +55,8 @@ pub(crate) fn own(answer: Answer<usize>, bytes: &[u8]) -> Answer<ReadBytes>
             more_data,
         },
         Answer::Sizes { first, messages } => Answer::Sizes { first, messages },
+        Answer::Pending(number) => Answer::Pending(number),
+        Answer::Nak(refusal) => Answer::Nak(refusal),
+        Answer::Signals(len) => Answer::Signals(front(len, bytes)),
     }
 }

@@ -1,6 +1,7 @@
 //! Flushes and closes of a side's stream (streamio(7I): I_FLUSH; close(2); STREAMS Programming Guide, "Flush Handling").
 
 ghost use Rattle.std.specs.Prelude.{◌≡◌};
+ghost use Rattle.strm_types.specs.declared.answers.Answer.TheVariants.{Done};
 ghost use Rattle.strm_types.specs.declared.rules.Rule.TheVariants.{EndClosed};
 ghost use Rattle.strm_types.specs.Emptied.{of_all, head_emptied, driver_emptied, ended, hung_up_at, closed_at};
 ghost use Rattle.strm_types.specs.Deliver.{tallied};
@@ -11,7 +12,7 @@ use crate::putting::make_flush;
 use crate::streams::Streams;
 use strm_blocks::Blocks;
 use strm_frame::{clear_queue, deliver};
-use strm_types::{Band, Fates, FlushAsked, FlushQueues, HOPS, Rule, Side, Spot, Way};
+use strm_types::{Answer, Band, Fates, FlushAsked, FlushQueues, HOPS, Rule, Side, Spot, Way};
 
 impl Streams {
     ghost use Rattle.strm_blocks.specs.Blocks.{StoreValue};
@@ -26,9 +27,10 @@ impl Streams {
         what: FlushQueues,
         band: Option<Band>,
         told: &mut Fates,
-    )
+    ) -> Answer<usize>
         requires held { AreHeld (B.value store.old) self.old }
         requires room { HasRoom (B.value store.old) 5 }
+        ensures answer { result ≡ Done }
         ensures state { state_in (B.value store.new) self.new
             ≡ (flushed_on band side what (state_in (B.value store.old) self.old)).state }
         ensures held { AreHeld (B.value store.new) self.new }
@@ -43,6 +45,7 @@ impl Streams {
             way: Way::Down,
         };
         deliver(store, self, HOPS, below, message, told);
+        Answer::Done
     }
 
     // Lets all go that stands at a side's head.
@@ -130,8 +133,14 @@ impl Streams {
 
     /// Closes a side. What stands for its readers goes, and with the master what both drivers have; the slave's driver
     /// keeps what it has for the master. The slave is hung up where the master goes.
-    pub fn shut<B: Blocks>(&mut self, store: &mut B, side: Side, told: &mut Fates)
+    pub fn shut<B: Blocks>(
+        &mut self,
+        store: &mut B,
+        side: Side,
+        told: &mut Fates,
+    ) -> Answer<usize>
         requires held { AreHeld (B.value store.old) self.old }
+        ensures answer { result ≡ Done }
         ensures state { state_in (B.value store.new) self.new
             ≡ (closed_at side (state_in (B.value store.old) self.old)).state }
         ensures held { AreHeld (B.value store.new) self.new }
@@ -145,8 +154,12 @@ impl Streams {
                 self.clear_driver(store, Side::Slave, told);
                 self.end_side(store, Side::Master);
                 self.hang_up();
+                Answer::Done
             }
-            Side::Slave => self.end_side(store, Side::Slave),
+            Side::Slave => {
+                self.end_side(store, Side::Slave);
+                Answer::Done
+            }
         }
     }
 }

@@ -5,6 +5,7 @@
 mod answers;
 mod closing;
 mod ends;
+mod ioctls;
 mod journal;
 mod looking;
 mod messages;

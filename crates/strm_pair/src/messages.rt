@@ -1,6 +1,7 @@
 //! Messages that putmsg(2) sends down a side's stream, and that getmsg(2) takes off its head.
 
 ghost use Rattle.std.specs.Prelude.{ℕ, ◌≡◌, ◌≤◌, ◌<◌, ◌+◌, ◌^◌, ◌++◌, [], true, length, min, max, None, option_map, List};
+ghost use Rattle.strm_types.specs.declared.answers.Answer.TheVariants.{Done};
 ghost use Rattle.strm_types.specs.declared.limits.TheConstants.{READ_MAX, WRITE_BLOCKS};
 ghost use Rattle.strm_types.specs.Books.{with_written};
 ghost use Rattle.strm_types.specs.Calls.{get_at, put_at, sizes_at};
@@ -71,12 +72,13 @@ impl Streams {
         control: Option<&[u8]>,
         body: Option<&[u8]>,
         told: &mut Fates,
-    )
+    ) -> Answer<usize>
         requires held { AreHeld (B.value store.old) self.old }
         requires allowed { put_refusal prio (option_map (λ bytes. bytes.now) control) (option_map (λ bytes. bytes.now) body) ≡ None }
         requires in_range { in_range (state_in (B.value store.old) self.old) ≡ true }
         requires room_m { WRITE_BLOCKS + put_blocks (option_map (λ bytes. bytes.now) control) (option_map (λ bytes. bytes.now) body) ≤ free_m (B.value store.old) }
         requires room_d { WRITE_BLOCKS + put_blocks (option_map (λ bytes. bytes.now) control) (option_map (λ bytes. bytes.now) body) ≤ free_d (B.value store.old) }
+        ensures answer { result ≡ Done }
         ensures state { let c = option_map (λ bytes. bytes.now) control.entry in let b = option_map (λ bytes. bytes.now) body.entry in
             state_in (B.value store.new) self.new ≡ (put_at plain side prio c b (state_in (B.value store.old) self.old)).state }
         ensures held { AreHeld (B.value store.new) self.new }
@@ -85,7 +87,7 @@ impl Streams {
             told.new ≡ tallied (put_at plain side prio c b (state_in (B.value store.old) self.old)).gone told.old }
     {
         let Some(message) = make_message(store, prio, control, body) else {
-            return;
+            return Answer::Done;
         };
         let book = self.book_with(side, len_of(control) + len_of(body));
         let below = Spot {
@@ -95,6 +97,7 @@ impl Streams {
         };
         deliver(store, self, HOPS, below, message, told);
         self.keep_book(side, book);
+        Answer::Done
     }
 
     /// Takes up to `cmax` bytes of the control part and up to `dmax` of the data part of the first message off a side's head into

@@ -14,7 +14,7 @@ ghost use Rattle.strm_frame.specs.Hands.{CanPut, HasRoom, Shifts, once};
 ghost use Rattle.strm_frame.specs.Outboxes.{message_in, sent_of, times_sent, parcels_in, AreChains};
 ghost use Rattle.strm_types.specs.declared.kinds.MsgKind.TheVariants.{Flush};
 ghost use Rattle.strm_types.specs.Reads.{is_there};
-ghost use Rattle.strm_head.specs.Heads.{sent_down};
+ghost use Rattle.strm_head.specs.Heads.{down_message, sent_down};
 ghost use Rattle.strm_pty.specs.Does.{Makes, MadeOne};
 ghost use Rattle.strm_pair.specs.Costs.{head_takes, is_across, below_takes, cost, takes};
 ghost use Rattle.strm_pair.specs.PutBy.{PutBy, CameBy};
@@ -22,6 +22,7 @@ ghost use Rattle.strm_pair.specs.PutBy.{PutBy, CameBy};
 use crate::streams::Streams;
 use strm_blocks::Blocks;
 use strm_frame::{Enabled, Outbox, Sent, Stations};
+use strm_head::Down;
 use strm_msg::booked_size;
 use strm_pty::{make, put};
 use strm_types::{
@@ -38,16 +39,27 @@ pub(crate) fn make_flush<B: Blocks>(store: &mut B, asked: FlushAsked) -> B::Mp
     make(store, MsgKind::Flush, bytes.as_slice())
 }
 
-// Makes what a head sends down again, if anything.
-fn send_down<B: Blocks>(store: &mut B, here: Spot, down: Option<FlushAsked>) -> Outbox<B::Mp>
+// Makes what a head sends down, in one block of each kind.
+fn make_down<B: Blocks>(store: &mut B, down: Down) -> B::Mp
+    requires { HasRoom (B.value store.old) 1 }
+    ensures { MadeOne (B.value store.old) (B.value store.new) (B.name result) (down_message down).kind (down_message down).plain }
+{
+    match down {
+        Down::Flush(asked) => make_flush(store, asked),
+        Down::Nak(ioc) => make(store, MsgKind::Iocnak, &ioc.refused().bytes()),
+    }
+}
+
+// Makes what a head sends down, if anything.
+fn send_down<B: Blocks>(store: &mut B, here: Spot, down: Option<Down>) -> Outbox<B::Mp>
     requires room { HasRoom (B.value store.old) (if is_there down then 1 else 0) }
     requires top { here.at ≡ 0 }
     ensures { Makes B.name (B.value store.old) (B.value store.new) (if is_there down then 1 else 0) (sent_of result) (sent_down here down) }
 {
-    let Some(asked) = down else {
+    let Some(down) = down else {
         return Outbox::none();
     };
-    let message = make_flush(store, asked);
+    let message = make_down(store, down);
     Outbox::one(Sent {
         to: Spot {
             at: 1,
@@ -133,14 +145,14 @@ impl Streams {
         Outbox::none()
     }
 
-    // A message that comes to the head of an open side. What is to go down again comes back.
+    // A message that comes to the head of an open side. What is to go down comes back.
     fn come<B: Blocks>(
         &mut self,
         store: &mut B,
         to: Spot,
         message: B::Mp,
         told: &mut Fates,
-    ) -> Option<FlushAsked>
+    ) -> Option<Down>
         requires beside { AreBeside (B.value store.old) self.old }
         requires can_put { CanPut (B.value store.old) (B.name message) (λ _. 0) }
         requires chain { IsChain (in_hand (B.value store.old) (B.name message)) }

@@ -1,13 +1,13 @@
 //! What a call is refused for, by the streams alone.
 
-ghost use Rattle.std.specs.Prelude.{ℕ, ◌≡◌, ◌+◌, ◌≤◌, ◌<◌, ◌^◌, option_map};
+ghost use Rattle.std.specs.Prelude.{ℕ, ◌≡◌, ◌+◌, ◌≤◌, ◌<◌, ◌^◌, ◌&&◌, not, option_map};
 ghost use Rattle.strm_types.specs.Calls.{request};
 ghost use Rattle.strm_types.specs.Journal.{content_max};
-ghost use Rattle.strm_types.specs.Refused.{refused_at_once, refused_by_state, blocks_asked, unless, or_else, in_range, goes_down, at_end, is_known, is_a_band, asks_a_band};
+ghost use Rattle.strm_types.specs.Refused.{refused_at_once, refused_by_state, blocks_asked, unless, or_else, in_range, goes_down, at_end, is_known, is_a_band, asks_a_band, may_ask};
 ghost use Rattle.strm_types.specs.PutMsg.{part_blocks};
 ghost use Rattle.strm_pair.specs.Parts.{is_held_back};
-ghost use Rattle.strm_types.specs.declared.refusals.Refusal.TheVariants.{Enxio, Erange};
-ghost use Rattle.strm_types.specs.Names.{is_open};
+ghost use Rattle.strm_types.specs.declared.refusals.Refusal.TheVariants.{Eagain, Einval, Enxio, Erange};
+ghost use Rattle.strm_types.specs.Names.{is_never, is_open};
 ghost use Rattle.strm_types.specs.State.{stream};
 
 use crate::ends::End;
@@ -17,8 +17,9 @@ use strm_blocks::Blocks;
 use strm_head::put_refusal;
 use strm_queue::standing::is_full;
 use strm_types::{
-    BANDS, Band, CHANGE_BLOCKS, CLOSE_BLOCKS, Caller, Event, ModuleName, Openness, Prio, READ_MAX,
-    Refusal, Side, WRITE_BLOCKS, Wanted, chunk_count,
+    BANDS, Band, CHANGE_BLOCKS, CLOSE_BLOCKS, Caller, Event, IOCTL_BLOCKS, IOCTL_END, IOCTL_MAX,
+    ModuleName, Openness, Prio, READ_MAX, Refusal, SIGNALS_MAX, Side, WRITE_BLOCKS, Wanted,
+    chunk_count,
 };
 
 /// A refusal unless a condition holds.
@@ -88,6 +89,7 @@ pub(crate) fn blocks_asked(event: &Event<&[u8]>) -> usize
             WRITE_BLOCKS + (part_blocks(*control) + part_blocks(*body))
         }
         Event::Shut => CLOSE_BLOCKS,
+        Event::Ioctl { .. } => IOCTL_BLOCKS,
         _ => 0,
     }
 }
@@ -102,6 +104,8 @@ pub(crate) fn content_most(event: &Event<&[u8]>) -> usize
         Event::Get { cmax, dmax, .. } => {
             (*cmax as usize).min(READ_MAX) + (*dmax as usize).min(READ_MAX)
         }
+        Event::Ioctl { .. } | Event::IoctlResult { .. } => IOCTL_MAX,
+        Event::Signals => SIGNALS_MAX,
         _ => 0,
     }
 }
@@ -145,6 +149,39 @@ impl Streams {
         unless(
             self.from_master.has_room() && self.from_slave.has_room(),
             Refusal::Erange,
+        )
+    }
+
+    // ERANGE where an ioctl sends more than it may, there is no number left for it, or the books of a direction are full.
+    fn unasked(&self, body: &[u8]) -> Option<Refusal>
+        ensures { (s : StoreValue) →
+            result ≡ unless (may_ask body.now (state_in s self.now) && in_range (state_in s self.now)) Erange }
+    {
+        let may_ask = body.len() <= IOCTL_MAX && self.next_ioctl < IOCTL_END;
+        unless(
+            may_ask && self.from_master.has_room() && self.from_slave.has_room(),
+            Refusal::Erange,
+        )
+    }
+
+    // EINVAL where the master was opened before.
+    fn opened_before(&self) -> Option<Refusal>
+        ensures { (s : StoreValue) → result ≡ unless (is_never (state_in s self.now).master.opened) Einval }
+    {
+        unless(
+            matches!(self.master.opened, Openness::Never),
+            Refusal::Einval,
+        )
+    }
+
+    // EINVAL where the slave is open, EAGAIN where it is locked.
+    fn unready(&self) -> Option<Refusal>
+        ensures { (s : StoreValue) → let state = state_in s self.now in
+            result ≡ or_else (unless (not (is_open state.slave.opened)) Einval) (unless (not state.locked) Eagain) }
+    {
+        or_else(
+            unless(!self.slave.opened.is_open(), Refusal::Einval),
+            unless(!self.locked, Refusal::Eagain),
         )
     }
 
@@ -211,6 +248,7 @@ impl Streams {
                 self.unopened(caller.side),
                 unless(asks_a_band(*wanted), Refusal::Einval),
             ),
+            Event::Ioctl { body, .. } => or_else(self.unreached(caller.side), self.unasked(body)),
             _ => self.unopened(caller.side),
         }
     }
@@ -226,25 +264,16 @@ impl Streams {
         ensures { result ≡ refused_by_state (state_in (B.value store.now) self.now) caller (request event.now) }
     {
         match event {
-            Event::OpenMaster => unless(
-                matches!(self.master.opened, Openness::Never),
-                Refusal::Einval,
-            ),
-            Event::OpenSlave => or_else(
-                unless(!self.slave.opened.is_open(), Refusal::Einval),
-                unless(!self.locked, Refusal::Eagain),
-            ),
+            Event::OpenMaster => self.opened_before(),
+            Event::OpenSlave => self.unready(),
             Event::Write { .. } => {
-                unless(
-                    !is_full(store, &self.end(caller.side).driver, Band(0)),
-                    Refusal::Eagain,
-                )
+                let is_full = is_full(store, &self.end(caller.side).driver, Band(0));
+                unless(!is_full, Refusal::Eagain)
             }
             Event::Read { n } => {
                 let at_end = self.is_at_end(store, caller.side);
-                self.end(caller.side)
-                    .head
-                    .read_refusal(store, at_end, *n as usize)
+                let head = &self.end(caller.side).head;
+                head.read_refusal(store, at_end, *n as usize)
             }
             Event::Put {
                 prio,
@@ -259,13 +288,14 @@ impl Streams {
             }
             Event::Get { wanted, .. } => {
                 let at_end = self.is_at_end(store, caller.side);
-                self.end(caller.side)
-                    .head
-                    .get_refusal(store, *wanted, at_end)
+                let head = &self.end(caller.side).head;
+                head.get_refusal(store, *wanted, at_end)
             }
+            Event::Ioctl { .. } => unless(self.end(caller.side).head.is_idle(), Refusal::Eagain),
+            Event::IoctlResult { number } => self.end(caller.side).head.result_refusal(*number),
             Event::Pop | Event::Look => Some(Refusal::Einval),
             Event::Unlock | Event::Shut | Event::Push { .. } | Event::Flush { .. } => None,
-            Event::Mode { .. } | Event::Nread => None,
+            Event::Mode { .. } | Event::Nread | Event::Signals => None,
         }
     }
 }

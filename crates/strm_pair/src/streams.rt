@@ -1,9 +1,10 @@
 //! Both streams of a pair, and what calls and turns do to them, on the store in which their messages stand.
 
-ghost use Rattle.std.specs.Prelude.{ℕ, ◌≡◌, ◌+◌, ◌≤◌, ◌<◌, true, [], length, min, None};
+ghost use Rattle.std.specs.Prelude.{ℕ, ◌≡◌, ◌+◌, ◌≤◌, ◌<◌, true, false, [], length, min, None};
 ghost use Rattle.strm_types.specs.Cells.{plain};
 ghost use Rattle.strm_types.specs.State.{opening, new_stream};
-ghost use Rattle.strm_types.specs.declared.answers.Answer.TheVariants.{Count, Bytes};
+ghost use Rattle.strm_types.specs.declared.answers.Answer.TheVariants.{Done, Count, Bytes};
+ghost use Rattle.strm_types.specs.declared.names.Openness.TheVariants.{Open};
 ghost use Rattle.strm_types.specs.Calls.{Reply, called, mode_set, request, opened_slave};
 ghost use Rattle.strm_types.specs.declared.entries.Entry.TheVariants.{Called};
 ghost use Rattle.strm_types.specs.Deliver.{tallied};
@@ -76,9 +77,28 @@ impl Streams {
         }
     }
 
+    // Opens the master.
+    fn open_master(&mut self) -> Answer<usize>
+        ensures answer { result ≡ Done }
+        ensures streams { self.new ≡ record self.old { master = record self.old.master { opened = Open } } }
+    {
+        self.master.opened = Openness::Open;
+        Answer::Done
+    }
+
+    // Lets the slave be opened.
+    fn unlock(&mut self) -> Answer<usize>
+        ensures answer { result ≡ Done }
+        ensures streams { self.new ≡ record self.old { locked = false } }
+    {
+        self.locked = false;
+        Answer::Done
+    }
+
     /// Opens the slave: its head is as new, and what waits for it may come.
-    pub fn open_slave<B: Blocks>(&mut self, store: &mut B)
+    pub fn open_slave<B: Blocks>(&mut self, store: &mut B) -> Answer<usize>
         requires { AreHeld (B.value store.old) self.old }
+        ensures answer { result ≡ Done }
         ensures state { state_in (B.value store.new) self.new ≡ opened_slave (state_in (B.value store.old) self.old) }
         ensures held { AreHeld (B.value store.new) self.new }
         ensures pool { SamePool (B.value store.old) (B.value store.new) }
@@ -87,6 +107,7 @@ impl Streams {
         if !self.master.driver.is_empty(store) {
             self.enabled.enable(Side::Master.driver());
         }
+        Answer::Done
     }
 
     // Sets a mode of a side's head.
@@ -185,49 +206,35 @@ impl Streams {
         ensures pool { SamePool (B.value store.old) (B.value store.new) }
     {
         out.clear();
+        let side = caller.side;
         match event {
-            Event::OpenMaster => {
-                self.master.opened = Openness::Open;
-                Answer::Done
-            }
-            Event::Unlock => {
-                self.locked = false;
-                Answer::Done
-            }
-            Event::OpenSlave => {
-                self.open_slave(store);
-                Answer::Done
-            }
-            Event::Shut => {
-                self.shut(store, caller.side, told);
-                Answer::Done
-            }
-            Event::Flush { what, band } => {
-                self.flush(store, caller.side, *what, *band, told);
-                Answer::Done
-            }
+            Event::OpenMaster => self.open_master(),
+            Event::Unlock => self.unlock(),
+            Event::OpenSlave => self.open_slave(store),
+            Event::Shut => self.shut(store, side, told),
+            Event::Flush { what, band } => self.flush(store, side, *what, *band, told),
             Event::Push { .. } | Event::Pop | Event::Look => Answer::Done,
-            Event::Write { bytes } => Answer::Count(self.write(store, caller.side, bytes)),
+            Event::Write { bytes } => Answer::Count(self.write(store, side, bytes)),
             Event::Read { n } => {
-                self.read(store, caller.side, *n, out, told);
+                self.read(store, side, *n, out, told);
                 Answer::Bytes(out.len())
             }
             Event::Put {
                 prio,
                 control,
                 body,
-            } => {
-                self.putmsg(store, caller.side, *prio, *control, *body, told);
-                Answer::Done
-            }
+            } => self.putmsg(store, side, *prio, *control, *body, told),
             Event::Get { wanted, cmax, dmax } => {
-                self.getmsg(store, caller.side, *wanted, *cmax, *dmax, out, told)
+                self.getmsg(store, side, *wanted, *cmax, *dmax, out, told)
             }
             Event::Mode { mode } => {
-                self.set_mode(caller.side, *mode);
+                self.set_mode(side, *mode);
                 Answer::Done
             }
-            Event::Nread => self.nread(store, caller.side),
+            Event::Nread => self.nread(store, side),
+            Event::Ioctl { command, body } => self.ioctl(store, side, *command, body, out, told),
+            Event::IoctlResult { .. } => self.tell_ioctl(side, out),
+            Event::Signals => self.take_signals(side, out),
         }
     }
 

@@ -1,14 +1,15 @@
 -- What goes down is one message that was made, or none.
-use Rattle.std.proofs.Common.{◌+◌, cond, sym, ap, subst}
-use Rattle.strm_types.specs.declared.kinds.MsgKind.TheVariants.{Flush}
+use Rattle.std.proofs.Common.{◌+◌, cond, sym, ap, subst, ◌∙◌}
+use Rattle.std.specs.Prelude.{None}
 use Rattle.strm_types.specs.declared.names.Way.TheVariants.{Down}
-use Rattle.strm_types.specs.Deliver.{toward}
-use Rattle.strm_types.specs.Flushing.{flush_bytes, flush_message}
+use Rattle.strm_types.specs.Deliver.{Parcel, toward}
+use Rattle.strm_types.specs.Message.{Message}
 use Rattle.strm_types.specs.Reads.{is_there}
-use Rattle.strm_head.specs.Heads.{sent_down}
+use Rattle.strm_head.specs.Heads.{down_message, sent_down}
 use Rattle.strm_frame.specs.Outboxes.{sent_of}
 use Rattle.strm_pty.specs.Does.{Makes}
 use Rattle.strm_pty.proofs.Doing.{makes-none, makes-one}
+use Rattle.strm_pair.proofs.PutSteps.{down-plain}
 use Rattle.strm_pair.proofs.putting.send_down.Goals as goal
 
 pub returns-in_default : goal.returns-in_default
@@ -20,11 +21,13 @@ returns-in_default g c =
 pub returns : goal.returns
 returns g c =
     let s = g.B.Blocks.value c.args.store.now in
-    let t = g.B.Blocks.value c.make_flush-message.new.store in
+    let t = g.B.Blocks.value c.make_down-message.new.store in
     let made = sent_of c.one.result in
     let here = c.args.here in
-    let asked = c.in-Some.asked in
+    let down = c.in-Some.down in
+    let m = down_message down in
+    let plain : Message _ = record { kind = m.kind; band = 0; control = None; body = None; plain = m.plain } in
     subst (λ d. Makes g.B.Blocks.name s t (cond (is_there d) 1 0) made (sent_down here d)) (sym c.in-Some.is)
-    (makes-one g.B.Blocks.name s t (record { to = record here { at = 1; way = Down }; message = c.make_flush-message.result }) Flush (flush_bytes asked) made
-    (record { to = toward Down here; message = flush_message (flush_bytes asked) }) c.make_flush-message.ensures c.one.ensures
-    (ap (λ n. record { to = record here { at = n + 1; way = Down }; message = flush_message (flush_bytes asked) }) (sym c.requires.top)))
+    (makes-one g.B.Blocks.name s t (record { to = record here { at = 1; way = Down }; message = c.make_down-message.result }) m.kind m.plain made
+    (record { to = toward Down here; message = m }) c.make_down-message.ensures c.one.ensures
+    (ap (λ n. record { to = record here { at = n + 1; way = Down }; message = plain }) (sym c.requires.top) ∙ ap (λ x. record { to = toward Down here; message = x }) (down-plain down)))
