@@ -1,6 +1,6 @@
 //! The signals that wait at a stream head (streamio(7I); STREAMS Programming Guide: M_SIG, M_PCSIG).
 
-ghost use Rattle.std.specs.Prelude.{◌≡◌, ◌≤◌, [], true, length, MatchOption, Unit};
+ghost use Rattle.std.specs.Prelude.{◌≡◌, ◌≤◌, [], true, length, Some};
 ghost use Rattle.strm_types.specs.Signals.{has_signal, is_signal, signal_in, with_signal};
 
 use arrayvec::ArrayVec;

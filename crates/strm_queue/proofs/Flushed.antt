@@ -91,6 +91,13 @@ counted-marked flows band high low q is = record {
     at other lt false apart =
         rw (flow-other flows band other (marked_with high low (flow_at band flows)) (λ e. grind (arith, nat_tests))) (is.each other lt)
 
+pub counted-all-marked : (high low : ℕ) (old new : List Flow) (q : List (List Block)) → length new ≡ length old → ((band : ℕ) → band < 8 → flow_at band new ≡ marked_with high low (flow_at band old)) → AreCounted old q → AreCounted new q
+counted-all-marked high low old new q eight each is = record {
+  bands = is.bands;
+  eight = eight ∙ is.eight;
+  each = λ band lt. subst (λ f. IsCounted band f q) (sym (each band lt)) (marked-at band high low (flow_at band old) q (is.each band lt));
+}
+
 relieved-at : (band : ℕ) (f : Flow) (q : List (List Block)) (b : Bool) → IsCounted band f q → IsCounted band (if b then record f { want_write = false } else f) q
 relieved-at band f q true is = record { data_sum = is.data_sum; other_sum = is.other_sum; marked = is.marked }
 relieved-at band f q false is = is

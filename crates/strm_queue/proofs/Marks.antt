@@ -1,9 +1,9 @@
 -- The marks and the waiting writers of a queue's bands, through each change of its counts.
 use Rattle.std.proofs.Common.{ℕ, zero, suc, ◌≡◌, ◌<◌, Bool, true, false, List, [], ◌∷◌, length, refl, ap, ◌∙◌, arith}
-use Rattle.std.specs.Prelude.{slice_set}
+use Rattle.std.specs.Prelude.{slice_set, map}
 use Rattle.strm_types.specs.Queue as plain
 use Rattle.strm_queue.specs.declared.flow.Flow.{Flow}
-use Rattle.strm_queue.specs.Flows.{plain_flow, plain_flows, added_to, removed_from, flushed_of}
+use Rattle.strm_queue.specs.Flows.{plain_flow, plain_flows, added_to, removed_from, flushed_of, marked_with}
 use Rattle.strm_queue.specs.Kept.{flow_at}
 
 plain-added : (is_data : Bool) (bytes : ℕ) (f : Flow) → plain_flow (added_to is_data bytes f) ≡ plain_flow f
@@ -41,6 +41,15 @@ all-flushed all (f ∷ fs) [] long each = absurd (omega arith)
 all-flushed all (f ∷ fs) (g ∷ gs) long each =
     ap (λ y. y ∷ plain_flows gs) (ap plain_flow (each 0 (omega arith)) ∙ plain-flushed all f)
     ∙ ap (λ ys. plain_flow f ∷ ys) (all-flushed all fs gs (omega arith) (λ band lt. each (suc band) (omega arith)))
+
+-- other marks in each band
+pub all-marked : (high low : ℕ) (fs gs : List Flow) → length gs ≡ length fs → ((band : ℕ) → band < length fs → flow_at band gs ≡ marked_with high low (flow_at band fs)) → plain_flows gs ≡ map (plain.with_marks high low) (plain_flows fs)
+all-marked high low [] [] long each = refl
+all-marked high low [] (g ∷ gs) long each = absurd (omega arith)
+all-marked high low (f ∷ fs) [] long each = absurd (omega arith)
+all-marked high low (f ∷ fs) (g ∷ gs) long each =
+    ap (λ y. plain_flow y ∷ plain_flows gs) (each 0 (omega arith))
+    ∙ ap (λ ys. plain.with_marks high low (plain_flow f) ∷ ys) (all-marked high low fs gs (omega arith) (λ band lt. each (suc band) (omega arith)))
 
 -- a writer waits for a band
 pub set-waits : (flows : List Flow) (i : ℕ) → plain_flows (slice_set flows i (record (flow_at i flows) { want_write = true })) ≡ plain.with_writer_at i (plain_flows flows)
