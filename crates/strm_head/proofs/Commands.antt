@@ -1,6 +1,7 @@
 -- An M_IOCTL that was made of its header, and of its bytes where there are some, is the one that was asked for.
 use Rattle.std.proofs.Common.{ℕ, ◌≡◌, ◌≤◌, ◌<◌, Bool, true, false, List, [], ◌∷◌, ◌++◌, length, refl, sym, ap, subst, ◌∙◌, arith, append-nil}
 use Rattle.std.specs.Prelude.{◌==◌, None}
+use Rattle.std.proofs.lemmas.Bool.Decides.{nat_tests}
 use Rattle.strm_types.specs.declared.ioctls.Ioc.{Ioc}
 use Rattle.strm_types.specs.declared.kinds.MsgKind.TheVariants as kinds
 use Rattle.strm_types.specs.Flush.{is_data_kind}
@@ -64,7 +65,7 @@ module _ (old new : StoreValue) (i : ℕ) (ioc : Ioc) where
 -- no bytes, or some
 none-there : (body : List ℕ) → (length body == 0) ≡ true → body ≡ []
 none-there [] is = refl
-none-there (x ∷ body) is = absurd (cc)
+none-there (x ∷ body) is = absurd (grind (arith, nat_tests))
 
 two-blocks : (body : List ℕ) → (length body == 0) ≡ false → ioctl_blocks body ≡ 2
 two-blocks [] is = absurd (cc)

@@ -1,5 +1,5 @@
 -- The bytes behind the header, as many as there is room for.
-use Rattle.std.proofs.Common.{◌∙◌, ap, ◌++◌}
+use Rattle.std.proofs.Common.{◌∙◌}
 use Rattle.strm_head.proofs.Heeding.{body-first}
 use Rattle.strm_head.proofs.ioctls.ack_body.Goals as goal
 
