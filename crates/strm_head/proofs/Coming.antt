@@ -2,26 +2,31 @@
 use Rattle.std.proofs.Common.{ℕ, ◌≡◌, Bool, true, false, cond, List, [], ◌∷◌, length, map, refl, sym, ap, subst, ◌∙◌, arith}
 use Rattle.std.specs.Prelude.{not, ◌&&◌, ◌||◌}
 use Rattle.std.specs.List.{list_any}
+use Rattle.strm_types.specs.declared.flushing.FlushAsked.{FlushAsked}
 use Rattle.strm_types.specs.declared.kinds.MsgKind.{MsgKind}
-use Rattle.strm_types.specs.declared.names.Way.TheVariants.{Up}
+use Rattle.strm_types.specs.declared.kinds.MsgKind.TheVariants.{Flush}
+use Rattle.strm_types.specs.declared.names.Way.TheVariants.{Up, Down}
 use Rattle.strm_types.specs.declared.rules.Rule.TheVariants.{Doubled}
 use Rattle.strm_types.specs.declared.spots.Spot.{Spot}
-use Rattle.strm_types.specs.Deliver.{Acted}
+use Rattle.strm_types.specs.Deliver.{Acted, Parcel, toward}
 use Rattle.strm_types.specs.Flush.{is_data_kind}
-use Rattle.strm_types.specs.Flushing.{is_flush, asked_by}
-use Rattle.strm_types.specs.Heads.{is_pcproto, is_hangup, passed_by, is_doubled, waits_for_readers, flush_up, obeyed, head_put}
+use Rattle.strm_types.specs.Flushing.{is_flush, asked_by, flush_bytes, flush_message}
+use Rattle.strm_types.specs.Heads.{is_pcproto, passed_by, is_doubled, waits_for_readers, turned_round, flush_up, obeyed, head_put}
 use Rattle.strm_types.specs.Message.{Message, cells_of}
 use Rattle.strm_types.specs.Names.{direction_at}
 use Rattle.strm_types.specs.Queue.{put_on}
 use Rattle.strm_types.specs.State.{Head}
-use Rattle.strm_blocks.specs.Blocks.{Block, StoreValue, IsInHand, block_at, dropped, names_of}
+use Rattle.strm_blocks.specs.Blocks.{Block, StoreValue, IsInHand, block_at, dropped, list_at, names_of}
 use Rattle.strm_blocks.specs.Outcomes.{peek_of, told}
 use Rattle.strm_blocks.proofs.Laws.{total-dropped, used-is, references-is, free_m-is, free_d-more}
 use Rattle.strm_msg.specs.Bytes.{bytes_of}
-use Rattle.strm_msg.specs.Messages.{message_of, IsChain}
+use Rattle.strm_msg.specs.Messages.{message_of, AreMessages, IsChain}
 use Rattle.strm_msg.proofs.Chains.{kind-is}
 use Rattle.strm_msg.proofs.MadePlain.{parts-same, plain-is}
-use Rattle.strm_queue.specs.Stored.{FreesBlocks}
+use Rattle.strm_queue.specs.declared.queue.Queue.{Queue}
+use Rattle.strm_queue.specs.Kept.{AreCounted}
+use Rattle.strm_queue.specs.Queues.{OnlyCounts}
+use Rattle.strm_queue.specs.Stored.{Changes, FreesBlocks, HoldsReadable, IsReady}
 use Rattle.strm_head.specs.declared.putting.Urgent.{Urgent}
 
 -- a visitor that stops at a message of a kind sees whether there is one
@@ -98,24 +103,55 @@ module _ (here : Spot) (chain : List Block) (h : Head ℕ) where
   -- what a put does, by the kind of the first block
   module _ (one : IsChain chain) where
     pub data-comes : is_data_kind (block_at 0 chain).kind ≡ true → head_put here m h ≡ waits_for_readers here m h
-    data-comes is = ap (λ v. cond v (waits_for_readers here m h) (obeyed here m h)) (parts-same chain one ∙ is)
+    data-comes is = ap (λ v. cond v (waits_for_readers here m h) (obeyed here m.kind m.plain h)) (parts-same chain one ∙ is)
 
-    pub other-comes : is_data_kind (block_at 0 chain).kind ≡ false → head_put here m h ≡ obeyed here m h
-    other-comes is = ap (λ v. cond v (waits_for_readers here m h) (obeyed here m h)) (parts-same chain one ∙ is)
-
-    abbrev hung : MsgKind → Acted ℕ (Head ℕ)
-    hung k = passed_by (record h { hung_up = h.hung_up || is_hangup k })
+    pub other-comes : is_data_kind (block_at 0 chain).kind ≡ false → head_put here m h ≡ obeyed here (block_at 0 chain).kind (bytes_of chain) h
+    other-comes is =
+        ap (λ v. cond v (waits_for_readers here m h) (obeyed here m.kind m.plain h)) (parts-same chain one ∙ is)
+        ∙ ap (λ (x : Message ℕ). obeyed here x.kind x.plain h) (plain-is chain is)
 
     pub flush-comes : is_data_kind (block_at 0 chain).kind ≡ false → is_flush (block_at 0 chain).kind ≡ true
         → head_put here m h ≡ flush_up here (asked_by (bytes_of chain)) h
-    flush-comes none is =
-        other-comes none
-        ∙ ap (λ v. cond v (flush_up here (asked_by m.plain) h) (hung m.kind)) (ap is_flush (kind-is chain) ∙ is)
-        ∙ ap (λ (x : Message ℕ). flush_up here (asked_by x.plain) h) (plain-is chain none)
+    flush-comes none is = other-comes none ∙ at (block_at 0 chain).kind is
+      where
+        at : (k : MsgKind) → is_flush k ≡ true → obeyed here k (bytes_of chain) h ≡ flush_up here (asked_by (bytes_of chain)) h
+        at Flush is = refl
+        at _ is = absurd (cc)
 
-    pub rest-comes : is_data_kind (block_at 0 chain).kind ≡ false → is_flush (block_at 0 chain).kind ≡ false
-        → head_put here m h ≡ hung (block_at 0 chain).kind
-    rest-comes none is =
-        other-comes none
-        ∙ ap (λ v. cond v (flush_up here (asked_by m.plain) h) (hung m.kind)) (ap is_flush (kind-is chain) ∙ is)
-        ∙ ap hung (kind-is chain)
+-- nothing but an M_FLUSH lets a waiting writer go, and takes bytes away
+pub heeds-notes : (here : Spot) (k : MsgKind) (bytes : List ℕ) (h : Head ℕ) → is_flush k ≡ false → (obeyed here k bytes h).notes ≡ []
+heeds-notes here Flush bytes h is = absurd (cc)
+heeds-notes here _ bytes h is = refl
+
+pub heeds-gone : (here : Spot) (k : MsgKind) (bytes : List ℕ) (h : Head ℕ) → is_flush k ≡ false → (obeyed here k bytes h).gone ≡ []
+heeds-gone here Flush bytes h is = absurd (cc)
+heeds-gone here _ bytes h is = refl
+
+-- an M_FLUSH goes down again, or doesn't
+module _ (here : Spot) (asked : FlushAsked) where
+  abbrev round : List (Parcel ℕ)
+  round = record { to = toward Down here; message = flush_message (flush_bytes (record asked { for_read = false })) } ∷ []
+
+  pub goes-round : asked.for_write ≡ true → turned_round here asked ≡ round
+  goes-round is = ap (λ v. cond v round []) is
+
+  pub stays-up : asked.for_write ≡ false → turned_round {C = ℕ} here asked ≡ []
+  stays-up is = ap (λ v. cond v round []) is
+
+-- a queue of which nothing but the counts changed, beside a store of which nothing but a message in hand did
+module _ (s t : StoreValue) (i : ℕ) (q q' : Queue) (freed : t ≡ dropped s i) (only : OnlyCounts q q') where
+  pub counts-changed : IsReady s q → ((ms : List (List Block)) → AreCounted q.flows ms → AreCounted q'.flows ms) → Changes (dropped s i) t q q'
+  counts-changed ready counted = subst (λ v. Changes (dropped s i) v q q') (sym freed) (record {
+    ready = record {
+      messages = subst (λ k. AreMessages (list_at s k)) (sym only.list) ready.messages;
+      counted = counted (list_at s q'.list) (subst (λ k. AreCounted q.flows (list_at s k)) (sym only.list) ready.counted);
+    };
+    list = only.list;
+    others = λ k apart. refl;
+    hand = refl;
+    mblks = refl;
+    dblks = refl;
+  })
+
+  pub readable-still : HoldsReadable (list_at s q.list) → HoldsReadable (list_at t q'.list)
+  readable-still readable = subst (λ v. HoldsReadable (list_at v q'.list)) (sym freed) (subst (λ k. HoldsReadable (list_at s k)) (sym only.list) readable)

@@ -13,3 +13,5 @@ pub mod Pieces
 pub mod Took
 pub mod Found
 pub mod Sent
+pub mod Heeding
+pub mod Commands

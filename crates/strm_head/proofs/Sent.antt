@@ -128,7 +128,7 @@ module _ (band number : ℕ) (low : band < 8) (bytes : List ℕ) where
       ∙ ap (λ xs. record { kind = kinds.Data; band = band; control = None; body = Some xs; plain = [] }) (append-nil bytes)
 
 -- copies of one block, and of two
-one-copy : (numbers : List ℕ) (b : Block) → length numbers ≡ 1 → (n : ℕ) × (copies_of numbers (b ∷ []) ≡ copy_of n b ∷ [])
+pub one-copy : (numbers : List ℕ) (b : Block) → length numbers ≡ 1 → (n : ℕ) × (copies_of numbers (b ∷ []) ≡ copy_of n b ∷ [])
 one-copy [] b is = absurd (omega (arith, is))
 one-copy (n ∷ numbers) b is = (n, rest numbers)
   where
@@ -136,7 +136,7 @@ one-copy (n ∷ numbers) b is = (n, rest numbers)
     rest [] = refl
     rest (m ∷ more) = refl
 
-two-copies : (numbers : List ℕ) (b c : Block) → length numbers ≡ 2 → (n : ℕ) × ((m : ℕ) × (copies_of numbers (b ∷ c ∷ []) ≡ copy_of n b ∷ copy_of m c ∷ []))
+pub two-copies : (numbers : List ℕ) (b c : Block) → length numbers ≡ 2 → (n : ℕ) × ((m : ℕ) × (copies_of numbers (b ∷ c ∷ []) ≡ copy_of n b ∷ copy_of m c ∷ []))
 two-copies [] b c is = absurd (omega (arith, is))
 two-copies (n ∷ []) b c is = absurd (omega (arith, is))
 two-copies (n ∷ m ∷ numbers) b c is = (n, (m, rest numbers))
@@ -146,7 +146,7 @@ two-copies (n ∷ m ∷ numbers) b c is = (n, (m, rest numbers))
     rest (k ∷ more) = refl
 
 -- a message that was made of such blocks
-sends : (old new : StoreValue) (i : ℕ) (like chain : List Block) (message : Message ℕ) (m : Made old new i like) → copies_of m.numbers like ≡ chain → IsChain chain → message_of chain ≡ message → Sends old new i message (length like)
+pub sends : (old new : StoreValue) (i : ℕ) (like chain : List Block) (message : Message ℕ) (m : Made old new i like) → copies_of m.numbers like ≡ chain → IsChain chain → message_of chain ≡ message → Sends old new i message (length like)
 sends old new i like chain message m copies one shows =
     let after : new ≡ held old i chain = m.after ∙ ap (held old i) copies in
     let here : in_hand new i ≡ chain = ap (λ v. in_hand v i) after ∙ in_hand-held old i chain in

@@ -1,18 +1,18 @@
 -- What a message does at a head, by its kind.
-use Rattle.std.proofs.Common.{ℕ, ◌≡◌, Bool, sym, ap, ◌∙◌}
-use Rattle.std.specs.Prelude.{◌||◌}
+use Rattle.std.proofs.Common.{ℕ, ◌≡◌, false, List, sym, ap, ◌∙◌}
 use Rattle.strm_types.specs.declared.flushing.FlushAsked.{FlushAsked}
-use Rattle.strm_types.specs.Deliver.{Acted, tallied}
+use Rattle.strm_types.specs.declared.kinds.MsgKind.{MsgKind}
+use Rattle.strm_types.specs.Deliver.{Acted, Fate, tallied}
 use Rattle.strm_types.specs.Flush.{is_data_kind}
 use Rattle.strm_types.specs.Flushing.{is_flush}
-use Rattle.strm_types.specs.Heads.{is_hangup, waits_for_readers, flush_up, head_put, passed_by}
+use Rattle.strm_types.specs.Heads.{waits_for_readers, flush_up, obeyed, head_put}
 use Rattle.strm_types.specs.State as state
-use Rattle.strm_blocks.specs.Blocks.{StoreValue, block_at, in_hand}
+use Rattle.strm_blocks.specs.Blocks.{StoreValue, in_hand}
+use Rattle.strm_msg.specs.Bytes.{bytes_of}
 use Rattle.strm_msg.specs.Messages.{message_of}
 use Rattle.strm_head.specs.Heads.{head_in}
-use Rattle.strm_head.proofs.Coming.{data-comes, flush-comes, rest-comes, waits-notes, waits-sent, freed-frees, frees-both}
+use Rattle.strm_head.proofs.Coming.{data-comes, flush-comes, other-comes, heeds-notes, heeds-gone, counts-changed, readable-still, waits-notes, waits-sent, freed-frees, frees-both}
 use Rattle.strm_head.proofs.head.Head.put.Given as given
-use Rattle.strm_head.proofs.head.Head.put.Goals.{then-self, else-self}
 use Rattle.strm_head.proofs.head.Head.put.Goals as goal
 
 -- M_DATA, M_PROTO and M_PCPROTO
@@ -88,46 +88,62 @@ returns-then-is_flush-clause-frees g c =
     let t = g.B.Blocks.value c.free.new.self in
     frees-both s t (g.B.Blocks.value c.obey.new.store) (freed-frees s t (g.B.Blocks.name c.args.message) c.requires.in_hand c.free.ensures) c.obey.ensures.frees
 
--- M_HANGUP and all others
+-- all others
 abbrev put-rest : (g : given.Over) → goal.After-free-2 g → Acted ℕ (state.Head ℕ)
 put-rest g c =
     let s = g.B.Blocks.value c.args.store.now in
     head_put c.args.here (message_of (in_hand s (g.B.Blocks.name c.args.message))) (head_in s c.args.self.now)
 
-abbrev hung : (g : given.Over) (c : goal.After-free-2 g) → StoreValue → Bool → Acted ℕ (state.Head ℕ)
-hung g c t up = passed_by (record (head_in t c.args.self.now) { hung_up = up })
-
-hung-is : (g : given.Over) (c : goal.After-free-2 g) → let s = g.B.Blocks.value c.args.store.now in
-    c.if-self.self ≡ (c.args.self.now.hung_up || is_hangup (block_at 0 (in_hand s (g.B.Blocks.name c.args.message))).kind)
-hung-is g c =
+abbrev heeded : (g : given.Over) → goal.After-free-2 g → MsgKind → Acted ℕ (state.Head ℕ)
+heeded g c kind =
     let s = g.B.Blocks.value c.args.store.now in
-    let kind = (block_at 0 (in_hand s (g.B.Blocks.name c.args.message))).kind in
-    elim c.if-self.branch [
-      | then-self w ↦ w.self-is ∙ w.if-self.true ∙ sym (ap (λ v. v || is_hangup kind) w.if-self.true)
-      | else-self w ↦ w.self-is ∙ w.is_hangup-self.ensures ∙ ap is_hangup c.kind-kind.ensures ∙ sym (ap (λ v. v || is_hangup kind) w.if-self.false)
-    ]
+    obeyed c.args.here kind (bytes_of (in_hand s (g.B.Blocks.name c.args.message))) (head_in s c.args.self.now)
 
-rest-is : (g : given.Over) (c : goal.After-free-2 g) → hung g c (g.B.Blocks.value c.free-2.new.self) c.if-self.self ≡ put-rest g c
+no-flush : (g : given.Over) (c : goal.After-free-2 g) → is_flush c.kind-kind.result ≡ false
+no-flush g c = sym c.is_flush.ensures ∙ c.if-is_flush.false
+
+rest-is : (g : given.Over) (c : goal.After-free-2 g) → heeded g c c.kind-kind.result ≡ put-rest g c
 rest-is g c =
     let s = g.B.Blocks.value c.args.store.now in
     let chain = in_hand s (g.B.Blocks.name c.args.message) in
-    ap (λ t. hung g c t c.if-self.self) c.free-2.ensures
-    ∙ ap (λ up. hung g c s up) (hung-is g c)
-    ∙ sym (rest-comes c.args.here chain (head_in s c.args.self.now) c.requires.chain
-    (sym (ap is_data_kind c.kind-kind.ensures) ∙ sym c.is_data_kind.ensures ∙ c.if-is_data_kind.false)
-    (sym (ap is_flush c.kind-kind.ensures) ∙ sym c.is_flush.ensures ∙ c.if-is_flush.false))
+    ap (λ kind. heeded g c kind) c.kind-kind.ensures
+    ∙ sym (other-comes c.args.here chain (head_in s c.args.self.now) c.requires.chain
+    (sym (ap is_data_kind c.kind-kind.ensures) ∙ sym c.is_data_kind.ensures ∙ c.if-is_data_kind.false))
 
 pub returns-clause-state : goal.returns-clause-state
-returns-clause-state g c = ap (λ (a : Acted ℕ (state.Head ℕ)). a.state) (rest-is g c)
+returns-clause-state g c =
+    let s = g.B.Blocks.value c.args.store.now in
+    ap (λ t. head_in t c.heed-down.new.self) c.free-2.ensures
+    ∙ c.heed-down.ensures.state s c.args.here c.requires.ready.ready
+    ∙ ap (λ (a : Acted ℕ (state.Head ℕ)). a.state) (rest-is g c)
 
 pub returns-clause-notes : goal.returns-clause-notes
-returns-clause-notes g c = ap (λ (a : Acted ℕ (state.Head ℕ)). a.notes) (rest-is g c)
+returns-clause-notes g c =
+    let s = g.B.Blocks.value c.args.store.now in
+    sym (heeds-notes c.args.here c.kind-kind.result (bytes_of (in_hand s (g.B.Blocks.name c.args.message))) (head_in s c.args.self.now) (no-flush g c))
+    ∙ ap (λ (a : Acted ℕ (state.Head ℕ)). a.notes) (rest-is g c)
 
 pub returns-clause-sent : goal.returns-clause-sent
-returns-clause-sent g c = ap (λ (a : Acted ℕ (state.Head ℕ)). a.sent) (rest-is g c)
+returns-clause-sent g c =
+    let s = g.B.Blocks.value c.args.store.now in
+    c.heed-down.ensures.sent (head_in s c.args.self.now) c.args.here ∙ ap (λ (a : Acted ℕ (state.Head ℕ)). a.sent) (rest-is g c)
 
 pub returns-clause-told : goal.returns-clause-told
-returns-clause-told g c = ap (λ (a : Acted ℕ (state.Head ℕ)). tallied a.gone c.args.told.now) (rest-is g c)
+returns-clause-told g c =
+    let s = g.B.Blocks.value c.args.store.now in
+    sym (ap (λ (gone : List (Fate ℕ)). tallied gone c.args.told.now)
+    (heeds-gone c.args.here c.kind-kind.result (bytes_of (in_hand s (g.B.Blocks.name c.args.message))) (head_in s c.args.self.now) (no-flush g c)))
+    ∙ ap (λ (a : Acted ℕ (state.Head ℕ)). tallied a.gone c.args.told.now) (rest-is g c)
+
+pub returns-clause-changes : goal.returns-clause-changes
+returns-clause-changes g c =
+    counts-changed (g.B.Blocks.value c.args.store.now) (g.B.Blocks.value c.free-2.new.self) (g.B.Blocks.name c.args.message)
+    c.args.self.now.queue c.heed-down.new.self.queue c.free-2.ensures c.heed-down.ensures.others c.requires.ready.ready c.heed-down.ensures.counted
+
+pub returns-clause-readable : goal.returns-clause-readable
+returns-clause-readable g c =
+    readable-still (g.B.Blocks.value c.args.store.now) (g.B.Blocks.value c.free-2.new.self) (g.B.Blocks.name c.args.message)
+    c.args.self.now.queue c.heed-down.new.self.queue c.free-2.ensures c.heed-down.ensures.others c.requires.ready.readable
 
 pub returns-clause-frees : goal.returns-clause-frees
 returns-clause-frees g c =
