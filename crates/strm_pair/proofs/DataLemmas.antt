@@ -1,10 +1,8 @@
 -- What a write sends.
-use Rattle.std.proofs.Common.{ℕ, suc, ◌≡◌, ◌≤◌, ◌<◌, ◌+◌, ◌-◌, Bool, true, false, ltb, eqb, List, [], ◌∷◌, ◌++◌, length, take, drop, get_or, refl, sym, ap, ◌∙◌, arith, min, append-nil, append_assoc}
+use Rattle.std.proofs.Common.{ℕ, suc, ◌≡◌, ◌+◌, false, List, length, take, drop, refl, sym, ap, ◌∙◌, arith, min}
 use Rattle.std.specs.Prelude.{◌||◌}
-use Rattle.std.proofs.lemmas.Bool.Decides.{nat_tests}
-use Rattle.strm_types.specs.Message.{Message, data_message, size_of, cells_of}
-use Rattle.strm_types.specs.Queue.{Queue, put_back, put_on, put_enables, is_full}
-use Rattle.strm_types.specs.Head.{Taken, gathered, head_read, rest_of}
+use Rattle.strm_types.specs.Message.{data_message}
+use Rattle.strm_types.specs.Queue.{Queue, put_on, put_enables, is_full}
 use Rattle.strm_types.specs.Write.{Sent, sent, chunks_of}
 use Rattle.std.proofs.lemmas.List.{take_all}
 use Rattle.std.proofs.Math.ListN.{drop_of_length-le}

@@ -1,6 +1,6 @@
 -- Puts at the heads and the drivers of a pair, step by step.
 use Rattle.std.proofs.Common.{ℕ, ◌≡◌, ◌≤◌, ◌+◌, Bool, true, false, cond, List, [], ◌∷◌, refl, sym, ap, subst, ◌∙◌, arith}
-use Rattle.std.specs.Prelude.{◌&&◌, ◌||◌, Option, None, Some}
+use Rattle.std.specs.Prelude.{Option, None, Some}
 use Rattle.strm_types.specs.declared.flushing.FlushAsked.{FlushAsked}
 use Rattle.strm_types.specs.declared.kinds.MsgKind.{MsgKind}
 use Rattle.strm_types.specs.declared.kinds.MsgKind.TheVariants.{Flush, Ioctl}
@@ -28,7 +28,7 @@ use Rattle.strm_types.specs.declared.names.Way.TheVariants.{Up, Down}
 use Rattle.strm_types.specs.declared.rules.Fates.{Fates}
 use Rattle.strm_types.specs.declared.spots.Spot.{Spot}
 use Rattle.strm_types.specs.Deliver.{Acted, Parcel, Took, tallied, toward}
-use Rattle.strm_types.specs.Flushing.{is_flush, asked_by, flush_bytes, flush_message}
+use Rattle.strm_types.specs.Flushing.{asked_by, flush_bytes, flush_message}
 use Rattle.strm_types.specs.Heads.{head_put, is_doubled, obeyed, turned_round, waits_for_readers}
 use Rattle.strm_types.specs.Message.{Message, cells_of, has_parts}
 use Rattle.strm_types.specs.Names.{before, direction_at, enable_found, enable_some, head_of, is_open}
@@ -37,7 +37,7 @@ use Rattle.strm_types.specs.Reads.{is_there}
 use Rattle.strm_types.specs.State.{Head, State, stream, with_stream, with_driver_queue}
 use Rattle.strm_blocks.specs.Blocks.{StoreValue, in_hand}
 use Rattle.strm_msg.specs.Messages.{IsChain}
-use Rattle.strm_head.specs.declared.putting.Down.{Down}
+use Rattle.strm_head.specs.declared.putting.Down as heads_down
 use Rattle.strm_head.specs.declared.putting.Down.TheVariants as downs
 use Rattle.strm_head.specs.Heads.{down_message, notes_of, sent_down}
 use Rattle.strm_frame.specs.declared.parcels.Sent.{Sent}
@@ -81,22 +81,22 @@ reached-sent side here m s is = either (is_open (stream side s).opened) _ _ (not
     either false one another first second = second
 
 -- it is a message without parts
-pub down-plain : (d : Down) → record { kind = (down_message d).kind; band = 0; control = None; body = None; plain = (down_message d).plain } ≡ down_message d
+pub down-plain : (d : heads_down.Down) → record { kind = (down_message d).kind; band = 0; control = None; body = None; plain = (down_message d).plain } ≡ down_message d
 down-plain (downs.Flush asked) = refl
 down-plain (downs.Nak ioc) = refl
 
-down-none : (here : Spot) (down : Option Down) → sent_down here down ≡ [] → is_there down ≡ false
+down-none : (here : Spot) (down : Option heads_down.Down) → sent_down here down ≡ [] → is_there down ≡ false
 down-none here None none = refl
 down-none here (Some asked) none = absurd (cc)
 
-down-few : (b : Bool) (down : Option Down) → (b ≡ false → is_there down ≡ false) → cond {A = ℕ} (is_there down) 1 0 ≤ cond b 1 0
+down-few : (b : Bool) (down : Option heads_down.Down) → (b ≡ false → is_there down ≡ false) → cond {A = ℕ} (is_there down) 1 0 ≤ cond b 1 0
 down-few true None none = omega arith
 down-few true (Some asked) none = omega arith
 down-few false None none = omega arith
 down-few false (Some asked) none = let e = none refl in absurd (cc)
 
 -- it takes a block only where something is turned round
-pub down-takes : (side : Side) (here : Spot) (m : Message ℕ) (s : State ℕ) (down : Option Down) → sent_down here down ≡ (put_at_head side here m s).sent → cond {A = ℕ} (is_there down) 1 0 ≤ head_takes m
+pub down-takes : (side : Side) (here : Spot) (m : Message ℕ) (s : State ℕ) (down : Option heads_down.Down) → sent_down here down ≡ (put_at_head side here m s).sent → cond {A = ℕ} (is_there down) 1 0 ≤ head_takes m
 down-takes side here m s down is = down-few (is_turned m) down (λ none. down-none here down (is ∙ reached-sent side here m s none))
 
 pub room-less : (s t : StoreValue) (gone come : ℕ → ℕ) (n k : ℕ) → Shifts s t gone come 0 → k ≤ n → HasRoom s n → HasRoom t k
@@ -123,7 +123,7 @@ at_head side s t = record {
 open-is : (side : Side) (here : Spot) (m : Message ℕ) (s : State ℕ) → is_open (stream side s).opened ≡ true → put_at_head side here m s ≡ at_head side s (head_put here m (stream side s).head)
 open-is side here m s opened = rw opened refl
 
-module _ (side : Side) (s t : StoreValue) (p : Streams) (h : heads.Head) (i : ℕ) (to : Spot) (m : Message ℕ) (lets_go : Bool) (down : Option Down) (f f' : Fates) where
+module _ (side : Side) (s t : StoreValue) (p : Streams) (h : heads.Head) (i : ℕ) (to : Spot) (m : Message ℕ) (lets_go : Bool) (down : Option heads_down.Down) (f f' : Fates) where
   -- what the head did
   abbrev Did : Acted ℕ (Head ℕ)
   Did = head_put to m (head_in s (end_at side p).head)

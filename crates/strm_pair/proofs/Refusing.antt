@@ -1,31 +1,49 @@
 -- A refusal is the first one whose condition holds.
-use Rattle.std.proofs.Common.{ℕ, ◌≡◌, ◌<◌, ◌+◌, Bool, true, false, length, sym, ap, ◌∙◌, arith}
-use Rattle.std.specs.Prelude.{Option, None, Some, Result, Err, MatchOption}
+use Rattle.std.proofs.Common.{ℕ, ◌≡◌, ◌<◌, ◌≤◌, ◌+◌, Bool, true, false, List, length, refl, sym, ap, ◌∙◌, arith}
+use Rattle.std.proofs.lemmas.Bool.Decides.{nat_tests}
+use Rattle.std.specs.Prelude.{◌&&◌, nat_le, Option, None, Some, Result, Err, MatchOption}
 use Rattle.strm_types.specs.declared.events.Caller.{Caller}
-use Rattle.strm_types.specs.declared.events.Event.TheVariants.{OpenMaster, Unlock, OpenSlave, Shut, Push, Pop, Look, Flush, Write, Read, Put, Get, Mode, Nread}
+use Rattle.strm_types.specs.declared.events.Event.TheVariants.{OpenMaster, Unlock, OpenSlave, Shut, Push, Pop, Look, Flush, Write, Read, Put, Get, Mode, Nread, Ioctl, IoctlResult, Signals}
 use Rattle.strm_types.specs.declared.refusals.Refusal.{Refusal}
-use Rattle.strm_types.specs.declared.refusals.Refusal.TheVariants.{Enosr, JournalFull}
+use Rattle.strm_types.specs.declared.refusals.Refusal.TheVariants.{Enosr, Enxio, Erange, JournalFull}
+use Rattle.strm_types.specs.declared.limits.TheConstants.{IOCTL_MAX}
 use Rattle.strm_types.specs.Calls.{Request, payload_of}
 use Rattle.strm_types.specs.Journal.{content_max}
 use Rattle.strm_types.specs.Pair.{PairState, call_refused}
-use Rattle.strm_types.specs.Refused.{blocks_asked, enough, has_room, or_else, refused_at_once, refused_by_state, unless}
+use Rattle.strm_types.specs.Refused.{blocks_asked, enough, goes_down, has_room, in_range, may_ask, or_else, refused_at_once, refused_by_state, unless}
+use Rattle.strm_types.specs.State.{State}
+use Rattle.strm_types.proofs.Replay.{or_else-none, unless-none}
 
--- no call has both bytes of its own and bytes in its answer
-pub room-small : (asked : Request) (n : ℕ) → n ≡ length (payload_of asked) → n < 18446744073709551616 → n + content_max asked < 18446744073709551616
-room-small OpenMaster n is small = omega (arith, is)
-room-small Unlock n is small = omega (arith, is)
-room-small OpenSlave n is small = omega (arith, is)
-room-small Shut n is small = omega (arith, is)
-room-small (Push name) n is small = omega (arith, is)
-room-small Pop n is small = omega (arith, is)
-room-small Look n is small = omega (arith, is)
-room-small (Flush what band) n is small = omega (arith, is)
-room-small (Write bytes) n is small = omega (arith, small)
-room-small (Read most) n is small = omega (arith, is)
-room-small (Put prio control body) n is small = omega (arith, small)
-room-small (Get wanted cmax dmax) n is small = omega (arith, is)
-room-small (Mode mode) n is small = omega (arith, is)
-room-small Nread n is small = omega (arith, is)
+and-first : (a b : Bool) → (a && b) ≡ true → a ≡ true
+and-first true b is = refl
+and-first false b is = is
+
+-- an ioctl that isn't refused at once sends few bytes
+few-asked : (s : State ℕ) (caller : Caller) (command : ℕ) (body : List ℕ) → refused_at_once s caller (Ioctl command body) ≡ None → length body ≤ IOCTL_MAX
+few-asked s caller command body at_once =
+    let may = unless-none (may_ask body s && in_range s) Erange (or_else-none (unless (goes_down caller.side s) Enxio) _ at_once).1 in
+    let few : nat_le (length body) IOCTL_MAX ≡ true = and-first _ _ (and-first _ _ may) in
+    grind (arith, nat_tests, few)
+
+-- of no call that isn't refused at once the bytes and those of its answer are more than are counted
+pub room-small : (s : State ℕ) (caller : Caller) (asked : Request) → refused_at_once s caller asked ≡ None → (n : ℕ) → n ≡ length (payload_of asked) → n < 18446744073709551616 → n + content_max asked < 18446744073709551616
+room-small s caller OpenMaster at_once n is small = omega (arith, is)
+room-small s caller Unlock at_once n is small = omega (arith, is)
+room-small s caller OpenSlave at_once n is small = omega (arith, is)
+room-small s caller Shut at_once n is small = omega (arith, is)
+room-small s caller (Push name) at_once n is small = omega (arith, is)
+room-small s caller Pop at_once n is small = omega (arith, is)
+room-small s caller Look at_once n is small = omega (arith, is)
+room-small s caller (Flush what band) at_once n is small = omega (arith, is)
+room-small s caller (Write bytes) at_once n is small = omega (arith, small)
+room-small s caller (Read most) at_once n is small = omega (arith, is)
+room-small s caller (Put prio control body) at_once n is small = omega (arith, small)
+room-small s caller (Get wanted cmax dmax) at_once n is small = omega (arith, is)
+room-small s caller (Mode mode) at_once n is small = omega (arith, is)
+room-small s caller Nread at_once n is small = omega (arith, is)
+room-small s caller (Ioctl command body) at_once n is small = omega (arith, is, few-asked s caller command body at_once)
+room-small s caller (IoctlResult number) at_once n is small = omega (arith, is)
+room-small s caller Signals at_once n is small = omega (arith, is)
 
 module _ (v : PairState) (caller : Caller) (asked : Request) (at_once : refused_at_once v.state caller asked ≡ None) where
   -- what is told by the answers of the three questions that come after

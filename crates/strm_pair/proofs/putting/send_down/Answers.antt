@@ -2,7 +2,7 @@
 use Rattle.std.proofs.Common.{◌+◌, cond, sym, ap, subst, ◌∙◌}
 use Rattle.std.specs.Prelude.{None}
 use Rattle.strm_types.specs.declared.names.Way.TheVariants.{Down}
-use Rattle.strm_types.specs.Deliver.{Parcel, toward}
+use Rattle.strm_types.specs.Deliver.{toward}
 use Rattle.strm_types.specs.Message.{Message}
 use Rattle.strm_types.specs.Reads.{is_there}
 use Rattle.strm_head.specs.Heads.{down_message, sent_down}

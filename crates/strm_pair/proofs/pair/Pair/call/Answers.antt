@@ -1,16 +1,17 @@
 -- A call that isn't refused is a step, and the journal gains it with its answer.
-use Rattle.std.proofs.Common.{◌≡◌, ◌∙◌, ◌++◌, ◌∷◌, [], ap, sym, refl, subst, rules}
+use Rattle.std.proofs.Common.{◌≡◌, ◌+◌, ◌∙◌, ◌++◌, ◌∷◌, [], length, ap, sym, refl, subst, rules, arith}
 use Rattle.std.specs.Prelude.{None}
 use Rattle.strm_types.specs.declared.entries.Entry.TheVariants.{Called}
 use Rattle.strm_types.specs.Cells.{plain}
-use Rattle.strm_types.specs.Calls.{request}
-use Rattle.strm_types.specs.Journal.{PlainEntry, reply_in}
+use Rattle.strm_types.specs.Calls.{payload_of, request}
+use Rattle.strm_types.specs.Journal.{PlainEntry, content_max, reply_in}
 use Rattle.strm_types.specs.Step.{IsCall, after}
 use Rattle.strm_types.specs.Refused.{enough, blocks_asked}
 use Rattle.strm_types.specs.Pair.{PairState, AddsEntry, call_refused}
 use Rattle.strm_types.proofs.Replay.{call-allowed}
 use Rattle.strm_pair.specs.Pairs.{state_in, journal_of, free_in}
 use Rattle.strm_pair.specs.PairViews.{pair_of}
+use Rattle.strm_pair.proofs.JournalLemmas.{room-less}
 use Rattle.strm_pair.proofs.Steps.{kept-step, step-shown}
 use Rattle.strm_pair.proofs.pair.Pair.call.Goals as goal
 
@@ -85,7 +86,15 @@ pub add_call-requires-clause-filled : goal.add_call-requires-clause-filled
 add_call-requires-clause-filled g c = search rules steps 300000
 
 pub add_call-requires-clause-room : goal.add_call-requires-clause-room
-add_call-requires-clause-room g c = search rules steps 1000000
+add_call-requires-clause-room g c =
+    let p = c.self.inside in
+    let s = g.B.Blocks.value p.store in
+    let asked = request c.args.event.now in
+    let old = state_in s p.streams in
+    let allowed : call_refused (pair_of s p.streams p.journal p.limits p.fates) c.args.caller asked ≡ None = ap (λ (v : PairState). call_refused v c.args.caller asked) c.self.view_is ∙ sym c.refusal.ensures ∙ c.in_default.is in
+    let room = (call-allowed old (journal_of p.journal) p.limits (enough (blocks_asked asked) (free_in s)) c.args.caller asked allowed).1 in
+    room-less (journal_of p.journal) p.limits p.journal.most_entries p.journal.most_bytes (length (payload_of asked) + content_max asked) (length (payload_of asked) + length c.as_slice.result.now)
+    c.self.invariant.events c.self.invariant.bytes (omega (arith, c.carry_out-answer.ensures.content, ap length c.as_slice.ensures.value)) room
 
 pub returns-clause-refused : goal.returns-clause-refused
 returns-clause-refused g c = search rules steps 1000000

@@ -13,7 +13,11 @@ overflow_add-first-2 g c =
     let r = c.payload.result in
     let both : Fits w64 (length r.0.now + length r.1.now) = search rules steps 100000 in
     let is : length r.0.now + length r.1.now ≡ length (payload_of (request c.args.event.now)) = omega (arith, ap length c.payload.ensures, length-append r.0.now r.1.now) in
-    let all = room-small (request c.args.event.now) (length r.0.now + length r.1.now) is (omega (arith, both)) in
+    let v = c.args.self.now in
+    let asked = request c.args.event.now in
+    let at_once : refused_at_once v.state c.args.caller asked ≡ None =
+    ap (λ (x : PairState). refused_at_once x.state c.args.caller asked) (sym c.self.view_is) ∙ sym (c.refused_at_once.ensures (g.B.Blocks.value c.self.inside.store)) ∙ c.in_default.is in
+    let all = room-small v.state c.args.caller asked at_once (length r.0.now + length r.1.now) is (omega (arith, both)) in
     omega (arith, all, c.content_most.ensures.value)
 
 pub returns-then-not-has_room : goal.returns-then-not-has_room

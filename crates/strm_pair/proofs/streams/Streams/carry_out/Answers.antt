@@ -23,3 +23,9 @@ returns-in-Read-clause-answer g c =
     let out = c.read.new.out.items in
     let whole : take c.len.result out ≡ out = ap (λ n. take n out) c.len.ensures.value ∙ take-length out in
     rw c.in-Read.is (ap Bytes whole ∙ c.read.ensures.answer ∙ ap (λ (o : Outcome ℕ). o.answer) (sym (read-is c.args.caller.side c.in-Read.n old)))
+
+pub returns-in-Ioctl-clause-answer : goal.returns-in-Ioctl-clause-answer
+returns-in-Ioctl-clause-answer g c = rw c.in-Ioctl.is c.ioctl.ensures.answer
+
+pub returns-in-Ioctl-clause-state : goal.returns-in-Ioctl-clause-state
+returns-in-Ioctl-clause-state g c = rw c.in-Ioctl.is c.ioctl.ensures.state

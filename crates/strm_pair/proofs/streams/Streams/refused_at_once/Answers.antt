@@ -17,3 +17,6 @@ returns-in-Pop c = λ s. rw (c.in-Pop.is, c.or_else-in-Pop.ensures, c.unreached-
 pub returns-in-Put : goal.returns-in-Put
 returns-in-Put c = λ s.
     rw (c.in-Put.is, c.or_else-in-Put-2.ensures, c.or_else-in-Put.ensures, c.unreached-in-Put.ensures s, c.beyond-in-Put.ensures s, c.put_refusal.ensures) refl
+
+pub returns-in-Ioctl : goal.returns-in-Ioctl
+returns-in-Ioctl c = λ s. rw (c.in-Ioctl.is, c.or_else-in-Ioctl.ensures, c.unreached-in-Ioctl.ensures s, c.unasked.ensures s) refl
