@@ -1,5 +1,5 @@
 -- An M_IOCTL that was made of its header, and of its bytes where there are some, is the one that was asked for.
-use Rattle.std.proofs.Common.{ℕ, ◌≡◌, ◌≤◌, ◌<◌, Bool, true, false, List, [], ◌∷◌, ◌++◌, length, refl, sym, ap, subst, ◌∙◌, arith, append-nil}
+use Rattle.std.proofs.Common.{ℕ, ◌≡◌, ◌≤◌, ◌<◌, true, false, List, [], ◌∷◌, ◌++◌, length, refl, sym, ap, subst, ◌∙◌, arith, append-nil}
 use Rattle.std.specs.Prelude.{◌==◌, None}
 use Rattle.std.proofs.lemmas.Bool.Decides.{nat_tests}
 use Rattle.strm_types.specs.declared.ioctls.Ioc.{Ioc}
@@ -7,7 +7,6 @@ use Rattle.strm_types.specs.declared.kinds.MsgKind.TheVariants as kinds
 use Rattle.strm_types.specs.Flush.{is_data_kind}
 use Rattle.strm_types.specs.Ioctls.{ioc_bytes, ioctl_message}
 use Rattle.strm_types.specs.Kinds.{is_control_kind}
-use Rattle.strm_types.specs.Message.{Message}
 use Rattle.strm_blocks.specs.Blocks.{Block, StoreValue, in_hand, dropped, changed, filled_block, copy_of, free_m, free_d}
 use Rattle.strm_blocks.specs.Outcomes.{Copied}
 use Rattle.strm_msg.specs.Bytes.{bytes_of}
