@@ -70,6 +70,10 @@ two-blocks : (body : List ℕ) → (length body == 0) ≡ false → ioctl_blocks
 two-blocks [] is = absurd (cc)
 two-blocks (x ∷ body) is = refl
 
+pub two-at-most : (body : List ℕ) → ioctl_blocks body ≤ 2
+two-at-most [] = omega arith
+two-at-most (x ∷ body) = omega arith
+
 -- the same by what stands in memory
 module _ (old mid : StoreValue) (i : ℕ) (ioc : Ioc) (bytes : List ℕ) (bytes_is : bytes ≡ ioc_bytes ioc) (body : List ℕ) (copied : Copied old mid i (filled_block kinds.Ioctl 0 bytes)) where
   first-made : Made old mid i (header ioc ∷ [])
