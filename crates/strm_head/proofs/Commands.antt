@@ -1,5 +1,5 @@
 -- An M_IOCTL that was made of its header, and of its bytes where there are some, is the one that was asked for.
-use Rattle.std.proofs.Common.{ℕ, ◌≡◌, ◌≤◌, ◌<◌, Bool, true, false, List, [], ◌∷◌, ◌++◌, length, refl, sym, ap, subst, ◌∙◌, arith, append-nil}
+use Rattle.std.proofs.Common.{ℕ, ◌≡◌, ◌≤◌, ◌<◌, true, false, List, [], ◌∷◌, ◌++◌, length, refl, sym, ap, subst, ◌∙◌, arith, append-nil}
 use Rattle.std.specs.Prelude.{◌==◌, None}
 use Rattle.std.proofs.lemmas.Bool.Decides.{nat_tests}
 use Rattle.strm_types.specs.declared.ioctls.Ioc.{Ioc}
@@ -7,7 +7,6 @@ use Rattle.strm_types.specs.declared.kinds.MsgKind.TheVariants as kinds
 use Rattle.strm_types.specs.Flush.{is_data_kind}
 use Rattle.strm_types.specs.Ioctls.{ioc_bytes, ioctl_message}
 use Rattle.strm_types.specs.Kinds.{is_control_kind}
-use Rattle.strm_types.specs.Message.{Message}
 use Rattle.strm_blocks.specs.Blocks.{Block, StoreValue, in_hand, dropped, changed, filled_block, copy_of, free_m, free_d}
 use Rattle.strm_blocks.specs.Outcomes.{Copied}
 use Rattle.strm_msg.specs.Bytes.{bytes_of}
@@ -70,6 +69,10 @@ none-there (x ∷ body) is = absurd (grind (arith, nat_tests))
 two-blocks : (body : List ℕ) → (length body == 0) ≡ false → ioctl_blocks body ≡ 2
 two-blocks [] is = absurd (cc)
 two-blocks (x ∷ body) is = refl
+
+pub two-at-most : (body : List ℕ) → ioctl_blocks body ≤ 2
+two-at-most [] = omega arith
+two-at-most (x ∷ body) = omega arith
 
 -- the same by what stands in memory
 module _ (old mid : StoreValue) (i : ℕ) (ioc : Ioc) (bytes : List ℕ) (bytes_is : bytes ≡ ioc_bytes ioc) (body : List ℕ) (copied : Copied old mid i (filled_block kinds.Ioctl 0 bytes)) where

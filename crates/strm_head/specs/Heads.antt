@@ -1,8 +1,6 @@
 -- What a head beside its store stands for, and what a put at it hands back.
 use Rattle.std.specs.Prelude.{ℕ, Bool, if◌then◌else◌, List, [], ◌∷◌, Option, None, Some}
 use Rattle.arrayvec.specs.ArrayVec.{ArrayVec}
-use Rattle.strm_types.specs.declared.flushing.FlushAsked.{FlushAsked}
-use Rattle.strm_types.specs.declared.ioctls.Ioc.{Ioc}
 use Rattle.strm_types.specs.declared.names.Way.TheVariants as ways
 use Rattle.strm_types.specs.declared.slots.Slot.{Slot}
 use Rattle.strm_types.specs.declared.spots.Note.{Note}

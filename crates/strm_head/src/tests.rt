@@ -1,6 +1,7 @@
 //! Reads of a head in each read mode, and what comes up to it, with answers worked out by hand.
 
 mod gets;
+mod heeds;
 
 ghost use Rattle.std.specs.Prelude.{◌≡◌, ◌≤◌, [], length};
 ghost use Rattle.strm_blocks.specs.Blocks.{list_at};

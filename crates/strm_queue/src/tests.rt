@@ -55,3 +55,22 @@ const AT_THE_MARK: [Step<'static>; 7] = [
 fn a_band_is_full_from_its_mark_on(rt: HostRuntime) -> Result<(), Fail> {
     plays(&rt, rt.alloc(), 0, &AT_THE_MARK)
 }
+
+const MARKED_IN_ALL_BANDS: [Step<'static>; 11] = [
+    Step::Put(MsgKind::Data, 0, HUNDRED_AND_FIFTY),
+    Step::Put(MsgKind::Data, 7, HUNDRED_AND_FIFTY),
+    Step::Full(7, false),
+    Step::MarkAll(150, 10),
+    Step::Full(0, true),
+    Step::Full(3, false),
+    Step::Full(7, true),
+    Step::MarkAll(151, 151),
+    Step::Full(0, false),
+    Step::Full(7, false),
+    Step::Flush,
+];
+
+#[test]
+fn all_bands_get_the_marks(rt: HostRuntime) -> Result<(), Fail> {
+    plays(&rt, rt.alloc(), 0, &MARKED_IN_ALL_BANDS)
+}

@@ -4,12 +4,13 @@ ghost use Rattle.std.specs.Prelude.{◌≡◌, ◌<◌, List, [], IfOk};
 ghost use Rattle.strm_blocks.specs.Blocks.{Block, IsInHand, in_hand, list_at};
 ghost use Rattle.strm_queue.specs.Kept.{AreCounted, band_of};
 
+use crate::standing::mark_all;
 use crate::{Flush, Queue, are_marks, is_band};
 use std::alloc::Global;
 use std::process::Abort;
 use std::test::Fail;
 use strm_blocks::{Blocks, NoBlocks, TableStore};
-use strm_types::{BANDS, Band, MsgKind};
+use strm_types::{BANDS, Band, Marks, MsgKind};
 
 // What comes to a queue, and what is to be seen of it then.
 #[derive(Clone, Copy)]
@@ -26,6 +27,10 @@ pub(crate) enum Step<'a> {
     Counts(u8, usize),
     // A band gets a high-water and a low-water mark, and is full then or not.
     Marks(u8, usize, usize, bool),
+    // All bands get a high-water and a low-water mark.
+    MarkAll(usize, usize),
+    // A band is full or not.
+    Full(u8, bool),
     // The messages of data are freed.
     Flush,
 }
@@ -116,6 +121,18 @@ fn is_full_at(queue: &mut Queue, band: u8, high: usize, low: usize) -> bool
     queue.is_full(Band(band))
 }
 
+// Sets the marks of all bands, and says whether they may be that.
+fn marks_all(queue: &mut Queue, high: usize, low: usize) -> bool
+    ensures counted { (q : List (List Block)) → AreCounted queue.old.flows q → AreCounted queue.new.flows q }
+    ensures list { queue.new.list ≡ queue.old.list }
+{
+    if !are_marks(high, low) {
+        return false;
+    }
+    mark_all(queue, Marks { high, low });
+    true
+}
+
 // Takes a step, and says whether what is to be seen is seen.
 fn goes<B: Blocks>(queue: &mut Queue, store: &mut B, step: Step<'_>) -> Result<bool, NoBlocks>
     requires { AreCounted queue.old.flows (list_at (B.value store.old) queue.old.list) }
@@ -128,6 +145,8 @@ fn goes<B: Blocks>(queue: &mut Queue, store: &mut B, step: Step<'_>) -> Result<b
         Step::TakeNone => Ok(has_none(queue, store)),
         Step::Counts(band, bytes) => { Ok(is_band(Band(band)) && queue.count(Band(band)) == bytes) }
         Step::Marks(band, high, low, full) => Ok(is_full_at(queue, band, high, low) == full),
+        Step::MarkAll(high, low) => Ok(marks_all(queue, high, low)),
+        Step::Full(band, full) => Ok(is_band(Band(band)) && queue.is_full(Band(band)) == full),
         Step::Flush => {
             queue.flushq(store, Flush::Data);
             Ok(true)

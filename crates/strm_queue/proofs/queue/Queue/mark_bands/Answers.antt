@@ -1,5 +1,5 @@
 -- Each band in turn gets the marks.
-use Rattle.std.proofs.Common.{◌≡◌, ◌<◌, ◌∙◌, length, refl, arith}
+use Rattle.std.proofs.Common.{◌<◌, length, refl, arith}
 use Rattle.strm_queue.specs.Flows.{marked_with}
 use Rattle.strm_queue.proofs.Flushed.{passed-none, passed-more, counted-all-marked}
 use Rattle.strm_queue.proofs.Marks.{all-marked}
