@@ -22,7 +22,7 @@ use Rattle.strm_run.specs.declared.commands.NamedWanted.TheVariants as wanteds
 use Rattle.strm_types.specs.declared.events.Event.TheVariants.{Unlock, OpenSlave, Shut, Push, Pop, Look, Write, Read, Mode}
 use Rattle.strm_types.specs.Names.{head_of, driver_of}
 use Rattle.strm_run.specs.Script.{Open, Call, Flush, Put, Get, Turn, Run, Show, queue_name, digit_of, hex_of, escaped, lines_of}
-use Rattle.strm_run.specs.ScriptReading.{Reading, Silent, Malformed, Spoken, number_from, number_in, text_from, text_in, side_in, place_in, way_in, queue_in, side_alone, module_in, is_name, flush_queues_in, band_in, number_at, quoted_len, inside_at, text_at, part_at, prio_at, wanted_at, mode_in, open_in, named_in, write_in, read_in, turn_in, run_in, sided_call_in, push_in, flush_in, show_in, stream_in, put_in, get_in, set_mode_in, message_in, command_in, reading}
+use Rattle.strm_run.specs.ScriptReading.{Reading, Silent, Malformed, Spoken, number_from, number_in, text_from, text_in, side_in, place_in, way_in, queue_in, side_alone, module_in, is_name, flush_queues_in, band_in, number_at, quoted_len, inside_at, text_at, part_at, prio_at, wanted_at, mode_in, open_in, named_in, write_in, read_in, turn_in, run_in, sided_call_in, push_in, flush_in, show_in, stream_in, put_in, get_in, set_mode_in, message_in, ioctl_in, poll_in, control_in, command_in, reading}
 use Rattle.strm_run.specs.ScriptAnswers.{Plain, Named, Number, Text, Message, Waiting, Held, Empty, Ran, Sizes, Refused, Wrong, printed, printed_line, line_text, reply_line, turn_line}
 
 -- the lines of a script: LF ends each, and the last may lack it
@@ -48,26 +48,26 @@ pub names-of-queues : map queue_name (record { side = Master; place = Driver; wa
 names-of-queues = refl
 
 pub malformed-lines : map reading (codes "open " ∷ codes "open 1 " ∷ codes " open" ∷ codes "opens" ∷ codes "unlock " ∷ codes "slaves" ∷ codes "write m ab" ∷ codes "write m \"ab" ∷ codes "write m \"ab\" " ∷ codes "write x \"\"" ∷ codes "read m" ∷ codes "read m 1x" ∷ codes "turn m.drv" ∷ codes "turn m.drv.x" ∷ codes "run" ∷ codes "run -1" ∷ []) ≡ replicate 16 Malformed
-unfolding reading command_in open_in named_in write_in read_in turn_in run_in stream_in sided_call_in push_in flush_in show_in message_in put_in get_in set_mode_in number_in number_from digit_of text_in text_from side_in place_in way_in queue_in escaped hex_of
+unfolding reading command_in open_in named_in write_in read_in turn_in run_in stream_in sided_call_in push_in flush_in show_in message_in put_in get_in set_mode_in control_in ioctl_in poll_in number_in number_from digit_of text_in text_from side_in place_in way_in queue_in escaped hex_of
 malformed-lines = refl
 
 -- commands on a stream: a name of a module, a name of none, the queues of a flush with and without a band
 pub commands-on-streams-are-spelled : map reading (codes "close m" ∷ codes "close s" ∷ codes "pop m" ∷ codes "look s" ∷ codes "push s ldterm" ∷ codes "push m ptem" ∷ codes "push m pckt" ∷ codes "push s foo" ∷ codes "push s ldter" ∷ codes "push s ldterma" ∷ codes "flush m r" ∷ codes "flush s w" ∷ codes "flush m rw" ∷ codes "flush m rw 0" ∷ codes "flush s r 256" ∷ codes "flush s w 07" ∷ codes "show m" ∷ codes "show s" ∷ []) ≡ Spoken (Call Master Shut) ∷ Spoken (Call Slave Shut) ∷ Spoken (Call Master Pop) ∷ Spoken (Call Slave Look) ∷ Spoken (Call Slave (Push (Some modules.Ldterm))) ∷ Spoken (Call Master (Push (Some modules.Ptem))) ∷ Spoken (Call Master (Push (Some modules.Pckt))) ∷ Spoken (Call Slave (Push None)) ∷ Spoken (Call Slave (Push None)) ∷ Spoken (Call Slave (Push None)) ∷ Spoken (Flush Master queues.Read None) ∷ Spoken (Flush Slave queues.Write None) ∷ Spoken (Flush Master queues.Both None) ∷ Spoken (Flush Master queues.Both (Some 0)) ∷ Spoken (Flush Slave queues.Read (Some 256)) ∷ Spoken (Flush Slave queues.Write (Some 7)) ∷ Spoken (Show Master) ∷ Spoken (Show Slave) ∷ []
-unfolding reading command_in open_in named_in write_in read_in turn_in run_in stream_in sided_call_in push_in flush_in show_in message_in put_in get_in set_mode_in side_alone module_in is_name flush_queues_in band_in number_in number_from digit_of side_in
+unfolding reading command_in open_in named_in write_in read_in turn_in run_in stream_in sided_call_in push_in flush_in show_in message_in put_in get_in set_mode_in control_in ioctl_in poll_in side_alone module_in is_name flush_queues_in band_in number_in number_from digit_of side_in
 commands-on-streams-are-spelled = refl
 
 pub malformed-commands-on-streams : map reading (codes "close" ∷ codes "close " ∷ codes "close x" ∷ codes "close m " ∷ codes "closem" ∷ codes "push s" ∷ codes "push s " ∷ codes "push s Foo" ∷ codes "push s ld-term" ∷ codes "push s abcdefghi" ∷ codes "push s foo 1" ∷ codes "push x foo" ∷ codes "pop" ∷ codes "pop m 1" ∷ codes "look m x" ∷ codes "flush m" ∷ codes "flush m " ∷ codes "flush m q" ∷ codes "flush m wr" ∷ codes "flush m r " ∷ codes "flush m r x" ∷ codes "flush m r -1" ∷ codes "flush m r 4294967296" ∷ codes "flush m  r" ∷ codes "flush m rw1" ∷ codes "show" ∷ codes "show m 1" ∷ codes "show m.head.r" ∷ []) ≡ replicate 28 Malformed
-unfolding reading command_in open_in named_in write_in read_in turn_in run_in stream_in sided_call_in push_in flush_in show_in message_in put_in get_in set_mode_in side_alone module_in is_name flush_queues_in band_in number_in number_from digit_of side_in
+unfolding reading command_in open_in named_in write_in read_in turn_in run_in stream_in sided_call_in push_in flush_in show_in message_in put_in get_in set_mode_in control_in ioctl_in poll_in side_alone module_in is_name flush_queues_in band_in number_in number_from digit_of side_in
 malformed-commands-on-streams = refl
 
 -- commands about messages: a put of a priority and of parts that are there, empty or absent; a get of any message and the usual
 -- sizes, or of what it names; each word of a mode
 pub commands-on-messages-are-spelled : map reading (codes "put m 0 - \"a\"" ∷ codes "put s hi \"c\" -" ∷ codes "put m 256 \"\" \"\"" ∷ codes "put s 07 - -" ∷ codes "put m 1 \"a b\" \"\\\"\\\\\\x20\"" ∷ codes "get m" ∷ codes "get s" ∷ codes "get s any 2 3" ∷ codes "get m hi 0 1024" ∷ codes "get m 256 4294967295 07" ∷ codes "mode m norm" ∷ codes "mode s msgn" ∷ codes "mode s msgd" ∷ codes "mode m protnorm" ∷ codes "mode m protdat" ∷ codes "mode s protdis" ∷ []) ≡ Spoken (Put Master (prios.Band 0) None (Some (97 ∷ []))) ∷ Spoken (Put Slave prios.High (Some (99 ∷ [])) None) ∷ Spoken (Put Master (prios.Band 256) (Some []) (Some [])) ∷ Spoken (Put Slave (prios.Band 7) None None) ∷ Spoken (Put Master (prios.Band 1) (Some (97 ∷ 32 ∷ 98 ∷ [])) (Some (34 ∷ 92 ∷ 32 ∷ []))) ∷ Spoken (Get Master wanteds.Any 1024 1024) ∷ Spoken (Get Slave wanteds.Any 1024 1024) ∷ Spoken (Get Slave wanteds.Any 2 3) ∷ Spoken (Get Master wanteds.High 0 1024) ∷ Spoken (Get Master (wanteds.Band 256) 4294967295 7) ∷ Spoken (Call Master (Mode (modes.Read ByteStream))) ∷ Spoken (Call Slave (Mode (modes.Read MessageKeep))) ∷ Spoken (Call Slave (Mode (modes.Read MessageDiscard))) ∷ Spoken (Call Master (Mode (modes.Control Refuse))) ∷ Spoken (Call Master (Mode (modes.Control Data))) ∷ Spoken (Call Slave (Mode (modes.Control Discard))) ∷ []
-unfolding reading command_in open_in named_in write_in read_in turn_in run_in stream_in sided_call_in push_in flush_in show_in message_in put_in get_in set_mode_in number_at quoted_len inside_at text_at part_at prio_at wanted_at mode_in number_in number_from digit_of text_from escaped hex_of side_in
+unfolding reading command_in open_in named_in write_in read_in turn_in run_in stream_in sided_call_in push_in flush_in show_in message_in put_in get_in set_mode_in control_in ioctl_in poll_in number_at quoted_len inside_at text_at part_at prio_at wanted_at mode_in number_in number_from digit_of text_from escaped hex_of side_in
 commands-on-messages-are-spelled = refl
 
 pub malformed-commands-on-messages : map reading (codes "put" ∷ codes "put m" ∷ codes "put m 0" ∷ codes "put m 0 -" ∷ codes "put m 0 - " ∷ codes "put m 0 - - " ∷ codes "put m 0 - - -" ∷ codes "put m any - \"a\"" ∷ codes "put m high - \"a\"" ∷ codes "put m 0 a \"b\"" ∷ codes "put m 0 -- -" ∷ codes "put m 0 \"a\"\"b\"" ∷ codes "put m 0 \"a\" \"b" ∷ codes "put m 0 \"a\\\" \"b\"" ∷ codes "put m 4294967296 - -" ∷ codes "put x 0 - -" ∷ codes "get" ∷ codes "get " ∷ codes "get x" ∷ codes "get m " ∷ codes "get m any" ∷ codes "get m any 1" ∷ codes "get m any 1 " ∷ codes "get m any 1 2 " ∷ codes "get m any 1 2 3" ∷ codes "get m any -1 2" ∷ codes "get m low 1 2" ∷ codes "get m any 1  2" ∷ codes "mode" ∷ codes "mode m" ∷ codes "mode m " ∷ codes "mode m norm " ∷ codes "mode m NORM" ∷ codes "mode m rnorm" ∷ codes "mode m msg" ∷ codes "mode x norm" ∷ []) ≡ replicate 36 Malformed
-unfolding reading command_in open_in named_in write_in read_in turn_in run_in stream_in sided_call_in push_in flush_in show_in message_in put_in get_in set_mode_in number_at quoted_len inside_at text_at part_at prio_at wanted_at mode_in number_in number_from digit_of text_from escaped hex_of side_in side_alone
+unfolding reading command_in open_in named_in write_in read_in turn_in run_in stream_in sided_call_in push_in flush_in show_in message_in put_in get_in set_mode_in control_in ioctl_in poll_in number_at quoted_len inside_at text_at part_at prio_at wanted_at mode_in number_in number_from digit_of text_from escaped hex_of side_in side_alone
 malformed-commands-on-messages = refl
 
 -- a name has 1 to 8 letters from a to z
