@@ -1,5 +1,5 @@
 -- Ioctls, and what is asked about them: what is read is spelled so, and what is spelled so is read.
-use Rattle.std.proofs.Common.{◌≡◌, ℕ, ◌≤◌, List, [], ◌∷◌, ◌++◌, Option, None, Some, option_map, refl, sym, ap, ◌∙◌, inl, inr, append_assoc, arith, codes, subst}
+use Rattle.std.proofs.Common.{◌≡◌, ℕ, ◌≤◌, List, [], ◌∷◌, ◌++◌, Option, None, Some, option_map, refl, sym, ap, ◌∙◌, inl, inr, codes, subst}
 use Rattle.std.proofs.lemmas.Bool.{cond-true, cond-false, le-leb}
 use Rattle.std.proofs.lemmas.Bool.Decides.{leb_tells}
 use Rattle.strm_types.specs.declared.names.Side.{Side}
@@ -7,7 +7,7 @@ use Rattle.strm_types.specs.declared.events.Event.TheVariants.{Ioctl, IoctlResul
 use Rattle.strm_types.specs.declared.ioctls.TheConstants.{TCGETS, TCSETS, TCSETSW, TCSETSF, TIOCGWINSZ, TIOCSWINSZ, TIOCSIGNAL}
 use Rattle.strm_types.specs.Calls.{Request}
 use Rattle.strm_run.specs.declared.commands.WindowSize.{WindowSize}
-use Rattle.strm_run.specs.Script.{Command, Call, side_name, with_side, byte_max, short_max, window_bytes, IsNumber, IsNumberTo, IsWindow, IsSender, Sets, SetsLater, SetsAnew, Raw, IsAsked, Gets, GetsWindow, SetsWindow, Signals, Sends, IsSpelled}
+use Rattle.strm_run.specs.Script.{Command, Call, byte_max, short_max, window_bytes, IsNumber, IsNumberTo, IsWindow, IsSender, Sets, SetsLater, SetsAnew, Raw, IsAsked, Gets, GetsWindow, SetsWindow, Signals, Sends, IsSpelled}
 use Rattle.strm_run.specs.ScriptReading.{and_then, after, Front, within, number_in, number_to, number_at, number_to_at, text_in, behind, behind_side, bare_in, height_got, width_got, columns_got, size_in, window_in, signal_in, sender_at, text_sent, sending_in, asked_in, ioctl_in, poll_in, control_in}
 use Rattle.strm_run.proofs.Grammar.{and_then-found, option_map-found, after-found, number-found, number-only, text-found, text-only}
 use Rattle.strm_run.proofs.Fronts.{either-found, whole-found, Begins, begins, number_at-found, number_at-only}
