@@ -1,21 +1,30 @@
 -- No answer has more bytes than its call may have.
-use Rattle.std.proofs.Common.{ℕ, ◌≡◌, ◌≤◌, ◌+◌, List, length, refl, arith, length-append}
+use Rattle.std.proofs.Common.{ℕ, ◌≡◌, ◌≤◌, ◌+◌, Bool, true, false, cond, List, length, refl, arith, length-append}
 use Rattle.std.specs.Prelude.{min, Option, None, Some, option_map}
 use Rattle.std.proofs.lemmas.List.{length-map}
 use Rattle.strm_types.specs.declared.events.Caller.{Caller}
-use Rattle.strm_types.specs.declared.events.Event.TheVariants.{OpenMaster, Unlock, OpenSlave, Shut, Push, Pop, Look, Flush, Write, Read, Put, Get, Mode, Nread}
-use Rattle.strm_types.specs.declared.limits.TheConstants.{READ_MAX, CONTENT_MAX}
+use Rattle.strm_types.specs.declared.events.Event.TheVariants.{OpenMaster, Unlock, OpenSlave, Shut, Push, Pop, Look, Flush, Write, Read, Put, Get, Mode, Nread, Ioctl, IoctlResult, Signals}
+use Rattle.strm_types.specs.declared.answers.Answer.TheVariants.{Done, Bytes}
+use Rattle.strm_types.specs.declared.limits.TheConstants.{READ_MAX, CONTENT_MAX, IOCTL_MAX}
 use Rattle.strm_types.specs.declared.modes.Wanted.{Wanted}
 use Rattle.strm_types.specs.declared.names.Side.{Side}
-use Rattle.strm_types.specs.Calls.{Request, called, content_of, get_at, read_at}
+use Rattle.strm_types.specs.declared.names.Side.TheVariants.{Master, Slave}
+use Rattle.strm_types.specs.declared.names.Way.TheVariants.{Down}
+use Rattle.strm_types.specs.declared.slots.Slot.TheVariants.{Free, Waiting, Acked, Nacked}
+use Rattle.strm_types.specs.Calls.{Request, called, content_of, get_at, ioctl_begun, ioctl_sent, read_at}
 use Rattle.strm_types.specs.Cells.{Cells, bytes_of}
 use Rattle.strm_types.specs.Gets.{head_get}
+use Rattle.strm_types.specs.Ioctls.{asking, ioctl_message}
 use Rattle.strm_types.specs.Journal.{content_max}
 use Rattle.strm_types.specs.Message.{part}
 use Rattle.strm_types.specs.Reads.{head_draw}
+use Rattle.strm_types.specs.Slots.{PlainSlot, answer_bytes, gives_nothing, told_of}
 use Rattle.strm_types.specs.State.{State, stream}
+use Rattle.strm_types.specs.Within.{AreWithin}
 use Rattle.strm_types.proofs.GetKeeps.{get-control, get-data}
 use Rattle.strm_types.proofs.ReadKeeps.{head_draw-most}
+use Rattle.strm_types.proofs.SignalRoom.{signals-fit}
+use Rattle.strm_types.proofs.WithinHeads.{delivered-within, side-within}
 
 module _ {C : Type 0} (cells : Cells C) where
   part-bytes : (o : Option (List C)) → length (part (option_map (bytes_of cells) o)) ≡ length (part o)
@@ -43,21 +52,41 @@ module _ {C : Type 0} (cells : Cells C) where
         get-data wanted c d q,
       )
 
-  pub content-fits : (caller : Caller) (asked : Request) (s : State C) → length (content_of (called cells caller asked s).answer) ≤ content_max asked
-  content-fits caller OpenMaster s = omega arith
-  content-fits caller Unlock s = omega arith
-  content-fits caller OpenSlave s = omega arith
-  content-fits caller Shut s = omega arith
-  content-fits caller (Push name) s = omega arith
-  content-fits caller Pop s = omega arith
-  content-fits caller Look s = omega arith
-  content-fits caller (Flush what band) s = omega arith
-  content-fits caller (Write bytes) s = omega arith
-  content-fits caller (Read n) s = read-fits caller.side n s
-  content-fits caller (Put prio control body) s = omega arith
-  content-fits caller (Get wanted cmax dmax) s = get-fits caller.side wanted cmax dmax s
-  content-fits caller (Mode mode) s = omega arith
-  content-fits caller Nread s = omega arith
+  answer-fits : (slot : PlainSlot) → length (answer_bytes slot) ≤ IOCTL_MAX → length (content_of (told_of slot)) ≤ IOCTL_MAX
+  answer-fits Free fits = omega arith
+  answer-fits (Waiting number command) fits = omega arith
+  answer-fits (Nacked number command refusal) fits = omega arith
+  answer-fits (Acked number command body) fits = at (gives_nothing command)
+    where
+      at : (none : Bool) → length (content_of (cond none Done (Bytes body))) ≤ IOCTL_MAX
+      at true = omega arith
+      at false = fits
+
+  begun-within : (side : Side) (command : ℕ) (s : State C) → AreWithin s → AreWithin (ioctl_begun side command s)
+  begun-within Master command s within = record { master = record { signals = within.master.signals; answer = omega arith }; slave = within.slave }
+  begun-within Slave command s within = record { master = within.master; slave = record { signals = within.slave.signals; answer = omega arith } }
+
+  pub content-fits : (caller : Caller) (asked : Request) (s : State C) → AreWithin s → length (content_of (called cells caller asked s).answer) ≤ content_max asked
+  content-fits caller OpenMaster s within = omega arith
+  content-fits caller Unlock s within = omega arith
+  content-fits caller OpenSlave s within = omega arith
+  content-fits caller Shut s within = omega arith
+  content-fits caller (Push name) s within = omega arith
+  content-fits caller Pop s within = omega arith
+  content-fits caller Look s within = omega arith
+  content-fits caller (Flush what band) s within = omega arith
+  content-fits caller (Write bytes) s within = omega arith
+  content-fits caller (Read n) s within = read-fits caller.side n s
+  content-fits caller (Put prio control body) s within = omega arith
+  content-fits caller (Get wanted cmax dmax) s within = get-fits caller.side wanted cmax dmax s
+  content-fits caller (Mode mode) s within = omega arith
+  content-fits caller Nread s within = omega arith
+  content-fits caller (Ioctl command body) s within =
+      let sent = (ioctl_sent caller.side command body s).state in
+      answer-fits (stream caller.side sent).head.ioctl
+      (side-within caller.side sent (delivered-within (record { side = caller.side; at = 1; way = Down }) (ioctl_message (asking command s.next_ioctl) body) (ioctl_begun caller.side command s) (begun-within caller.side command s within))).answer
+  content-fits caller (IoctlResult number) s within = answer-fits (stream caller.side s).head.ioctl (side-within caller.side s within).answer
+  content-fits caller Signals s within = omega (arith, signals-fit (stream caller.side s).head.signals (side-within caller.side s within).signals)
 
 pub content-bounded : (asked : Request) → content_max asked ≤ CONTENT_MAX
 content-bounded (Read n) = omega arith
@@ -74,3 +103,6 @@ content-bounded (Write bytes) = omega arith
 content-bounded (Put prio control body) = omega arith
 content-bounded (Mode mode) = omega arith
 content-bounded Nread = omega arith
+content-bounded (Ioctl command body) = omega arith
+content-bounded (IoctlResult number) = omega arith
+content-bounded Signals = omega arith

@@ -7,7 +7,8 @@ use Rattle.strm_types.specs.declared.answers.Answer.TheVariants.{Done, Count, By
 use Rattle.strm_types.specs.declared.answers.Turn.{Turn}
 use Rattle.strm_types.specs.declared.entries.Entry.TheVariants.{Called, Turned}
 use Rattle.strm_types.specs.declared.events.Caller.{Caller}
-use Rattle.strm_types.specs.declared.events.Event.TheVariants.{OpenMaster, Unlock, OpenSlave, Shut, Push, Pop, Look, Flush, Write, Read, Put, Get, Mode, Nread}
+use Rattle.strm_types.specs.declared.events.Event.TheVariants.{OpenMaster, Unlock, OpenSlave, Shut, Push, Pop, Look, Flush, Write, Read, Put, Get, Mode, Nread, Ioctl, IoctlResult}
+use Rattle.strm_types.specs.declared.events.Event.TheVariants as events
 use Rattle.strm_types.specs.declared.modes.Mode as modes
 use Rattle.strm_types.specs.declared.modes.Mode.TheVariants as chosen
 use Rattle.strm_types.specs.declared.modes.Prio.{Prio}
@@ -30,13 +31,14 @@ use Rattle.strm_types.specs.Books.{with_written}
 use Rattle.strm_types.specs.Write.{Sent, written}
 use Rattle.strm_types.specs.Reads.{Drawn, head_draw, read_queue, read_lets_go}
 use Rattle.strm_types.specs.Turns.{TurnOutcome, map_turn_outcome, turned_at, turned}
-use Rattle.strm_types.specs.Calls.{Outcome, Request, Reply, map_outcome, done, read_at, wrote, get_at, mode_set, sizes_at, called}
+use Rattle.strm_types.specs.Calls.{Outcome, Request, Reply, map_outcome, done, read_at, wrote, get_at, mode_set, sizes_at, ioctl_sent, ioctl_told, called}
 use Rattle.strm_types.specs.Journal.{PlainEntry}
 use Rattle.strm_types.specs.Step.{after, replay}
 use Rattle.strm_types.specs.Deliver.{Carried}
 use Rattle.strm_types.proofs.Forgetting.{map_sent, none-forgets, written-forgets}
 use Rattle.strm_types.proofs.EmptiedForgets.{closed_at-forgets}
 use Rattle.strm_types.proofs.PlainCells.{written-plain, bytes-plain, written-bytes}
+use Rattle.strm_types.proofs.IoctlCalls.{ioctl_told-forgets, sent-forgets, signals-forget}
 use Rattle.strm_types.proofs.PutsForget.{flushed_on-forgets}
 use Rattle.strm_types.proofs.GetKeeps.{get-forgets}
 use Rattle.strm_types.proofs.GotQueues.{get_queue-forgets, get_lets_go-forgets}
@@ -204,6 +206,11 @@ module _ {C : Type 0} (cells : Cells C) (are : AreCells cells) where
   call-forgets caller (Get wanted cmax dmax) s = get_at-forgets caller.side wanted cmax dmax s
   call-forgets caller (Mode mode) s = ap (λ (t : State ℕ). done t) (mode-forgets cells.byte caller.side mode s)
   call-forgets caller Nread s = sizes-forgets cells.byte caller.side s
+  call-forgets caller (Ioctl command body) s =
+      ap (λ (t : Carried ℕ (State ℕ)). ioctl_told caller.side t.state) (sent-forgets cells.byte caller.side command body s)
+      ∙ ioctl_told-forgets cells.byte caller.side (ioctl_sent caller.side command body s).state
+  call-forgets caller (IoctlResult number) s = ioctl_told-forgets cells.byte caller.side s
+  call-forgets caller events.Signals s = signals-forget cells.byte caller.side s
 
   pub turn-forgets : (name : QueueName) (turn : Turn) (s : State C) → turned plain name turn (map_state cells.byte s) ≡ map_turn_outcome cells.byte (turned cells name turn s)
   turn-forgets name turn s = at name.place (record s { enabled = without name s.enabled })

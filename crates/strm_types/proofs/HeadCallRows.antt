@@ -1,6 +1,7 @@
 -- What getmsg(2), I_SRDOPT and I_NREAD do as calls of a pair, as worked out by hand from the manual pages.
 use Rattle.std.proofs.Common.{ℕ, ◌≡◌, Bool, true, false, List, [], ◌∷◌, length, map, refl, replicate}
 use Rattle.std.specs.Prelude.{Option, None, Some}
+use Rattle.strm_types.specs.declared.slots.Slot.TheVariants.{Free}
 use Rattle.strm_types.specs.declared.answers.Answer.{Answer}
 use Rattle.strm_types.specs.declared.answers.Answer.TheVariants.{Done, Msg, Sizes}
 use Rattle.strm_types.specs.declared.entries.Entry.TheVariants.{Called}
@@ -45,7 +46,7 @@ abbrev of_band : ℕ → Wanted
 of_band n = Band (record { 0 = n })
 
 abbrev head : Queue ℕ → ReadMode → ControlMode → Bool → Head ℕ
-head q read control hung_up = record { queue = q; read_mode = read; control_mode = control; hung_up = hung_up }
+head q read control hung_up = record { queue = q; read_mode = read; control_mode = control; hung_up = hung_up; signals = []; ioctl = Free }
 
 abbrev end : Head ℕ → Stream ℕ
 end h = record { opened = Open; head = h; driver = record { queue = queue [] [] } }

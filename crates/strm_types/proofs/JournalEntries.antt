@@ -45,6 +45,9 @@ request_in-more (shapes.Put prio control body) bytes more le =
 request_in-more (shapes.Get wanted cmax dmax) bytes more le = refl
 request_in-more (shapes.Mode mode) bytes more le = refl
 request_in-more shapes.Nread bytes more le = refl
+request_in-more (shapes.Ioctl command len) bytes more le = ap (λ body. shapes.Ioctl command body) (take-append-le len bytes more le)
+request_in-more (shapes.IoctlResult number) bytes more le = refl
+request_in-more shapes.Signals bytes more le = refl
 
 reply_in-more : (shape : Answer ℕ) (bytes more : List ℕ) → answer_len shape ≤ length bytes → reply_in shape (bytes ++ more) ≡ reply_in shape bytes
 reply_in-more told.Done bytes more le = refl
@@ -56,6 +59,9 @@ reply_in-more (told.Msg prio control body more_control more_data) bytes more le 
     ap (λ c. told.Msg prio c (part_in body (drop (part_len control) (bytes ++ more))) more_control more_data) (part_in-more control bytes more first)
     ∙ ap (λ d. told.Msg prio (part_in control bytes) d more_control more_data) (second-more control body bytes more le)
 reply_in-more (told.Sizes first messages) bytes more le = refl
+reply_in-more (told.Pending number) bytes more le = refl
+reply_in-more (told.Nak refusal) bytes more le = refl
+reply_in-more (told.Signals len) bytes more le = ap told.Signals (take-append-le len bytes more le)
 
 -- bytes behind an entry's own change nothing of it
 entry_in-more : (entry : Entry ℕ) (bytes more : List ℕ) → entry_len entry ≤ length bytes → entry_in entry (bytes ++ more) ≡ entry_in entry bytes
@@ -115,6 +121,9 @@ payload-len (shapes.Put prio control body) bytes le = parts-length control body 
 payload-len (shapes.Get wanted cmax dmax) bytes le = refl
 payload-len (shapes.Mode mode) bytes le = refl
 payload-len shapes.Nread bytes le = refl
+payload-len (shapes.Ioctl command len) bytes le = length-take-le len bytes le
+payload-len (shapes.IoctlResult number) bytes le = refl
+payload-len shapes.Signals bytes le = refl
 
 content-len : (shape : Answer ℕ) (bytes : List ℕ) → answer_len shape ≤ length bytes → length (content_of (reply_in shape bytes)) ≡ answer_len shape
 content-len told.Done bytes le = refl
@@ -123,6 +132,9 @@ content-len (told.Count n) bytes le = refl
 content-len (told.Bytes len) bytes le = length-take-le len bytes le
 content-len (told.Msg prio control body more_control more_data) bytes le = parts-length control body bytes le
 content-len (told.Sizes first messages) bytes le = refl
+content-len (told.Pending number) bytes le = refl
+content-len (told.Nak refusal) bytes le = refl
+content-len (told.Signals len) bytes le = length-take-le len bytes le
 
 entry_room : (entry : Entry ℕ) (bytes : List ℕ) → entry_len entry ≤ length bytes → room_of (entry_in entry bytes) ≡ entry_len entry
 entry_room (Called caller event answer) bytes le =

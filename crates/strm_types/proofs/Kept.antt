@@ -5,7 +5,7 @@ use Rattle.strm_types.specs.declared.limits.TheConstants.{READ_MAX}
 use Rattle.strm_types.specs.declared.answers.Answer.TheVariants.{Bytes}
 use Rattle.strm_types.specs.declared.entries.Entry.TheVariants.{Called, Turned}
 use Rattle.strm_types.specs.declared.events.Caller.{Caller}
-use Rattle.strm_types.specs.declared.events.Event.TheVariants.{OpenMaster, Unlock, OpenSlave, Shut, Push, Pop, Look, Flush, Write, Read, Put, Get, Mode, Nread}
+use Rattle.strm_types.specs.declared.events.Event.TheVariants.{OpenMaster, Unlock, OpenSlave, Shut, Push, Pop, Look, Flush, Write, Read, Put, Get, Mode, Nread, Ioctl, IoctlResult, Signals}
 use Rattle.strm_types.specs.declared.modes.Mode as modes
 use Rattle.strm_types.specs.declared.modes.Mode.TheVariants as chosen
 use Rattle.strm_types.specs.declared.modes.Wanted.{Wanted}
@@ -21,7 +21,7 @@ use Rattle.strm_types.specs.Message.{Message}
 use Rattle.strm_types.specs.Queue.{Queue, weight, left_with, relieved}
 use Rattle.strm_types.specs.State.{State, stream, book, opening}
 use Rattle.strm_types.specs.Reads.{Drawn, head_draw, none_went, queue_drawn, read_fates, read_gone, read_lets_go, read_queue, takes_none}
-use Rattle.strm_types.specs.Calls.{Request, Reply, read_at, wrote, get_at, mode_set, called}
+use Rattle.strm_types.specs.Calls.{Request, Reply, read_at, wrote, get_at, mode_set, ioctl_sent, called}
 use Rattle.strm_types.specs.GetQueues.{get_queue, get_lets_go, get_gone}
 use Rattle.strm_types.specs.Journal.{PlainEntry}
 use Rattle.strm_types.specs.Refused.{or_else, unless, asks_a_band, refused_at_once, refused_by_state}
@@ -32,6 +32,7 @@ use Rattle.strm_types.proofs.Weights.{weight-written}
 use Rattle.strm_types.proofs.EmptiedKeeps.{closed_at-keeps, closed_at-unread}
 use Rattle.strm_types.proofs.Deliveries.{flushed_on-keeps, flushed_on-unread}
 use Rattle.strm_types.proofs.GotQueues.{get_queue-keeps}
+use Rattle.strm_types.proofs.IoctlCalls.{sent-keeps, sent-unread, signals-keep, signals-unread, told-keeps, told-unread}
 use Rattle.strm_types.proofs.PutMessages.{put_at-keeps, put_at-unread}
 use Rattle.strm_types.proofs.ReadKeeps.{head_draw-keeps}
 use Rattle.strm_types.proofs.TurnKeeps.{turn-keeps, turn-unread}
@@ -105,6 +106,9 @@ module _ {C : Type 0} where
     call-keeps cells caller (Get wanted cmax dmax) answer s unread allowed = omega (arith, get-keeps cells caller.side wanted cmax dmax s)
     call-keeps cells caller (Mode mode) answer s unread allowed = omega (arith, mode-keeps caller.side mode s)
     call-keeps cells caller Nread answer s unread allowed = refl
+    call-keeps cells caller (Ioctl command body) answer s unread allowed = omega (arith, sent-keeps p caller.side command body s)
+    call-keeps cells caller (IoctlResult number) answer s unread allowed = omega (arith, told-keeps p caller.side s)
+    call-keeps cells caller Signals answer s unread allowed = omega (arith, signals-keep p caller.side [] s)
 
     -- what stands on the queues after a step, and what it took away, is what stood there before, and what it brought
     pub step-keeps : (cells : Cells C) (old new : State C) (entry : PlainEntry) → NothingUnread old → Step cells old entry new → state_weight p new + weight_gone p (gone cells old entry) ≡ state_weight p old + count_by p (came cells old entry)
@@ -156,6 +160,10 @@ module _ {C : Type 0} where
       (unless-none (is_open (stream caller.side s).opened) Enxio (or_else-none (unless (is_open (stream caller.side s).opened) Enxio) (unless (asks_a_band wanted) Einval) at_once.0).0)
   call-unread cells caller (Mode mode) s unread allowed = mode-unread caller.side mode s unread
   call-unread cells caller Nread s unread allowed = unread
+  call-unread cells caller (Ioctl command body) s unread allowed =
+      told-unread caller.side (ioctl_sent caller.side command body s).state (sent-unread caller.side command body s unread)
+  call-unread cells caller (IoctlResult number) s unread allowed = told-unread caller.side s unread
+  call-unread cells caller Signals s unread allowed = signals-unread caller.side s unread
 
   pub step-unread : (cells : Cells C) (old new : State C) (entry : PlainEntry) → NothingUnread old → Step cells old entry new → NothingUnread new
   step-unread cells old new (Called caller asked answer) unread step = subst (λ (s : State C). NothingUnread s) step.leads (call-unread cells caller asked old unread step.allowed)

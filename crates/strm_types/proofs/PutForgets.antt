@@ -1,15 +1,16 @@
 -- Forgetting the origins of cells commutes with puts at a head and at a driver.
 use Rattle.std.proofs.Common.{ℕ, ◌≡◌, Bool, true, false, cond, List, [], ◌∷◌, ◌++◌, map, refl, sym, ap, ◌∙◌}
-use Rattle.std.specs.Prelude.{◌==◌, ◌&&◌, ◌||◌, Option, None, Some, option_map}
+use Rattle.std.specs.Prelude.{◌==◌, ◌&&◌, ◌||◌, Option, None, Some, option_map, unwrap_or}
 use Rattle.std.specs.List.{list_any}
 use Rattle.std.proofs.lemmas.List.{map-append}
 use Rattle.strm_types.specs.declared.flushing.FlushAsked.{FlushAsked}
 use Rattle.strm_types.specs.declared.ioctls.Ioc.{Ioc}
 use Rattle.strm_types.specs.declared.kinds.MsgKind.{MsgKind}
-use Rattle.strm_types.specs.declared.kinds.MsgKind.TheVariants.{Flush, Ioctl}
+use Rattle.strm_types.specs.declared.kinds.MsgKind.TheVariants.{Flush, Setopts, Ioctl}
 use Rattle.strm_types.specs.declared.names.Side.{Side}
 use Rattle.strm_types.specs.declared.names.Way.{Way}
 use Rattle.strm_types.specs.declared.names.Way.TheVariants.{Up, Down}
+use Rattle.strm_types.specs.declared.options.Marks.{Marks}
 use Rattle.strm_types.specs.declared.rules.Rule.TheVariants.{Doubled, EndClosed, Flushed}
 use Rattle.strm_types.specs.declared.spots.Across.{Across}
 use Rattle.strm_types.specs.declared.spots.Note.TheVariants.{Enable, Room}
@@ -17,11 +18,12 @@ use Rattle.strm_types.specs.declared.spots.Spot.{Spot}
 use Rattle.strm_types.specs.Deliver.{Acted, Parcel, toward}
 use Rattle.strm_types.specs.Drivers.{answered, bottom_across, crosses, driver_across, driver_put, freed, ioctl_put, own_flushed, put_across, put_down, reader_flush, taken_in}
 use Rattle.strm_types.specs.Emptied.{of_data, cells_gone, queue_behind, writer_goes}
-use Rattle.strm_types.specs.Flushing.{is_flush, asked_by, flush_bytes, flush_message, read_flush}
-use Rattle.strm_types.specs.Heads.{head_flushed, head_put, is_doubled, is_hangup, is_pcproto, obeyed, passed_by, turned_round, waits_for_readers}
+use Rattle.strm_types.specs.Flushing.{asked_by, flush_bytes, flush_message, read_flush}
+use Rattle.strm_types.specs.Heads.{head_flushed, head_put, is_doubled, is_pcproto, nak_down, obeyed, passed_by, turned_round, waits_for_readers, with_marks_given}
 use Rattle.strm_types.specs.Ioctls.{nak_message, read_ioc}
 use Rattle.strm_types.specs.Message.{Message, cells_of, has_parts, is_part, map_message}
 use Rattle.strm_types.specs.Names.{direction_at, direction_from, is_master}
+use Rattle.strm_types.specs.Options.{options_in}
 use Rattle.strm_types.specs.Origins.{map_acted, map_parcel}
 use Rattle.strm_types.specs.Queue.{Queue, map_messages, map_queue, put_on, put_enables}
 use Rattle.strm_types.specs.State.{Head, map_head}
@@ -221,16 +223,34 @@ module _ {C D : Type 0} (f : C → D) where
       ap (λ u. sends (turned_round here asked) u) (either-agrees head_image asked.for_read (head_flushed here asked h) (passed_by h) (head_flushed here asked (map_head f h)) (passed_by (map_head f h)) (head-flushed-forgets here asked h) refl)
       ∙ ap (λ xs. sends xs (head_image (cond asked.for_read (head_flushed here asked h) (passed_by h)))) (round-forgets here asked asked.for_write)
 
-  obeyed-forgets : (here : Spot) (m : Message C) (h : Head C) → obeyed here (map_message f m) (map_head f h) ≡ head_image (obeyed here m h)
+  nak_down-forgets : (here : Spot) (known : Option Ioc) → nak_down here known ≡ map (map_parcel f) (nak_down here known)
+  nak_down-forgets here None = refl
+  nak_down-forgets here (Some ioc) = at (ioc.number == 0)
+    where
+      at : (none : Bool) → cond none [] (record { to = toward Down here; message = nak_message {C = D} ioc } ∷ []) ≡ map (map_parcel f) (cond none [] (record { to = toward Down here; message = nak_message ioc } ∷ []))
+      at true = refl
+      at false = ap (λ m. record { to = toward Down here; message = m } ∷ []) (sym (nak-forgets ioc))
+
+  marks-forget : (given : Option Marks) (q : Queue C) → with_marks_given given (map_queue f q) ≡ map_queue f (with_marks_given given q)
+  marks-forget None q = refl
+  marks-forget (Some marks) q = refl
+
+  obeyed-forgets : (here : Spot) (kind : MsgKind) (bytes : List ℕ) (h : Head C) → obeyed here kind bytes (map_head f h) ≡ head_image (obeyed here kind bytes h)
+  obeyed-forgets here Flush bytes h = up-forgets here (asked_by bytes) h
+  obeyed-forgets here Setopts bytes h =
+      let options = options_in bytes in
+      ap (λ q. passed_by (record (map_head f h) { read_mode = unwrap_or options.mode h.read_mode; queue = q })) (marks-forget options.marks h.queue)
+  obeyed-forgets here Ioctl bytes h = ap (λ xs. sends xs (passed_by (map_head f h))) (nak_down-forgets here (read_ioc bytes))
+  obeyed-forgets here kind bytes h = refl
+
+  image-obeyed : (here : Spot) (m : Message C) (h : Head C) → obeyed here (map_message f m).kind (map_message f m).plain (map_head f h) ≡ head_image (obeyed here m.kind m.plain h)
   unfolding map_message
-  obeyed-forgets here m h =
-      let asked = asked_by m.plain in
-      either-agrees head_image (is_flush m.kind) (sends (turned_round here asked) (cond asked.for_read (head_flushed here asked h) (passed_by h))) (passed_by (record h { hung_up = h.hung_up || is_hangup m.kind }))
-      (sends (turned_round here asked) (cond asked.for_read (head_flushed here asked (map_head f h)) (passed_by (map_head f h)))) (passed_by (record (map_head f h) { hung_up = h.hung_up || is_hangup m.kind }))
-      (up-forgets here asked h) refl
+  image-obeyed here m h = obeyed-forgets here m.kind m.plain h
 
   pub head_put-forgets : (here : Spot) (m : Message C) (h : Head C) → head_put here (map_message f m) (map_head f h) ≡ head_image (head_put here m h)
   head_put-forgets here m h =
       let image = map_message f m in
-      ap (λ parts. cond parts (waits_for_readers here image (map_head f h)) (obeyed here image (map_head f h))) (parts-forget m)
-      ∙ either-agrees head_image (has_parts m) (waits_for_readers here m h) (obeyed here m h) (waits_for_readers here image (map_head f h)) (obeyed here image (map_head f h)) (waits-forgets here m h) (obeyed-forgets here m h)
+      let again = obeyed here image.kind image.plain (map_head f h) in
+      ap (λ parts. cond parts (waits_for_readers here image (map_head f h)) again) (parts-forget m)
+      ∙ either-agrees head_image (has_parts m) (waits_for_readers here m h) (obeyed here m.kind m.plain h) (waits_for_readers here image (map_head f h)) again (waits-forgets here m h)
+      (image-obeyed here m h)

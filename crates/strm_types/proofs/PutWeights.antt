@@ -4,7 +4,8 @@ use Rattle.std.specs.Prelude.{◌==◌, ◌&&◌, ◌||◌, Option, None, Some, 
 use Rattle.strm_types.specs.declared.flushing.FlushAsked.{FlushAsked}
 use Rattle.strm_types.specs.declared.ioctls.Ioc.{Ioc}
 use Rattle.strm_types.specs.declared.kinds.MsgKind.{MsgKind}
-use Rattle.strm_types.specs.declared.kinds.MsgKind.TheVariants.{Flush, Ioctl}
+use Rattle.strm_types.specs.declared.kinds.MsgKind.TheVariants.{Flush, Ioctl, Setopts}
+use Rattle.strm_types.specs.declared.options.Marks.{Marks}
 use Rattle.strm_types.specs.declared.names.Side.{Side}
 use Rattle.strm_types.specs.declared.names.Way.{Way}
 use Rattle.strm_types.specs.declared.names.Way.TheVariants.{Up, Down}
@@ -15,9 +16,10 @@ use Rattle.strm_types.specs.declared.spots.Spot.{Spot}
 use Rattle.strm_types.specs.Deliver.{Acted, Parcel, toward}
 use Rattle.strm_types.specs.Drivers.{answered, bottom_across, crosses, driver_across, driver_put, freed, ioctl_put, own_flushed, put_across, put_down, reader_flush, taken_in}
 use Rattle.strm_types.specs.Emptied.{of_data}
-use Rattle.strm_types.specs.Flushing.{is_flush, asked_by, flush_bytes, flush_message, read_flush}
+use Rattle.strm_types.specs.Flushing.{asked_by, flush_bytes, flush_message, read_flush}
 use Rattle.strm_types.specs.Ioctls.{nak_message, read_ioc}
-use Rattle.strm_types.specs.Heads.{head_flushed, head_put, is_doubled, is_hangup, obeyed, passed_by, turned_round, waits_for_readers}
+use Rattle.strm_types.specs.Heads.{head_flushed, head_put, is_doubled, obeyed, passed_by, turned_round, waits_for_readers, flush_up, nak_down, with_marks_given}
+use Rattle.strm_types.specs.Options.{options_in}
 use Rattle.strm_types.specs.Message.{Message, cells_of, has_parts, is_part, part, weight_of}
 use Rattle.strm_types.specs.Places.{weight_sent, weight_gone}
 use Rattle.strm_types.specs.Names.{direction_from, direction_at, is_master}
@@ -135,17 +137,34 @@ module _ {C : Type 0} (p : C → Bool) where
       at true = omega (arith, weight-flush p (flush_bytes (record asked { for_read = false })))
       at false = refl
 
-  obeyed-keeps : (here : Spot) (m : Message C) (h : Head C) → weight_of p m ≡ 0 → head_total (obeyed here m h) ≡ weight p h.queue.messages + weight_of p m
-  obeyed-keeps here m h none = omega (arith, none, at (is_flush m.kind) (asked_by m.plain).for_read)
+  flush-keeps : (here : Spot) (asked : FlushAsked) (h : Head C) → head_total (flush_up here asked h) ≡ weight p h.queue.messages
+  flush-keeps here asked h = at asked.for_read
     where
-      at : (flush own : Bool) → head_total (cond flush (record (cond own (head_flushed here (asked_by m.plain) h) (passed_by h)) { sent = turned_round here (asked_by m.plain) }) (passed_by (record h { hung_up = h.hung_up || is_hangup m.kind }))) ≡ weight p h.queue.messages
-      at true true = omega (arith, round-keeps here (asked_by m.plain), behind-keeps p (of_data (asked_by m.plain).band) h.queue)
-      at true false = omega (arith, round-keeps here (asked_by m.plain))
-      at false own = omega arith
+      at : (own : Bool) → head_total (record (cond own (head_flushed here asked h) (passed_by h)) { sent = turned_round here asked }) ≡ weight p h.queue.messages
+      at true = omega (arith, round-keeps here asked, behind-keeps p (of_data asked.band) h.queue)
+      at false = omega (arith, round-keeps here asked)
+
+  nak-keeps : (here : Spot) (known : Option Ioc) → weight_sent p (nak_down {C = C} here known) ≡ 0
+  nak-keeps here None = refl
+  nak-keeps here (Some ioc) = at (ioc.number == 0)
+    where
+      at : (b : Bool) → weight_sent p (cond b [] (record { to = toward Down here; message = nak_message ioc } ∷ [])) ≡ 0
+      at true = refl
+      at false = omega (arith, weight-nak p ioc)
+
+  marks-keep : (given : Option Marks) (q : Queue C) → weight p (with_marks_given given q).messages ≡ weight p q.messages
+  marks-keep None q = refl
+  marks-keep (Some marks) q = refl
+
+  obeyed-keeps : (here : Spot) (kind : MsgKind) (bytes : List ℕ) (h : Head C) → head_total (obeyed here kind bytes h) ≡ weight p h.queue.messages
+  obeyed-keeps here Flush bytes h = flush-keeps here (asked_by bytes) h
+  obeyed-keeps here Setopts bytes h = omega (arith, marks-keep (options_in bytes).marks h.queue)
+  obeyed-keeps here Ioctl bytes h = omega (arith, nak-keeps here (read_ioc bytes))
+  obeyed-keeps here kind bytes h = omega arith
 
   pub head_put-keeps : (here : Spot) (m : Message C) (h : Head C) → head_total (head_put here m h) ≡ weight p h.queue.messages + weight_of p m
   head_put-keeps here m h = at (has_parts m) refl
     where
-      at : (parts : Bool) → has_parts m ≡ parts → head_total (cond parts (waits_for_readers here m h) (obeyed here m h)) ≡ weight p h.queue.messages + weight_of p m
+      at : (parts : Bool) → has_parts m ≡ parts → head_total (cond parts (waits_for_readers here m h) (obeyed here m.kind m.plain h)) ≡ weight p h.queue.messages + weight_of p m
       at true is = waits-keeps here m h
-      at false is = obeyed-keeps here m h (no-parts m is)
+      at false is = omega (arith, no-parts m is, obeyed-keeps here m.kind m.plain h)

@@ -16,11 +16,11 @@ use Rattle.strm_types.specs.declared.spots.Spot.{Spot}
 use Rattle.strm_types.specs.Deliver.{Acted, AreLower, Falls, Parcel, Took, toward}
 use Rattle.strm_types.specs.Drivers.{answered, bottom_across, crosses, driver_across, driver_put, freed, ioctl_put, own_flushed, put_across, put_down, reader_flush, taken_in}
 use Rattle.strm_types.specs.Flushing.{is_flush, asked_by, flush_bytes, flush_message, nothing_asked, read_flush}
-use Rattle.strm_types.specs.Ioctls.{read_ioc}
-use Rattle.strm_types.specs.Heads.{flush_up, head_put, is_doubled, is_hangup, obeyed, passed_by, turned_round, waits_for_readers}
+use Rattle.strm_types.specs.Ioctls.{nak_message, read_ioc}
+use Rattle.strm_types.specs.Heads.{head_put, is_doubled, nak_down, obeyed, turned_round, waits_for_readers}
 use Rattle.strm_types.specs.Message.{Message, has_parts}
 use Rattle.strm_types.specs.Names.{is_master, is_open}
-use Rattle.strm_types.specs.Puts.{across_of, far, far_at, is_turned, passed_up, put_at_driver, put_at_head, put_below, put_in}
+use Rattle.strm_types.specs.Puts.{across_of, far, far_at, is_turned, passed_up, put_at_driver, put_at_head, put_below, put_in, turns_round}
 use Rattle.strm_types.specs.Queue.{Queue}
 use Rattle.strm_types.specs.State.{Head, State, stream}
 
@@ -118,28 +118,35 @@ module _ (C : Type 0) where
       at false = put_across-lower top side across m.kind m q bottom
 
   -- at a head
-  round-lower : (here : Spot) (m : Message C) → here.at ≡ 0 → is_flush m.kind ≡ true → Lower (far here m) (turned_round here (asked_by m.plain))
-  round-lower here m top is = at (asked_by m.plain).for_write refl
+  round-lower : (here : Spot) (asked : FlushAsked) → here.at ≡ 0 → Lower (far_at here.way asked.for_write here.at) (turned_round here asked)
+  round-lower here asked top = at asked.for_write
     where
-      at : (b : Bool) → (asked_by m.plain).for_write ≡ b → Lower (far here m) (cond b (record { to = toward Down here; message = flush_message (flush_bytes (record (asked_by m.plain) { for_read = false })) } ∷ []) [])
-      at false known = tt
-      at true known =
-          let may = ap (λ b. b && (asked_by m.plain).for_write) is ∙ known in
-          (subst (λ b. far_at Down (asked_by (flush_bytes (record (asked_by m.plain) { for_read = false }))).for_write (here.at + 1) < far_at here.way b here.at) (sym may) (turned-less here.way (asked_by (flush_bytes (record (asked_by m.plain) { for_read = false }))).for_write here.at top), tt)
+      again : List ℕ
+      again = flush_bytes (record asked { for_read = false })
 
-  obeyed-lower : (here : Spot) (m : Message C) (h : Head C) → here.at ≡ 0 → Lower (far here m) (obeyed here m h).sent
-  obeyed-lower here m h top = at (is_flush m.kind) refl
+      at : (b : Bool) → Lower (far_at here.way b here.at) (cond b (record { to = toward Down here; message = flush_message again } ∷ []) [])
+      at false = tt
+      at true = (turned-less here.way (asked_by again).for_write here.at top, tt)
+
+  nak-lower : (here : Spot) (known : Option Ioc) → here.at ≡ 0 → Lower (far_at here.way true here.at) (nak_down here known)
+  nak-lower here None top = tt
+  nak-lower here (Some ioc) top = at (ioc.number == 0)
     where
-      at : (flush : Bool) → is_flush m.kind ≡ flush → Lower (far here m) (cond flush (flush_up here (asked_by m.plain) h) (passed_by (record h { hung_up = h.hung_up || is_hangup m.kind }))).sent
-      at true is = round-lower here m top is
-      at false is = tt
+      at : (b : Bool) → Lower (far_at here.way true here.at) (cond b [] (record { to = toward Down here; message = nak_message ioc } ∷ []))
+      at true = tt
+      at false = (turned-less here.way false here.at top, tt)
+
+  obeyed-lower : (here : Spot) (kind : MsgKind) (bytes : List ℕ) (h : Head C) → here.at ≡ 0 → Lower (far_at here.way (turns_round kind bytes) here.at) (obeyed here kind bytes h).sent
+  obeyed-lower here Flush bytes h top = round-lower here (asked_by bytes) top
+  obeyed-lower here Ioctl bytes h top = nak-lower here (read_ioc bytes) top
+  obeyed-lower here kind bytes h top = tt
 
   head-lower : (here : Spot) (m : Message C) (h : Head C) → here.at ≡ 0 → Lower (far here m) (head_put here m h).sent
   head-lower here m h top = at (has_parts m)
     where
-      at : (parts : Bool) → Lower (far here m) (cond parts (waits_for_readers here m h) (obeyed here m h)).sent
+      at : (parts : Bool) → Lower (far here m) (cond parts (waits_for_readers here m h) (obeyed here m.kind m.plain h)).sent
       at true = sent-nothing (far here m) (Head C) (is_doubled m h.queue.messages) _ _ refl refl
-      at false = obeyed-lower here m h top
+      at false = obeyed-lower here m.kind m.plain h top
 
   -- in a pair
   either-lower : (top : ℕ) (b : Bool) (one another : Took C (State C)) → Lower top one.sent → Lower top another.sent → Lower top (cond b one another).sent

@@ -5,6 +5,7 @@ use Rattle.strm_types.specs.declared.kinds.MsgKind.TheVariants.{Data, Proto, Set
 use Rattle.strm_types.specs.Message.{Message}
 use Rattle.strm_types.specs.declared.modes.ControlMode.TheVariants.{Refuse}
 use Rattle.strm_types.specs.declared.modes.ReadMode.TheVariants.{ByteStream}
+use Rattle.strm_types.specs.declared.slots.Slot.TheVariants.{Free}
 use Rattle.strm_types.specs.Queue.{Queue, Flow}
 use Rattle.strm_types.specs.State.{Head}
 
@@ -30,4 +31,4 @@ queue messages flows = record { messages = messages; flows = flows; want_read = 
 
 -- a head in the modes of a new one
 abbrev pub head_with : Queue ℕ → Bool → Head ℕ
-head_with q hung_up = record { queue = q; read_mode = ByteStream; control_mode = Refuse; hung_up = hung_up }
+head_with q hung_up = record { queue = q; read_mode = ByteStream; control_mode = Refuse; hung_up = hung_up; signals = []; ioctl = Free }

@@ -62,6 +62,9 @@ request-back (shapes.Put prio control body) more =
 request-back (shapes.Get wanted cmax dmax) more = refl
 request-back (shapes.Mode mode) more = refl
 request-back shapes.Nread more = refl
+request-back (shapes.Ioctl command body) more = ap (λ xs. shapes.Ioctl command xs) (take-append_seam body more)
+request-back (shapes.IoctlResult number) more = refl
+request-back shapes.Signals more = refl
 
 pub request-size : (asked : Request) → event_len (shape_of asked) ≡ length (payload_of asked)
 request-size shapes.OpenMaster = refl
@@ -78,6 +81,9 @@ request-size (shapes.Put prio control body) = both-size control body
 request-size (shapes.Get wanted cmax dmax) = refl
 request-size (shapes.Mode mode) = refl
 request-size shapes.Nread = refl
+request-size (shapes.Ioctl command body) = refl
+request-size (shapes.IoctlResult number) = refl
+request-size shapes.Signals = refl
 
 pub reply-back : (reply : Reply) (more : List ℕ) → reply_in (told_of reply) (content_of reply ++ more) ≡ reply
 reply-back told.Done more = refl
@@ -88,6 +94,9 @@ reply-back (told.Msg prio control body more_control more_data) more =
     ap (λ c. told.Msg prio c (part_in (part_shape body) (drop (part_len (part_shape control)) ((part control ++ part body) ++ more))) more_control more_data) (first-back control body more)
     ∙ ap (λ d. told.Msg prio control d more_control more_data) (second-back control body more)
 reply-back (told.Sizes first messages) more = refl
+reply-back (told.Pending number) more = refl
+reply-back (told.Nak refusal) more = refl
+reply-back (told.Signals bytes) more = ap told.Signals (take-append_seam bytes more)
 
 pub reply-size : (reply : Reply) → answer_len (told_of reply) ≡ length (content_of reply)
 reply-size told.Done = refl
@@ -96,6 +105,9 @@ reply-size (told.Count n) = refl
 reply-size (told.Bytes bytes) = refl
 reply-size (told.Msg prio control body more_control more_data) = both-size control body
 reply-size (told.Sizes first messages) = refl
+reply-size (told.Pending number) = refl
+reply-size (told.Nak refusal) = refl
+reply-size (told.Signals bytes) = refl
 
 -- an entry, of an answer whose bytes stand behind those of its call
 pub entry-back : (caller : Caller) (asked : Request) (answer : Answer ℕ) (content : List ℕ) → entry_in (Called caller (shape_of asked) answer) (payload_of asked ++ content) ≡ Called caller asked (reply_in answer content)

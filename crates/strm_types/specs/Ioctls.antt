@@ -1,9 +1,8 @@
 -- The header of an ioctl message (streamio(7I): I_STR; sys/stream.h: struct iocblk): four numbers of 32 bits, the most
 -- significant byte first.
-use Rattle.std.specs.Prelude.{ℕ, Bool, true, false, nat_le, if◌then◌else◌, List, ◌++◌, length, take, drop, Option, None, Some}
+use Rattle.std.specs.Prelude.{ℕ, nat_le, if◌then◌else◌, List, ◌++◌, length, take, drop, Option, None, Some}
 use Rattle.std.specs.Int.{w32, from_be_bytes, to_be_bytes}
 use Rattle.strm_types.specs.declared.ioctls.Ioc.{Ioc}
-use Rattle.strm_types.specs.declared.kinds.MsgKind.{MsgKind}
 use Rattle.strm_types.specs.declared.kinds.MsgKind.TheVariants.{Ioctl, Iocnak}
 use Rattle.strm_types.specs.declared.refusals.Refusal.TheVariants.{Einval}
 use Rattle.strm_types.specs.Message.{Message}
@@ -26,10 +25,6 @@ read_ioc bytes =
     if nat_le 16 (length bytes)
     then Some (record { command = word_at 0 bytes; number = word_at 4 bytes; error = word_at 8 bytes; result = word_at 12 bytes })
     else None
-
-abbrev pub is_ioctl : MsgKind → Bool
-is_ioctl Ioctl = true
-is_ioctl _ = false
 
 -- the header of a command that gets a number
 abbrev pub asking : ℕ → ℕ → Ioc

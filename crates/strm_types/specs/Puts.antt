@@ -1,8 +1,10 @@
 -- What a message does that is put at a spot of a pair, and with all that it gives rise to (STREAMS Programming Guide, "Put
 -- Procedures"): at a head, at a driver, or at a place where nothing stands.
-use Rattle.std.specs.Prelude.{ℕ, suc, ◌≡◌, ◌+◌, ◌-◌, Bool, true, false, ◌&&◌, ◌||◌, ◌==◌, if◌then◌else◌, List, [], ◌∷◌, Option}
+use Rattle.std.specs.Prelude.{ℕ, suc, ◌≡◌, ◌+◌, ◌-◌, Bool, true, false, ◌&&◌, ◌==◌, if◌then◌else◌, List, [], ◌∷◌, Option}
 use Rattle.strm_types.specs.declared.events.FlushQueues.{FlushQueues}
 use Rattle.strm_types.specs.declared.kinds.Band.{Band}
+use Rattle.strm_types.specs.declared.kinds.MsgKind.{MsgKind}
+use Rattle.strm_types.specs.declared.kinds.MsgKind.TheVariants.{Flush, Ioctl}
 use Rattle.strm_types.specs.declared.limits.TheConstants.{MODULES, HOPS}
 use Rattle.strm_types.specs.declared.names.Side.{Side}
 use Rattle.strm_types.specs.declared.names.Place.{Place}
@@ -19,7 +21,6 @@ use Rattle.strm_types.specs.Deliver.{Carried, Took, carried}
 use Rattle.strm_types.specs.Drivers.{driver_put}
 use Rattle.strm_types.specs.Flushing.{is_flush, asked_by, asked_of, flush_bytes, flush_message}
 use Rattle.strm_types.specs.Heads.{head_put}
-use Rattle.strm_types.specs.Ioctls.{is_ioctl}
 use Rattle.strm_types.specs.Message.{Message, cells_of}
 use Rattle.strm_types.specs.Names.{other, is_open, is_closed, direction_at, before, enable, enable_found}
 use Rattle.strm_types.specs.State.{State, stream, with_stream, with_driver_queue}
@@ -30,9 +31,14 @@ noted side place [] names = names
 noted side place (Enable way ∷ notes) names = noted side place notes (enable (record { side = side; place = place; way = way }) names)
 noted side place (Room way ∷ notes) names = noted side place notes (enable_found (before (record { side = side; place = place; way = way })) names)
 
--- whether what comes up may go down again: an M_FLUSH with FLUSHW does, and an M_IOCTL is answered
+-- whether what comes up to a head sends something down: an M_FLUSH with FLUSHW goes down again, and an M_IOCTL is answered
+abbrev pub turns_round : MsgKind → List ℕ → Bool
+turns_round Flush bytes = (asked_by bytes).for_write
+turns_round Ioctl bytes = true
+turns_round kind bytes = false
+
 abbrev pub is_turned : {C : Type 0} → Message C → Bool
-is_turned m = (is_flush m.kind && (asked_by m.plain).for_write) || is_ioctl m.kind
+is_turned m = turns_round m.kind m.plain
 
 -- On the way up the places to the head count, and what may be turned round has the way down before it too. On the way down
 -- the places to the driver count, which may then send something across, or up again.

@@ -3,6 +3,7 @@
 
 ghost use Rattle.std.specs.Prelude.{◌≡◌, ℕ, ◌+◌, ◌≤◌, ◌<◌, ◌==◌, List, [], ◌∷◌, ◌++◌, length, Some, if◌then◌else◌, count_by, Bool};
 ghost use Rattle.std.specs.List.{AllByRecursion};
+ghost use Rattle.strm_types.specs.Within.{AreWithin};
 ghost use Rattle.strm_types.specs.Message.{Message, rank_of, weight_of, map_message};
 ghost use Rattle.strm_types.specs.Queue.{lane, lanes_down, IsOrdered, put, put_back, put_all, take_first, count_of, bytes_of, weight, map_messages};
 ghost use Rattle.strm_types.specs.declared.answers.Answer.{Answer};
@@ -81,10 +82,11 @@ pub fn entries_read_back()
         ≡ Called caller asked (reply_in told content) }
 {}
 
-/// No answer has more bytes than the journal is asked to have room for, nor more than one buffer of answers takes.
+/// No answer has more bytes than the journal is asked to have room for, nor more than one buffer of answers takes. What a head
+/// keeps for its caller is bounded, which is so in a new pair and behind each step (`heads_keep_little`).
 pub fn answers_fit<C>()
     ensures content { (cells : Cells C) (caller : Caller) (asked : Request) (s : State C) →
-        length (content_of (called cells caller asked s).answer) ≤ content_max asked }
+        AreWithin s → length (content_of (called cells caller asked s).answer) ≤ content_max asked }
     ensures buffer { (asked : Request) → content_max asked ≤ CONTENT_MAX }
 {}
 

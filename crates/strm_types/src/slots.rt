@@ -9,7 +9,10 @@ pub enum Slot<T> {
     /// None is under way.
     Free,
     /// It has this number, and waits for its answer.
-    Waiting { number: u32, command: u32 },
+    Waiting {
+        number: u32,
+        command: u32,
+    },
     /// It was answered with M_IOCACK, and its answer wasn't given yet.
     Acked {
         number: u32,

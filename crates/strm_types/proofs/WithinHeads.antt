@@ -1,0 +1,114 @@
+-- What a head keeps for its caller stays bounded: signals wait once each, and answers are cut.
+use Rattle.std.proofs.Common.{ℕ, ◌≤◌, Bool, true, false, cond, List, length, arith}
+use Rattle.std.specs.Prelude.{◌==◌, ◌&&◌, suc, drop, Option, None, Some}
+use Rattle.std.proofs.lemmas.List.{length-take}
+use Rattle.strm_types.specs.declared.flushing.FlushAsked.{FlushAsked}
+use Rattle.strm_types.specs.declared.ioctls.Ioc.{Ioc}
+use Rattle.strm_types.specs.declared.kinds.MsgKind.{MsgKind}
+use Rattle.strm_types.specs.declared.kinds.MsgKind.TheVariants.{Flush, Sig, Pcsig, Iocack, Iocnak}
+use Rattle.strm_types.specs.declared.limits.TheConstants.{HOPS, IOCTL_MAX, MODULES}
+use Rattle.strm_types.specs.declared.names.Side.{Side}
+use Rattle.strm_types.specs.declared.names.Side.TheVariants.{Master, Slave}
+use Rattle.strm_types.specs.declared.names.Way.{Way}
+use Rattle.strm_types.specs.declared.names.Way.TheVariants.{Up, Down}
+use Rattle.strm_types.specs.declared.slots.Slot.TheVariants.{Free, Waiting, Acked, Nacked}
+use Rattle.strm_types.specs.declared.spots.Spot.{Spot}
+use Rattle.strm_types.specs.Deliver.{Acted, Took}
+use Rattle.strm_types.specs.Flushing.{is_flush, asked_by}
+use Rattle.strm_types.specs.Heads.{flush_up, head_flushed, head_put, is_doubled, obeyed, passed_by, turned_round, waits_for_readers}
+use Rattle.strm_types.specs.Ioctls.{read_ioc}
+use Rattle.strm_types.specs.Message.{Message, has_parts}
+use Rattle.strm_types.specs.Names.{is_open}
+use Rattle.strm_types.specs.Puts.{delivered, passed_up, put_at_driver, put_at_head, put_below, put_in}
+use Rattle.strm_types.specs.Slots.{PlainSlot, ack_body, answer_bytes, slot_behind, slot_told, with_answer}
+use Rattle.strm_types.specs.State.{Head, State, stream, with_stream}
+use Rattle.strm_types.specs.Within.{AreWithin, IsWithin}
+use Rattle.strm_types.proofs.DeliveryHolds.{carried-holds}
+use Rattle.strm_types.proofs.SignalRoom.{named-within}
+
+-- answers
+abbrev Fits : PlainSlot → Type 0
+Fits slot = length (answer_bytes slot) ≤ IOCTL_MAX
+
+body-fits : (bytes : List ℕ) → length (ack_body bytes) ≤ IOCTL_MAX
+body-fits bytes = omega (arith, length-take IOCTL_MAX (drop 16 bytes))
+
+answer-fits : (is_ack : Bool) (number command : ℕ) (ioc : Ioc) (bytes : List ℕ) → Fits (with_answer is_ack number command ioc bytes)
+answer-fits true number command ioc bytes = body-fits bytes
+answer-fits false number command ioc bytes = omega arith
+
+told-fits : (is_ack : Bool) (known : Option Ioc) (bytes : List ℕ) (slot : PlainSlot) → Fits slot → Fits (slot_told is_ack known bytes slot)
+told-fits is_ack None bytes slot fits = fits
+told-fits is_ack (Some ioc) bytes (Waiting number command) fits = at (ioc.number == number)
+  where
+    at : (b : Bool) → Fits (cond b (with_answer is_ack number command ioc bytes) (Waiting number command))
+    at true = answer-fits is_ack number command ioc bytes
+    at false = omega arith
+told-fits is_ack (Some ioc) bytes Free fits = fits
+told-fits is_ack (Some ioc) bytes (Acked number command body) fits = fits
+told-fits is_ack (Some ioc) bytes (Nacked number command refusal) fits = fits
+
+pub behind-fits : (slot : PlainSlot) → Fits (slot_behind slot)
+behind-fits Free = omega arith
+behind-fits (Waiting number command) = omega arith
+behind-fits (Acked number command body) = omega arith
+behind-fits (Nacked number command refusal) = omega arith
+
+module _ {C : Type 0} where
+  -- at a head
+  either-within : (b : Bool) (one another : Acted C (Head C)) → IsWithin one.state → IsWithin another.state → IsWithin (cond b one another).state
+  either-within true one another first second = first
+  either-within false one another first second = second
+
+  flush-within : (here : Spot) (asked : FlushAsked) (h : Head C) → IsWithin h → IsWithin (flush_up here asked h).state
+  flush-within here asked h within = at asked.for_read
+    where
+      at : (own : Bool) → IsWithin (record (cond own (head_flushed here asked h) (passed_by h)) { sent = turned_round here asked }).state
+      at true = record { signals = within.signals; answer = within.answer }
+      at false = within
+
+  obeyed-within : (here : Spot) (kind : MsgKind) (bytes : List ℕ) (h : Head C) → IsWithin h → IsWithin (obeyed here kind bytes h).state
+  obeyed-within here Flush bytes h within = flush-within here (asked_by bytes) h within
+  obeyed-within here Sig bytes h within = record { signals = named-within bytes h.signals within.signals; answer = within.answer }
+  obeyed-within here Pcsig bytes h within = record { signals = named-within bytes h.signals within.signals; answer = within.answer }
+  obeyed-within here Iocack bytes h within = record { signals = within.signals; answer = told-fits true (read_ioc bytes) bytes h.ioctl within.answer }
+  obeyed-within here Iocnak bytes h within = record { signals = within.signals; answer = told-fits false (read_ioc bytes) bytes h.ioctl within.answer }
+  obeyed-within here kind bytes h within = record { signals = within.signals; answer = within.answer }
+
+  waits-within : (here : Spot) (m : Message C) (h : Head C) → IsWithin h → IsWithin (waits_for_readers here m h).state
+  waits-within here m h within = either-within (is_doubled m h.queue.messages) _ _ within (record { signals = within.signals; answer = within.answer })
+
+  pub put-within : (here : Spot) (m : Message C) (h : Head C) → IsWithin h → IsWithin (head_put here m h).state
+  put-within here m h within = either-within (has_parts m) (waits_for_readers here m h) (obeyed here m.kind m.plain h) (waits-within here m h within) (obeyed-within here m.kind m.plain h within)
+
+  -- in a pair
+  either-are : (b : Bool) (one another : Took C (State C)) → AreWithin one.state → AreWithin another.state → AreWithin (cond b one another).state
+  either-are true one another first second = first
+  either-are false one another first second = second
+
+  head-within : (side : Side) (here : Spot) (m : Message C) (s : State C) → AreWithin s → AreWithin (put_at_head side here m s).state
+  head-within Master here m s within = either-are (is_open s.master.opened) _ _ (record { master = put-within here m s.master.head within.master; slave = within.slave }) within
+  head-within Slave here m s within = either-are (is_open s.slave.opened) _ _ (record { master = within.master; slave = put-within here m s.slave.head within.slave }) within
+
+  driver-within : (side : Side) (here : Spot) (m : Message C) (s : State C) → AreWithin s → AreWithin (put_at_driver side here m s).state
+  driver-within Master here m s within = record { master = within.master; slave = within.slave }
+  driver-within Slave here m s within = record { master = within.master; slave = within.slave }
+
+  below-within : (way : Way) (here : Spot) (m : Message C) (s : State C) → AreWithin s → AreWithin (put_below way here m s).state
+  below-within Down here m s within = driver-within here.side here m s within
+  below-within Up here m s within = either-are (is_flush m.kind && here.at == suc MODULES) (put_at_driver here.side here m s) (passed_up here m s) (driver-within here.side here m s within) within
+
+  puts-within : (here : Spot) (m : Message C) (s : State C) → AreWithin s → AreWithin (put_in here m s).state
+  puts-within here m s within = either-are (here.at == 0) (put_at_head here.side here m s) (put_below here.way here m s) (head-within here.side here m s within) (below-within here.way here m s within)
+
+  pub delivered-within : (to : Spot) (m : Message C) (s : State C) → AreWithin s → AreWithin (delivered to m s).state
+  delivered-within to m s within = carried-holds AreWithin put_in puts-within HOPS (record { to = to; message = m }) s within
+
+  -- at a side
+  pub side-within : (side : Side) (s : State C) → AreWithin s → IsWithin (stream side s).head
+  side-within Master s within = within.master
+  side-within Slave s within = within.slave
+
+  pub with-head-within : (side : Side) (h : Head C) (s : State C) → IsWithin h → AreWithin s → AreWithin (with_stream side (record (stream side s) { head = h }) s)
+  with-head-within Master h s new within = record { master = new; slave = within.slave }
+  with-head-within Slave h s new within = record { master = within.master; slave = new }
