@@ -53,7 +53,7 @@ pub record Begins {A : Type 0} (spells : A → List ℕ → Type 0) (line : List
   pub word_is : spells found.value word
   pub line_is : line ≡ word ++ found.rest
 
-begins : {A : Type 0} (spells : A → List ℕ → Type 0) (word : List ℕ) (x : A) (line : List ℕ) (found : Front A) → spells x word → before word x line ≡ Some found → Begins spells line found
+pub begins : {A : Type 0} (spells : A → List ℕ → Type 0) (word : List ℕ) (x : A) (line : List ℕ) (found : Front A) → spells x word → before word x line ≡ Some found → Begins spells line found
 begins spells word x line found is h =
     let m = option_map-found (λ rest. record { value = x; rest = rest }) (after word line) found h in
     subst (Begins spells line) m.second (record { word = word; word_is = is; line_is = after-found word line m.value m.first })

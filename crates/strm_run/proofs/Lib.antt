@@ -10,6 +10,7 @@ pub mod PlainTexts
 pub mod Grammar
 pub mod Fronts
 pub mod MessageSpellings
+pub mod IoctlSpellings
 pub mod Spellings
 mod ScriptRows
 mod RunRows

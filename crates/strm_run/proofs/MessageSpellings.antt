@@ -15,19 +15,19 @@ use Rattle.strm_run.proofs.Grammar.{and_then-found, option_map-found, after-foun
 use Rattle.strm_run.proofs.Fronts.{either-found, at_end-found, whole-found, Begins, NumberIs, side-found, number_at-found, number_at-only, prio_at-found, prio_at-only, wanted_at-found, wanted_at-only, part_at-found, part_at-only}
 
 -- a word, what it stands for, and what is read behind it and a space
-record Behind {A : Type 0} (spells : A → List ℕ → Type 0) (inside : A → List ℕ → Option Command) (line : List ℕ) (command : Command) : Type 0 where
-  value : A
-  word : List ℕ
-  rest : List ℕ
-  word_is : spells value word
-  line_is : line ≡ word ++ 32 ∷ rest
-  inside_is : inside value rest ≡ Some command
+pub record Behind {A B : Type 0} (spells : A → List ℕ → Type 0) (inside : A → List ℕ → Option B) (line : List ℕ) (read : B) : Type 0 where
+  pub value : A
+  pub word : List ℕ
+  pub rest : List ℕ
+  pub word_is : spells value word
+  pub line_is : line ≡ word ++ 32 ∷ rest
+  pub inside_is : inside value rest ≡ Some read
 
-behind-found : {A : Type 0} (spells : A → List ℕ → Type 0) (inside : A → List ℕ → Option Command) (o : Option (Front A)) (line : List ℕ) (command : Command)
-    → ((found : Front A) → o ≡ Some found → Begins spells line found) → behind inside o ≡ Some command → Behind spells inside line command
-behind-found spells inside o line command begun h =
-    let front = and_then-found (λ front. and_then (inside front.value) (after (codes " ") front.rest)) o command h in
-    let gap = and_then-found (inside front.value.value) (after (codes " ") front.value.rest) command front.second in
+pub behind-found : {A B : Type 0} (spells : A → List ℕ → Type 0) (inside : A → List ℕ → Option B) (o : Option (Front A)) (line : List ℕ) (read : B)
+    → ((found : Front A) → o ≡ Some found → Begins spells line found) → behind inside o ≡ Some read → Behind spells inside line read
+behind-found spells inside o line read begun h =
+    let front = and_then-found (λ front. and_then (inside front.value) (after (codes " ") front.rest)) o read h in
+    let gap = and_then-found (inside front.value.value) (after (codes " ") front.value.rest) read front.second in
     let b = begun front.value front.first in
     record {
       value = front.value.value;
@@ -51,7 +51,7 @@ behind_side-found inside line command h =
     )
 
 -- a word, and behind it a side and a space
-sided : (word line after : List ℕ) (side : Side) (rest : List ℕ) → line ≡ word ++ after → after ≡ side_name side ++ 32 ∷ rest → line ≡ with_side word side ++ rest
+pub sided : (word line after : List ℕ) (side : Side) (rest : List ℕ) → line ≡ word ++ after → after ≡ side_name side ++ 32 ∷ rest → line ≡ with_side word side ++ rest
 sided word line after side rest h e =
     h ∙ ap (λ k. word ++ k) (e ∙ sym (append_assoc (side_name side) (codes " ") rest)) ∙ sym (append_assoc word (side_name side ++ codes " ") rest)
 

@@ -7,13 +7,14 @@ use Rattle.strm_types.specs.declared.names.Place.TheVariants.{Ldterm}
 use Rattle.strm_types.specs.declared.names.ModuleName.{ModuleName}
 use Rattle.strm_types.specs.declared.names.ModuleName.TheVariants as modules
 use Rattle.strm_types.specs.declared.events.FlushQueues.TheVariants as queues
-use Rattle.strm_types.specs.declared.events.Event.TheVariants.{Unlock, OpenSlave, Shut, Push, Pop, Look, Write, Read, Mode}
+use Rattle.strm_types.specs.declared.events.Event.TheVariants.{Unlock, OpenSlave, Shut, Push, Pop, Look, Write, Read, Mode, Ioctl, IoctlResult}
+use Rattle.strm_types.specs.declared.events.Event.TheVariants as calls
 use Rattle.strm_types.specs.declared.modes.Mode.TheVariants as modes
 use Rattle.strm_types.specs.declared.modes.ReadMode.TheVariants.{MessageDiscard}
 use Rattle.strm_types.specs.declared.modes.ControlMode.TheVariants.{Refuse}
 use Rattle.strm_run.specs.declared.commands.NamedPrio.TheVariants as prios
 use Rattle.strm_run.specs.declared.commands.NamedWanted.TheVariants as wanteds
-use Rattle.strm_run.specs.Script.{Open, Call, Flush, Put, Get, Turn, Run, Show, module_name, IsName, IsUnknown, IsNumber, Itself, Named, Coded, IsSpelled, digit_of, hex_of, escaped}
+use Rattle.strm_run.specs.Script.{Open, Call, Flush, Put, Get, Turn, Run, Show, module_name, IsName, IsUnknown, IsNumber, Itself, Named, Coded, Sets, Raw, Gets, SetsWindow, Signals, Sends, IsSpelled, digit_of, hex_of, escaped}
 
 twelve : IsNumber (codes "12") 12
 unfolding digit_of
@@ -126,6 +127,43 @@ get-of-a-band-is-spelled = inr (record {
 
 pub modes-are-spelled : IsSpelled (Call Slave (Mode (modes.Read MessageDiscard))) (codes "mode s msgd") × IsSpelled (Call Master (Mode (modes.Control Refuse))) (codes "mode m protnorm")
 modes-are-spelled = (refl, refl)
+
+-- an ioctl by a name that takes nothing, one with a size of a window, one with a signal, and one with a text
+pub ioctl-is-spelled : IsSpelled (Call Slave (Ioctl 1 [])) (codes "ioctl s TCGETS")
+ioctl-is-spelled = (codes "TCGETS", Gets, refl)
+
+pub ioctl-of-a-window-is-spelled : IsSpelled (Call Master (Ioctl 6 (0 ∷ 12 ∷ 0 ∷ 12 ∷ 0 ∷ 12 ∷ 0 ∷ 12 ∷ []))) (codes "ioctl m TIOCSWINSZ 12 12 12 12")
+ioctl-of-a-window-is-spelled = (
+  codes "TIOCSWINSZ 12 12 12 12",
+  SetsWindow (record { rows = 12; columns = 12; width = 12; height = 12 }) (codes "12 12 12 12") (record {
+    first = codes "12";
+    second = codes "12";
+    third = codes "12";
+    fourth = codes "12";
+    rows_is = (twelve, lit≤ tt);
+    columns_is = (twelve, lit≤ tt);
+    width_is = (twelve, lit≤ tt);
+    height_is = (twelve, lit≤ tt);
+    line_is = refl;
+  }),
+  refl,
+)
+
+pub ioctl-of-a-signal-is-spelled : IsSpelled (Call Slave (Ioctl 7 (12 ∷ []))) (codes "ioctl s TIOCSIGNAL 12")
+ioctl-of-a-signal-is-spelled = (codes "TIOCSIGNAL 12", Signals 12 (codes "12") (twelve, lit≤ tt), refl)
+
+pub ioctl-of-a-text-is-spelled : IsSpelled (Call Slave (Ioctl 2 [])) (codes "ioctl s TCSETS \"\"")
+ioctl-of-a-text-is-spelled = (codes "TCSETS \"\"", Sends 2 [] (codes "TCSETS") (codes "\"\"") Sets ([], refl, refl), refl)
+
+-- an ioctl by its number; one that has a name may be spelled so, too
+pub ioctl-by-its-number-is-spelled : IsSpelled (Call Slave (Ioctl 12 [])) (codes "ioctl s raw 12 \"\"")
+ioctl-by-its-number-is-spelled = (codes "raw 12 \"\"", Sends 12 [] (codes "raw 12") (codes "\"\"") (Raw 12 (codes "12") twelve) ([], refl, refl), refl)
+
+pub poll-is-spelled : IsSpelled (Call Master (IoctlResult 12)) (codes "poll m 12")
+poll-is-spelled = (codes "12", twelve, refl)
+
+pub signals-is-spelled : IsSpelled (Call Slave calls.Signals) (codes "signals s")
+signals-is-spelled = refl
 
 -- a byte as it is, one by its name, one by its number
 pub write-is-spelled : IsSpelled (Call Master (Write (97 ∷ 10 ∷ 255 ∷ []))) (codes "write m \"a\\n\\xfF\"")

@@ -12,17 +12,18 @@ use Rattle.strm_types.specs.declared.names.ModuleName.{ModuleName}
 use Rattle.strm_types.specs.declared.names.ModuleName.TheVariants as modules
 use Rattle.strm_types.specs.declared.events.FlushQueues.{FlushQueues}
 use Rattle.strm_types.specs.declared.events.FlushQueues.TheVariants as queues
-use Rattle.strm_types.specs.declared.events.Event.TheVariants.{OpenMaster, Unlock, OpenSlave, Shut, Push, Pop, Look, Write, Read, Nread}
+use Rattle.strm_types.specs.declared.events.Event.TheVariants.{OpenMaster, Unlock, OpenSlave, Shut, Push, Pop, Look, Write, Read, Nread, IoctlResult}
 use Rattle.strm_types.specs.declared.events.Event.TheVariants as calls
 use Rattle.strm_types.specs.declared.modes.Mode.{Mode}
 use Rattle.strm_run.specs.declared.commands.NamedPrio.{NamedPrio}
 use Rattle.strm_run.specs.declared.commands.NamedWanted.{NamedWanted}
 use Rattle.std.specs.List.{AllByRecursion, list_all}
-use Rattle.strm_run.specs.Script.{Command, Open, Call, Flush, Put, Get, Turn, Run, Show, mode_name, IsPut, IsGetOf, IsUsualGet, side_name, place_name, way_name, queue_name, module_name, flush_name, is_letter, is_silent, with_side, IsName, IsNumber, IsFlush, IsSpelled}
-use Rattle.strm_run.specs.ScriptReading.{Silent, Malformed, Spoken, spoken, reading, and_then, after, at_end, Front, number_in, text_in, side_in, place_in, way_in, queue_in, placed_in, sided_in, behind_side, side_alone, module_in, is_name, flush_queues_in, band_in, pushed_in, flushed_in, open_in, named_in, write_in, read_in, turn_in, run_in, sided_call_in, push_in, flush_in, show_in, stream_in, put_in, get_in, set_mode_in, message_in, command_in}
+use Rattle.strm_run.specs.Script.{Command, Open, Call, Flush, Put, Get, Turn, Run, Show, mode_name, IsPut, IsGetOf, IsUsualGet, side_name, place_name, way_name, queue_name, module_name, flush_name, is_letter, is_silent, with_side, IsName, IsNumber, IsWithNumber, IsFlush, IsIoctl, IsSpelled}
+use Rattle.strm_run.specs.ScriptReading.{Silent, Malformed, Spoken, spoken, reading, and_then, after, at_end, Front, number_in, text_in, side_in, place_in, way_in, queue_in, placed_in, sided_in, behind_side, side_alone, module_in, is_name, flush_queues_in, band_in, pushed_in, flushed_in, open_in, named_in, write_in, read_in, turn_in, run_in, sided_call_in, push_in, flush_in, show_in, stream_in, put_in, get_in, set_mode_in, message_in, ioctl_in, poll_in, control_in, command_in}
 use Rattle.strm_run.proofs.Grammar.{and_then-found, option_map-found, after-found, number-found, number-only, text-found, text-only}
 use Rattle.strm_run.proofs.Fronts.{either-found, at_end-found, whole-found, Stands, before-found, side-found}
 use Rattle.strm_run.proofs.MessageSpellings.{behind_side-found, put-found, get-found, set_mode-found, put_on-only, get_of-only, mode_in-only}
+use Rattle.strm_run.proofs.IoctlSpellings.{asked-only, control-found}
 
 place-found : (line : List ℕ) (found : Front Place) → place_in line ≡ Some found → Stands place_name line found
 unfolding place_in
@@ -177,9 +178,14 @@ sided_call-found line command h = elim (either-found _ _ command h) [
     | inl a ↦
         let side = option_map-found (λ side. Call side Pop) (and_then side_alone (after (codes "pop ") line)) command a in
         subst (λ c. IsSpelled c line) side.second (alone-found (codes "pop ") line side.value side.first)
-    | inr b ↦
-        let side = option_map-found (λ side. Call side Look) (and_then side_alone (after (codes "look ") line)) command b in
-        subst (λ c. IsSpelled c line) side.second (alone-found (codes "look ") line side.value side.first)
+    | inr b ↦ elim (either-found _ _ command b) [
+      | inl a ↦
+          let side = option_map-found (λ side. Call side Look) (and_then side_alone (after (codes "look ") line)) command a in
+          subst (λ c. IsSpelled c line) side.second (alone-found (codes "look ") line side.value side.first)
+      | inr b ↦
+          let side = option_map-found (λ side. Call side calls.Signals) (and_then side_alone (after (codes "signals ") line)) command b in
+          subst (λ c. IsSpelled c line) side.second (alone-found (codes "signals ") line side.value side.first)
+    ]
   ]
 ]
 
@@ -344,7 +350,10 @@ command-found line command h = elim (either-found _ _ command h) [
             | inl a ↦ run-found line command a
             | inr b ↦ elim (either-found _ _ command b) [
               | inl a ↦ stream-found line command a
-              | inr b ↦ message-found line command b
+              | inr b ↦ elim (either-found _ _ command b) [
+                | inl a ↦ message-found line command a
+                | inr b ↦ control-found line command b
+              ]
             ]
           ]
         ]
@@ -408,6 +417,17 @@ unfolding command_in open_in named_in write_in read_in turn_in run_in stream_in 
 mode-only Master mode line h = rw (h, mode_in-only mode) (refl, refl)
 mode-only Slave mode line h = rw (h, mode_in-only mode) (refl, refl)
 
+-- an ioctl, and a question for its answer
+ioctl-only : (side : Side) (command : ℕ) (sent line : List ℕ) → IsIoctl side command sent line → IsRead (Call side (calls.Ioctl command sent)) line
+unfolding command_in open_in named_in write_in read_in turn_in run_in stream_in sided_call_in push_in flush_in show_in message_in put_in get_in set_mode_in control_in ioctl_in side_in
+ioctl-only Master command sent line (rest, asked, e) = rw (e, asked-only command sent rest asked) (refl, refl)
+ioctl-only Slave command sent line (rest, asked, e) = rw (e, asked-only command sent rest asked) (refl, refl)
+
+poll-only : (side : Side) (n : ℕ) (line : List ℕ) → IsWithNumber (with_side (codes "poll ") side) n line → IsRead (Call side (IoctlResult n)) line
+unfolding command_in open_in named_in write_in read_in turn_in run_in stream_in sided_call_in push_in flush_in show_in message_in put_in get_in set_mode_in control_in ioctl_in poll_in side_in
+poll-only Master n line (digits, number, e) = rw (e, number-only digits n number) (refl, refl)
+poll-only Slave n line (digits, number, e) = rw (e, number-only digits n number) (refl, refl)
+
 -- each command is read where it is spelled, and its line isn't silent
 command-only : (command : Command) (line : List ℕ) → IsSpelled command line → IsRead command line
 unfolding command_in open_in named_in write_in read_in turn_in run_in stream_in sided_call_in push_in flush_in show_in side_in side_alone
@@ -434,6 +454,10 @@ command-only (Call side (calls.Put prio control body)) line h = absurd h
 command-only (Call side (calls.Get wanted cmax dmax)) line h = absurd h
 command-only (Call side (calls.Mode mode)) line h = mode-only side mode line h
 command-only (Call side Nread) line h = absurd h
+command-only (Call side (calls.Ioctl command sent)) line h = ioctl-only side command sent line h
+command-only (Call side (IoctlResult n)) line h = poll-only side n line h
+command-only (Call Master calls.Signals) line h = rw (h) (refl, refl)
+command-only (Call Slave calls.Signals) line h = rw (h) (refl, refl)
 command-only (Put side prio control body) line h = put-only side prio control body line h
 command-only (Get side wanted cmax dmax) line (inl h) = usual_get-only side wanted cmax dmax line h
 command-only (Get side wanted cmax dmax) line (inr h) = get-only side wanted cmax dmax line h

@@ -16,6 +16,8 @@ use Rattle.strm_types.specs.declared.modes.Prio.{Prio}
 use Rattle.strm_types.specs.declared.modes.Wanted.{Wanted}
 use Rattle.strm_types.specs.Gets.{is_wanted, get_refusal}
 use Rattle.strm_types.specs.PutMsg.{is_no_prio, is_too_long, put_refusal}
+use Rattle.strm_types.specs.declared.slots.Slot.TheVariants.{Free, Waiting, Acked, Nacked}
+use Rattle.strm_types.specs.Slots.{PlainSlot, unless_same, result_refusal}
 use Rattle.strm_types.specs.State.{State, stream}
 use Rattle.strm_types.specs.declared.events.Event.TheVariants as calls
 use Rattle.strm_types.specs.Calls.{Request}
@@ -72,6 +74,9 @@ at_once-want s caller (calls.Put prio control body) =
 at_once-want s caller (calls.Get wanted cmax dmax) = or_else-want _ _ (unless-want _ Enxio refl) (unless-want _ Einval refl)
 at_once-want s caller (calls.Mode mode) = unless-want _ Enxio refl
 at_once-want s caller calls.Nread = unless-want _ Enxio refl
+at_once-want s caller (calls.Ioctl command sent) = or_else-want _ _ (unless-want _ Enxio refl) (unless-want _ Erange refl)
+at_once-want s caller (calls.IoctlResult number) = unless-want _ Enxio refl
+at_once-want s caller calls.Signals = unless-want _ Enxio refl
 
 -- a read is refused for what stands there
 read-want : (control : ControlMode) (end : Bool) (n : ℕ) (q : List (Message ℕ)) → is_want (read_refusal control end n q) ≡ false
@@ -95,6 +100,29 @@ get-want : (wanted : Wanted) (end : Bool) (q : List (Message ℕ)) → is_want (
 get-want wanted end [] = fits-want end
 get-want wanted end (m ∷ q) = fits-want (is_wanted wanted m)
 
+-- a question for the answer of an ioctl is refused for its number, or while that waits
+same-want : (number asked : ℕ) (o : Option Refusal) → is_want o ≡ false → is_want (unless_same number asked o) ≡ false
+unfolding is_want
+same-want number asked o h = at (number == asked)
+  where
+    at : (same : Bool) → is_want (cond same o (Some Einval)) ≡ false
+    at true = h
+    at false = refl
+
+wait-want : is_want (Some Eagain) ≡ false
+unfolding is_want
+wait-want = refl
+
+none_asked-want : is_want (Some Einval) ≡ false
+unfolding is_want
+none_asked-want = refl
+
+answer-want : (asked : ℕ) (slot : PlainSlot) → is_want (result_refusal asked slot) ≡ false
+answer-want asked Free = none_asked-want
+answer-want asked (Waiting number command) = same-want number asked (Some Eagain) wait-want
+answer-want asked (Acked number command body) = same-want number asked None none-want
+answer-want asked (Nacked number command refusal) = same-want number asked None none-want
+
 by_state-want : (s : State ℕ) (caller : Caller) (asked : Request) → is_want (refused_by_state s caller asked) ≡ false
 by_state-want s caller calls.OpenMaster = unless-want _ Einval refl
 by_state-want s caller calls.Unlock = none-want
@@ -110,6 +138,9 @@ by_state-want s caller (calls.Put prio control body) = unless-want _ Eagain refl
 by_state-want s caller (calls.Get wanted cmax dmax) = get-want wanted (at_end caller.side s) (stream caller.side s).head.queue.messages
 by_state-want s caller (calls.Mode mode) = none-want
 by_state-want s caller calls.Nread = none-want
+by_state-want s caller (calls.Ioctl command sent) = unless-want _ Eagain refl
+by_state-want s caller (calls.IoctlResult number) = answer-want number (stream caller.side s).head.ioctl
+by_state-want s caller calls.Signals = none-want
 
 pub call_happens-short : (o : Option Refusal) (p : PlainPair) (caller : Caller) (asked : Request) → is_short (call_happens o p caller asked).answer ≡ is_want o
 unfolding is_want

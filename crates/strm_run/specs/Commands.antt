@@ -1,6 +1,8 @@
 -- The commands and readings of the code, as the definitions of script text have them.
-use Rattle.std.specs.Prelude.{Option, option_map}
-use Rattle.strm_types.specs.Calls.{map_event}
+use Rattle.std.specs.Prelude.{ℕ, Option, option_map, Vec}
+use Rattle.std.specs.Global.{Global}
+use Rattle.strm_types.specs.declared.events.Event.{Event}
+use Rattle.strm_types.specs.Calls.{Request, map_event}
 use Rattle.strm_run.specs.Script as script
 use Rattle.strm_run.specs.ScriptReading as readings
 use Rattle.strm_run.specs.declared.commands.Command.{Command}
@@ -8,9 +10,16 @@ use Rattle.strm_run.specs.declared.commands.Command.TheVariants.{Open, Call, Flu
 use Rattle.strm_run.specs.declared.commands.Reading.{Reading}
 use Rattle.strm_run.specs.declared.commands.Reading.TheVariants.{Silent, Malformed, Spoken}
 
+-- a call, as the definitions have it
+abbrev pub request_of : Event (Vec ℕ Global) → Request
+request_of event = map_event (λ bytes. bytes.items) event
+
+abbrev pub requests_of : Option (Event (Vec ℕ Global)) → Option Request
+requests_of found = option_map request_of found
+
 abbrev pub command_of : Command → script.Command
 command_of (Open blocks) = script.Open blocks
-command_of (Call side event) = script.Call side (map_event (λ bytes. bytes.items) event)
+command_of (Call side event) = script.Call side (request_of event)
 command_of (Flush side what band) = script.Flush side what band
 command_of (Put side prio control body) =
     script.Put side prio (option_map (λ bytes. bytes.items) control) (option_map (λ bytes. bytes.items) body)

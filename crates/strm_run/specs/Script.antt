@@ -1,5 +1,6 @@
 -- The commands of a script, and how each is spelled: one command a line, words parted by one space.
 use Rattle.std.specs.Prelude.{◌≡◌, ◌≢◌, ℕ, ◌≤◌, ◌<◌, ◌+◌, ◌-◌, ◌*◌, nat_le, ◌==◌, ◌&&◌, Bool, true, if◌then◌else◌, List, [], ◌∷◌, ◌++◌, length, codes, Option, None, Some, ◌⊎◌}
+use Rattle.std.specs.Int.{w16, to_be_bytes}
 use Rattle.std.specs.List.{AllByRecursion}
 use Rattle.strm_types.specs.declared.names.Side.{Side}
 use Rattle.strm_types.specs.declared.names.Side.TheVariants.{Master, Slave}
@@ -12,17 +13,19 @@ use Rattle.strm_types.specs.declared.names.ModuleName.{ModuleName}
 use Rattle.strm_types.specs.declared.names.ModuleName.TheVariants as modules
 use Rattle.strm_types.specs.declared.events.FlushQueues.{FlushQueues}
 use Rattle.strm_types.specs.declared.events.FlushQueues.TheVariants as queues
-use Rattle.strm_types.specs.declared.events.Event.TheVariants.{OpenMaster, Unlock, OpenSlave, Shut, Push, Pop, Look, Write, Read, Nread}
+use Rattle.strm_types.specs.declared.events.Event.TheVariants.{OpenMaster, Unlock, OpenSlave, Shut, Push, Pop, Look, Write, Read, Nread, IoctlResult}
 use Rattle.strm_types.specs.declared.events.Event.TheVariants as calls
 use Rattle.strm_types.specs.declared.modes.Mode.{Mode}
 use Rattle.strm_types.specs.declared.modes.Mode.TheVariants as modes
 use Rattle.strm_types.specs.declared.modes.ReadMode.TheVariants.{ByteStream, MessageKeep, MessageDiscard}
 use Rattle.strm_types.specs.declared.modes.ControlMode.TheVariants.{Refuse, Data, Discard}
+use Rattle.strm_types.specs.declared.ioctls.TheConstants.{TCGETS, TCSETS, TCSETSW, TCSETSF, TIOCGWINSZ, TIOCSWINSZ, TIOCSIGNAL}
 use Rattle.strm_types.specs.Calls.{Request}
 use Rattle.strm_run.specs.declared.commands.NamedPrio.{NamedPrio}
 use Rattle.strm_run.specs.declared.commands.NamedPrio.TheVariants as prios
 use Rattle.strm_run.specs.declared.commands.NamedWanted.{NamedWanted}
 use Rattle.strm_run.specs.declared.commands.NamedWanted.TheVariants as wanteds
+use Rattle.strm_run.specs.declared.commands.WindowSize.{WindowSize}
 
 -- a command
 pub data Command : Type 0 where
@@ -212,6 +215,52 @@ abbrev pub IsPush : Side → Option ModuleName → List ℕ → Type 0
 IsPush side (Some known) line = line ≡ with_side (codes "push ") side ++ module_name known
 IsPush side None line = (name : List ℕ) × IsUnknown name × (line ≡ with_side (codes "push ") side ++ name)
 
+-- a number up to a limit
+abbrev pub IsNumberTo : ℕ → ℕ → List ℕ → Type 0
+IsNumberTo limit n digits = IsNumber digits n × (n ≤ limit)
+
+-- the largest number of one byte, and of two
+abbrev pub byte_max : ℕ
+byte_max = 255
+
+abbrev pub short_max : ℕ
+short_max = 65535
+
+-- the size of a window: four numbers of two bytes
+pub record IsWindow (size : WindowSize) (line : List ℕ) : Type 0 where
+  pub first : List ℕ
+  pub second : List ℕ
+  pub third : List ℕ
+  pub fourth : List ℕ
+  pub rows_is : IsNumberTo short_max size.rows first
+  pub columns_is : IsNumberTo short_max size.columns second
+  pub width_is : IsNumberTo short_max size.width third
+  pub height_is : IsNumberTo short_max size.height fourth
+  pub line_is : line ≡ first ++ (codes " " ++ (second ++ (codes " " ++ (third ++ (codes " " ++ fourth)))))
+
+-- what TIOCSWINSZ sends (termio(7I): struct winsize): each number in two bytes, the most significant first
+abbrev pub window_bytes : WindowSize → List ℕ
+window_bytes size = to_be_bytes w16 size.rows ++ (to_be_bytes w16 size.columns ++ (to_be_bytes w16 size.width ++ to_be_bytes w16 size.height))
+
+-- a command that sends a text: by its name, or by `raw` and its number
+pub data IsSender : ℕ → List ℕ → Type 0 where
+  Sets : IsSender TCSETS (codes "TCSETS")
+  SetsLater : IsSender TCSETSW (codes "TCSETSW")  -- behind what is written already
+  SetsAnew : IsSender TCSETSF (codes "TCSETSF")  -- behind it, and without what is typed already
+  Raw : (n : ℕ) (digits : List ℕ) → IsNumber digits n → IsSender n (codes "raw " ++ digits)
+
+-- what an ioctl asks for: its command, and the bytes that it sends (streamio(7I), termio(7I), ptm(7D))
+pub data IsAsked : ℕ → List ℕ → List ℕ → Type 0 where
+  Gets : IsAsked TCGETS [] (codes "TCGETS")
+  GetsWindow : IsAsked TIOCGWINSZ [] (codes "TIOCGWINSZ")
+  SetsWindow : (size : WindowSize) (rest : List ℕ) → IsWindow size rest → IsAsked TIOCSWINSZ (window_bytes size) (codes "TIOCSWINSZ " ++ rest)
+  Signals : (n : ℕ) (digits : List ℕ) → IsNumberTo byte_max n digits → IsAsked TIOCSIGNAL (n ∷ []) (codes "TIOCSIGNAL " ++ digits)
+  Sends : (command : ℕ) (text word part : List ℕ) → IsSender command word → IsPart (Some text) part → IsAsked command text (word ++ (codes " " ++ part))
+
+-- an ioctl: what it asks for, behind its side
+abbrev pub IsIoctl : Side → ℕ → List ℕ → List ℕ → Type 0
+IsIoctl side command sent line = (rest : List ℕ) × IsAsked command sent rest × (line ≡ with_side (codes "ioctl ") side ++ rest)
+
 -- How a call on a side's stream is spelled. What opens the master is `open`, which also makes the pair; a flush, a put and a
 -- get are commands of their own, and nothing spells I_NREAD.
 abbrev pub IsCall : Side → Request → List ℕ → Type 0
@@ -229,6 +278,9 @@ IsCall side (calls.Put prio control body) line = ⊥
 IsCall side (calls.Get wanted cmax dmax) line = ⊥
 IsCall side (calls.Mode mode) line = line ≡ with_side (codes "mode ") side ++ mode_name mode
 IsCall side Nread line = ⊥
+IsCall side (calls.Ioctl command sent) line = IsIoctl side command sent line
+IsCall side (IoctlResult number) line = IsWithNumber (with_side (codes "poll ") side) number line
+IsCall side calls.Signals line = line ≡ codes "signals " ++ side_name side
 
 -- how a command is spelled
 abbrev pub IsSpelled : Command → List ℕ → Type 0

@@ -6,7 +6,7 @@ use Rattle.strm_types.specs.declared.answers.Turn.{Turn}
 use Rattle.strm_types.specs.declared.answers.Turn.TheVariants.{Moved, Blocked, Idle}
 use Rattle.strm_types.specs.declared.refusals.Refusal.{Refusal}
 use Rattle.strm_types.specs.declared.refusals.Refusal.TheVariants.{Einval, Eagain, Enxio, Ebadmsg, Enosr, Erange, JournalFull, NoMinor, NoMemory, StillShared}
-use Rattle.strm_types.specs.declared.answers.Answer.TheVariants.{Done, Name, Count, Bytes, Msg}
+use Rattle.strm_types.specs.declared.answers.Answer.TheVariants.{Done, Name, Count, Bytes, Msg, Nak}
 use Rattle.strm_types.specs.declared.answers.Answer.TheVariants as answers
 use Rattle.strm_types.specs.declared.modes.Prio.{Prio}
 use Rattle.strm_types.specs.declared.modes.Prio.TheVariants.{High, Band}
@@ -24,6 +24,9 @@ pub data Line : Type 0 where
   Text : List ℕ → Line
   Message : Prio → Option (List ℕ) → Option (List ℕ) → Bool → Bool → Line  -- its parts, and whether there is more of each
   Waiting : ℕ → ℕ → Line  -- bytes of the first message, and messages; no command asks for them
+  Pending : ℕ → Line  -- the number of an ioctl that is under way
+  Denied : Refusal → Line  -- why an ioctl was answered with M_IOCNAK
+  Signals : List ℕ → Line
   Held : Line
   Empty : Line
   Ran : ℕ → Line
@@ -89,6 +92,22 @@ more_text true false = codes "c"
 more_text false true = codes "d"
 more_text true true = codes "cd"
 
+-- the name of a signal that terminals send (signal.h(3HEAD)), and the number of another one
+abbrev pub signal_text : ℕ → List ℕ
+signal_text n =
+    if n == 2 then codes "INT"
+    else (if n == 3 then codes "QUIT"
+    else (if n == 20 then codes "WINCH"
+    else (if n == 24 then codes "TSTP" else decimal n)))
+
+-- each signal behind a space, or `-` where there is none
+abbrev pub spaced_signal : ℕ → List ℕ
+spaced_signal n = codes " " ++ signal_text n
+
+abbrev pub signals_text : List ℕ → List ℕ
+signals_text [] = codes " -"
+signals_text (n ∷ ns) = flat_map spaced_signal (n ∷ ns)
+
 -- the text of an answer line
 unfoldable pub line_text : Line → List ℕ
 line_text Plain = codes "ok"
@@ -98,6 +117,9 @@ line_text (Text bytes) = codes "data " ++ decimal (length bytes) ++ codes " " ++
 line_text (Message prio control body more_control more_data) =
     codes "msg " ++ (prio_text prio ++ (codes " " ++ (part_text control ++ (codes " " ++ (part_text body ++ (codes " " ++ more_text more_control more_data))))))
 line_text (Waiting first messages) = codes "ok " ++ (decimal first ++ (codes " " ++ decimal messages))
+line_text (Pending n) = codes "pending " ++ decimal n
+line_text (Denied refusal) = codes "nak " ++ refusal_name refusal
+line_text (Signals ns) = codes "signals" ++ signals_text ns
 line_text Held = codes "blocked"
 line_text Empty = codes "idle"
 line_text (Ran n) = codes "ran " ++ decimal n
@@ -117,6 +139,9 @@ reply_line (Ok (Count n)) = Number n
 reply_line (Ok (Bytes bytes)) = Text bytes
 reply_line (Ok (Msg prio control body more_control more_data)) = Message prio control body more_control more_data
 reply_line (Ok (answers.Sizes first messages)) = Waiting first messages
+reply_line (Ok (answers.Pending n)) = Pending n
+reply_line (Ok (Nak refusal)) = Denied refusal
+reply_line (Ok (answers.Signals ns)) = Signals ns
 reply_line (Err refusal) = Refused refusal
 
 -- what a turn is answered by

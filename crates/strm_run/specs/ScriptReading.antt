@@ -13,7 +13,7 @@ use Rattle.strm_types.specs.declared.names.ModuleName.{ModuleName}
 use Rattle.strm_types.specs.declared.names.ModuleName.TheVariants as modules
 use Rattle.strm_types.specs.declared.events.FlushQueues.{FlushQueues}
 use Rattle.strm_types.specs.declared.events.FlushQueues.TheVariants as queues
-use Rattle.strm_types.specs.declared.events.Event.TheVariants.{Unlock, OpenSlave, Shut, Push, Pop, Look, Write, Read}
+use Rattle.strm_types.specs.declared.events.Event.TheVariants.{Unlock, OpenSlave, Shut, Push, Pop, Look, Write, Read, Ioctl, IoctlResult}
 use Rattle.strm_types.specs.declared.events.Event.TheVariants as calls
 use Rattle.strm_types.specs.declared.modes.Mode.{Mode as HeadMode}
 use Rattle.strm_types.specs.declared.modes.Mode.TheVariants as modes
@@ -23,7 +23,10 @@ use Rattle.strm_run.specs.declared.commands.NamedPrio.{NamedPrio}
 use Rattle.strm_run.specs.declared.commands.NamedPrio.TheVariants as prios
 use Rattle.strm_run.specs.declared.commands.NamedWanted.{NamedWanted}
 use Rattle.strm_run.specs.declared.commands.NamedWanted.TheVariants as wanteds
-use Rattle.strm_run.specs.Script.{Command, Open, Call, Flush, Put, Get, Turn, Run, Show, usual_size, line_max, number_max, digit_of, is_letter, hex_of, escaped, is_silent}
+use Rattle.strm_types.specs.declared.ioctls.TheConstants.{TCGETS, TCSETS, TCSETSW, TCSETSF, TIOCGWINSZ, TIOCSWINSZ, TIOCSIGNAL}
+use Rattle.strm_types.specs.Calls.{Request}
+use Rattle.strm_run.specs.declared.commands.WindowSize.{WindowSize}
+use Rattle.strm_run.specs.Script.{Command, Open, Call, Flush, Put, Get, Turn, Run, Show, usual_size, byte_max, short_max, window_bytes, line_max, number_max, digit_of, is_letter, hex_of, escaped, is_silent}
 
 -- what a line says
 pub data Reading : Type 0 where
@@ -86,6 +89,17 @@ unfoldable pub number_at : List ℕ → Option (Front ℕ)
 number_at line =
     let n = position_or_len is_space line in
     option_map (λ number. record { value = number; rest = drop n line }) (number_in (take n line))
+
+-- a number up to a limit, where the text is no more, and at the front
+abbrev pub within : ℕ → ℕ → Option ℕ
+within limit n = if nat_le n limit then Some n else None
+
+unfoldable pub number_to : ℕ → List ℕ → Option ℕ
+number_to limit line = and_then (within limit) (number_in line)
+
+unfoldable pub number_to_at : ℕ → List ℕ → Option (Front ℕ)
+number_to_at limit line =
+    and_then (λ (front : Front ℕ). option_map (λ n. record { value = n; rest = front.rest }) (within limit front.value)) (number_at line)
 
 -- how far the spelling of a text has come
 pub data Mode : Type 0 where
@@ -250,7 +264,7 @@ named_in line =
     (whole (codes "slave") (Call Slave OpenSlave) line)
 
 -- what stands behind a value and a space, and so behind a side
-abbrev pub behind : {A : Type 0} → (A → List ℕ → Option Command) → Option (Front A) → Option Command
+abbrev pub behind : {A B : Type 0} → (A → List ℕ → Option B) → Option (Front A) → Option B
 behind inside found = and_then (λ front. and_then (inside front.value) (after (codes " ") front.rest)) found
 
 abbrev pub behind_side : (Side → List ℕ → Option Command) → List ℕ → Option Command
@@ -275,7 +289,8 @@ unfoldable pub sided_call_in : List ℕ → Option Command
 sided_call_in line =
     either_of (option_map (λ side. Call side Shut) (and_then side_alone (after (codes "close ") line)))
     (either_of (option_map (λ side. Call side Pop) (and_then side_alone (after (codes "pop ") line)))
-    (option_map (λ side. Call side Look) (and_then side_alone (after (codes "look ") line))))
+    (either_of (option_map (λ side. Call side Look) (and_then side_alone (after (codes "look ") line)))
+    (option_map (λ side. Call side calls.Signals) (and_then side_alone (after (codes "signals ") line)))))
 
 -- a push of what a name stands for, where it is one
 abbrev pub pushed_in : Side → List ℕ → Option Command
@@ -348,6 +363,65 @@ message_in line =
     (either_of (get_in line)
     (set_mode_in line))
 
+-- a command that sends nothing
+unfoldable pub bare_in : List ℕ → Option ℕ
+bare_in line = either_of (whole (codes "TCGETS") TCGETS line) (whole (codes "TIOCGWINSZ") TIOCGWINSZ line)
+
+-- the size of a window, number by number
+abbrev pub height_got : ℕ → ℕ → ℕ → List ℕ → Option WindowSize
+height_got rows columns width line =
+    option_map (λ height. record { rows = rows; columns = columns; width = width; height = height }) (number_to short_max line)
+
+abbrev pub width_got : ℕ → ℕ → List ℕ → Option WindowSize
+width_got rows columns line = behind (height_got rows columns) (number_to_at short_max line)
+
+abbrev pub columns_got : ℕ → List ℕ → Option WindowSize
+columns_got rows line = behind (width_got rows) (number_to_at short_max line)
+
+abbrev pub size_in : List ℕ → Option WindowSize
+size_in line = behind columns_got (number_to_at short_max line)
+
+-- what TIOCSWINSZ and TIOCSIGNAL send
+unfoldable pub window_in : List ℕ → Option WindowSize
+window_in line = and_then size_in (after (codes "TIOCSWINSZ ") line)
+
+unfoldable pub signal_in : List ℕ → Option ℕ
+signal_in line = and_then (number_to byte_max) (after (codes "TIOCSIGNAL ") line)
+
+-- a command that sends a text, at the front
+unfoldable pub sender_at : List ℕ → Option (Front ℕ)
+sender_at line =
+    either_of (before (codes "TCSETSW") TCSETSW line)
+    (either_of (before (codes "TCSETSF") TCSETSF line)
+    (either_of (before (codes "TCSETS") TCSETS line)
+    (and_then number_at (after (codes "raw ") line))))
+
+abbrev pub text_sent : ℕ → List ℕ → Option Request
+text_sent command line = option_map (λ text. Ioctl command text) (text_in line)
+
+unfoldable pub sending_in : List ℕ → Option Request
+sending_in line = behind text_sent (sender_at line)
+
+-- what an ioctl asks for
+unfoldable pub asked_in : List ℕ → Option Request
+asked_in line =
+    either_of (option_map (λ command. Ioctl command []) (bare_in line))
+    (either_of (option_map (λ size. Ioctl TIOCSWINSZ (window_bytes size)) (window_in line))
+    (either_of (option_map (λ n. Ioctl TIOCSIGNAL (n ∷ [])) (signal_in line))
+    (sending_in line)))
+
+unfoldable pub ioctl_in : List ℕ → Option Command
+ioctl_in line =
+    and_then (behind_side (λ side rest. option_map (λ asked. Call side asked) (asked_in rest))) (after (codes "ioctl ") line)
+
+unfoldable pub poll_in : List ℕ → Option Command
+poll_in line =
+    and_then (behind_side (λ side rest. option_map (λ n. Call side (IoctlResult n)) (number_in rest))) (after (codes "poll ") line)
+
+-- what a side's stream is asked for about ioctls
+unfoldable pub control_in : List ℕ → Option Command
+control_in line = either_of (ioctl_in line) (poll_in line)
+
 -- the command that a line spells
 unfoldable pub command_in : List ℕ → Option Command
 command_in line =
@@ -358,7 +432,8 @@ command_in line =
     (either_of (turn_in line)
     (either_of (run_in line)
     (either_of (stream_in line)
-    (message_in line)))))))
+    (either_of (message_in line)
+    (control_in line))))))))
 
 -- the command, if the line is well formed
 abbrev pub spoken : Option Command → Reading

@@ -5,7 +5,7 @@ ghost use Rattle.std.specs.List.{position_from, position_or_len};
 ghost use Rattle.strm_run.specs.Script.{side_name, place_name, way_name, module_name};
 ghost use Rattle.strm_types.specs.Journal.{part_in, reply_in};
 ghost use Rattle.strm_run.specs.ScriptAnswers.{hex_digit, is_escaped, printed, quoted, size_text, line_text, refusal_name};
-ghost use Rattle.strm_run.specs.ScriptAnswers.{prio_text, part_text, more_text, reply_line};
+ghost use Rattle.strm_run.specs.ScriptAnswers.{prio_text, part_text, more_text, signal_text, signals_text, reply_line};
 ghost use Rattle.strm_run.specs.Lines.{line_of};
 
 use std::fmt;
@@ -300,6 +300,44 @@ impl fmt::Display for More {
     }
 }
 
+/// A signal, as it is printed.
+#[derive(Drop)]
+struct ShownSignal(u8);
+
+impl fmt::Display for ShownSignal {
+    ghost output = { λ s. Some (signal_text s.0) };
+
+    fn fmt<W: fmt::Write>(&self, f: &mut fmt::Formatter<W>) -> fmt::Result {
+        match self.0 {
+            2 => write!(f, "INT"),
+            3 => write!(f, "QUIT"),
+            20 => write!(f, "WINCH"),
+            24 => write!(f, "TSTP"),
+            number => write!(f, "{number}"),
+        }
+    }
+}
+
+/// Signals, as they are printed: each behind a space.
+#[derive(Drop)]
+struct ShownSignals<'a>(&'a [u8]);
+
+impl fmt::Display for ShownSignals<'_> {
+    ghost output = { λ s. Some (signals_text s.0.now) };
+
+    fn fmt<W: fmt::Write>(&self, f: &mut fmt::Formatter<W>) -> fmt::Result {
+        let signals = self.0;
+        if signals.is_empty() {
+            return write!(f, " -");
+        }
+        for signal in signals {
+            let signal = ShownSignal(*signal);
+            write!(f, " {signal}")?;
+        }
+        Ok(())
+    }
+}
+
 /// What a call was answered, with the bytes that it gave, as it is printed.
 #[derive(Drop)]
 struct ShownAnswer<'a> {
@@ -343,6 +381,15 @@ impl fmt::Display for ShownAnswer<'_> {
                 write!(f, "msg {prio} {control} {body} {more}")
             }
             Answer::Sizes { first, messages } => write!(f, "ok {first} {messages}"),
+            Answer::Pending(number) => write!(f, "pending {number}"),
+            Answer::Nak(refusal) => {
+                let name = name(*refusal);
+                write!(f, "nak {name}")
+            }
+            Answer::Signals(len) => {
+                let signals = ShownSignals(front(self.bytes, *len));
+                write!(f, "signals{signals}")
+            }
         }
     }
 }

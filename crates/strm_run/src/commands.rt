@@ -17,6 +17,16 @@ pub enum NamedWanted {
     Band(u32),
 }
 
+/// The size of a window, as TIOCSWINSZ has it (termio(7I): `struct winsize`): its rows and its columns, and its width and
+/// its height in pixels.
+#[derive(Clone, Copy)]
+pub struct WindowSize {
+    pub rows: u16,
+    pub columns: u16,
+    pub width: u16,
+    pub height: u16,
+}
+
 /// A command, as a line of a script gives it.
 #[derive(Drop)]
 pub enum Command {

@@ -6,10 +6,12 @@ ghost use Rattle.strm_run.specs.Script.{IsSpelled};
 ghost use Rattle.strm_run.specs.ScriptReading.{open_in, named_in, write_in, read_in, turn_in, run_in};
 ghost use Rattle.strm_run.specs.ScriptReading.{sided_call_in, push_in, flush_in, show_in, stream_in};
 ghost use Rattle.strm_run.specs.ScriptReading.{parts_put, put_in, get_of, get_in, set_mode_in, message_in};
+ghost use Rattle.strm_run.specs.ScriptReading.{ioctl_in, poll_in, control_in};
 ghost use Rattle.strm_run.specs.ScriptReading.{command_in, reading, Spoken};
 ghost use Rattle.strm_run.specs.Commands.{commands_of, reading_of};
 
 use crate::commands::{Command, NamedPrio, NamedWanted, Reading};
+use crate::ioctls::asked;
 use crate::numbers::{number, number_at};
 use crate::texts::{part, text};
 use crate::words::{
@@ -105,7 +107,7 @@ fn run(line: &[u8]) -> Option<Command>
     Some(Command::Run { turns })
 }
 
-/// A call that is spelled by its name and a side: `close X`, `pop X`, `look X`.
+/// A call that is spelled by its name and a side: `close X`, `pop X`, `look X`, `signals X`.
 #[tactic(auto, unfolding(crate::specs::ScriptReading::sided_call_in))]
 fn sided_call(line: &[u8]) -> Option<Command>
     ensures { commands_of result ≡ sided_call_in line.now }
@@ -118,8 +120,12 @@ fn sided_call(line: &[u8]) -> Option<Command>
         let event = Event::Pop;
         return Some(Command::Call { side, event });
     }
-    let side = side_behind(line, b"look ")?;
-    let event = Event::Look;
+    if let Some(side) = side_behind(line, b"look ") {
+        let event = Event::Look;
+        return Some(Command::Call { side, event });
+    }
+    let side = side_behind(line, b"signals ")?;
+    let event = Event::Signals;
     Some(Command::Call { side, event })
 }
 
@@ -283,6 +289,48 @@ fn of_message(alloc: Global, line: &[u8]) -> Result<Option<Command>, AllocError>
     Ok(set_mode(line))
 }
 
+/// `ioctl X NAME ARGS`.
+#[tactic(auto, unfolding(crate::specs::ScriptReading::ioctl_in))]
+fn ioctl(alloc: Global, line: &[u8]) -> Result<Option<Command>, AllocError>
+    ensures { IfOk result (λ found. commands_of found ≡ ioctl_in line.now) }
+{
+    let Some(rest) = after(line, b"ioctl ") else {
+        return Ok(None);
+    };
+    let Some((side, rest)) = side(rest) else {
+        return Ok(None);
+    };
+    let Some(rest) = after(rest, b" ") else {
+        return Ok(None);
+    };
+    match asked(alloc, rest)? {
+        Some(event) => Ok(Some(Command::Call { side, event })),
+        None => Ok(None),
+    }
+}
+
+/// `poll X N`.
+#[tactic(auto, unfolding(crate::specs::ScriptReading::poll_in))]
+fn poll(line: &[u8]) -> Option<Command>
+    ensures { commands_of result ≡ poll_in line.now }
+{
+    let (side, rest) = side(after(line, b"poll ")?)?;
+    let number = number(after(rest, b" ")?)?;
+    let event = Event::IoctlResult { number };
+    Some(Command::Call { side, event })
+}
+
+/// What a side's stream is asked for about ioctls.
+#[tactic(auto, unfolding(crate::specs::ScriptReading::control_in))]
+fn of_control(alloc: Global, line: &[u8]) -> Result<Option<Command>, AllocError>
+    ensures { IfOk result (λ found. commands_of found ≡ control_in line.now) }
+{
+    if let Some(command) = ioctl(alloc, line)? {
+        return Ok(Some(command));
+    }
+    Ok(poll(line))
+}
+
 /// The command that a line spells.
 #[tactic(auto, unfolding(crate::specs::ScriptReading::command_in))]
 fn command(alloc: Global, line: &[u8]) -> Result<Option<Command>, AllocError>
@@ -309,7 +357,10 @@ fn command(alloc: Global, line: &[u8]) -> Result<Option<Command>, AllocError>
     if let Some(command) = of_stream(line) {
         return Ok(Some(command));
     }
-    of_message(alloc, line)
+    if let Some(command) = of_message(alloc, line)? {
+        return Ok(Some(command));
+    }
+    of_control(alloc, line)
 }
 
 /// What a line says, by its length, its first byte and its command.

@@ -6,6 +6,7 @@
 mod answers;
 mod commands;
 mod engine;
+mod ioctls;
 mod lines;
 mod numbers;
 mod output;

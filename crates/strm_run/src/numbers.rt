@@ -3,7 +3,8 @@
 ghost use Rattle.std.specs.Prelude.{◌≡◌, ◌≤◌, IfSome, option_map};
 ghost use Rattle.std.specs.List.{position_from, position_or_len};
 ghost use Rattle.strm_run.specs.Script.{digit_of};
-ghost use Rattle.strm_run.specs.ScriptReading.{number_from, number_in, number_at, is_space};
+ghost use Rattle.strm_run.specs.Script.{byte_max, short_max};
+ghost use Rattle.strm_run.specs.ScriptReading.{within, number_from, number_in, number_to, number_at, number_to_at, is_space};
 ghost use Rattle.strm_run.specs.Views.{front_of};
 
 /// The value of a decimal digit.
@@ -76,4 +77,52 @@ pub fn number_at(text: &[u8]) -> Option<(u32, &[u8])>
     let len = word_len(text);
     let number = number(&text[..len])?;
     Some((number, &text[len..]))
+}
+
+/// A number as one of two bytes, if it is at most 65535.
+fn short_of(number: u32) -> Option<u16>
+    ensures { result ≡ within short_max number }
+{
+    if number <= u16::MAX as u32 {
+        Some(number as u16)
+    } else {
+        None
+    }
+}
+
+/// The number up to 65535 that a text spells.
+#[tactic(auto, unfolding(crate::specs::ScriptReading::number_to))]
+pub fn short(digits: &[u8]) -> Option<u16>
+    ensures { result ≡ number_to short_max digits.now }
+{
+    short_of(number(digits)?)
+}
+
+/// The number up to 65535 that the word at the front spells, and what follows it.
+#[tactic(auto, unfolding(crate::specs::ScriptReading::number_to_at))]
+pub fn short_at(text: &[u8]) -> Option<(u16, &[u8])>
+    ensures { option_map front_of result ≡ number_to_at short_max text.now }
+{
+    let (number, rest) = number_at(text)?;
+    let number = short_of(number)?;
+    Some((number, rest))
+}
+
+/// A number as a byte, if it is at most 255.
+fn byte_of(number: u32) -> Option<u8>
+    ensures { result ≡ within byte_max number }
+{
+    if number <= u8::MAX as u32 {
+        Some(number as u8)
+    } else {
+        None
+    }
+}
+
+/// The number up to 255 that a text spells.
+#[tactic(auto, unfolding(crate::specs::ScriptReading::number_to))]
+pub fn byte(digits: &[u8]) -> Option<u8>
+    ensures { result ≡ number_to byte_max digits.now }
+{
+    byte_of(number(digits)?)
 }

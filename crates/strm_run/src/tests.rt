@@ -1,6 +1,7 @@
-//! Scripts run from memory to memory: the titled scenes of `scripts` and `messages`, and readers, writers and lines that no scene can
-//! show.
+//! Scripts run from memory to memory: the titled scenes of `scripts`, `messages` and `ioctls`, and readers, writers and lines that no
+//! scene can show.
 
+mod ioctls;
 mod messages;
 mod no_memory;
 mod scripts;
@@ -106,6 +107,7 @@ fn each_scene_answers_as_it_says(rt: HostRuntime) -> Result<(), Fail> {
     plays_scenes(&rt, rt.alloc(), &scripts::TURNS)?;
     plays_scenes(&rt, rt.alloc(), &scripts::STREAMS)?;
     plays_scenes(&rt, rt.alloc(), &messages::MESSAGES)?;
+    plays_scenes(&rt, rt.alloc(), &ioctls::IOCTLS)?;
     plays_scenes(&rt, rt.alloc(), &scripts::LINES_AND_TEXTS)
 }
 
@@ -132,7 +134,23 @@ fn a_last_line_may_lack_its_end(rt: HostRuntime) {
 }
 
 // Lines about a stream that are malformed.
-const MALFORMED_LINES: [&[u8]; 32] = [
+const MALFORMED_LINES: [&[u8]; 48] = [
+    b"ioctl m",
+    b"ioctl m TCGET",
+    b"ioctl s TCGETS \"x\"",
+    b"ioctl s TCSETS",
+    b"ioctl s TCSETSX \"\"",
+    b"ioctl s TIOCSWINSZ 1 2 3",
+    b"ioctl s TIOCSWINSZ 1 2 3 70000",
+    b"ioctl s TIOCSWINSZ 1 2 3 4 5",
+    b"ioctl s TIOCSIGNAL 256",
+    b"ioctl s raw 1",
+    b"ioctl s raw \"x\"",
+    b"ioctl s raw 4294967296 \"x\"",
+    b"poll m",
+    b"poll m 4294967296",
+    b"signals",
+    b"signals x",
     b"put m 0 -",
     b"put m 0 - - ",
     b"put m any - -",

@@ -4,7 +4,7 @@ use super::WELL;
 use super::scripts::Scene;
 
 /// What is put on one side and got on the other.
-pub const MESSAGES: [Scene; 9] = [
+pub const MESSAGES: [Scene; 11] = [
     (
         "High priority comes first, then the bands, and each in the order of its puts",
         WELL,
@@ -178,6 +178,48 @@ put m 0 "zzzzzzzzzzzzzzzzzzzzzzzzzzzzzzzzzzzzzzzzzzzzzzzzzzzzzzzzzzzzzzzzz" -
   err ERANGE
 put m 0 - -
   ok
+"#,
+    ),
+    (
+        "What is refused is sent nowhere, and neither is what has no part",
+        WELL,
+        r#"open
+  ok
+unlock
+  ok
+slave
+  ok
+put m hi - "a"
+  err EINVAL
+put m 8 - "a"
+  err EINVAL
+put m 0 - -
+  ok
+get s
+  err EAGAIN
+read s 0
+  data 0 ""
+"#,
+    ),
+    (
+        "A control part is no data, until a mode makes it such",
+        WELL,
+        r#"open
+  ok
+unlock
+  ok
+slave
+  ok
+put m 0 "c" "d"
+  ok
+run 10
+  ran 1
+read s 5
+  err EBADMSG
+mode s protdat
+  ok
+read s 5
+  data 2 "cd"
 "#,
     ),
     (

@@ -8,7 +8,7 @@ use strm_blocks::TableStore;
 use strm_pair::Pair;
 use strm_types::{
     Answer, Band, Caller, Config, Content, Event, FlushQueues, Mode, Place, Prio, QueueName,
-    ReadMode, Refusal, Side, Wanted, Way,
+    ReadMode, Refusal, Side, TIOCGWINSZ, Wanted, Way,
 };
 
 const MASTER: Caller = Caller { side: Side::Master };
@@ -33,7 +33,7 @@ static BYTES: [u8; 300] = [b'z'; 300];
 type Came = Result<Answer<usize>, Refusal>;
 
 // Calls, each with what it answers. All turns that can be made are made behind each of them.
-const CALLS: [(Caller, Event<&'static [u8]>, Came); 20] = [
+const CALLS: [(Caller, Event<&'static [u8]>, Came); 24] = [
     (MASTER, Event::OpenMaster, Ok(Answer::Done)),
     (MASTER, Event::Unlock, Ok(Answer::Done)),
     (SLAVE, Event::OpenSlave, Ok(Answer::Done)),
@@ -120,6 +120,28 @@ const CALLS: [(Caller, Event<&'static [u8]>, Came); 20] = [
         },
         Ok(Answer::Done),
     ),
+    (
+        MASTER,
+        Event::Ioctl {
+            command: TIOCGWINSZ,
+            body: b"ab",
+        },
+        Ok(Answer::Pending(1)),
+    ),
+    (
+        MASTER,
+        Event::IoctlResult { number: 1 },
+        Ok(Answer::Nak(Refusal::Einval)),
+    ),
+    (
+        SLAVE,
+        Event::Ioctl {
+            command: TIOCGWINSZ,
+            body: b"",
+        },
+        Ok(Answer::Nak(Refusal::Einval)),
+    ),
+    (SLAVE, Event::Signals, Ok(Answer::Signals(0))),
     (MASTER, Event::Look, Err(Refusal::Einval)),
     (MASTER, Event::Pop, Err(Refusal::Einval)),
     (

@@ -1,0 +1,200 @@
+//! Scenes of ioctls and signals: ioctl(2) with its answer, now or later, and what waits of signals.
+
+use super::WELL;
+use super::scripts::Scene;
+
+/// What is asked of the drivers, and what they answer.
+pub const IOCTLS: [Scene; 8] = [
+    (
+        "A master's ioctl waits for its answer, which is given once, and a slave's is answered at once",
+        WELL,
+        r#"open
+  ok
+unlock
+  ok
+slave
+  ok
+ioctl m TIOCGWINSZ
+  pending 1
+ioctl m TIOCGWINSZ
+  err EAGAIN
+run 10
+  ran 2
+poll m 1
+  nak EINVAL
+ioctl s TIOCGWINSZ
+  nak EINVAL
+poll s 1
+  err EINVAL
+"#,
+    ),
+    (
+        "The ioctls of a pair are numbered in turn, and a poll wants the one under way",
+        WELL,
+        r#"open
+  ok
+unlock
+  ok
+slave
+  ok
+poll m 0
+  err EINVAL
+ioctl s TCGETS
+  nak EINVAL
+ioctl m TCGETS
+  pending 2
+poll m 1
+  err EINVAL
+poll m 2
+  err EAGAIN
+poll s 2
+  err EINVAL
+run 1
+  ran 1
+poll m 2
+  err EAGAIN
+run 1
+  ran 1
+poll m 4294967295
+  err EINVAL
+poll m 2
+  nak EINVAL
+poll m 2
+  err EINVAL
+ioctl m TCGETS
+  pending 3
+"#,
+    ),
+    (
+        "An ioctl under way waits for a slave that was closed",
+        WELL,
+        r#"open
+  ok
+ioctl m TCGETS
+  nak EINVAL
+unlock
+  ok
+slave
+  ok
+ioctl m TCGETS
+  pending 2
+close s
+  ok
+run 10
+  ran 1
+poll m 2
+  err EAGAIN
+slave
+  ok
+run 10
+  ran 2
+poll m 2
+  nak EINVAL
+"#,
+    ),
+    (
+        "No module knows an ioctl yet, by its name or by its number",
+        WELL,
+        r#"open
+  ok
+unlock
+  ok
+slave
+  ok
+ioctl s TCGETS
+  nak EINVAL
+ioctl s TCSETS "ab"
+  nak EINVAL
+ioctl s TCSETSW ""
+  nak EINVAL
+ioctl s TCSETSF "\x00\"\n"
+  nak EINVAL
+ioctl s TIOCGWINSZ
+  nak EINVAL
+ioctl s TIOCSWINSZ 24 80 0 65535
+  nak EINVAL
+ioctl s TIOCSIGNAL 0
+  nak EINVAL
+ioctl s TIOCSIGNAL 255
+  nak EINVAL
+ioctl s raw 0 ""
+  nak EINVAL
+ioctl s raw 4294967295 "x"
+  nak EINVAL
+"#,
+    ),
+    (
+        "An ioctl sends 256 bytes at most",
+        WELL,
+        r#"open
+  ok
+unlock
+  ok
+slave
+  ok
+ioctl s raw 99 "xxxxxxxxxxxxxxxxxxxxxxxxxxxxxxxxxxxxxxxxxxxxxxxxxxxxxxxxxxxxxxxxxxxxxxxxxxxxxxxxxxxxxxxxxxxxxxxxxxxxxxxxxxxxxxxxxxxxxxxxxxxxxxxxxxxxxxxxxxxxxxxxxxxxxxxxxxxxxxxxxxxxxxxxxxxxxxxxxxxxxxxxxxxxxxxxxxxxxxxxxxxxxxxxxxxxxxxxxxxxxxxxxxxxxxxxxxxxxxxxxxxxxxxxxxxxxxxxx"
+  err ERANGE
+ioctl s raw 99 "xxxxxxxxxxxxxxxxxxxxxxxxxxxxxxxxxxxxxxxxxxxxxxxxxxxxxxxxxxxxxxxxxxxxxxxxxxxxxxxxxxxxxxxxxxxxxxxxxxxxxxxxxxxxxxxxxxxxxxxxxxxxxxxxxxxxxxxxxxxxxxxxxxxxxxxxxxxxxxxxxxxxxxxxxxxxxxxxxxxxxxxxxxxxxxxxxxxxxxxxxxxxxxxxxxxxxxxxxxxxxxxxxxxxxxxxxxxxxxxxxxxxxxxxxxxxxxxx"
+  nak EINVAL
+"#,
+    ),
+    (
+        "No signal waits where none came",
+        WELL,
+        r#"open
+  ok
+signals m
+  signals -
+signals s
+  err ENXIO
+unlock
+  ok
+slave
+  ok
+ioctl s TIOCSIGNAL 2
+  nak EINVAL
+signals s
+  signals -
+signals m
+  signals -
+"#,
+    ),
+    (
+        "An ioctl goes down no stream that was hung up, and what is asked of its head goes on",
+        WELL,
+        r#"open
+  ok
+unlock
+  ok
+slave
+  ok
+close m
+  ok
+ioctl s TCGETS
+  err ENXIO
+poll s 1
+  err EINVAL
+signals s
+  signals -
+ioctl m TCGETS
+  err ENXIO
+poll m 1
+  err ENXIO
+signals m
+  err ENXIO
+"#,
+    ),
+    (
+        "Nothing about ioctls is there before the opening",
+        WELL,
+        r#"ioctl m TCGETS
+  err ENXIO
+ioctl s raw 99 "x"
+  err ENXIO
+poll m 1
+  err ENXIO
+signals s
+  err ENXIO
+"#,
+    ),
+];
