@@ -217,7 +217,7 @@ impl Head {
         self.hung_up = true;
     }
 
-    // M_SIG and M_PCSIG: a signal waits, if the message names one. A second byte says that it doesn't.
+    // M_SIG and M_PCSIG: a signal waits, if the message names one. One byte names it, and a second one says that it doesn't.
     fn take_signal<B: Blocks>(&mut self, store: &B, message: &B::Mp)
         requires { IsInHand (B.value store.now) (B.name message.now) }
         ensures { let bytes = bytes_of (in_hand (B.value store.now) (B.name message.now)) in
@@ -241,7 +241,8 @@ impl Head {
         }
     }
 
-    // M_SETOPTS: the read mode and the marks, each where it is given. An eleventh byte would say as much as a tenth.
+    // M_SETOPTS: the read mode and the marks, each where it is given. The longer form has nine bytes, and a tenth one says that it
+    // isn't that.
     fn set_options<B: Blocks>(&mut self, store: &B, message: &B::Mp)
         requires { IsInHand (B.value store.now) (B.name message.now) }
         ensures state { let bytes = bytes_of (in_hand (B.value store.now) (B.name message.now)) in
