@@ -30,13 +30,13 @@ use Rattle.strm_types.specs.Deliver.{Acted}
 use Rattle.strm_types.specs.Heads.{head_put, with_options}
 use Rattle.strm_types.specs.Journal.{content_max, entries_in, room_of}
 use Rattle.strm_types.specs.Kept.{came, gone}
-use Rattle.strm_types.specs.Message.{Message, cells_of, size_of}
+use Rattle.strm_types.specs.Message.{cells_of, size_of}
 use Rattle.strm_types.specs.Options.{options_in}
 use Rattle.strm_types.specs.Puts.{put_in}
 use Rattle.strm_types.specs.Refused.{blocks_asked, refused_at_once, refused_by_state}
 use Rattle.strm_types.specs.Signals.{has_signal, signal_in, with_signal}
 use Rattle.strm_types.specs.State.{Head, State, Stream}
-use Rattle.strm_types.proofs.Samples.{flow, ordinary, proto, queue}
+use Rattle.strm_types.proofs.Samples.{flow, ordinary, proto, queue, without_parts}
 
 -- the signals that bytes name: one byte from 1 to 31
 
@@ -65,9 +65,6 @@ first-signal = refl
 abbrev here : Spot
 here = record { side = Slave; at = 0; way = Up }
 
-abbrev of : MsgKind → List ℕ → Message ℕ
-of kind bytes = record { kind = kind; band = 0; control = None; body = None; plain = bytes }
-
 abbrev head : List ℕ → Head ℕ
 head signals = record {
   queue = queue (proto ∷ []) (flow 9 1 true ∷ flow 8 3 false ∷ []);
@@ -83,7 +80,7 @@ leaves h = record { state = h; notes = []; sent = []; gone = [] }
 
 -- of the signals it has two
 abbrev signalled : MsgKind → List ℕ → Acted ℕ (Head ℕ)
-signalled kind bytes = head_put here (of kind bytes) (head two)
+signalled kind bytes = head_put here (without_parts kind bytes) (head two)
 
 pub signals-come-up : map (λ kind. signalled kind (3 ∷ [])) (Sig ∷ Pcsig ∷ []) ≡ leaves (head (2 ∷ 5 ∷ 3 ∷ [])) ∷ leaves (head (2 ∷ 5 ∷ 3 ∷ [])) ∷ []
 signals-come-up = refl
@@ -163,7 +160,7 @@ abbrev caller : Side → Caller
 caller side = record { side = side }
 
 -- a side that isn't open has nobody for signals, and no cell goes with one
-pub signals-want-an-open-side : map (λ opened. let t = put_in here (of Sig (3 ∷ [])) (pair (end Open two) (end opened two)) in t.state) (Open ∷ Never ∷ Closed ∷ [])
+pub signals-want-an-open-side : map (λ opened. let t = put_in here (without_parts Sig (3 ∷ [])) (pair (end Open two) (end opened two)) in t.state) (Open ∷ Never ∷ Closed ∷ [])
     ≡ pair (end Open two) (end Open (2 ∷ 5 ∷ 3 ∷ [])) ∷ pair (end Open two) (end Never two) ∷ pair (end Open two) (end Closed two) ∷ []
 signals-want-an-open-side = refl
 
