@@ -31,6 +31,7 @@ use Rattle.strm_types.specs.Heads.{head_put, with_options}
 use Rattle.strm_types.specs.Journal.{content_max, entries_in, room_of}
 use Rattle.strm_types.specs.Kept.{came, gone}
 use Rattle.strm_types.specs.Message.{cells_of, size_of}
+use Rattle.strm_types.specs.Names.{driver_of}
 use Rattle.strm_types.specs.Options.{options_in}
 use Rattle.strm_types.specs.Puts.{put_in}
 use Rattle.strm_types.specs.Refused.{blocks_asked, refused_at_once, refused_by_state}
@@ -219,9 +220,10 @@ stored-signals = refl
 abbrev new : Head ℕ
 new = record { queue = queue [] (replicate 8 (flow 5120 1024 false)); read_mode = ByteStream; control_mode = Refuse; hung_up = false; signals = []; ioctl = Free }
 
-pub nothing-waits-at-a-slave-opened-anew : (called plain (caller Master) OpenSlave (pair (end Open two) (end Closed two))).state.slave.head ≡ new
+pub nothing-waits-at-a-slave-opened-anew : called plain (caller Master) OpenSlave (pair (end Open two) (end Closed two))
+    ≡ record { answer = Done; state = record (pair (end Open two) (record (end Open two) { head = new })) { enabled = driver_of Master ∷ [] } }
 nothing-waits-at-a-slave-opened-anew = refl
 
-pub nothing-waits-at-a-closed-side : (called plain (caller Slave) Shut (pair (end Open two) (end Open two))).state.slave.head ≡ new
+pub nothing-waits-at-a-closed-side : (called plain (caller Slave) Shut (pair (end Open two) (end Open two))).state.slave ≡ record (end Closed two) { head = new }
 unfolding cells_of size_of
 nothing-waits-at-a-closed-side = refl
