@@ -8,7 +8,6 @@ use Rattle.strm_types.specs.declared.answers.Answer.TheVariants.{Done, Bytes}
 use Rattle.strm_types.specs.declared.limits.TheConstants.{READ_MAX, CONTENT_MAX, IOCTL_MAX}
 use Rattle.strm_types.specs.declared.modes.Wanted.{Wanted}
 use Rattle.strm_types.specs.declared.names.Side.{Side}
-use Rattle.strm_types.specs.declared.names.Side.TheVariants.{Master, Slave}
 use Rattle.strm_types.specs.declared.names.Way.TheVariants.{Down}
 use Rattle.strm_types.specs.declared.slots.Slot.TheVariants.{Free, Waiting, Acked, Nacked}
 use Rattle.strm_types.specs.Calls.{Request, called, content_of, get_at, ioctl_begun, ioctl_sent, read_at}
@@ -24,7 +23,7 @@ use Rattle.strm_types.specs.Within.{AreWithin}
 use Rattle.strm_types.proofs.GetKeeps.{get-control, get-data}
 use Rattle.strm_types.proofs.ReadKeeps.{head_draw-most}
 use Rattle.strm_types.proofs.SignalRoom.{signals-fit}
-use Rattle.strm_types.proofs.WithinHeads.{delivered-within, side-within}
+use Rattle.strm_types.proofs.WithinHeads.{begun-within, delivered-within, side-within}
 
 module _ {C : Type 0} (cells : Cells C) where
   part-bytes : (o : Option (List C)) → length (part (option_map (bytes_of cells) o)) ≡ length (part o)
@@ -61,10 +60,6 @@ module _ {C : Type 0} (cells : Cells C) where
       at : (none : Bool) → length (content_of (cond none Done (Bytes body))) ≤ IOCTL_MAX
       at true = omega arith
       at false = fits
-
-  begun-within : (side : Side) (command : ℕ) (s : State C) → AreWithin s → AreWithin (ioctl_begun side command s)
-  begun-within Master command s within = record { master = record { signals = within.master.signals; answer = omega arith }; slave = within.slave }
-  begun-within Slave command s within = record { master = within.master; slave = record { signals = within.slave.signals; answer = omega arith } }
 
   pub content-fits : (caller : Caller) (asked : Request) (s : State C) → AreWithin s → length (content_of (called cells caller asked s).answer) ≤ content_max asked
   content-fits caller OpenMaster s within = omega arith

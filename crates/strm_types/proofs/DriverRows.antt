@@ -21,7 +21,7 @@ use Rattle.strm_types.specs.Flushing.{asked_by, read_flush, flush_message}
 use Rattle.strm_types.specs.Ioctls.{ioc_bytes, read_ioc}
 use Rattle.strm_types.specs.Message.{Message, rank_of, band_of, size_of, cells_of, is_high_priority}
 use Rattle.strm_types.specs.Queue.{Queue, new_queue}
-use Rattle.strm_types.proofs.Samples.{ordinary, proto, queue, flow}
+use Rattle.strm_types.proofs.Samples.{flow, header, ordinary, proto, queue}
 
 abbrev asked : Bool → Bool → Option Band → FlushAsked
 asked for_read for_write band = record { for_read = for_read; for_write = for_write; band = band }
@@ -129,9 +129,7 @@ pub others-that-come-across : map (λ m. driver_put Slave (across true false) (h
 unfolding rank_of band_of is_high_priority
 others-that-come-across = refl
 
--- a header of 16 bytes, its command and its number the last bytes of their four, and a payload behind it
-abbrev header : ℕ → ℕ → ℕ → List ℕ
-header command number error = 0 ∷ 0 ∷ 0 ∷ command ∷ 0 ∷ 0 ∷ 0 ∷ number ∷ 0 ∷ 0 ∷ 0 ∷ error ∷ 0 ∷ 0 ∷ 0 ∷ 0 ∷ []
+-- headers of ioctls, and payloads behind them
 
 abbrev ioc : ℕ → ℕ → Ioc
 ioc command number = record { command = command; number = number; error = 0; result = 0 }

@@ -1,6 +1,7 @@
 -- Messages and queues for the rows.
 use Rattle.std.proofs.Common.{ℕ, Bool, true, false, List, [], ◌∷◌}
 use Rattle.std.specs.Prelude.{None, Some}
+use Rattle.strm_types.specs.declared.kinds.MsgKind.{MsgKind}
 use Rattle.strm_types.specs.declared.kinds.MsgKind.TheVariants.{Data, Proto, Setopts, Pcproto}
 use Rattle.strm_types.specs.Message.{Message}
 use Rattle.strm_types.specs.declared.modes.ControlMode.TheVariants.{Refuse}
@@ -18,6 +19,14 @@ urgent = record { kind = Pcproto; band = 3; control = Some (9 ∷ []); body = No
 
 abbrev pub options : Message ℕ
 options = record { kind = Setopts; band = 1; control = None; body = None; plain = 1 ∷ 2 ∷ 3 ∷ 4 ∷ [] }
+
+-- a message without parts, of a kind and these bytes
+abbrev pub without_parts : MsgKind → List ℕ → Message ℕ
+without_parts kind bytes = record { kind = kind; band = 0; control = None; body = None; plain = bytes }
+
+-- the header of an ioctl message: its command, its number and its refusal are the last bytes of their four, and it has no result
+abbrev pub header : ℕ → ℕ → ℕ → List ℕ
+header command number error = 0 ∷ 0 ∷ 0 ∷ command ∷ 0 ∷ 0 ∷ 0 ∷ number ∷ 0 ∷ 0 ∷ 0 ∷ error ∷ 0 ∷ 0 ∷ 0 ∷ 0 ∷ []
 
 -- an ordinary message of these bytes
 abbrev pub ordinary : List ℕ → Message ℕ

@@ -42,7 +42,7 @@ module _ {C : Type 0} where
   blocked-unread Master m s unread = record { master = unread.master; slave = unread.slave }
   blocked-unread Slave m s unread = record { master = unread.master; slave = unread.slave }
 
-  any-holds : (Holds : TurnOutcome C → Type 0) (opened stopped : Bool) (shut waits moves : TurnOutcome C) → Holds shut → Holds waits → Holds moves → Holds (cond (not opened) shut (cond stopped waits moves))
+  pub any-holds : (Holds : TurnOutcome C → Type 0) (opened stopped : Bool) (shut waits moves : TurnOutcome C) → Holds shut → Holds waits → Holds moves → Holds (cond (not opened) shut (cond stopped waits moves))
   any-holds Holds false stopped shut waits moves one two three = one
   any-holds Holds true true shut waits moves one two three = two
   any-holds Holds true false shut waits moves one two three = three

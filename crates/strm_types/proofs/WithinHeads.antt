@@ -13,6 +13,7 @@ use Rattle.strm_types.specs.declared.names.Way.{Way}
 use Rattle.strm_types.specs.declared.names.Way.TheVariants.{Up, Down}
 use Rattle.strm_types.specs.declared.slots.Slot.TheVariants.{Free, Waiting, Acked, Nacked}
 use Rattle.strm_types.specs.declared.spots.Spot.{Spot}
+use Rattle.strm_types.specs.Calls.{ioctl_begun}
 use Rattle.strm_types.specs.Deliver.{Acted, Took}
 use Rattle.strm_types.specs.Flushing.{is_flush, asked_by}
 use Rattle.strm_types.specs.Heads.{flush_up, head_flushed, head_put, is_doubled, obeyed, passed_by, turned_round, waits_for_readers}
@@ -112,3 +113,8 @@ module _ {C : Type 0} where
   pub with-head-within : (side : Side) (h : Head C) (s : State C) → IsWithin h → AreWithin s → AreWithin (with_stream side (record (stream side s) { head = h }) s)
   with-head-within Master h s new within = record { master = new; slave = within.slave }
   with-head-within Slave h s new within = record { master = within.master; slave = new }
+
+  -- where an ioctl begins
+  pub begun-within : (side : Side) (command : ℕ) (s : State C) → AreWithin s → AreWithin (ioctl_begun side command s)
+  begun-within Master command s within = record { master = record { signals = within.master.signals; answer = omega arith }; slave = within.slave }
+  begun-within Slave command s within = record { master = within.master; slave = record { signals = within.slave.signals; answer = omega arith } }

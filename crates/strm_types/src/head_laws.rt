@@ -1,7 +1,7 @@
-//! What follows from the definitions of reads and gets at a stream head, in the words of read(2), getmsg(2) and streamio(7I).
-//! Each law is the contract of a function that does nothing, and holds of bytes and of bytes with their origin alike.
+//! What follows from the definitions of reads and gets at a stream head, and of the signals and the ioctl that it keeps, in the
+//! words of read(2), getmsg(2) and streamio(7I). Each law is the contract of a function that does nothing, and holds of bytes and of bytes with their origin alike.
 
-ghost use Rattle.std.specs.Prelude.{◌≡◌, true, ℕ, ◌+◌, ◌≤◌, ◌⊎◌, List, [], Some, length, count_by, Bool};
+ghost use Rattle.std.specs.Prelude.{◌≡◌, true, ℕ, ◌+◌, ◌≤◌, ◌⊎◌, List, [], None, Some, length, count_by, Bool};
 ghost use Rattle.std.specs.List.{AllByRecursion};
 ghost use Rattle.strm_types.specs.declared.modes.ReadMode.{ReadMode};
 ghost use Rattle.strm_types.specs.declared.modes.ReadMode.TheVariants.{ByteStream, MessageKeep, MessageDiscard};
@@ -9,6 +9,21 @@ ghost use Rattle.strm_types.specs.declared.modes.ControlMode.{ControlMode};
 ghost use Rattle.strm_types.specs.declared.modes.ControlMode.TheVariants.{Refuse, Data, Discard};
 ghost use Rattle.strm_types.specs.declared.modes.Wanted.{Wanted};
 ghost use Rattle.strm_types.specs.declared.refusals.Refusal.{Refusal};
+ghost use Rattle.strm_types.specs.declared.refusals.Refusal.TheVariants.{Einval, Eagain};
+ghost use Rattle.strm_types.specs.declared.answers.Answer.TheVariants.{Pending};
+ghost use Rattle.strm_types.specs.declared.events.Caller.{Caller};
+ghost use Rattle.strm_types.specs.declared.events.Event.TheVariants.{Ioctl, IoctlResult};
+ghost use Rattle.strm_types.specs.declared.limits.TheConstants.{SIGNAL_LAST};
+ghost use Rattle.strm_types.specs.declared.spots.Spot.{Spot};
+ghost use Rattle.strm_types.specs.Calls.{called};
+ghost use Rattle.strm_types.specs.Cells.{Cells};
+ghost use Rattle.strm_types.specs.Heads.{head_put};
+ghost use Rattle.strm_types.specs.Journal.{PlainEntry};
+ghost use Rattle.strm_types.specs.Refused.{refused_by_state};
+ghost use Rattle.strm_types.specs.Signals.{AreSignals};
+ghost use Rattle.strm_types.specs.State.{Head, State, opening};
+ghost use Rattle.strm_types.specs.Step.{Step};
+ghost use Rattle.strm_types.specs.Within.{AreWithin, IsWithin};
 ghost use Rattle.strm_types.specs.Message.{Message, part};
 ghost use Rattle.strm_types.specs.Queue.{weight, map_messages};
 ghost use Rattle.strm_types.specs.Head.{head_read};
@@ -70,4 +85,32 @@ pub fn gets_keep_cells<C>()
     ensures most_data { (wanted : Wanted) (cmax dmax : ℕ) (q : List (Message C)) → length (part (head_get wanted cmax dmax q).body) ≤ dmax }
     ensures refused { (wanted : Wanted) (at_end : Bool) (cmax dmax : ℕ) (q : List (Message C)) (refusal : Refusal) →
         get_refusal wanted at_end q ≡ Some refusal → head_get wanted cmax dmax q ≡ got_none q }
+{}
+
+/// What a stream head keeps for its caller is bounded: each signal waits once, so that no more than 31 wait, and the answer of
+/// an ioctl has at most 256 bytes. It is so in a new pair, behind each put at a head, and behind each step of a pair.
+pub fn heads_keep_little<C>()
+    ensures opening { (s : State C) → s ≡ opening → AreWithin s }
+    ensures put { (here : Spot) (m : Message C) (h : Head C) → IsWithin h → IsWithin (head_put here m h).state }
+    ensures step { (cells : Cells C) (old new : State C) (entry : PlainEntry) → AreWithin old →
+        Step cells old entry new → AreWithin new }
+    ensures signals { (ns : List ℕ) → AreSignals ns → length ns ≤ SIGNAL_LAST }
+{}
+
+/// The answer of an ioctl is given once. Behind a call for it that isn't refused, a call for the answer of any number is EINVAL,
+/// and another ioctl may begin. An ioctl that tells a number waits: a call for the answer of that number is EAGAIN. Any other one
+/// has given its answer itself.
+pub fn ioctls_are_answered_once<C>()
+    ensures once { (cells : Cells C) (caller : Caller) (number asked : ℕ) (s : State C) →
+        refused_by_state s caller (IoctlResult number) ≡ None →
+        refused_by_state (called cells caller (IoctlResult number) s).state caller (IoctlResult asked) ≡ Some Einval }
+    ensures next { (cells : Cells C) (caller : Caller) (number command : ℕ) (body : List ℕ) (s : State C) →
+        refused_by_state s caller (IoctlResult number) ≡ None →
+        refused_by_state (called cells caller (IoctlResult number) s).state caller (Ioctl command body) ≡ None }
+    ensures waits { (cells : Cells C) (caller : Caller) (command number : ℕ) (body : List ℕ) (s : State C) →
+        (called cells caller (Ioctl command body) s).answer ≡ Pending number →
+        refused_by_state (called cells caller (Ioctl command body) s).state caller (IoctlResult number) ≡ Some Eagain }
+    ensures at_once { (cells : Cells C) (caller : Caller) (command asked : ℕ) (body : List ℕ) (s : State C) →
+        (refused_by_state (called cells caller (Ioctl command body) s).state caller (IoctlResult asked) ≡ Some Einval)
+        ⊎ ((number : ℕ) × ((called cells caller (Ioctl command body) s).answer ≡ Pending number)) }
 {}

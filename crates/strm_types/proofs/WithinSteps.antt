@@ -1,0 +1,167 @@
+-- What a head keeps for its caller stays bounded behind each step of a pair, and is so in a new one.
+use Rattle.std.proofs.Common.{ℕ, Bool, true, false, cond, List, [], ◌∷◌, subst, arith}
+use Rattle.std.specs.Prelude.{Option, None, Some}
+use Rattle.strm_types.specs.declared.answers.Turn.{Turn}
+use Rattle.strm_types.specs.declared.books.Book.{Book}
+use Rattle.strm_types.specs.declared.entries.Entry.TheVariants.{Called, Turned}
+use Rattle.strm_types.specs.declared.events.Caller.{Caller}
+use Rattle.strm_types.specs.declared.events.Event.TheVariants.{OpenMaster, Unlock, OpenSlave, Shut, Push, Pop, Look, Flush, Write, Read, Put, Get, Mode, Nread, Ioctl, IoctlResult, Signals}
+use Rattle.strm_types.specs.declared.modes.Mode as modes
+use Rattle.strm_types.specs.declared.modes.Mode.TheVariants as chosen
+use Rattle.strm_types.specs.declared.modes.Prio.{Prio}
+use Rattle.strm_types.specs.declared.names.Dir.{Dir}
+use Rattle.strm_types.specs.declared.names.Dir.TheVariants.{MasterToSlave, SlaveToMaster}
+use Rattle.strm_types.specs.declared.names.Place.{Place}
+use Rattle.strm_types.specs.declared.names.Place.TheVariants.{Head, Ldterm, Driver}
+use Rattle.strm_types.specs.declared.names.QueueName.{QueueName}
+use Rattle.strm_types.specs.declared.names.Side.{Side}
+use Rattle.strm_types.specs.declared.names.Side.TheVariants.{Master, Slave}
+use Rattle.strm_types.specs.declared.names.Way.TheVariants.{Down}
+use Rattle.strm_types.specs.declared.rules.Rule.TheVariants.{EndClosed}
+use Rattle.strm_types.specs.declared.spots.Spot.{Spot}
+use Rattle.strm_types.specs.Calls.{Request, called, get_at, ioctl_begun, ioctl_sent, ioctl_told, message_put, mode_set, put_at, read_at, signals_told, wrote}
+use Rattle.strm_types.specs.Cells.{Cells}
+use Rattle.strm_types.specs.Emptied.{of_all, head_emptied, driver_emptied, ended, hung_up_at, closed_at}
+use Rattle.strm_types.specs.Flushing.{asked_of, flush_bytes, flush_message}
+use Rattle.strm_types.specs.Ioctls.{asking, ioctl_message}
+use Rattle.strm_types.specs.Journal.{PlainEntry}
+use Rattle.strm_types.specs.Message.{Message, size_of}
+use Rattle.strm_types.specs.Names.{is_open, other, without}
+use Rattle.strm_types.specs.Puts.{delivered}
+use Rattle.strm_types.specs.Queue.{Queue, left_with}
+use Rattle.strm_types.specs.Slots.{slot_behind}
+use Rattle.strm_types.specs.State.{State, new_head, opening, stream, with_book}
+use Rattle.strm_types.specs.Step.{Step}
+use Rattle.strm_types.specs.Turns.{blocked_at_head, driver_serves, held_back, is_stopped, moved_across, turn_ended, turned, turned_at, up_across, with_driver}
+use Rattle.strm_types.specs.declared.modes.Wanted.{Wanted}
+use Rattle.strm_types.specs.Within.{AreWithin, IsWithin}
+use Rattle.strm_types.proofs.TurnKeeps.{any-holds}
+use Rattle.strm_types.proofs.WithinHeads.{behind-fits, begun-within, delivered-within, side-within, with-head-within}
+
+-- the place below a side's head
+abbrev below : Side → Spot
+below side = record { side = side; at = 1; way = Down }
+
+module _ {C : Type 0} where
+  -- a new head keeps nothing
+  new-within : IsWithin {C = C} new_head
+  new-within = record { signals = record { once = λ n. omega arith; known = tt }; answer = omega arith }
+
+  pub opening-within : AreWithin {C = C} opening
+  opening-within = record { master = new-within; slave = new-within }
+
+  -- turns
+  driver-within : (side : Side) (q : Queue C) (s : State C) → AreWithin s → AreWithin (with_driver side q s)
+  driver-within Master q s within = record { master = within.master; slave = within.slave }
+  driver-within Slave q s within = record { master = within.master; slave = within.slave }
+
+  ended-within : (side : Side) (size : ℕ) (s : State C) → AreWithin s → AreWithin (turn_ended side size s)
+  ended-within Master size s within = record { master = within.master; slave = within.slave }
+  ended-within Slave size s within = record { master = within.master; slave = within.slave }
+
+  moved-within : (side : Side) (m : Message C) (rest : List (Message C)) (s : State C) → AreWithin s → AreWithin (moved_across side m rest s).state
+  moved-within side m rest s within =
+      let from = with_driver side (left_with rest (stream side s).driver.queue) s in
+      ended-within side (size_of m) (delivered (up_across side) m from).state (delivered-within (up_across side) m from (driver-within side (left_with rest (stream side s).driver.queue) s within))
+
+  same-within : (side : Side) (q : Queue C) (s : State C) → AreWithin s → IsWithin (record (stream side s).head { queue = q })
+  same-within side q s within = let at = side-within side s within in record { signals = at.signals; answer = at.answer }
+
+  blocked-within : (side : Side) (m : Message C) (s : State C) → AreWithin s → AreWithin (blocked_at_head side m s)
+  blocked-within Master m s within = record { master = within.master; slave = record { signals = within.slave.signals; answer = within.slave.answer } }
+  blocked-within Slave m s within = record { master = record { signals = within.master.signals; answer = within.master.answer }; slave = within.slave }
+
+  serves-within : (side : Side) (ms : List (Message C)) (s : State C) → AreWithin s → AreWithin (driver_serves side ms s).state
+  serves-within side [] s within = driver-within side (record (stream side s).driver.queue { want_read = true }) s within
+  serves-within side (m ∷ rest) s within =
+      let waits = driver-within side (held_back (stream side s).driver.queue) s within in
+      any-holds (λ t. AreWithin t.state) (is_open (stream (other side) s).opened) (is_stopped m (stream (other side) s).head.queue) _ _ _
+      waits (blocked-within side m (with_driver side (held_back (stream side s).driver.queue) s) waits) (moved-within side m rest s within)
+
+  turn-within : (cells : Cells C) (name : QueueName) (turn : Turn) (s : State C) → AreWithin s → AreWithin (turned cells name turn s).state
+  turn-within cells name turn s within = at name.place (record s { enabled = without name s.enabled }) (record { master = within.master; slave = within.slave })
+    where
+      at : (place : Place) (s : State C) → AreWithin s → AreWithin (turned_at cells place name.side turn s).state
+      at Driver s within = serves-within name.side (stream name.side s).driver.queue.messages s within
+      at Head s within = within
+      at Ldterm s within = within
+
+  -- calls
+  hung_up-within : (s : State C) → AreWithin s → AreWithin (hung_up_at Slave s)
+  hung_up-within s within = at (is_open s.slave.opened)
+    where
+      at : (opened : Bool) → AreWithin (cond opened (record s { slave = record s.slave { head = record s.slave.head { hung_up = true } } }) s)
+      at true = record { master = within.master; slave = record { signals = within.slave.signals; answer = within.slave.answer } }
+      at false = within
+
+  closed-within : (side : Side) (s : State C) → AreWithin s → AreWithin (closed_at side s).state
+  closed-within Slave s within = record { master = within.master; slave = new-within }
+  closed-within Master s within =
+      let heads = (head_emptied EndClosed of_all Master s).state in
+      let all = (driver_emptied EndClosed of_all Slave (driver_emptied EndClosed of_all Master heads).state).state in
+      hung_up-within (ended Master all) (record { master = new-within; slave = within.slave })
+
+  write-within : (cells : Cells C) (side : Side) (bytes : List ℕ) (s : State C) → AreWithin s → AreWithin (wrote cells side bytes s).state
+  write-within cells Master bytes s within = record { master = within.master; slave = within.slave }
+  write-within cells Slave bytes s within = record { master = within.master; slave = within.slave }
+
+  read-within : (cells : Cells C) (side : Side) (n : ℕ) (s : State C) → AreWithin s → AreWithin (read_at cells side n s).state
+  read-within cells Master n s within = record { master = record { signals = within.master.signals; answer = within.master.answer }; slave = within.slave }
+  read-within cells Slave n s within = record { master = within.master; slave = record { signals = within.slave.signals; answer = within.slave.answer } }
+
+  get-within : (cells : Cells C) (side : Side) (wanted : Wanted) (cmax dmax : ℕ) (s : State C) → AreWithin s → AreWithin (get_at cells side wanted cmax dmax s).state
+  get-within cells Master wanted cmax dmax s within = record { master = record { signals = within.master.signals; answer = within.master.answer }; slave = within.slave }
+  get-within cells Slave wanted cmax dmax s within = record { master = within.master; slave = record { signals = within.slave.signals; answer = within.slave.answer } }
+
+  booked-within : (dir : Dir) (b : Book) (s : State C) → AreWithin s → AreWithin (with_book dir b s)
+  booked-within MasterToSlave b s within = record { master = within.master; slave = within.slave }
+  booked-within SlaveToMaster b s within = record { master = within.master; slave = within.slave }
+
+  put_at-within : (cells : Cells C) (side : Side) (prio : Prio) (control body : Option (List ℕ)) (s : State C) → AreWithin s → AreWithin (put_at cells side prio control body s).state
+  put_at-within cells side prio None None s within = within
+  put_at-within cells side prio None (Some xs) s within =
+      booked-within _ _ _ (delivered-within (below side) (message_put cells side prio None (Some xs) s) s within)
+  put_at-within cells side prio (Some xs) body s within =
+      booked-within _ _ _ (delivered-within (below side) (message_put cells side prio (Some xs) body s) s within)
+
+  mode-within : (side : Side) (mode : modes.Mode) (s : State C) → AreWithin s → AreWithin (mode_set side mode s)
+  mode-within side (chosen.Read mode) s within =
+      let at = side-within side s within in
+      with-head-within side (record (stream side s).head { read_mode = mode }) s (record { signals = at.signals; answer = at.answer }) within
+  mode-within side (chosen.Control mode) s within =
+      let at = side-within side s within in
+      with-head-within side (record (stream side s).head { control_mode = mode }) s (record { signals = at.signals; answer = at.answer }) within
+
+  told-within : (side : Side) (s : State C) → AreWithin s → AreWithin (ioctl_told side s).state
+  told-within side s within =
+      let h = (stream side s).head in
+      with-head-within side (record h { ioctl = slot_behind h.ioctl }) s (record { signals = (side-within side s within).signals; answer = behind-fits h.ioctl }) within
+
+  signals-within : (side : Side) (s : State C) → AreWithin s → AreWithin (signals_told side s).state
+  signals-within side s within =
+      with-head-within side (record (stream side s).head { signals = [] }) s (record { signals = new-within.signals; answer = (side-within side s within).answer }) within
+
+  call-within : (cells : Cells C) (caller : Caller) (asked : Request) (s : State C) → AreWithin s → AreWithin (called cells caller asked s).state
+  call-within cells caller OpenMaster s within = record { master = within.master; slave = within.slave }
+  call-within cells caller Unlock s within = record { master = within.master; slave = within.slave }
+  call-within cells caller OpenSlave s within = record { master = within.master; slave = new-within }
+  call-within cells caller Shut s within = closed-within caller.side s within
+  call-within cells caller (Push name) s within = within
+  call-within cells caller Pop s within = within
+  call-within cells caller Look s within = within
+  call-within cells caller (Flush what band) s within = delivered-within (below caller.side) (flush_message (flush_bytes (asked_of what band))) s within
+  call-within cells caller (Write bytes) s within = write-within cells caller.side bytes s within
+  call-within cells caller (Read n) s within = read-within cells caller.side n s within
+  call-within cells caller (Put prio control body) s within = put_at-within cells caller.side prio control body s within
+  call-within cells caller (Get wanted cmax dmax) s within = get-within cells caller.side wanted cmax dmax s within
+  call-within cells caller (Mode mode) s within = mode-within caller.side mode s within
+  call-within cells caller Nread s within = within
+  call-within cells caller (Ioctl command body) s within =
+      told-within caller.side (ioctl_sent caller.side command body s).state
+      (delivered-within (below caller.side) (ioctl_message (asking command s.next_ioctl) body) (ioctl_begun caller.side command s) (begun-within caller.side command s within))
+  call-within cells caller (IoctlResult number) s within = told-within caller.side s within
+  call-within cells caller Signals s within = signals-within caller.side s within
+
+  pub step-within : (cells : Cells C) (old new : State C) (entry : PlainEntry) → AreWithin old → Step cells old entry new → AreWithin new
+  step-within cells old new (Called caller asked answer) within step = subst (λ (s : State C). AreWithin s) step.leads (call-within cells caller asked old within)
+  step-within cells old new (Turned name turn) within step = subst (λ (s : State C). AreWithin s) step.leads (turn-within cells name turn old within)
