@@ -326,10 +326,23 @@ impl Queue {
     {
         let mut went = false;
         for band in 0..BANDS {
-            let flow = self.flows[band];
-            went |= flow.lets_go();
-            self.flows[band] = flow.relieved();
+            went |= self.relieve_band(band);
         }
         went
+    }
+
+    // Lets the waiting writer of a band go where its count is at or below its low-water mark, and says whether there was one.
+    fn relieve_band(&mut self, band: usize) -> bool
+        requires { band < length self.old.flows }
+        ensures went { result ≡ relieves (flow_at band self.old.flows) }
+        ensures flows { self.new.flows ≡ slice_set self.old.flows band (relieved (flow_at band self.old.flows)) }
+        ensures others { OnlyCounts self.old self.new }
+    {
+        let flow = self.flows[band];
+        if !flow.lets_go() {
+            return false;
+        }
+        self.flows[band] = flow.relieved();
+        true
     }
 }

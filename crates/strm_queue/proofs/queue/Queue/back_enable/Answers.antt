@@ -18,9 +18,13 @@ loop-band-preserved c =
     let within : band < length new = omega arith in
     let here : band < length old = omega (arith, sofar.passed.eight) in
     record {
-      passed = rw c.relieved.ensures (passed-more relieved old new band within sofar.passed);
-      went = rw c.lets_go-went.ensures (went-more old new band c.loop-band.went here (sofar.passed.behind band (omega arith)) sofar.went);
-      others = record { list = c.loop-band.invariant.others.list; want_read = c.loop-band.invariant.others.want_read; no_enable = c.loop-band.invariant.others.no_enable };
+      passed = rw c.relieve_band-went.ensures.flows (passed-more relieved old new band within sofar.passed);
+      went = rw c.relieve_band-went.ensures.went (went-more old new band c.loop-band.went here (sofar.passed.behind band (omega arith)) sofar.went);
+      others = record {
+        list = c.relieve_band-went.ensures.others.list ∙ sofar.others.list;
+        want_read = c.relieve_band-went.ensures.others.want_read ∙ sofar.others.want_read;
+        no_enable = c.relieve_band-went.ensures.others.no_enable ∙ sofar.others.no_enable;
+      };
     }
 
 pub returns-clause-went : goal.returns-clause-went
