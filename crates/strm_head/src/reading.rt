@@ -15,7 +15,7 @@ use strm_blocks::Blocks;
 use strm_msg::{first_bytes, message_size};
 use strm_queue::Queue;
 use strm_queue::standing::{relieve, total};
-use strm_types::{Content, ControlMode, Dir, Fates, ReadMode, Rule};
+use strm_types::{CONTENT_MAX, Content, ControlMode, Dir, Fates, ReadMode, Rule};
 
 /// One step of a read: how many bytes are wanted still, and how many were discarded.
 #[derive(Clone, Copy)]
@@ -30,16 +30,16 @@ const LAST: Step = Step {
     discarded: 0,
 };
 
+// Bytes that are to be written over.
+static BLANK: [u8; CONTENT_MAX] = [0; CONTENT_MAX];
+
 // Adds so many bytes to what a read gives, which are to be written over.
 pub(crate) fn grow(out: &mut Content, count: usize)
     requires { length out.old.items + count ≤ 8192 }
     ensures front { take (length out.old.items) out.new.items ≡ out.old.items }
     ensures long { length out.new.items ≡ length out.old.items + count }
 {
-    for i in 0..count {
-        let _ = i;
-        out.push(0);
-    }
+    out.try_extend_from_slice(&BLANK[..count]).unwrap();
 }
 
 // Adds the first so many bytes of a message, which keeps them, to what a read gives.
