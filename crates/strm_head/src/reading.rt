@@ -1,13 +1,14 @@
 //! What a head gives its readers, in each read mode and control mode (read(2), streamio(7I): I_SRDOPT).
 
-ghost use Rattle.std.specs.Prelude.{◌≡◌, ◌<◌, ◌≤◌, ◌+◌, ◌++◌, ◌-◌, ℕ, Bool, true, false, not, [], length, take, drop};
+ghost use Rattle.std.specs.Prelude.{◌≡◌, ◌<◌, ◌≤◌, ◌+◌, ◌++◌, ◌-◌, ℕ, Bool, true, false, not, [], length, take, drop, if◌then◌else◌};
 ghost use Rattle.std.specs.Bool.{OnTrue, OnFalse};
 ghost use Rattle.strm_types.specs.Deliver.{tallied};
+ghost use Rattle.strm_types.specs.Queue as plain;
 ghost use Rattle.strm_types.specs.Reads.{Drawn, wanted_after, head_draw, none_went, read_queue, read_lets_go, read_fates, read_told};
 ghost use Rattle.strm_blocks.specs.Blocks.{IsInHand, in_hand};
 ghost use Rattle.strm_msg.specs.Bytes.{bytes_of};
-ghost use Rattle.strm_queue.specs.Stored.{queue_in, messages_on, SameFlags, IsHeadQueue, Keeps};
-ghost use Rattle.strm_head.specs.Drawing.{drawn_on, Stepped, discards, more_behind, behind_passed, first_goes};
+ghost use Rattle.strm_queue.specs.Stored.{queue_in, messages_on, SameFlags, IsReady, IsHeadQueue, Keeps};
+ghost use Rattle.strm_head.specs.Drawing.{drawn_on, Stepped, discards, drops_control, more_behind, behind_passed, first_goes};
 
 use crate::parts::{leave_rest, show};
 use crate::standing::{first_passed, takes_none, takes_one};
@@ -112,6 +113,13 @@ fn drop_first<B: Blocks>(store: &mut B, queue: &mut Queue)
     store.free(message);
 }
 
+// Whether a read passes messages over and drops the bytes of control parts: under RPROTDIS.
+fn drops_control(control: ControlMode) -> bool
+    ensures { result ≡ drops_control control }
+{
+    matches!(control, ControlMode::Discard)
+}
+
 // Takes the messages away that a read passes over, up to the first that it doesn't.
 fn drop_passed<B: Blocks>(store: &mut B, queue: &mut Queue, control: ControlMode)
     requires ready { IsHeadQueue (B.value store.old) queue.old }
@@ -120,6 +128,9 @@ fn drop_passed<B: Blocks>(store: &mut B, queue: &mut Queue, control: ControlMode
     ensures flags { SameFlags queue.old queue.new }
     ensures keeps { Keeps (B.value store.old) (B.value store.new) queue.old queue.new }
 {
+    if !drops_control(control) {
+        return;
+    }
     let mut passed = first_passed(store, queue, control);
     while passed {
         drop_first(store, queue);
@@ -240,6 +251,26 @@ fn went(given: usize, discarded: usize, dropped: usize) -> bool
     given > 0 || discarded > 0 || dropped > 0
 }
 
+// How many bytes stand on a queue of which a read may drop some: none but under RPROTDIS.
+fn droppable<B: Blocks>(store: &B, queue: &Queue, control: ControlMode) -> usize
+    requires { IsReady (B.value store.now) queue.now }
+    ensures { result ≡ (if drops_control control then plain.bytes_of (messages_on (B.value store.now) queue.now.list) else 0) }
+{
+    if drops_control(control) {
+        total(store, queue)
+    } else {
+        0
+    }
+}
+
+// How many of the bytes that stood on a queue neither stand there still nor were given or discarded.
+fn missing(before: usize, after: usize, given: usize, discarded: usize) -> usize
+    ensures { result ≡ before - after - given - discarded }
+{
+    let gone = before.saturating_sub(after);
+    gone.saturating_sub(given).saturating_sub(discarded)
+}
+
 /// Gives up to `n` bytes of the first messages, tells by which rules bytes go, and says whether a waiting writer is let go.
 /// Bytes that leave the queue and are neither given nor discarded are those of control parts.
 pub fn read<B: Blocks>(
@@ -266,10 +297,11 @@ pub fn read<B: Blocks>(
     if takes_none(store, queue, control, n) {
         return false;
     }
-    let before = total(store, queue);
+    let before = droppable(store, queue, control);
     queue.want_read = false;
     let discarded = gather(store, queue, read, control, n, out);
-    let dropped = before - total(store, queue) - out.len() - discarded;
+    let after = droppable(store, queue, control);
+    let dropped = missing(before, after, out.len(), discarded);
     tell(fates, direction, out.len(), discarded, dropped);
     went(out.len(), discarded, dropped) && relieve(queue)
 }

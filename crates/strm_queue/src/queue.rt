@@ -338,6 +338,21 @@ impl Queue {
         ensures flows { self.new.flows ≡ slice_set self.old.flows band (relieved (flow_at band self.old.flows)) }
         ensures others { OnlyCounts self.old self.new }
     {
+        if !self.flows[band].want_write {
+            return false;
+        }
+        self.relieve_waiting(band)
+    }
+
+    // The same where a writer waits. Apart, so that each band without one costs a test.
+    #[cold]
+    #[inline(never)]
+    fn relieve_waiting(&mut self, band: usize) -> bool
+        requires { band < length self.old.flows }
+        ensures went { result ≡ relieves (flow_at band self.old.flows) }
+        ensures flows { self.new.flows ≡ slice_set self.old.flows band (relieved (flow_at band self.old.flows)) }
+        ensures others { OnlyCounts self.old self.new }
+    {
         let flow = self.flows[band];
         if !flow.lets_go() {
             return false;
