@@ -13,3 +13,4 @@ pub mod Pieces
 pub mod Took
 pub mod Found
 pub mod Sent
+pub mod Copied

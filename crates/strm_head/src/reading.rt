@@ -13,7 +13,7 @@ ghost use Rattle.strm_head.specs.Drawing.{drawn_on, Stepped, discards, drops_con
 use crate::parts::{leave_rest, show};
 use crate::standing::{first_passed, takes_none, takes_one};
 use strm_blocks::Blocks;
-use strm_msg::{first_bytes, message_size};
+use strm_msg::message_size;
 use strm_queue::Queue;
 use strm_queue::standing::{relieve, total};
 use strm_types::{CONTENT_MAX, Content, ControlMode, Dir, Fates, ReadMode, Rule};
@@ -51,9 +51,14 @@ fn copy_into<B: Blocks>(store: &B, message: &B::Mp, count: usize, out: &mut Cont
     ensures { let chain = in_hand (B.value store.now) (B.name message.now) in
         out.new.items ≡ out.old.items ++ take count (bytes_of chain) }
 {
-    let from = out.len();
-    grow(out, count);
-    first_bytes(store, message, &mut out.as_mut_slice()[from..]);
+    store.audit();
+    let mut left = count;
+    for at in 0..store.blocks(message) {
+        let bytes = store.bytes_at(message, at);
+        let part = left.min(bytes.len());
+        out.try_extend_from_slice(&bytes[..part]).unwrap();
+        left -= part;
+    }
 }
 
 // How many bytes a read still wants behind a message of this size: a read of messages ends with its message.
