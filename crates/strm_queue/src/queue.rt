@@ -14,6 +14,7 @@ ghost use Rattle.strm_types.specs.Refused.{is_a_band};
 ghost use Rattle.strm_types.specs.declared.kinds.Band.{Band};
 ghost use Rattle.std.specs.Prelude.{replicate};
 ghost use Rattle.std.specs.List.{list_any};
+ghost use Rattle.std.specs.Bool.{OnFalse};
 
 use crate::flow::Flow;
 use crate::flush::Flush;
@@ -324,40 +325,39 @@ impl Queue {
         ensures counted { (q : List (List Block)) → AreCounted self.old.flows q → AreCounted self.new.flows q }
         ensures others { OnlyCounts self.old self.new }
     {
-        let mut went = false;
-        for band in 0..BANDS {
-            went |= self.relieve_band(band);
-        }
-        went
-    }
-
-    // Lets the waiting writer of a band go where its count is at or below its low-water mark, and says whether there was one.
-    fn relieve_band(&mut self, band: usize) -> bool
-        requires { band < length self.old.flows }
-        ensures went { result ≡ relieves (flow_at band self.old.flows) }
-        ensures flows { self.new.flows ≡ slice_set self.old.flows band (relieved (flow_at band self.old.flows)) }
-        ensures others { OnlyCounts self.old self.new }
-    {
-        if !self.flows[band].want_write {
+        if !self.has_waiting() {
             return false;
         }
-        self.relieve_waiting(band)
+        self.relieve_waiting()
     }
 
-    // The same where a writer waits. Apart, so that each band without one costs a test.
+    // Whether a writer waits for a band.
+    fn has_waiting(&self) -> bool
+        ensures { OnFalse result ((band : ℕ) → band < BANDS → (flow_at band self.now.flows).want_write ≡ false) }
+    {
+        for band in 0..BANDS {
+            if self.flows[band].want_write {
+                return true;
+            }
+        }
+        false
+    }
+
+    // What `back_enable` does, band by band. It is apart, since mostly no writer waits.
     #[cold]
     #[inline(never)]
-    fn relieve_waiting(&mut self, band: usize) -> bool
-        requires { band < length self.old.flows }
-        ensures went { result ≡ relieves (flow_at band self.old.flows) }
-        ensures flows { self.new.flows ≡ slice_set self.old.flows band (relieved (flow_at band self.old.flows)) }
+    fn relieve_waiting(&mut self) -> bool
+        ensures went { result ≡ list_any relieves self.old.flows }
+        ensures flows { (band : ℕ) → band < BANDS → flow_at band self.new.flows ≡ relieved (flow_at band self.old.flows) }
+        ensures counted { (q : List (List Block)) → AreCounted self.old.flows q → AreCounted self.new.flows q }
         ensures others { OnlyCounts self.old self.new }
     {
-        let flow = self.flows[band];
-        if !flow.lets_go() {
-            return false;
+        let mut went = false;
+        for band in 0..BANDS {
+            let flow = self.flows[band];
+            went |= flow.lets_go();
+            self.flows[band] = flow.relieved();
         }
-        self.flows[band] = flow.relieved();
-        true
+        went
     }
 }
