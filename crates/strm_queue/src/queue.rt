@@ -86,6 +86,7 @@ impl Queue {
     /// priority always does, a banded one unless no-enable is set, one of band 0 where want-read is set too: `putq(9F)`.
     ///
     /// The cost is a step for each block of the message, and the store's for finding the place.
+    #[inline(always)]
     pub fn putq<B: Blocks>(&mut self, store: &mut B, message: B::Mp) -> bool
         requires counted { AreCounted self.old.flows (list_at (B.value store.old) self.old.list) }
         requires in_hand { IsInHand (B.value store.old) (B.name message) }
@@ -126,6 +127,7 @@ impl Queue {
 
     /// Takes the first message, if there is one, which clears want-read: `getq(9F)`. Waiting writers are let go by
     /// `back_enable`, once what is left of the message is put back. The cost is a step for each block of the message.
+    #[inline(always)]
     pub fn getq<B: Blocks>(&mut self, store: &mut B) -> Option<B::Mp>
         requires { AreCounted self.old.flows (list_at (B.value store.old) self.old.list) }
         ensures taken { MatchOption result (Unpopped (B.value store.old) (B.value store.new) self.old.list)
@@ -319,6 +321,7 @@ impl Queue {
 
     /// Lets the waiting writers of each band go whose count is at or below its low-water mark: want-write is cleared.
     /// Answers whether there was one, and the nearest earlier queue that has service is then to be enabled.
+    #[inline(always)]
     pub fn back_enable(&mut self) -> bool
         ensures went { result ≡ list_any relieves self.old.flows }
         ensures flows { (band : ℕ) → band < BANDS → flow_at band self.new.flows ≡ relieved (flow_at band self.old.flows) }
