@@ -24,8 +24,22 @@ pub(crate) struct Message {
     pub(crate) blocks: LinkedList<MessageBlock>,
 }
 
-/// The message at a place of a list, taken off it.
+/// The message at a place of a list, taken off it. The only one of a list is the list itself.
+#[inline(always)]
 pub(crate) fn take_node(list: &mut LinkedList<Message>, at: usize) -> LinkedList<Message>
+    requires { at < length list.old }
+    ensures rest { list.new ≡ without_at at list.old }
+    ensures node { result ≡ message_at at list.old ∷ [] }
+{
+    if list.len() == 1 {
+        return list.split_off(0).unwrap();
+    }
+    take_of_many(list, at)
+}
+
+// The message at a place of a list, whatever stands beside it.
+#[inline(never)]
+fn take_of_many(list: &mut LinkedList<Message>, at: usize) -> LinkedList<Message>
     requires { at < length list.old }
     ensures rest { list.new ≡ without_at at list.old }
     ensures node { result ≡ message_at at list.old ∷ [] }
@@ -37,8 +51,23 @@ pub(crate) fn take_node(list: &mut LinkedList<Message>, at: usize) -> LinkedList
     node
 }
 
-/// Puts messages into a list at a place.
+/// Puts messages into a list at a place. Where it is empty they are the list.
+#[inline(always)]
 pub(crate) fn put_node(list: &mut LinkedList<Message>, at: usize, mut node: LinkedList<Message>)
+    requires within { at ≤ length list.old }
+    requires few { length list.old + length node < 2 ^ 63 }
+    ensures { list.new ≡ take at list.old ++ (node ++ drop at list.old) }
+{
+    if list.is_empty() {
+        swap(list, &mut node);
+        return;
+    }
+    put_among(list, at, node);
+}
+
+// Puts messages into a list at a place, whatever stands there.
+#[inline(never)]
+fn put_among(list: &mut LinkedList<Message>, at: usize, mut node: LinkedList<Message>)
     requires within { at ≤ length list.old }
     requires few { length list.old + length node < 2 ^ 63 }
     ensures { list.new ≡ take at list.old ++ (node ++ drop at list.old) }
@@ -58,6 +87,10 @@ pub(crate) fn swap_blocks(
     ensures given { list.new ≡ slice_set list.old at (with_blocks blocks.old (message_at at list.old)) }
     ensures taken { blocks.new ≡ (message_at at list.old).blocks }
 {
+    if at == 0 {
+        swap(&mut list.front_mut().unwrap().blocks, blocks);
+        return;
+    }
     let _len = list.len();
     let mut rest = list.split_off(at).unwrap();
     let message = rest.front_mut().unwrap();
@@ -70,6 +103,10 @@ pub(crate) fn set_block(chain: &mut LinkedList<MessageBlock>, at: usize, block: 
     requires { at < length chain.old }
     ensures { chain.new ≡ slice_set chain.old at block }
 {
+    if at == 0 {
+        *chain.front_mut().unwrap() = block;
+        return;
+    }
     let _len = chain.len();
     let mut rest = chain.split_off(at).unwrap();
     let place = rest.front_mut().unwrap();
@@ -89,6 +126,9 @@ pub(crate) fn part_blocks(
         list.new ≡ slice_set list.old at (with_blocks (take from m.blocks) m) }
     ensures rest { result ≡ drop from (message_at at list.old).blocks }
 {
+    if at == 0 {
+        return list.front_mut().unwrap().blocks.split_off(from).unwrap();
+    }
     let _len = list.len();
     let mut rest = list.split_off(at).unwrap();
     let message = rest.front_mut().unwrap();

@@ -2,7 +2,7 @@
 ghost use Rattle.std.specs.Prelude.{◌≡◌, ◌<◌, ◌≤◌, ◌^◌, ◌-◌, nat_le, nat_lt, length, map, sum_by, IsTrue, None};
 ghost use Rattle.std.specs.List.{prefix_len};
 ghost use Rattle.strm_types.specs.Ranked.{IsOrdered};
-ghost use Rattle.strm_blocks.specs.Message.{rank_in, listed_rank};
+ghost use Rattle.strm_blocks.specs.Message.{message_at, rank_in, listed_rank};
 ghost use Rattle.strm_blocks.specs.Outcomes.{told};
 ghost use Rattle.strm_blocks.specs.Parts.{control_run, body_run, lens, lens_in, peek_in, summary_in};
 
@@ -12,8 +12,8 @@ use crate::visitor::Visitor;
 use std::collections::LinkedList;
 use strm_types::{Band, HIGH_PRIORITY_RANK};
 
-/// The rank of a message: 256 for high priority, else its band.
-pub(crate) fn rank_of(blocks: &LinkedList<MessageBlock>) -> usize
+// The rank of a message: 256 for high priority, else its band.
+fn rank_of(blocks: &LinkedList<MessageBlock>) -> usize
     ensures { result ≡ rank_in blocks.now }
 {
     match blocks.front() {
@@ -21,6 +21,14 @@ pub(crate) fn rank_of(blocks: &LinkedList<MessageBlock>) -> usize
         Some(block) if block.kind.is_high_priority() => HIGH_PRIORITY_RANK,
         Some(block) => usize::from(block.band),
     }
+}
+
+/// The rank of the first message of a list.
+pub(crate) fn rank_of_first(list: &LinkedList<Message>) -> usize
+    requires { 0 < length list.now }
+    ensures { result ≡ rank_in (message_at 0 list.now).blocks }
+{
+    rank_of(&list.front().unwrap().blocks)
 }
 
 /// Whether the last message of a list has at least a rank. Of an empty list it hasn't.

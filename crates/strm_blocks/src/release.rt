@@ -23,6 +23,7 @@ fn release_all(blocks: &LinkedList<MessageBlock>, pool: &mut DataBlocks)
 }
 
 /// Gives back the blocks of all messages of a list, and lets the messages stand idle.
+#[inline(always)]
 pub(crate) fn give_back(
     mut taken: LinkedList<Message>,
     idle: &mut LinkedList<Message>,

@@ -10,7 +10,7 @@ use crate::message::{
     Message, MessageBlock, block_at, block_in, blocks_of, first_block, gather, hold, hold_block,
     join_blocks, name_of, part_blocks, place_of, put_node, replace_block, take_named, take_node,
 };
-use crate::parts::{peek_at, place_before, place_behind, rank_of, summary_at, tell};
+use crate::parts::{peek_at, place_before, place_behind, rank_of_first, summary_at, tell};
 use crate::release::{give_back, sift};
 use crate::visitor::Visitor;
 use std::alloc::{AllocError, Global};
@@ -278,15 +278,15 @@ impl Blocks for TableStore {
     }
 
     fn insert_back(&mut self, list: usize, message: InHand) {
-        let rank = rank_of(blocks_of(&self.hand, message.name));
         let node = take_named(&mut self.hand, message.name);
+        let rank = rank_of_first(&node);
         let place = place_behind(&self.lists[list], rank);
         put_node(&mut self.lists[list], place, node);
     }
 
     fn insert_front(&mut self, list: usize, message: InHand) {
-        let rank = rank_of(blocks_of(&self.hand, message.name));
         let node = take_named(&mut self.hand, message.name);
+        let rank = rank_of_first(&node);
         let place = place_before(&self.lists[list], rank);
         put_node(&mut self.lists[list], place, node);
     }

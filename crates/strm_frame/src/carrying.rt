@@ -43,6 +43,9 @@ pub fn deliver<B: Blocks, S: Stations<B>>(
     ensures pool { SamePool (B.value store.old) (B.value store.new) }
 {
     let mut sent = stations.put_at(store, to, message, told);
+    if sent.is_empty() {
+        return;
+    }
     while let Some(next) = sent.take_first() {
         store.audit();
         deliver(store, stations, hops - 1, next.to, next.message, told);

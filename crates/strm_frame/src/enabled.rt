@@ -1,6 +1,7 @@
 //! The list of enabled queues.
 
 ghost use Rattle.std.specs.Prelude.{◌≡◌, [], length};
+ghost use Rattle.std.specs.Bool.{OnTrue};
 ghost use Rattle.strm_types.specs.Names.{is_enabled, enable, enable_if, enable_found, without};
 ghost use Rattle.strm_types.specs.Modules.{without_module};
 
@@ -44,6 +45,7 @@ impl Enabled {
     }
 
     /// Whether a queue is enabled.
+    #[inline(always)]
     pub fn contains(&self, name: QueueName) -> bool
         ensures { result ≡ is_enabled name self.now }
     {
@@ -77,10 +79,25 @@ impl Enabled {
         }
     }
 
+    // Whether a queue is the only one that is enabled.
+    fn is_only(&self, name: QueueName) -> bool
+        ensures one { OnTrue result (length self.now ≡ 1) }
+        ensures none_else { OnTrue result (without name self.now ≡ []) }
+    {
+        match self.names.as_slice() {
+            [only] => only.is_same(name),
+            _ => false,
+        }
+    }
+
     /// Takes a queue off the list.
     pub fn remove(&mut self, name: QueueName)
         ensures { self.new ≡ without name self.old }
     {
+        if self.is_only(name) {
+            self.names.pop();
+            return;
+        }
         let mut rest = ArrayVec::new();
         for other in self.names.as_slice() {
             if !other.is_same(name) {

@@ -1,6 +1,7 @@
 //! Messages that a station sends on, in order.
 
 ghost use Rattle.std.specs.Prelude.{◌≡◌, [], ◌∷◌, MatchOption};
+ghost use Rattle.std.specs.Bool.{OnTrue};
 ghost use Rattle.strm_frame.specs.Outboxes.{sent_of};
 
 use strm_types::Spot;
@@ -56,6 +57,16 @@ impl<Mp: Drop> Outbox<Mp> {
             third: None,
             fourth: None,
         }
+    }
+
+    /// Whether nothing is on its way.
+    pub fn is_empty(&self) -> bool
+        ensures { OnTrue result (sent_of self.now ≡ []) }
+    {
+        self.first.is_none()
+            && self.second.is_none()
+            && self.third.is_none()
+            && self.fourth.is_none()
     }
 
     /// The first message, taken out.

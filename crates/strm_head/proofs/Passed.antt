@@ -8,7 +8,7 @@ use Rattle.strm_types.specs.declared.modes.ControlMode.{ControlMode}
 use Rattle.strm_types.specs.declared.modes.ControlMode.TheVariants.{Refuse, Data, Discard}
 use Rattle.strm_types.specs.Message.{Message}
 use Rattle.strm_types.specs.Reads.{Drawn, drawn, stopped, emptied_of, front_of, and_more, all_cells, control_gone, shown, offered, is_passed, is_refused, no_cells, wanted_after}
-use Rattle.strm_head.specs.Drawing.{but_dropped, drawn_on, behind_passed, first_passed, first_goes}
+use Rattle.strm_head.specs.Drawing.{but_dropped, drawn_on, behind_passed, first_passed, first_goes, drops_control}
 
 or-true : (b : Bool) → (b || true) ≡ true
 or-true true = refl
@@ -129,3 +129,40 @@ module _ (control : ControlMode) where
   pub none-passed : (q : List (Message ℕ)) → first_passed control q ≡ false → q ≡ behind_passed control q
   none-passed [] is = refl
   none-passed (m ∷ q) is = sym (ap (λ b. cond b (behind_passed control q) (m ∷ q)) is)
+
+-- but under RPROTDIS none is passed over
+pub passes-none : (control : ControlMode) (q : List (Message ℕ)) → drops_control control ≡ false → q ≡ behind_passed control q
+passes-none Refuse [] is = refl
+passes-none Refuse (m ∷ q) is = refl
+passes-none Data [] is = refl
+passes-none Data (m ∷ q) is = refl
+passes-none Discard q is = absurd (cc)
+
+-- and nothing is dropped
+drops-none : (stops empty begun short : Bool) (x y z w v : Drawn ℕ) → x.dropped ≡ [] → y.dropped ≡ [] → z.dropped ≡ [] → w.dropped ≡ [] → v.dropped ≡ []
+    → (cond stops x (cond empty (cond begun y z) (cond short w v))).dropped ≡ []
+drops-none true empty begun short x y z w v on_x on_y on_z on_w on_v = on_x
+drops-none false true true short x y z w v on_x on_y on_z on_w on_v = on_y
+drops-none false true false short x y z w v on_x on_y on_z on_w on_v = on_z
+drops-none false false begun true x y z w v on_x on_y on_z on_w on_v = on_w
+drops-none false false begun false x y z w v on_x on_y on_z on_w on_v = on_v
+
+front-drops-none : (read : ReadMode) (n : ℕ) (m : Message ℕ) (q : List (Message ℕ)) → (front_of read n [] m q).dropped ≡ []
+front-drops-none ByteStream n m q = refl
+front-drops-none MessageKeep n m q = refl
+front-drops-none MessageDiscard n m q = refl
+
+pub none-dropped : (read : ReadMode) (control : ControlMode) (begun : Bool) (n : ℕ) (q : List (Message ℕ)) → drops_control control ≡ false → (drawn read control begun n [] q).dropped ≡ []
+none-dropped read Refuse begun n [] is = refl
+none-dropped read Refuse begun n (m ∷ q) is =
+    let cells = offered Refuse m in
+    let more = drawn read Refuse true (wanted_after read n (length cells)) [] q in
+    drops-none (n == 0 || is_refused Refuse m) (no_cells cells) begun (nat_lt n (length cells)) (stopped (m ∷ q)) (stopped (m ∷ q)) (emptied_of [] q) (front_of read n [] (shown Refuse m) q) (and_more cells [] more)
+    refl refl refl (front-drops-none read n (shown Refuse m) q) (none-dropped read Refuse true (wanted_after read n (length cells)) q is)
+none-dropped read Data begun n [] is = refl
+none-dropped read Data begun n (m ∷ q) is =
+    let cells = offered Data m in
+    let more = drawn read Data true (wanted_after read n (length cells)) [] q in
+    drops-none (n == 0 || is_refused Data m) (no_cells cells) begun (nat_lt n (length cells)) (stopped (m ∷ q)) (stopped (m ∷ q)) (emptied_of [] q) (front_of read n [] (shown Data m) q) (and_more cells [] more)
+    refl refl refl (front-drops-none read n (shown Data m) q) (none-dropped read Data true (wanted_after read n (length cells)) q is)
+none-dropped read Discard begun n q is = absurd (cc)

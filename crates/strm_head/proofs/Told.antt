@@ -1,5 +1,5 @@
 -- What is told of a read, and what becomes of the queue.
-use Rattle.std.proofs.Common.{ℕ, ◌≡◌, ◌+◌, Bool, true, false, cond, List, [], ◌∷◌, length, map, refl, sym, ap, subst, ◌∙◌, arith}
+use Rattle.std.proofs.Common.{ℕ, ◌≡◌, ◌+◌, ◌-◌, Bool, true, false, cond, List, [], ◌∷◌, length, map, refl, sym, ap, subst, ◌∙◌, arith}
 use Rattle.std.specs.Prelude.{count_by}
 use Rattle.std.specs.List.{AllByRecursion}
 use Rattle.std.proofs.lemmas.List.Sums.{sum_by-cons}
@@ -21,6 +21,8 @@ use Rattle.strm_queue.specs.declared.queue.Queue.{Queue}
 use Rattle.strm_queue.specs.Flows.{plain_flows}
 use Rattle.strm_queue.specs.Stored.{messages_on, queue_in, HoldsReadable, IsHeadQueue, Keeps}
 use Rattle.strm_queue.proofs.Holding.{data-readable}
+use Rattle.strm_head.specs.Drawing.{drops_control}
+use Rattle.strm_head.proofs.Passed.{none-dropped}
 
 pub told-some : (dir : Dir) (read : ReadMode) (control : ControlMode) (n : ℕ) (q : List (Message ℕ)) (fates : Fates) → takes_none control n q ≡ false
     → tallied (read_fates dir (head_draw read control n q)) fates ≡ read_told dir read control n q fates
@@ -82,7 +84,7 @@ bytes-gone read control n q left readable still is =
     omega (arith, all, count-all d.given, count-all d.discarded, count-all d.dropped, ap (weight (λ c. true)) is, sizes-are q readable.each, sizes-are left still.each)
 
 -- by the counts of the queue before and behind it
-pub counts-gone : (read : ReadMode) (control : ControlMode) (n : ℕ) (s t : StoreValue) (q p p' : Queue) (before after : ℕ) → IsHeadQueue s q → Keeps s t p p' → p.list ≡ q.list
+counts-gone : (read : ReadMode) (control : ControlMode) (n : ℕ) (s t : StoreValue) (q p p' : Queue) (before after : ℕ) → IsHeadQueue s q → Keeps s t p p' → p.list ≡ q.list
     → messages_on t q.list ≡ (head_draw read control n (messages_on s q.list)).left → before ≡ bytes_of (messages_on s q.list) → after ≡ bytes_of (messages_on t p'.list)
     → length (head_draw read control n (messages_on s q.list)).given + (length (head_draw read control n (messages_on s q.list)).discarded + (length (head_draw read control n (messages_on s q.list)).dropped + after)) ≡ before
 counts-gone read control n s t q p p' before after head keeps same left before_is after_is =
@@ -90,3 +92,20 @@ counts-gone read control n s t q p p' before after head keeps same left before_i
     let holds = keeps.holds is_data_kind data-readable (subst (λ k. HoldsReadable (list_at s k)) (sym same) head.readable) in
     let all = bytes-gone read control n (list_at s q.list) (list_at t q.list) head.readable (subst (λ k. HoldsReadable (list_at t k)) list holds) left in
     omega (arith, all, before_is, after_is, ap (λ k. bytes_of (messages_on t k)) list)
+
+-- what neither stands there still nor was given or discarded was dropped
+pub dropped-is : (read : ReadMode) (control : ControlMode) (n : ℕ) (s t : StoreValue) (q p p' : Queue) (before after given discarded : ℕ) → IsHeadQueue s q → Keeps s t p p' → p.list ≡ q.list
+    → messages_on t q.list ≡ (head_draw read control n (messages_on s q.list)).left
+    → before ≡ cond (drops_control control) (bytes_of (messages_on s q.list)) 0 → after ≡ cond (drops_control control) (bytes_of (messages_on t p'.list)) 0
+    → length (head_draw read control n (messages_on s q.list)).given ≡ given → discarded ≡ length (head_draw read control n (messages_on s q.list)).discarded
+    → length (head_draw read control n (messages_on s q.list)).dropped ≡ before - after - given - discarded
+dropped-is read control n s t q p p' before after given discarded head keeps same left before_is after_is given_is discarded_is = at (drops_control control) refl before_is after_is
+  where
+    at : (b : Bool) → drops_control control ≡ b → before ≡ cond b (bytes_of (messages_on s q.list)) 0 → after ≡ cond b (bytes_of (messages_on t p'.list)) 0
+        → length (head_draw read control n (messages_on s q.list)).dropped ≡ before - after - given - discarded
+    at true is before_is after_is =
+        let all = counts-gone read control n s t q p p' before after head keeps same left before_is after_is in
+        omega (arith, all, given_is, discarded_is)
+    at false is before_is after_is =
+        let none = ap length (none-dropped read control false n (messages_on s q.list) is) in
+        omega (arith, none, before_is)

@@ -3,6 +3,7 @@ use Rattle.std.specs.Prelude.{ℕ, Bool, true, false, not, ◌==◌, ◌&&◌, �
 use Rattle.strm_types.specs.declared.modes.ReadMode.{ReadMode}
 use Rattle.strm_types.specs.declared.modes.ReadMode.TheVariants.{ByteStream, MessageKeep, MessageDiscard}
 use Rattle.strm_types.specs.declared.modes.ControlMode.{ControlMode}
+use Rattle.strm_types.specs.declared.modes.ControlMode.TheVariants.{Refuse, Data, Discard}
 use Rattle.strm_types.specs.Message.{Message}
 use Rattle.strm_types.specs.Reads.{Drawn, drawn, wanted_after, is_passed, is_refused, no_cells, offered}
 
@@ -28,6 +29,12 @@ first_passed control (m ∷ q) = is_passed control m
 -- has begun to give
 abbrev pub goes : ControlMode → Bool → Message ℕ → Bool
 goes control begun m = not (is_refused control m) && not (begun && no_cells (offered control m))
+
+-- whether a read passes messages over and drops the bytes of control parts
+abbrev pub drops_control : ControlMode → Bool
+drops_control Refuse = false
+drops_control Data = false
+drops_control Discard = true
 
 -- whether the first message is one that a read takes
 abbrev pub first_goes : ControlMode → Bool → List (Message ℕ) → Bool

@@ -1,21 +1,22 @@
 //! What a head gives its readers, in each read mode and control mode (read(2), streamio(7I): I_SRDOPT).
 
-ghost use Rattle.std.specs.Prelude.{◌≡◌, ◌<◌, ◌≤◌, ◌+◌, ◌++◌, ◌-◌, ℕ, Bool, true, false, not, [], length, take, drop};
+ghost use Rattle.std.specs.Prelude.{◌≡◌, ◌<◌, ◌≤◌, ◌+◌, ◌++◌, ◌-◌, ℕ, Bool, true, false, not, [], length, take, drop, if◌then◌else◌};
 ghost use Rattle.std.specs.Bool.{OnTrue, OnFalse};
 ghost use Rattle.strm_types.specs.Deliver.{tallied};
+ghost use Rattle.strm_types.specs.Queue as plain;
 ghost use Rattle.strm_types.specs.Reads.{Drawn, wanted_after, head_draw, none_went, read_queue, read_lets_go, read_fates, read_told};
 ghost use Rattle.strm_blocks.specs.Blocks.{IsInHand, in_hand};
 ghost use Rattle.strm_msg.specs.Bytes.{bytes_of};
-ghost use Rattle.strm_queue.specs.Stored.{queue_in, messages_on, SameFlags, IsHeadQueue, Keeps};
-ghost use Rattle.strm_head.specs.Drawing.{drawn_on, Stepped, discards, more_behind, behind_passed, first_goes};
+ghost use Rattle.strm_queue.specs.Stored.{queue_in, messages_on, SameFlags, IsReady, IsHeadQueue, Keeps};
+ghost use Rattle.strm_head.specs.Drawing.{drawn_on, Stepped, discards, drops_control, more_behind, behind_passed, first_goes};
 
 use crate::parts::{leave_rest, show};
 use crate::standing::{first_passed, takes_none, takes_one};
 use strm_blocks::Blocks;
-use strm_msg::{first_bytes, message_size};
+use strm_msg::message_size;
 use strm_queue::Queue;
 use strm_queue::standing::{relieve, total};
-use strm_types::{Content, ControlMode, Dir, Fates, ReadMode, Rule};
+use strm_types::{CONTENT_MAX, Content, ControlMode, Dir, Fates, ReadMode, Rule};
 
 /// One step of a read: how many bytes are wanted still, and how many were discarded.
 #[derive(Clone, Copy)]
@@ -30,16 +31,16 @@ const LAST: Step = Step {
     discarded: 0,
 };
 
+// Bytes that are to be written over.
+static BLANK: [u8; CONTENT_MAX] = [0; CONTENT_MAX];
+
 // Adds so many bytes to what a read gives, which are to be written over.
 pub(crate) fn grow(out: &mut Content, count: usize)
     requires { length out.old.items + count ≤ 8192 }
     ensures front { take (length out.old.items) out.new.items ≡ out.old.items }
     ensures long { length out.new.items ≡ length out.old.items + count }
 {
-    for i in 0..count {
-        let _ = i;
-        out.push(0);
-    }
+    out.try_extend_from_slice(&BLANK[..count]).unwrap();
 }
 
 // Adds the first so many bytes of a message, which keeps them, to what a read gives.
@@ -50,9 +51,14 @@ fn copy_into<B: Blocks>(store: &B, message: &B::Mp, count: usize, out: &mut Cont
     ensures { let chain = in_hand (B.value store.now) (B.name message.now) in
         out.new.items ≡ out.old.items ++ take count (bytes_of chain) }
 {
-    let from = out.len();
-    grow(out, count);
-    first_bytes(store, message, &mut out.as_mut_slice()[from..]);
+    store.audit();
+    let mut left = count;
+    for at in 0..store.blocks(message) {
+        let bytes = store.bytes_at(message, at);
+        let part = left.min(bytes.len());
+        out.try_extend_from_slice(&bytes[..part]).unwrap();
+        left -= part;
+    }
 }
 
 // How many bytes a read still wants behind a message of this size: a read of messages ends with its message.
@@ -112,6 +118,13 @@ fn drop_first<B: Blocks>(store: &mut B, queue: &mut Queue)
     store.free(message);
 }
 
+// Whether a read passes messages over and drops the bytes of control parts: under RPROTDIS.
+fn drops_control(control: ControlMode) -> bool
+    ensures { result ≡ drops_control control }
+{
+    matches!(control, ControlMode::Discard)
+}
+
 // Takes the messages away that a read passes over, up to the first that it doesn't.
 fn drop_passed<B: Blocks>(store: &mut B, queue: &mut Queue, control: ControlMode)
     requires ready { IsHeadQueue (B.value store.old) queue.old }
@@ -120,6 +133,9 @@ fn drop_passed<B: Blocks>(store: &mut B, queue: &mut Queue, control: ControlMode
     ensures flags { SameFlags queue.old queue.new }
     ensures keeps { Keeps (B.value store.old) (B.value store.new) queue.old queue.new }
 {
+    if !drops_control(control) {
+        return;
+    }
     let mut passed = first_passed(store, queue, control);
     while passed {
         drop_first(store, queue);
@@ -240,6 +256,26 @@ fn went(given: usize, discarded: usize, dropped: usize) -> bool
     given > 0 || discarded > 0 || dropped > 0
 }
 
+// How many bytes stand on a queue of which a read may drop some: none but under RPROTDIS.
+fn droppable<B: Blocks>(store: &B, queue: &Queue, control: ControlMode) -> usize
+    requires { IsReady (B.value store.now) queue.now }
+    ensures { result ≡ (if drops_control control then plain.bytes_of (messages_on (B.value store.now) queue.now.list) else 0) }
+{
+    if drops_control(control) {
+        total(store, queue)
+    } else {
+        0
+    }
+}
+
+// How many of the bytes that stood on a queue neither stand there still nor were given or discarded.
+fn missing(before: usize, after: usize, given: usize, discarded: usize) -> usize
+    ensures { result ≡ before - after - given - discarded }
+{
+    let gone = before.saturating_sub(after);
+    gone.saturating_sub(given).saturating_sub(discarded)
+}
+
 /// Gives up to `n` bytes of the first messages, tells by which rules bytes go, and says whether a waiting writer is let go.
 /// Bytes that leave the queue and are neither given nor discarded are those of control parts.
 pub fn read<B: Blocks>(
@@ -266,10 +302,11 @@ pub fn read<B: Blocks>(
     if takes_none(store, queue, control, n) {
         return false;
     }
-    let before = total(store, queue);
+    let before = droppable(store, queue, control);
     queue.want_read = false;
     let discarded = gather(store, queue, read, control, n, out);
-    let dropped = before - total(store, queue) - out.len() - discarded;
+    let after = droppable(store, queue, control);
+    let dropped = missing(before, after, out.len(), discarded);
     tell(fates, direction, out.len(), discarded, dropped);
     went(out.len(), discarded, dropped) && relieve(queue)
 }

@@ -24,6 +24,7 @@ fn chunk_at(bytes: &[u8], at: usize) -> &[u8]
 }
 
 /// Makes a message of one block that shows these bytes.
+#[inline(always)]
 pub(crate) fn block_of<B: Blocks>(
     store: &mut B,
     kind: MsgKind,
@@ -41,6 +42,7 @@ pub(crate) fn block_of<B: Blocks>(
 /// Makes a message of a kind and a band that shows these bytes, as `allocb(9F)`, a copy and `linkb(9F)` for each 256 of
 /// them. It takes one block of each kind for each begun 256 bytes, and at least one; `NoBlocks` where fewer are free,
 /// and then nothing changes.
+#[inline(always)]
 pub fn from_bytes<B: Blocks>(
     store: &mut B,
     kind: MsgKind,

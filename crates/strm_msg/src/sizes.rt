@@ -14,12 +14,7 @@ pub fn message_size<B: Blocks>(store: &B, message: &B::Mp) -> usize
     ensures message { IsChain (in_hand (B.value store.now) (B.name message.now)) →
         result ≡ size_of (message_of (in_hand (B.value store.now) (B.name message.now))) }
 {
-    store.audit();
-    let mut bytes = 0;
-    for at in 0..store.blocks(message) {
-        bytes += store.block_len(message, at);
-    }
-    bytes
+    store.summary(message).bytes
 }
 
 /// How many bytes of a message the ledgers count: all those of an M_DATA, M_PROTO or M_PCPROTO message, and none of another.

@@ -27,6 +27,9 @@ fn append(buffer: &mut Vec<u8>, bytes: &[u8])
     ensures items { buffer.new.items ≡ buffer.old.items ++ bytes.now }
     ensures capacity { vec_capacity buffer.old ≤ vec_capacity buffer.new }
 {
+    if bytes.is_empty() {
+        return;
+    }
     buffer.extend_from_slice(bytes).unwrap();
 }
 
@@ -64,7 +67,9 @@ impl Journal {
         self.entries.len() < self.most_entries && bytes <= self.most_bytes - self.bytes.len()
     }
 
-    // Adds an entry with its bytes: those of its call, in two parts, and those of its answer.
+    // Adds an entry with its bytes: those of its call, in two parts, and those of its answer. Inlined, so that an entry is
+    // written once, where it stays.
+    #[inline(always)]
     fn add(&mut self, entry: Entry<usize>, first: &[u8], second: &[u8], content: &[u8])
         requires lengths { entry_len entry ≡ length first.now + length second.now + length content.now }
         requires room_entries { length self.old.entries.items < self.old.most_entries }

@@ -35,6 +35,7 @@ impl Down {
 }
 
 // Puts bytes on a queue as an ordinary message, and says whether that enables a queue with a service procedure.
+#[inline(always)]
 fn put_chunk<B: Blocks>(store: &mut B, queue: &mut Queue, chunk: &[u8]) -> bool
     requires ready { IsReady (B.value store.old) queue.old }
     requires small { length chunk.now ≤ 256 }

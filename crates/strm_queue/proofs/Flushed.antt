@@ -1,5 +1,5 @@
 -- The kept numbers of a queue after a flush, with other marks, and after its writers are let go.
-use Rattle.std.proofs.Common.{ℕ, ◌≡◌, ◌<◌, ◌≤◌, ◌+◌, Bool, true, false, cond, List, [], ◌∷◌, length, take, refl, sym, ap, subst, ◌∙◌, arith, length-set}
+use Rattle.std.proofs.Common.{ℕ, suc, ◌≡◌, ◌<◌, ◌≤◌, ◌+◌, nat_le, Bool, true, false, cond, List, [], ◌∷◌, length, take, refl, sym, ap, subst, ◌∙◌, arith, length-set}
 use Rattle.std.specs.Prelude.{sum_by, slice_set, if◌then◌else◌, ◌==◌, ◌&&◌, ◌||◌, not, filter, None, Some}
 use Rattle.std.proofs.lemmas.Bool.Decides.{nat_tests}
 use Rattle.std.proofs.lemmas.List.Sums.{sum_by-cons}
@@ -9,7 +9,7 @@ use Rattle.strm_types.specs.declared.kinds.Band.{Band}
 use Rattle.strm_blocks.specs.Blocks.{Block}
 use Rattle.strm_blocks.specs.Outcomes.{flushed}
 use Rattle.strm_queue.specs.declared.flow.Flow.{Flow}
-use Rattle.strm_queue.specs.Flows.{flushed_of, marked_with, relieves, relieved}
+use Rattle.strm_queue.specs.Flows.{count_in, flushed_of, marked_with, relieves, relieved}
 use Rattle.strm_queue.specs.Kept.{bytes_of, band_of, is_data, data_share, other_share, flow_at, no_flow, IsCounted, AreCounted}
 use Rattle.strm_queue.proofs.Counted.{flow-same, flow-other, all-kept}
 
@@ -190,3 +190,16 @@ passed-more change old new band within sofar = record {
 pub went-more : (old new : List Flow) (band : ℕ) (went : Bool) → band < length old → flow_at band new ≡ flow_at band old → went ≡ list_any relieves (take band old) → (went || relieves (flow_at band new)) ≡ list_any relieves (take (band + 1) old)
 went-more old new band went within same sofar =
     ap (λ b. b || relieves (flow_at band new)) sofar ∙ ap (λ f. list_any relieves (take band old) || relieves f) same ∙ sym (list_any_more relieves old band no_flow within)
+
+-- a band without a waiting writer lets none go, and stays
+waits-none : (f : Flow) → f.want_write ≡ false → relieves f ≡ false
+waits-none f is = ap (λ b. b && nat_le (count_in f) f.low) is
+
+pub none-waits : (f : Flow) → f.want_write ≡ false → f ≡ relieved f
+none-waits f is = sym (ap (λ b. cond b (record f { want_write = false }) f) (waits-none f is))
+
+pub none-relieved : (flows : List Flow) → ((k : ℕ) → k < length flows → (flow_at k flows).want_write ≡ false) → false ≡ list_any relieves flows
+none-relieved [] none = refl
+none-relieved (f ∷ flows) none =
+    let behind = none-relieved flows (λ k lt. none (suc k) (omega (arith, lt))) in
+    ap (λ b. false || b) behind ∙ ap (λ b. b || list_any relieves flows) (sym (waits-none f (none 0 (omega arith))))

@@ -13,6 +13,7 @@ ghost use Rattle.strm_types.specs.Refused.{is_a_band};
 ghost use Rattle.strm_types.specs.declared.kinds.Band.{Band};
 ghost use Rattle.std.specs.Prelude.{replicate};
 ghost use Rattle.std.specs.List.{list_any};
+ghost use Rattle.std.specs.Bool.{OnFalse};
 
 use crate::flow::Flow;
 use crate::flush::Flush;
@@ -84,6 +85,7 @@ impl Queue {
     /// priority always does, a banded one unless no-enable is set, one of band 0 where want-read is set too: `putq(9F)`.
     ///
     /// The cost is a step for each block of the message, and the store's for finding the place.
+    #[inline(always)]
     pub fn putq<B: Blocks>(&mut self, store: &mut B, message: B::Mp) -> bool
         requires counted { AreCounted self.old.flows (list_at (B.value store.old) self.old.list) }
         requires in_hand { IsInHand (B.value store.old) (B.name message) }
@@ -124,6 +126,7 @@ impl Queue {
 
     /// Takes the first message, if there is one, which clears want-read: `getq(9F)`. Waiting writers are let go by
     /// `back_enable`, once what is left of the message is put back. The cost is a step for each block of the message.
+    #[inline(always)]
     pub fn getq<B: Blocks>(&mut self, store: &mut B) -> Option<B::Mp>
         requires { AreCounted self.old.flows (list_at (B.value store.old) self.old.list) }
         ensures taken { MatchOption result (Unpopped (B.value store.old) (B.value store.new) self.old.list)
@@ -332,7 +335,35 @@ impl Queue {
 
     /// Lets the waiting writers of each band go whose count is at or below its low-water mark: want-write is cleared.
     /// Answers whether there was one, and the nearest earlier queue that has service is then to be enabled.
+    #[inline(always)]
     pub fn back_enable(&mut self) -> bool
+        ensures went { result ≡ list_any relieves self.old.flows }
+        ensures flows { (band : ℕ) → band < BANDS → flow_at band self.new.flows ≡ relieved (flow_at band self.old.flows) }
+        ensures counted { (q : List (List Block)) → AreCounted self.old.flows q → AreCounted self.new.flows q }
+        ensures others { OnlyCounts self.old self.new }
+    {
+        if !self.has_waiting() {
+            return false;
+        }
+        self.relieve_waiting()
+    }
+
+    // Whether a writer waits for a band.
+    fn has_waiting(&self) -> bool
+        ensures { OnFalse result ((band : ℕ) → band < BANDS → (flow_at band self.now.flows).want_write ≡ false) }
+    {
+        for band in 0..BANDS {
+            if self.flows[band].want_write {
+                return true;
+            }
+        }
+        false
+    }
+
+    // What `back_enable` does, band by band. It is apart, since mostly no writer waits.
+    #[cold]
+    #[inline(never)]
+    fn relieve_waiting(&mut self) -> bool
         ensures went { result ≡ list_any relieves self.old.flows }
         ensures flows { (band : ℕ) → band < BANDS → flow_at band self.new.flows ≡ relieved (flow_at band self.old.flows) }
         ensures counted { (q : List (List Block)) → AreCounted self.old.flows q → AreCounted self.new.flows q }

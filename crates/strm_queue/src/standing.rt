@@ -95,6 +95,7 @@ pub fn is_stopped<B: Blocks>(store: &B, queue: &Queue, kind: MsgKind, band: Band
 }
 
 /// Lets waiting writers go where the count has come down to the low-water mark, and says whether one was.
+#[inline(always)]
 pub fn relieve(queue: &mut Queue) -> bool
     ensures queue { (s : StoreValue) → IsReady s queue.old → queue_in s queue.new ≡ relieved (queue_in s queue.old) }
     ensures went { (s : StoreValue) → IsReady s queue.old → result ≡ relieves (queue_in s queue.old) }

@@ -10,5 +10,5 @@ returns-clause-given c =
     let list = c.args.list.now in
     let here : c.unwrap-message.result.now ≡ message_at c.args.at list = grind (arith, common_steps) in
     let name = ap (λ (m : Message). m.name) here in
-    let blocks = c.swap.ensures.x_after in
+    let blocks = c.swap-2.ensures.x_after in
     grind (arith, common_steps, set-behind list c.args.at (with_blocks c.args.blocks.now (message_at c.args.at list)))

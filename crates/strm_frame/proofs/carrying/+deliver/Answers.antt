@@ -97,3 +97,44 @@ returns-clause-hands g t c =
     let s0 = g.B.Blocks.value c.args.store.now in
     let s = g.B.Blocks.value c.loop-next.store in
     no-more g.B.Blocks.name s0 s (g.B.Blocks.name c.args.message) (w.keeps c.args.stations.now) (w.keeps c.loop-next.stations) (sent_of c.loop-next.sent) c.in_default.ensures.0 c.loop-next.invariant.hands
+
+pub returns-then-is_empty-clause-state : goal.returns-then-is_empty-clause-state
+returns-then-is_empty-clause-state g t c =
+    let s = g.B.Blocks.value c.args.store.now in
+    let s' = g.B.Blocks.value c.put_at-sent.new.store in
+    let p : Parcel ℕ = record { to = c.args.to; message = message_in s (g.B.Blocks.name c.args.message) } in
+    let w = g.S.Stations in
+    let e = c.put_at-sent.ensures in
+    let low = c.requires.low in
+    let next : c.args.hops ≡ suc (c.args.hops - 1) = omega arith in
+    let all = parcels_in g.B.Blocks.name s' (sent_of c.put_at-sent.result) in
+    let none = no-parts g.B.Blocks.name s' (sent_of c.put_at-sent.result) c.if-is_empty.ensures in
+    sym (stops-state (carried w.puts (c.args.hops - 1)) all (w.plain s' c.put_at-sent.new.self) none)
+    ∙ begins-state w.puts c.args.hops (c.args.hops - 1) p (w.plain s c.args.stations.now) _ _ next e.state e.sent
+
+pub returns-then-is_empty-clause-told : goal.returns-then-is_empty-clause-told
+returns-then-is_empty-clause-told g t c =
+    let s = g.B.Blocks.value c.args.store.now in
+    let s' = g.B.Blocks.value c.put_at-sent.new.store in
+    let p : Parcel ℕ = record { to = c.args.to; message = message_in s (g.B.Blocks.name c.args.message) } in
+    let w = g.S.Stations in
+    let e = c.put_at-sent.ensures in
+    let low = c.requires.low in
+    let next : c.args.hops ≡ suc (c.args.hops - 1) = omega arith in
+    let all = parcels_in g.B.Blocks.name s' (sent_of c.put_at-sent.result) in
+    let none = no-parts g.B.Blocks.name s' (sent_of c.put_at-sent.result) c.if-is_empty.ensures in
+    sym (stops-told (carried w.puts (c.args.hops - 1)) all (w.plain s' c.put_at-sent.new.self) c.put_at-sent.new.told none)
+    ∙ begins-told w.puts c.args.hops (c.args.hops - 1) p (w.plain s c.args.stations.now) _ _ _ _ next e.state e.sent e.told
+
+pub returns-then-is_empty-clause-hands : goal.returns-then-is_empty-clause-hands
+returns-then-is_empty-clause-hands g t c =
+    let w = g.S.Stations in
+    let s0 = g.B.Blocks.value c.args.store.now in
+    let s = g.B.Blocks.value c.put_at-sent.new.store in
+    no-more g.B.Blocks.name s0 s (g.B.Blocks.name c.args.message) (w.keeps c.args.stations.now) (w.keeps c.put_at-sent.new.self) (sent_of c.put_at-sent.result) c.if-is_empty.ensures c.put_at-sent.ensures.hands
+
+pub returns-then-is_empty-clause-spends : goal.returns-then-is_empty-clause-spends
+returns-then-is_empty-clause-spends g t c =
+    let s0 = g.B.Blocks.value c.args.store.now in
+    let s = g.B.Blocks.value c.put_at-sent.new.store in
+    no-cost g.B.Blocks.name s0 s g.S.Stations.cost _ (sent_of c.put_at-sent.result) c.if-is_empty.ensures c.put_at-sent.ensures.spends

@@ -1,9 +1,10 @@
 -- Each message that goes is one that is passed over.
 use Rattle.std.proofs.Common.{◌≡◌, ◌∙◌, true, drop, sym, ap, subst}
 use Rattle.strm_queue.specs.Stored.{messages_on}
-use Rattle.strm_queue.proofs.Kept.{head-kept, keeps-both, flags-both}
+use Rattle.strm_queue.proofs.Kept.{head-kept, keeps-both, keeps-none, flags-both}
+use Rattle.strm_head.proofs.Returned.{flags-none}
 use Rattle.strm_head.specs.Drawing.{behind_passed, first_passed}
-use Rattle.strm_head.proofs.Passed.{passed-gone, none-passed}
+use Rattle.strm_head.proofs.Passed.{passed-gone, none-passed, passes-none}
 use Rattle.strm_head.proofs.reading.drop_passed.Goals as goal
 
 pub drop_first-requires : goal.drop_first-requires
@@ -41,3 +42,13 @@ pub returns-clause-left : goal.returns-clause-left
 returns-clause-left g c =
     let l = c.loop-passed in
     none-passed c.args.control (messages_on (g.B.Blocks.value l.store) c.args.queue.now.list) (sym l.invariant.passed ∙ c.loop-passed-test.false) ∙ l.invariant.left
+
+pub returns-then-not-drops_control-clause-left : goal.returns-then-not-drops_control-clause-left
+returns-then-not-drops_control-clause-left g c =
+    passes-none c.args.control (messages_on (g.B.Blocks.value c.args.store.now) c.args.queue.now.list) (sym c.drops_control.ensures ∙ c.if-not-drops_control.true)
+
+pub returns-then-not-drops_control-clause-flags : goal.returns-then-not-drops_control-clause-flags
+returns-then-not-drops_control-clause-flags g c = flags-none c.args.queue.now
+
+pub returns-then-not-drops_control-clause-keeps : goal.returns-then-not-drops_control-clause-keeps
+returns-then-not-drops_control-clause-keeps g c = keeps-none (g.B.Blocks.value c.args.store.now) c.args.queue.now c.requires.ready.ready

@@ -6,7 +6,7 @@ use Rattle.strm_types.proofs.ReadRefuses.{takes-none}
 use Rattle.strm_blocks.specs.Blocks.{list_at}
 use Rattle.strm_queue.specs.Stored.{messages_on, queue_in}
 use Rattle.strm_queue.proofs.Kept.{keeps-none, keeps-counted, keeps-from}
-use Rattle.strm_head.proofs.Told.{told-none, told-some, queue-none, queue-some, goes-none, goes-some, queue-left, counts-gone}
+use Rattle.strm_head.proofs.Told.{told-none, told-some, queue-none, queue-some, goes-none, goes-some, queue-left, dropped-is}
 use Rattle.strm_head.proofs.reading.read.Goals as goal
 
 pub returns-then-takes_none-clause-given : goal.returns-then-takes_none-clause-given
@@ -32,42 +32,6 @@ returns-then-takes_none-clause-told g c =
 pub returns-then-takes_none-clause-keeps : goal.returns-then-takes_none-clause-keeps
 returns-then-takes_none-clause-keeps g c = keeps-none (g.B.Blocks.value c.args.store.now) c.args.queue.now c.requires.ready.ready
 
-pub overflow_sub-dropped : goal.overflow_sub-dropped
-overflow_sub-dropped g c =
-    let s = g.B.Blocks.value c.args.store.now in
-    let t = g.B.Blocks.value c.gather-discarded.new.store in
-    let k = c.args.queue.now.list in
-    let q = messages_on s k in
-    let d = head_draw c.args.read c.args.control c.args.n q in
-    let gathered = c.gather-discarded.ensures in
-    let given = ap length (gathered.given ∙ ap (λ xs. xs ++ d.given) c.requires.fresh) in
-    let all = counts-gone c.args.read c.args.control c.args.n s t c.args.queue.now _ c.gather-discarded.new.queue c.total-before.result c.total.result c.requires.ready gathered.keeps refl gathered.left c.total-before.ensures c.total.ensures in
-    omega (arith, all)
-
-pub overflow_sub-dropped-2 : goal.overflow_sub-dropped-2
-overflow_sub-dropped-2 g c =
-    let s = g.B.Blocks.value c.args.store.now in
-    let t = g.B.Blocks.value c.gather-discarded.new.store in
-    let k = c.args.queue.now.list in
-    let q = messages_on s k in
-    let d = head_draw c.args.read c.args.control c.args.n q in
-    let gathered = c.gather-discarded.ensures in
-    let given = ap length (gathered.given ∙ ap (λ xs. xs ++ d.given) c.requires.fresh) in
-    let all = counts-gone c.args.read c.args.control c.args.n s t c.args.queue.now _ c.gather-discarded.new.queue c.total-before.result c.total.result c.requires.ready gathered.keeps refl gathered.left c.total-before.ensures c.total.ensures in
-    omega (arith, all, given, c.len.ensures.value)
-
-pub overflow_sub-dropped-3 : goal.overflow_sub-dropped-3
-overflow_sub-dropped-3 g c =
-    let s = g.B.Blocks.value c.args.store.now in
-    let t = g.B.Blocks.value c.gather-discarded.new.store in
-    let k = c.args.queue.now.list in
-    let q = messages_on s k in
-    let d = head_draw c.args.read c.args.control c.args.n q in
-    let gathered = c.gather-discarded.ensures in
-    let given = ap length (gathered.given ∙ ap (λ xs. xs ++ d.given) c.requires.fresh) in
-    let all = counts-gone c.args.read c.args.control c.args.n s t c.args.queue.now _ c.gather-discarded.new.queue c.total-before.result c.total.result c.requires.ready gathered.keeps refl gathered.left c.total-before.ensures c.total.ensures in
-    omega (arith, all, given, c.len.ensures.value, gathered.discarded)
-
 pub returns-then-went-clause-queue : goal.returns-then-went-clause-queue
 returns-then-went-clause-queue g c =
     let s = g.B.Blocks.value c.args.store.now in
@@ -77,8 +41,8 @@ returns-then-went-clause-queue g c =
     let d = head_draw c.args.read c.args.control c.args.n q in
     let gathered = c.gather-discarded.ensures in
     let given = ap length (gathered.given ∙ ap (λ xs. xs ++ d.given) c.requires.fresh) in
-    let all = counts-gone c.args.read c.args.control c.args.n s t c.args.queue.now _ c.gather-discarded.new.queue c.total-before.result c.total.result c.requires.ready gathered.keeps refl gathered.left c.total-before.ensures c.total.ensures in
-    let gone : none_went d ≡ not c.went.result = c.went.ensures d (sym given ∙ sym c.len-3.ensures.value) (sym gathered.discarded) (omega (arith, all, given, c.len.ensures.value, gathered.discarded)) in
+    let dropped : length d.dropped ≡ c.missing-dropped.result = dropped-is c.args.read c.args.control c.args.n s t c.args.queue.now _ c.gather-discarded.new.queue c.droppable-before.result c.droppable-after.result c.len.result c.gather-discarded.result c.requires.ready gathered.keeps refl gathered.left c.droppable-before.ensures c.droppable-after.ensures (sym given ∙ sym c.len.ensures.value) gathered.discarded ∙ sym c.missing-dropped.ensures in
+    let gone : none_went d ≡ not c.went.result = c.went.ensures d (sym given ∙ sym c.len-3.ensures.value) (sym gathered.discarded) dropped in
     let some = sym c.takes_none.ensures ∙ c.if-takes_none.false in
     let left = queue-left s t c.args.queue.now c.gather-discarded.new.queue d.left (ap (messages_on t) gathered.keeps.list ∙ gathered.left) gathered.flags.flows (gathered.flags.want_read refl) gathered.flags.no_enable in
     c.relieve.ensures.queue t gathered.keeps.ready ∙ ap relieved left ∙ sym (queue-some c.args.read c.args.control c.args.n (queue_in s c.args.queue.now) false some (gone ∙ ap not c.if-went.true))
@@ -92,8 +56,8 @@ returns-then-went-clause-went g c =
     let d = head_draw c.args.read c.args.control c.args.n q in
     let gathered = c.gather-discarded.ensures in
     let given = ap length (gathered.given ∙ ap (λ xs. xs ++ d.given) c.requires.fresh) in
-    let all = counts-gone c.args.read c.args.control c.args.n s t c.args.queue.now _ c.gather-discarded.new.queue c.total-before.result c.total.result c.requires.ready gathered.keeps refl gathered.left c.total-before.ensures c.total.ensures in
-    let gone : none_went d ≡ not c.went.result = c.went.ensures d (sym given ∙ sym c.len-3.ensures.value) (sym gathered.discarded) (omega (arith, all, given, c.len.ensures.value, gathered.discarded)) in
+    let dropped : length d.dropped ≡ c.missing-dropped.result = dropped-is c.args.read c.args.control c.args.n s t c.args.queue.now _ c.gather-discarded.new.queue c.droppable-before.result c.droppable-after.result c.len.result c.gather-discarded.result c.requires.ready gathered.keeps refl gathered.left c.droppable-before.ensures c.droppable-after.ensures (sym given ∙ sym c.len.ensures.value) gathered.discarded ∙ sym c.missing-dropped.ensures in
+    let gone : none_went d ≡ not c.went.result = c.went.ensures d (sym given ∙ sym c.len-3.ensures.value) (sym gathered.discarded) dropped in
     let some = sym c.takes_none.ensures ∙ c.if-takes_none.false in
     let left = queue-left s t c.args.queue.now c.gather-discarded.new.queue d.left (ap (messages_on t) gathered.keeps.list ∙ gathered.left) gathered.flags.flows (gathered.flags.want_read refl) gathered.flags.no_enable in
     c.relieve.ensures.went t gathered.keeps.ready ∙ ap relieves left ∙ sym (goes-some c.args.read c.args.control c.args.n (queue_in s c.args.queue.now) false some (gone ∙ ap not c.if-went.true))
@@ -107,8 +71,8 @@ returns-then-went-clause-told g c =
     let d = head_draw c.args.read c.args.control c.args.n q in
     let gathered = c.gather-discarded.ensures in
     let given = ap length (gathered.given ∙ ap (λ xs. xs ++ d.given) c.requires.fresh) in
-    let all = counts-gone c.args.read c.args.control c.args.n s t c.args.queue.now _ c.gather-discarded.new.queue c.total-before.result c.total.result c.requires.ready gathered.keeps refl gathered.left c.total-before.ensures c.total.ensures in
-    c.tell.ensures d (sym given ∙ sym c.len-2.ensures.value) (sym gathered.discarded) (omega (arith, all, given, c.len.ensures.value, gathered.discarded))
+    let dropped : length d.dropped ≡ c.missing-dropped.result = dropped-is c.args.read c.args.control c.args.n s t c.args.queue.now _ c.gather-discarded.new.queue c.droppable-before.result c.droppable-after.result c.len.result c.gather-discarded.result c.requires.ready gathered.keeps refl gathered.left c.droppable-before.ensures c.droppable-after.ensures (sym given ∙ sym c.len.ensures.value) gathered.discarded ∙ sym c.missing-dropped.ensures in
+    c.tell.ensures d (sym given ∙ sym c.len-2.ensures.value) (sym gathered.discarded) dropped
     ∙ told-some c.args.direction c.args.read c.args.control c.args.n q c.args.fates.now (sym c.takes_none.ensures ∙ c.if-takes_none.false)
 
 pub returns-then-went-clause-keeps : goal.returns-then-went-clause-keeps
@@ -129,8 +93,8 @@ returns-else-went-clause-queue g c =
     let d = head_draw c.args.read c.args.control c.args.n q in
     let gathered = c.gather-discarded.ensures in
     let given = ap length (gathered.given ∙ ap (λ xs. xs ++ d.given) c.requires.fresh) in
-    let all = counts-gone c.args.read c.args.control c.args.n s t c.args.queue.now _ c.gather-discarded.new.queue c.total-before.result c.total.result c.requires.ready gathered.keeps refl gathered.left c.total-before.ensures c.total.ensures in
-    let gone : none_went d ≡ not c.went.result = c.went.ensures d (sym given ∙ sym c.len-3.ensures.value) (sym gathered.discarded) (omega (arith, all, given, c.len.ensures.value, gathered.discarded)) in
+    let dropped : length d.dropped ≡ c.missing-dropped.result = dropped-is c.args.read c.args.control c.args.n s t c.args.queue.now _ c.gather-discarded.new.queue c.droppable-before.result c.droppable-after.result c.len.result c.gather-discarded.result c.requires.ready gathered.keeps refl gathered.left c.droppable-before.ensures c.droppable-after.ensures (sym given ∙ sym c.len.ensures.value) gathered.discarded ∙ sym c.missing-dropped.ensures in
+    let gone : none_went d ≡ not c.went.result = c.went.ensures d (sym given ∙ sym c.len-3.ensures.value) (sym gathered.discarded) dropped in
     let some = sym c.takes_none.ensures ∙ c.if-takes_none.false in
     let left = queue-left s t c.args.queue.now c.gather-discarded.new.queue d.left (ap (messages_on t) gathered.keeps.list ∙ gathered.left) gathered.flags.flows (gathered.flags.want_read refl) gathered.flags.no_enable in
     left ∙ sym (queue-some c.args.read c.args.control c.args.n (queue_in s c.args.queue.now) true some (gone ∙ ap not c.if-went.false))
@@ -144,8 +108,8 @@ returns-else-went-clause-went g c =
     let d = head_draw c.args.read c.args.control c.args.n q in
     let gathered = c.gather-discarded.ensures in
     let given = ap length (gathered.given ∙ ap (λ xs. xs ++ d.given) c.requires.fresh) in
-    let all = counts-gone c.args.read c.args.control c.args.n s t c.args.queue.now _ c.gather-discarded.new.queue c.total-before.result c.total.result c.requires.ready gathered.keeps refl gathered.left c.total-before.ensures c.total.ensures in
-    let gone : none_went d ≡ not c.went.result = c.went.ensures d (sym given ∙ sym c.len-3.ensures.value) (sym gathered.discarded) (omega (arith, all, given, c.len.ensures.value, gathered.discarded)) in
+    let dropped : length d.dropped ≡ c.missing-dropped.result = dropped-is c.args.read c.args.control c.args.n s t c.args.queue.now _ c.gather-discarded.new.queue c.droppable-before.result c.droppable-after.result c.len.result c.gather-discarded.result c.requires.ready gathered.keeps refl gathered.left c.droppable-before.ensures c.droppable-after.ensures (sym given ∙ sym c.len.ensures.value) gathered.discarded ∙ sym c.missing-dropped.ensures in
+    let gone : none_went d ≡ not c.went.result = c.went.ensures d (sym given ∙ sym c.len-3.ensures.value) (sym gathered.discarded) dropped in
     let some = sym c.takes_none.ensures ∙ c.if-takes_none.false in
     c.if-went.false ∙ sym (goes-some c.args.read c.args.control c.args.n (queue_in s c.args.queue.now) true some (gone ∙ ap not c.if-went.false))
 
@@ -158,6 +122,6 @@ returns-else-went-clause-told g c =
     let d = head_draw c.args.read c.args.control c.args.n q in
     let gathered = c.gather-discarded.ensures in
     let given = ap length (gathered.given ∙ ap (λ xs. xs ++ d.given) c.requires.fresh) in
-    let all = counts-gone c.args.read c.args.control c.args.n s t c.args.queue.now _ c.gather-discarded.new.queue c.total-before.result c.total.result c.requires.ready gathered.keeps refl gathered.left c.total-before.ensures c.total.ensures in
-    c.tell.ensures d (sym given ∙ sym c.len-2.ensures.value) (sym gathered.discarded) (omega (arith, all, given, c.len.ensures.value, gathered.discarded))
+    let dropped : length d.dropped ≡ c.missing-dropped.result = dropped-is c.args.read c.args.control c.args.n s t c.args.queue.now _ c.gather-discarded.new.queue c.droppable-before.result c.droppable-after.result c.len.result c.gather-discarded.result c.requires.ready gathered.keeps refl gathered.left c.droppable-before.ensures c.droppable-after.ensures (sym given ∙ sym c.len.ensures.value) gathered.discarded ∙ sym c.missing-dropped.ensures in
+    c.tell.ensures d (sym given ∙ sym c.len-2.ensures.value) (sym gathered.discarded) dropped
     ∙ told-some c.args.direction c.args.read c.args.control c.args.n q c.args.fates.now (sym c.takes_none.ensures ∙ c.if-takes_none.false)

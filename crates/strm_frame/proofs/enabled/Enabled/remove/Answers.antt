@@ -1,5 +1,6 @@
 -- The names that are kept are those of the list without the one.
-use Rattle.std.proofs.Common.{◌∙◌, arith, refl, ap}
+use Rattle.std.proofs.Common.{◌≡◌, ◌-◌, ◌∙◌, [], length, take, arith, refl, sym, ap, subst}
+use Rattle.std.specs.Bool.{OnTrue}
 use Rattle.std.proofs.lemmas.List.{take_all}
 use Rattle.strm_types.specs.Names.{without}
 use Rattle.strm_types.proofs.EnabledNames.{once-without, without-kept, without-gone}
@@ -21,7 +22,16 @@ loop-other-preserved c =
       }
     ]
 
-pub invariant_of-self : goal.invariant_of-self
-invariant_of-self c =
+pub invariant_of-self-2 : goal.invariant_of-self-2
+invariant_of-self-2 c =
     let whole = c.loop-other.invariant.rest ∙ ap (without c.args.name) (take_all _ _ c.loop-other-test.false ∙ c.as_slice-other-items.ensures.value) in
     rw whole (once-without c.self.inside.names.items c.args.name c.self.invariant)
+
+pub invariant_of-self : goal.invariant_of-self
+invariant_of-self c =
+    let names = c.self.inside.names.items in
+    let view : names ≡ c.args.self.now = c.self.view_is in
+    let one : length names ≡ 1 = ap length view ∙ subst (λ b. OnTrue b (length c.args.self.now ≡ 1)) c.if-is_only.true c.is_only.ensures.one in
+    let none : without c.args.name names ≡ [] = ap (without c.args.name) view ∙ subst (λ b. OnTrue b (without c.args.name c.args.self.now ≡ [])) c.if-is_only.true c.is_only.ensures.none_else in
+    let gone : c.pop.new.self.items ≡ without c.args.name names = c.pop.ensures.rest ∙ ap (λ n. take (n - 1) names) one ∙ sym none in
+    rw gone (once-without names c.args.name c.self.invariant)

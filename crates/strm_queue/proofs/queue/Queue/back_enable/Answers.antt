@@ -1,36 +1,19 @@
--- Each band in turn lets its writer go.
-use Rattle.std.proofs.Common.{◌≡◌, ◌<◌, ◌∙◌, length, take, refl, ap, arith}
-use Rattle.std.specs.List.{list_any}
-use Rattle.std.proofs.lemmas.List.{take_all}
-use Rattle.strm_queue.specs.Flows.{relieves, relieved}
-use Rattle.strm_queue.proofs.Flushed.{passed-none, passed-more, went-more, counted-relieved}
+-- Where no writer waits no band has one to let go.
+use Rattle.std.proofs.Common.{ℕ, ◌≡◌, ◌<◌, false, subst, arith}
+use Rattle.std.specs.Bool.{OnFalse}
+use Rattle.strm_types.specs.declared.limits.TheConstants.{BANDS}
+use Rattle.strm_queue.specs.Kept.{flow_at}
+use Rattle.strm_queue.proofs.Flushed.{none-relieved, none-waits}
 use Rattle.strm_queue.proofs.queue.Queue.back_enable.Goals as goal
 
-pub loop-band-init : goal.loop-band-init
-loop-band-init c = record { passed = passed-none relieved c.args.self.now.flows; went = refl; others = record { list = refl; want_read = refl; no_enable = refl } }
+pub returns-then-not-has_waiting-clause-went : goal.returns-then-not-has_waiting-clause-went
+returns-then-not-has_waiting-clause-went c =
+    let flows = c.args.self.now.flows in
+    let none = subst (λ b. OnFalse b ((band : ℕ) → band < BANDS → (flow_at band flows).want_write ≡ false)) c.if-not-has_waiting.true c.has_waiting.ensures in
+    none-relieved flows (λ k lt. none k (omega (arith, lt)))
 
-pub loop-band-preserved : goal.loop-band-preserved
-loop-band-preserved c =
-    let old = c.args.self.now.flows in
-    let new = c.loop-band.self.flows in
-    let band = c.loop-band.band in
-    let sofar = c.loop-band.invariant in
-    let within : band < length new = omega arith in
-    let here : band < length old = omega (arith, sofar.passed.eight) in
-    record {
-      passed = rw c.relieved.ensures (passed-more relieved old new band within sofar.passed);
-      went = rw c.lets_go-went.ensures (went-more old new band c.loop-band.went here (sofar.passed.behind band (omega arith)) sofar.went);
-      others = record { list = c.loop-band.invariant.others.list; want_read = c.loop-band.invariant.others.want_read; no_enable = c.loop-band.invariant.others.no_enable };
-    }
-
-pub returns-clause-went : goal.returns-clause-went
-returns-clause-went c =
-    let all : take c.loop-band.band c.args.self.now.flows ≡ c.args.self.now.flows = take_all c.loop-band.band c.args.self.now.flows (omega arith) in
-    c.loop-band.invariant.went ∙ ap (λ flows. list_any relieves flows) all
-
-pub returns-clause-flows : goal.returns-clause-flows
-returns-clause-flows c = λ band lt. c.loop-band.invariant.passed.before band (omega (arith, lt))
-
-pub returns-clause-counted : goal.returns-clause-counted
-returns-clause-counted c = λ q is.
-    counted-relieved c.args.self.now.flows c.loop-band.self.flows q c.loop-band.invariant.passed.eight (λ band lt. c.loop-band.invariant.passed.before band (omega (arith, lt))) is
+pub returns-then-not-has_waiting-clause-flows : goal.returns-then-not-has_waiting-clause-flows
+returns-then-not-has_waiting-clause-flows c = λ band lt.
+    let flows = c.args.self.now.flows in
+    let none = subst (λ b. OnFalse b ((k : ℕ) → k < BANDS → (flow_at k flows).want_write ≡ false)) c.if-not-has_waiting.true c.has_waiting.ensures in
+    none-waits (flow_at band flows) (none band lt)

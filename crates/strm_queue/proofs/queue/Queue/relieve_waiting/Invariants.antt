@@ -3,7 +3,7 @@ use Rattle.std.specs.List.{list_any}
 use Rattle.strm_queue.specs.Flows.{relieves, relieved}
 use Rattle.strm_queue.specs.Queues.{OnlyCounts}
 use Rattle.strm_queue.proofs.Flushed.{Passed}
-use Rattle.strm_queue.proofs.queue.Queue.back_enable.Given as goal
+use Rattle.strm_queue.proofs.queue.Queue.relieve_waiting.Given as goal
 
 abbrev pub invariant-loop-band : goal.invariant-loop-band
 invariant-loop-band l = record {
