@@ -77,6 +77,7 @@ impl Streams {
     }
 
     /// Opens the slave: its head is as new, and what waits for it may come.
+    #[inline(never)]
     pub fn open_slave<B: Blocks>(&mut self, store: &mut B)
         requires { AreHeld (B.value store.old) self.old }
         ensures state { state_in (B.value store.new) self.new ≡ opened_slave (state_in (B.value store.old) self.old) }
@@ -90,6 +91,7 @@ impl Streams {
     }
 
     // Sets a mode of a side's head.
+    #[inline(never)]
     fn set_mode(&mut self, side: Side, mode: Mode)
         ensures state { (s : StoreValue) → state_in s self.new ≡ mode_set side mode (state_in s self.old) }
         ensures held { (s : StoreValue) → AreHeld s self.old → AreHeld s self.new }
