@@ -11,7 +11,7 @@ use Rattle.strm_types.specs.Gets.{is_wanted, get_refusal}
 use Rattle.strm_types.specs.declared.refusals.Refusal.TheVariants.{Eagain}
 use Rattle.strm_types.specs.Flush.{is_data_kind}
 use Rattle.strm_types.specs.Message.{Message, part, cells_of, is_high_priority}
-use Rattle.strm_types.specs.Reads.{is_there, is_passed, is_refused, no_cells, offered, finds_none}
+use Rattle.strm_types.specs.Reads.{is_there, is_passed, is_refused, no_cells, offered, finds_none, starts_refused}
 use Rattle.strm_blocks.specs.Blocks.{Block, block_at}
 use Rattle.strm_blocks.specs.Outcomes.{Peeked, peek_of, part_len, control_len, body_len, told}
 use Rattle.strm_blocks.specs.declared.asked.Peek.{Peek}
@@ -20,7 +20,8 @@ use Rattle.strm_msg.specs.Messages.{message_of, part_of}
 use Rattle.strm_msg.proofs.Chains.{bytes-sum, kind-is, band-is}
 use Rattle.strm_head.specs.declared.standing.Passing.{Passing}
 use Rattle.strm_head.specs.declared.standing.Reaching.{Reaching}
-use Rattle.strm_head.specs.Drawing.{behind_passed, first_goes, goes}
+use Rattle.strm_head.specs.Drawing.{behind_passed, drops_control, first_goes, goes}
+use Rattle.strm_types.specs.Queue.{is_none_left}
 use Rattle.strm_head.specs.Seen.{peek_passed, peek_refused, peek_empty, peek_goes, peek_wanted, gets_on}
 
 pub parts-shown : (chain : List Block) → is_data_kind (block_at 0 chain).kind ≡ true
@@ -141,3 +142,21 @@ reaching-one control begun (chain ∷ q) all =
     at false false same is ih = goes-seen chain all.0 control begun ∙ ap (λ b. not b && goes control begun (message_of chain)) (sym is)
     at true false same is ih = absurd (cc)
     at false true same is ih = absurd (cc)
+
+-- where nothing stands a read takes none
+pub none-goes : (control : ControlMode) (begun : Bool) (q : List (List Block)) → is_none_left q ≡ true → false ≡ first_goes control begun (behind_passed control (map message_of q))
+none-goes control begun [] is = refl
+none-goes control begun (chain ∷ q) is = absurd (cc)
+
+and-true : (b : Bool) → b ≡ (b && true)
+and-true true = refl
+and-true false = refl
+
+-- a read that has given nothing yet, and passes none over, takes the first message but for a control part under RPROTNORM
+pub quick-goes : (control : ControlMode) (begun : Bool) (q : List (List Block)) → begun ≡ false → drops_control control ≡ false → is_none_left q ≡ false
+    → not (starts_refused control (map message_of q)) ≡ first_goes control begun (behind_passed control (map message_of q))
+quick-goes control true q fresh none some = absurd (cc)
+quick-goes control false [] fresh none some = absurd (cc)
+quick-goes Refuse false (chain ∷ q) fresh none some = and-true (not (is_refused Refuse (message_of chain)))
+quick-goes Data false (chain ∷ q) fresh none some = refl
+quick-goes Discard false (chain ∷ q) fresh none some = absurd (cc)

@@ -11,7 +11,7 @@ ghost use Rattle.strm_queue.specs.Stored.{queue_in, messages_on, SameFlags, IsRe
 ghost use Rattle.strm_head.specs.Drawing.{drawn_on, Stepped, discards, drops_control, more_behind, behind_passed, first_goes};
 
 use crate::parts::{leave_rest, show};
-use crate::standing::{first_passed, takes_none, takes_one};
+use crate::standing::{drops_control, first_passed, takes_none, takes_one};
 use strm_blocks::Blocks;
 use strm_msg::message_size;
 use strm_queue::Queue;
@@ -116,13 +116,6 @@ fn drop_first<B: Blocks>(store: &mut B, queue: &mut Queue)
         return;
     };
     store.free(message);
-}
-
-// Whether a read passes messages over and drops the bytes of control parts: under RPROTDIS.
-fn drops_control(control: ControlMode) -> bool
-    ensures { result ≡ drops_control control }
-{
-    matches!(control, ControlMode::Discard)
 }
 
 // Takes the messages away that a read passes over, up to the first that it doesn't.

@@ -9,7 +9,7 @@ ghost use Rattle.strm_queue.specs.Kept.{AreCounted};
 ghost use Rattle.strm_queue.specs.Queues.{OnlyCounts};
 ghost use Rattle.strm_queue.specs.Stored.{queue_in, messages_on, IsReady, IsHeadQueue};
 ghost use Rattle.strm_head.specs.Seen.{peek_passed, peek_refused, peek_empty, peek_goes, peek_wanted, gets_on};
-ghost use Rattle.strm_head.specs.Drawing.{behind_passed, first_passed, first_goes};
+ghost use Rattle.strm_head.specs.Drawing.{behind_passed, drops_control, first_passed, first_goes};
 
 use strm_blocks::{Blocks, Peek, Visitor};
 use strm_queue::Queue;
@@ -24,6 +24,13 @@ pub(crate) fn first_len<B: Blocks>(store: &B, queue: &Queue) -> usize
         Some(peek) => peek.body.unwrap_or(0),
         None => 0,
     }
+}
+
+/// Whether a read passes messages over and drops the bytes of control parts: under RPROTDIS.
+pub(crate) fn drops_control(control: ControlMode) -> bool
+    ensures { result ≡ drops_control control }
+{
+    matches!(control, ControlMode::Discard)
 }
 
 /// Whether a read passes a message over: under RPROTDIS it has no data part.
@@ -154,14 +161,8 @@ impl Visitor for Reaching {
     }
 }
 
-/// Whether there is a message that a read takes, behind those that it passes over. The cost is a step for each block of
-/// these, and of the next.
-pub(crate) fn takes_one<B: Blocks>(
-    store: &B,
-    queue: &Queue,
-    control: ControlMode,
-    begun: bool,
-) -> bool
+// Whether there is a message that a read takes, behind those that it passes over.
+fn reaches_one<B: Blocks>(store: &B, queue: &Queue, control: ControlMode, begun: bool) -> bool
     requires { IsHeadQueue (B.value store.now) queue.now }
     ensures { result ≡ first_goes control begun (behind_passed control (messages_on (B.value store.now) queue.now.list)) }
 {
@@ -173,6 +174,26 @@ pub(crate) fn takes_one<B: Blocks>(
     };
     store.visit(queue.list, &mut reaching);
     reaching.goes
+}
+
+/// Whether there is a message that a read takes, behind those that it passes over. The cost is a step for each block of
+/// these, and of the next.
+pub(crate) fn takes_one<B: Blocks>(
+    store: &B,
+    queue: &Queue,
+    control: ControlMode,
+    begun: bool,
+) -> bool
+    requires { IsHeadQueue (B.value store.now) queue.now }
+    ensures { result ≡ first_goes control begun (behind_passed control (messages_on (B.value store.now) queue.now.list)) }
+{
+    if begun || drops_control(control) {
+        return reaches_one(store, queue, control, begun);
+    }
+    if queue.is_empty(store) {
+        return false;
+    }
+    !starts_refused(store, queue, control)
 }
 
 // Whether a message is the one that a get asks for.

@@ -20,6 +20,7 @@ impl Streams {
     ghost use Rattle.strm_pair.specs.Pairs.{state_in, AreHeld, AreBeside, SamePool};
 
     /// Flushes a side's stream: an M_FLUSH goes down from its head, with all that it gives rise to.
+    #[inline(never)]
     pub fn flush<B: Blocks>(
         &mut self,
         store: &mut B,
@@ -133,6 +134,7 @@ impl Streams {
 
     /// Closes a side. What stands for its readers goes, and with the master what both drivers have; the slave's driver
     /// keeps what it has for the master. The slave is hung up where the master goes.
+    #[inline(never)]
     pub fn shut<B: Blocks>(&mut self, store: &mut B, side: Side, told: &mut Fates) -> Answer<usize>
         requires held { AreHeld (B.value store.old) self.old }
         ensures answer { result ≡ Done }

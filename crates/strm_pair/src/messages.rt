@@ -64,6 +64,7 @@ impl Streams {
 
     /// Sends a message of these parts down from a side's head, with all that it gives rise to, and books their bytes as written.
     /// Without either part nothing is sent.
+    #[inline(never)]
     pub fn putmsg<B: Blocks>(
         &mut self,
         store: &mut B,
@@ -102,6 +103,7 @@ impl Streams {
 
     /// Takes up to `cmax` bytes of the control part and up to `dmax` of the data part of the first message off a side's head into
     /// `out`, where that message is the one that is asked for.
+    #[inline(never)]
     pub fn getmsg<B: Blocks>(
         &mut self,
         store: &mut B,
@@ -161,6 +163,7 @@ impl Streams {
     }
 
     /// How many bytes of data the first message at a side's head has, and how many messages stand there.
+    #[inline(never)]
     pub fn nread<B: Blocks>(&self, store: &B, side: Side) -> Answer<usize>
         requires { AreHeld (B.value store.now) self.now }
         ensures answer { (out : List ℕ) → reply_in result out ≡ (sizes_at side (state_in (B.value store.now) self.now)).answer }

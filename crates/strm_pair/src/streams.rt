@@ -96,6 +96,7 @@ impl Streams {
     }
 
     /// Opens the slave: its head is as new, and what waits for it may come.
+    #[inline(never)]
     pub fn open_slave<B: Blocks>(&mut self, store: &mut B) -> Answer<usize>
         requires { AreHeld (B.value store.old) self.old }
         ensures answer { result ≡ Done }
@@ -111,6 +112,7 @@ impl Streams {
     }
 
     // Sets a mode of a side's head.
+    #[inline(never)]
     fn set_mode(&mut self, side: Side, mode: Mode)
         ensures state { (s : StoreValue) → state_in s self.new ≡ mode_set side mode (state_in s self.old) }
         ensures held { (s : StoreValue) → AreHeld s self.old → AreHeld s self.new }
