@@ -63,6 +63,7 @@ impl Streams {
 
     /// Tells what became of the ioctl under way on a side's stream, once: its answer, with its bytes in `out`, or its number
     /// while it waits.
+    #[inline(never)]
     pub fn tell_ioctl(&mut self, side: Side, out: &mut Content) -> Answer<usize>
         requires fresh { out.old.items ≡ [] }
         ensures answer { (s : StoreValue) → reply_in result out.new.items ≡ (ioctl_told side (state_in s self.old)).answer }
@@ -79,6 +80,7 @@ impl Streams {
 
     /// Sends a command down from a side's head, with these bytes, and tells the answer if it came at once, else the number of the
     /// ioctl.
+    #[inline(never)]
     pub fn ioctl<B: Blocks>(
         &mut self,
         store: &mut B,
@@ -107,6 +109,7 @@ impl Streams {
     }
 
     /// Hands out the signals that wait at a side's head, in `out`.
+    #[inline(never)]
     pub fn take_signals(&mut self, side: Side, out: &mut Content) -> Answer<usize>
         requires fresh { out.old.items ≡ [] }
         ensures answer { (s : StoreValue) → reply_in result out.new.items ≡ (signals_told side (state_in s self.old)).answer }
