@@ -1,4 +1,4 @@
-//! What an ioctl of a line asks for: its command, and the bytes that it sends.
+//! What an ioctl of a line asks for: its command, and the bytes that it sends (streamio(7I): I_STR; termio(7I)).
 
 ghost use Rattle.std.specs.Prelude.{◌≡◌, IfOk, option_map};
 ghost use Rattle.strm_types.specs.declared.events.Event.TheVariants.{Ioctl};
@@ -114,7 +114,7 @@ fn sent(alloc: Global, command: u32, bytes: &[u8]) -> Result<Event<Vec<u8>>, All
     Ok(Event::Ioctl { command, body })
 }
 
-/// What an ioctl asks for, behind its side.
+/// What an ioctl asks for, behind its side: an [`Event::Ioctl`]. Only want of memory is an `Err`.
 #[tactic(auto, unfolding(crate::specs::ScriptReading::asked_in))]
 pub fn asked(alloc: Global, line: &[u8]) -> Result<Option<Event<Vec<u8>>>, AllocError>
     ensures { IfOk result (λ found. requests_of found ≡ asked_in line.now) }
