@@ -15,3 +15,4 @@ pub mod Found
 pub mod Sent
 pub mod Heeding
 pub mod Commands
+pub mod Lone
