@@ -16,3 +16,4 @@ pub mod Sent
 pub mod Heeding
 pub mod Commands
 pub mod Copied
+pub mod Lone

@@ -11,14 +11,16 @@ mod reading;
 mod sending;
 mod signals;
 mod standing;
+mod vectors;
 
 pub use getting::{Gotten, getmsg};
 pub use head::{Head, Waiting};
 pub use ioctls::{IoctlBytes, make_ioctl};
 pub use putting::{Came, Down};
 pub use reading::read;
-pub use sending::{make_message, put_refusal};
+pub use sending::{make_flush, make_message, put_refusal, write};
 pub use signals::Signals;
+pub use vectors::Vectored;
 
 #[cfg(test)]
 mod tests;

@@ -2,6 +2,7 @@
 
 mod gets;
 mod heeds;
+mod vectors;
 
 ghost use Rattle.std.specs.Prelude.{◌≡◌, ◌≤◌, [], length};
 ghost use Rattle.strm_blocks.specs.Blocks.{list_at};

@@ -11,6 +11,7 @@ pub mod FreeBlocks
 pub mod Steps
 pub mod Shown
 pub mod DataLemmas
+pub mod Sends
 pub mod JournalLemmas
 mod PlainWrites
 mod Refusing

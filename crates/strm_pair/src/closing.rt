@@ -8,10 +8,10 @@ ghost use Rattle.strm_types.specs.Deliver.{tallied};
 ghost use Rattle.strm_types.specs.Puts.{flushed_on};
 ghost use Rattle.strm_frame.specs.Hands.{HasRoom};
 
-use crate::putting::make_flush;
 use crate::streams::Streams;
 use strm_blocks::Blocks;
 use strm_frame::{clear_queue, deliver};
+use strm_head::make_flush;
 use strm_types::{Answer, Band, Fates, FlushAsked, FlushQueues, HOPS, Rule, Side, Spot, Way};
 
 impl Streams {

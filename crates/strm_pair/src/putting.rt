@@ -4,7 +4,7 @@
 ghost use Rattle.std.specs.Prelude.{ℕ, ◌≡◌, ◌<◌, ◌≤◌, ◌&&◌, ◌==◌, [], ◌∷◌, suc, true, false, if◌then◌else◌};
 ghost use Rattle.strm_types.specs.declared.limits.TheConstants.{MODULES};
 ghost use Rattle.strm_types.specs.declared.names.Way.TheVariants.{Up};
-ghost use Rattle.strm_types.specs.Flushing.{is_flush, flush_bytes, flush_message};
+ghost use Rattle.strm_types.specs.Flushing.{is_flush};
 ghost use Rattle.strm_types.specs.Names.{before, enable_some, is_open};
 ghost use Rattle.strm_types.specs.Puts.{noted, across_of, put_at_head, put_at_driver, passed_up, put_below, put_in, far};
 ghost use Rattle.strm_types.specs.State.{stream};
@@ -12,7 +12,6 @@ ghost use Rattle.strm_blocks.specs.Blocks.{in_hand, block_at};
 ghost use Rattle.strm_msg.specs.Messages.{IsChain};
 ghost use Rattle.strm_frame.specs.Hands.{CanPut, HasRoom, Shifts, once};
 ghost use Rattle.strm_frame.specs.Outboxes.{message_in, sent_of, times_sent, parcels_in, AreChains};
-ghost use Rattle.strm_types.specs.declared.kinds.MsgKind.TheVariants.{Flush};
 ghost use Rattle.strm_types.specs.Reads.{is_there};
 ghost use Rattle.strm_head.specs.Heads.{down_message, sent_down};
 ghost use Rattle.strm_pty.specs.Does.{Makes, MadeOne};
@@ -22,22 +21,12 @@ ghost use Rattle.strm_pair.specs.PutBy.{PutBy, CameBy};
 use crate::streams::Streams;
 use strm_blocks::Blocks;
 use strm_frame::{Enabled, Outbox, Sent, Stations};
-use strm_head::Down;
+use strm_head::{Down, make_flush};
 use strm_msg::booked_size;
 use strm_pty::{make, put};
 use strm_types::{
-    Across, Band, Fates, FlushAsked, MODULES, MsgKind, Note, Place, QueueName, Rule, Side, Spot,
-    Way,
+    Across, Band, Fates, MODULES, MsgKind, Note, Place, QueueName, Rule, Side, Spot, Way,
 };
-
-/// Makes an M_FLUSH that asks for this, in one block of each kind.
-pub(crate) fn make_flush<B: Blocks>(store: &mut B, asked: FlushAsked) -> B::Mp
-    requires { HasRoom (B.value store.old) 1 }
-    ensures { MadeOne (B.value store.old) (B.value store.new) (B.name result) Flush (flush_bytes asked) }
-{
-    let bytes = asked.bytes();
-    make(store, MsgKind::Flush, bytes.as_slice())
-}
 
 // Makes what a head sends down, in one block of each kind.
 fn make_down<B: Blocks>(store: &mut B, down: Down) -> B::Mp

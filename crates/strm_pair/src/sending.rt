@@ -8,10 +8,10 @@ ghost use Rattle.strm_blocks.specs.Blocks.{free_m, free_d};
 ghost use Rattle.strm_queue.specs.Stored.{queue_in, IsReady, Keeps};
 
 use strm_blocks::Blocks;
-use strm_msg::from_bytes;
+use strm_head::write;
 use strm_queue::Queue;
 use strm_queue::standing::is_full;
-use strm_types::{Band, MsgKind};
+use strm_types::Band;
 
 /// What a queue has taken of a write: how many bytes, and whether it is to be enabled.
 #[derive(Clone, Copy)]
@@ -48,7 +48,7 @@ fn put_chunk<B: Blocks>(store: &mut B, queue: &mut Queue, chunk: &[u8]) -> bool
     ensures takes_d { free_d (B.value store.new) + 1 ≡ free_d (B.value store.old) }
     ensures keeps { Keeps (B.value store.old) (B.value store.new) queue.old queue.new }
 {
-    let Ok(message) = from_bytes(store, MsgKind::Data, Band(0), chunk) else {
+    let Ok(message) = write(store, true, chunk) else {
         unreachable!()
     };
     store.audit();

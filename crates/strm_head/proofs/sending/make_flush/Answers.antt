@@ -1,0 +1,13 @@
+-- An M_FLUSH is one block.
+use Rattle.std.proofs.Common.{subst, ◌∙◌}
+use Rattle.strm_types.specs.Flushing.{flush_message}
+use Rattle.strm_head.specs.Sending.{Sends}
+use Rattle.strm_head.proofs.Lone.{made-flush}
+use Rattle.strm_head.proofs.sending.make_flush.Goals as goal
+
+pub returns : goal.returns
+returns g c =
+    let s = g.B.Blocks.value c.args.store.now in
+    let made = g.B.Blocks.value c.make.new.store in
+    let i = g.B.Blocks.name c.make.result in
+    subst (λ bytes. Sends s made i (flush_message bytes) 1) (c.as_slice.ensures.value ∙ c.bytes-bytes.ensures) (made-flush s made i c.as_slice.result.now c.make.ensures)
