@@ -24,6 +24,7 @@ pub mod Emptied
 pub mod Service
 pub mod Flushing
 pub mod Ioctls
+pub mod Termios
 pub mod Drivers
 pub mod Heads
 pub mod Puts

@@ -23,6 +23,7 @@ mod refusals;
 mod rules;
 mod slots;
 mod spots;
+mod termios;
 
 pub use answers::{Answer, Content, ReadBytes, Turn};
 pub use books::{BOOK_MAX, Book};
@@ -43,3 +44,4 @@ pub use refusals::{NoMemory, Refusal};
 pub use rules::{Fates, RULES, Rule};
 pub use slots::Slot;
 pub use spots::{Across, Note, Spot};
+pub use termios::{ControlChar, InputModes, LocalModes, OutputModes, Termios};
