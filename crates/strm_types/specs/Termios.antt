@@ -55,83 +55,83 @@ is_char t key byte = not (byte == 0) && (byte == control_char key t)
 -- what is done to the bytes that come in
 
 abbrev pub istrip : Termios → Bool
-istrip t = bit_and t.iflag.0 32 == 32
+istrip t = bit_and t.iflag.0 0x20 == 0x20
 
 abbrev pub inlcr : Termios → Bool
-inlcr t = bit_and t.iflag.0 64 == 64
+inlcr t = bit_and t.iflag.0 0x40 == 0x40
 
 abbrev pub igncr : Termios → Bool
-igncr t = bit_and t.iflag.0 128 == 128
+igncr t = bit_and t.iflag.0 0x80 == 0x80
 
 abbrev pub icrnl : Termios → Bool
-icrnl t = bit_and t.iflag.0 256 == 256
+icrnl t = bit_and t.iflag.0 0x100 == 0x100
 
 abbrev pub iuclc : Termios → Bool
-iuclc t = bit_and t.iflag.0 512 == 512
+iuclc t = bit_and t.iflag.0 0x200 == 0x200
 
 abbrev pub ixon : Termios → Bool
-ixon t = bit_and t.iflag.0 1024 == 1024
+ixon t = bit_and t.iflag.0 0x400 == 0x400
 
 abbrev pub ixany : Termios → Bool
-ixany t = bit_and t.iflag.0 2048 == 2048
+ixany t = bit_and t.iflag.0 0x800 == 0x800
 
 abbrev pub imaxbel : Termios → Bool
-imaxbel t = bit_and t.iflag.0 8192 == 8192
+imaxbel t = bit_and t.iflag.0 0x2000 == 0x2000
 
 -- what is done to the bytes that go out
 
 abbrev pub opost : Termios → Bool
-opost t = bit_and t.oflag.0 1 == 1
+opost t = bit_and t.oflag.0 0x1 == 0x1
 
 abbrev pub olcuc : Termios → Bool
-olcuc t = bit_and t.oflag.0 2 == 2
+olcuc t = bit_and t.oflag.0 0x2 == 0x2
 
 abbrev pub onlcr : Termios → Bool
-onlcr t = bit_and t.oflag.0 4 == 4
+onlcr t = bit_and t.oflag.0 0x4 == 0x4
 
 abbrev pub ocrnl : Termios → Bool
-ocrnl t = bit_and t.oflag.0 8 == 8
+ocrnl t = bit_and t.oflag.0 0x8 == 0x8
 
 abbrev pub onocr : Termios → Bool
-onocr t = bit_and t.oflag.0 16 == 16
+onocr t = bit_and t.oflag.0 0x10 == 0x10
 
 abbrev pub onlret : Termios → Bool
-onlret t = bit_and t.oflag.0 32 == 32
+onlret t = bit_and t.oflag.0 0x20 == 0x20
 
 abbrev pub xtabs : Termios → Bool
-xtabs t = bit_and t.oflag.0 6144 == 6144
+xtabs t = bit_and t.oflag.0 0x1800 == 0x1800
 
 -- how lines are edited, echoed and handed up, and which bytes are signals
 
 abbrev pub isig : Termios → Bool
-isig t = bit_and t.lflag.0 1 == 1
+isig t = bit_and t.lflag.0 0x1 == 0x1
 
 abbrev pub icanon : Termios → Bool
-icanon t = bit_and t.lflag.0 2 == 2
+icanon t = bit_and t.lflag.0 0x2 == 0x2
 
 abbrev pub echo : Termios → Bool
-echo t = bit_and t.lflag.0 8 == 8
+echo t = bit_and t.lflag.0 0x8 == 0x8
 
 abbrev pub echoe : Termios → Bool
-echoe t = bit_and t.lflag.0 16 == 16
+echoe t = bit_and t.lflag.0 0x10 == 0x10
 
 abbrev pub echok : Termios → Bool
-echok t = bit_and t.lflag.0 32 == 32
+echok t = bit_and t.lflag.0 0x20 == 0x20
 
 abbrev pub echonl : Termios → Bool
-echonl t = bit_and t.lflag.0 64 == 64
+echonl t = bit_and t.lflag.0 0x40 == 0x40
 
 abbrev pub noflsh : Termios → Bool
-noflsh t = bit_and t.lflag.0 128 == 128
+noflsh t = bit_and t.lflag.0 0x80 == 0x80
 
 abbrev pub tostop : Termios → Bool
-tostop t = bit_and t.lflag.0 256 == 256
+tostop t = bit_and t.lflag.0 0x100 == 0x100
 
 abbrev pub echoctl : Termios → Bool
-echoctl t = bit_and t.lflag.0 512 == 512
+echoctl t = bit_and t.lflag.0 0x200 == 0x200
 
 abbrev pub echoke : Termios → Bool
-echoke t = bit_and t.lflag.0 2048 == 2048
+echoke t = bit_and t.lflag.0 0x800 == 0x800
 
 abbrev pub iexten : Termios → Bool
-iexten t = bit_and t.lflag.0 32768 == 32768
+iexten t = bit_and t.lflag.0 0x8000 == 0x8000
