@@ -8,7 +8,7 @@ use Rattle.strm_types.specs.declared.kinds.MsgKind.TheVariants.{Flush}
 use Rattle.strm_types.specs.declared.names.Way.TheVariants.{Up, Down}
 use Rattle.strm_types.specs.declared.rules.Rule.TheVariants.{Doubled}
 use Rattle.strm_types.specs.declared.spots.Spot.{Spot}
-use Rattle.strm_types.specs.Deliver.{Acted, Parcel, toward}
+use Rattle.strm_types.specs.Deliver.{Acted, Parcel, toward, Goes}
 use Rattle.strm_types.specs.Flush.{is_data_kind}
 use Rattle.strm_types.specs.Flushing.{is_flush, asked_by, flush_bytes, flush_message}
 use Rattle.strm_types.specs.Heads.{is_pcproto, passed_by, is_doubled, waits_for_readers, turned_round, flush_up, obeyed, head_put}
@@ -76,7 +76,7 @@ module _ (here : Spot) (chain : List Block) (h : Head ℕ) where
 
   -- a message waits, but for a second M_PCPROTO
   abbrev doubled : Acted ℕ (Head ℕ)
-  doubled = record (passed_by h) { gone = record { direction = direction_at Up here.side; rule = Doubled; cells = cells_of m } ∷ [] }
+  doubled = record (passed_by h) { gone = Goes (direction_at Up here.side) Doubled (cells_of m) ∷ [] }
 
   abbrev waiting : Acted ℕ (Head ℕ)
   waiting = passed_by (record h { queue = put_on m h.queue })

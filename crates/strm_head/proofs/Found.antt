@@ -5,7 +5,7 @@ use Rattle.strm_types.specs.declared.modes.Wanted.{Wanted}
 use Rattle.strm_types.specs.declared.names.Dir.{Dir}
 use Rattle.strm_types.specs.declared.rules.Rule.TheVariants.{Read}
 use Rattle.strm_types.specs.declared.rules.Fates.{Fates}
-use Rattle.strm_types.specs.Deliver.{tallied}
+use Rattle.strm_types.specs.Deliver.{tallied, Goes}
 use Rattle.strm_types.specs.Gets.{Got, is_wanted, got_none, parts_of, head_get}
 use Rattle.strm_types.specs.GetQueues.{gets_none, cells_got, none_got, queue_got, writer_let_go, get_queue, get_lets_go, get_told}
 use Rattle.strm_types.specs.Message.{Message, part}
@@ -52,7 +52,7 @@ module _ (wanted : Wanted) (cmax dmax : ℕ) where
       ∙ ap (λ v. cond v fates (told_more dir Read (length (cells_got g)) fates)) (sym some)
       ∙ at (gets_none wanted q) g
     where
-      at : (v : Bool) (g : Got ℕ) → cond v fates (told_more dir Read (length (cells_got g)) fates) ≡ tallied (cond v [] (record { direction = dir; rule = Read; cells = cells_got g } ∷ [])) fates
+      at : (v : Bool) (g : Got ℕ) → cond v fates (told_more dir Read (length (cells_got g)) fates) ≡ tallied (cond v [] (Goes dir Read (cells_got g) ∷ [])) fates
       at true g = refl
       at false g = refl
 

@@ -27,7 +27,7 @@ use Rattle.strm_types.specs.declared.names.Side.{Side}
 use Rattle.strm_types.specs.declared.names.Way.TheVariants.{Up, Down}
 use Rattle.strm_types.specs.declared.rules.Fates.{Fates}
 use Rattle.strm_types.specs.declared.spots.Spot.{Spot}
-use Rattle.strm_types.specs.Deliver.{Acted, Parcel, Took, tallied, toward}
+use Rattle.strm_types.specs.Deliver.{Acted, Parcel, Took, tallied, toward, Goes}
 use Rattle.strm_types.specs.Flushing.{asked_by, flush_bytes, flush_message}
 use Rattle.strm_types.specs.Heads.{head_put, is_doubled, obeyed, turned_round, waits_for_readers}
 use Rattle.strm_types.specs.Message.{Message, cells_of, has_parts}
@@ -109,7 +109,7 @@ noted-room side false names = refl
 
 -- a message that comes to a side that isn't open
 pub closed-is : (side : Side) (here : Spot) (m : Message ℕ) (s : State ℕ) → is_open (stream side s).opened ≡ false
-    → put_at_head side here m s ≡ record { state = s; sent = []; gone = record { direction = direction_at Up side; rule = EndClosed; cells = cells_of m } ∷ [] }
+    → put_at_head side here m s ≡ record { state = s; sent = []; gone = Goes (direction_at Up side) EndClosed (cells_of m) ∷ [] }
 closed-is side here m s closed = rw closed refl
 
 -- what a put at an open head leads to, by what the head does

@@ -7,7 +7,7 @@ use Rattle.strm_types.specs.declared.spots.Across.{Across}
 use Rattle.strm_types.specs.declared.spots.Note.{Note}
 use Rattle.strm_types.specs.declared.spots.Note.TheVariants.{Enable}
 use Rattle.strm_types.specs.declared.names.Way.TheVariants.{Down}
-use Rattle.strm_types.specs.Deliver.{Acted}
+use Rattle.strm_types.specs.Deliver.{Acted, Goes}
 use Rattle.strm_types.specs.Drivers.{taken_in}
 use Rattle.strm_types.specs.Message.{Message, cells_of}
 use Rattle.strm_types.specs.Names.{direction_from}
@@ -25,7 +25,7 @@ use Rattle.strm_pty.proofs.Doing.{can-of, times-none}
 
 -- what is taken in, where the master is closed and where it isn't
 abbrev lost : Side → Message ℕ → plain.Queue ℕ → Acted ℕ (plain.Queue ℕ)
-lost side m q = record { state = q; notes = []; sent = []; gone = record { direction = direction_from side; rule = EndClosed; cells = cells_of m } ∷ [] }
+lost side m q = record { state = q; notes = []; sent = []; gone = Goes (direction_from side) EndClosed (cells_of m) ∷ [] }
 
 abbrev kept : Message ℕ → plain.Queue ℕ → Acted ℕ (plain.Queue ℕ)
 kept m q = record { state = plain.put_on m q; notes = cond (plain.put_enables m q) (Enable Down ∷ []) []; sent = []; gone = [] }

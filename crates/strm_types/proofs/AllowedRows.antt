@@ -27,7 +27,7 @@ use Rattle.strm_types.specs.Cells.{plain}
 use Rattle.strm_types.specs.Flush.{is_data_kind}
 use Rattle.strm_types.specs.Journal.{content_max, entries_in}
 use Rattle.strm_types.specs.Kept.{came, gone}
-use Rattle.strm_types.specs.Deliver.{Fate, carried}
+use Rattle.strm_types.specs.Deliver.{Fate, Goes, carried}
 use Rattle.strm_types.specs.declared.modes.ControlMode.TheVariants.{Discard}
 use Rattle.strm_types.specs.declared.modes.ReadMode.TheVariants.{MessageDiscard}
 use Rattle.strm_types.specs.Message.{Message, cells_of, size_of, is_held, is_high_priority, rank_of, band_of}
@@ -243,9 +243,9 @@ held = pair (end Open false (ordinary (1 ∷ []) ∷ []) (ordinary (2 ∷ []) �
 
 abbrev read_of : Dir → List ℕ → List ℕ → List ℕ → List (Fate ℕ)
 read_of dir given discarded dropped =
-    record { direction = dir; rule = rules.Read; cells = given }
-    ∷ record { direction = dir; rule = rules.RestDiscarded; cells = discarded }
-    ∷ record { direction = dir; rule = rules.ControlDropped; cells = dropped } ∷ []
+    Goes dir rules.Read given
+    ∷ Goes dir rules.RestDiscarded discarded
+    ∷ Goes dir rules.ControlDropped dropped ∷ []
 
 -- the same with the slave's head in RMSGD and RPROTDIS
 abbrev held_in_messages : State ℕ
@@ -257,11 +257,11 @@ pub reads-take-away : gone plain held (Called (caller Slave) (Read 2) Done) ∷ 
 unfolding size_of cells_of rank_of is_high_priority
 reads-take-away = refl
 
-pub flush-takes-away : gone plain held (Called (caller Master) (Flush flushes.Write (band 2)) Done) ≡ record { direction = MasterToSlave; rule = rules.Flushed; cells = [] } ∷ record { direction = MasterToSlave; rule = rules.Flushed; cells = 1 ∷ 2 ∷ 3 ∷ 4 ∷ 5 ∷ [] } ∷ []
+pub flush-takes-away : gone plain held (Called (caller Master) (Flush flushes.Write (band 2)) Done) ≡ Goes MasterToSlave rules.Flushed [] ∷ Goes MasterToSlave rules.Flushed (1 ∷ 2 ∷ 3 ∷ 4 ∷ 5 ∷ []) ∷ []
 unfolding carried size_of cells_of is_data_kind is_high_priority band_of
 flush-takes-away = refl
 
-pub close-takes-away : gone plain held (Called (caller Slave) Shut Done) ≡ record { direction = MasterToSlave; rule = rules.EndClosed; cells = 1 ∷ 2 ∷ 3 ∷ 4 ∷ 5 ∷ [] } ∷ []
+pub close-takes-away : gone plain held (Called (caller Slave) Shut Done) ≡ Goes MasterToSlave rules.EndClosed (1 ∷ 2 ∷ 3 ∷ 4 ∷ 5 ∷ []) ∷ []
 unfolding size_of cells_of is_high_priority band_of
 close-takes-away = refl
 

@@ -19,7 +19,7 @@ use Rattle.strm_types.specs.declared.rules.Rule.TheVariants as rules
 use Rattle.strm_types.specs.Books.{new_book}
 use Rattle.strm_types.specs.Calls.{called}
 use Rattle.strm_types.specs.Cells.{plain}
-use Rattle.strm_types.specs.Deliver.{Fate, Carried, carried}
+use Rattle.strm_types.specs.Deliver.{Fate, Goes, Carried, carried}
 use Rattle.strm_types.specs.Emptied.{of_data, of_all, stayed, cells_gone, emptied, queue_behind, writer_goes, head_emptied, driver_emptied, closed_at, hung_up_at, ended}
 use Rattle.strm_types.specs.Flush.{is_data_kind}
 use Rattle.strm_types.specs.Puts.{flushed_on}
@@ -122,7 +122,7 @@ abbrev ones : Openness → Openness → State ℕ
 ones master slave = pair (end master (one 1) (one 2)) (end slave (one 3) (one 4))
 
 abbrev fate : Rule → Dir → List ℕ → Fate ℕ
-fate rule dir cells = record { direction = dir; rule = rule; cells = cells }
+fate rule dir cells = Goes dir rule cells
 
 abbrev down : ℕ → Fate ℕ
 down byte = fate rules.Flushed MasterToSlave (byte ∷ [])

@@ -1,6 +1,6 @@
 -- What the definitions of delivery, of modules and of rules compute, on small cases.
 use Rattle.std.proofs.Common.{ℕ, ◌≡◌, true, false, List, [], ◌∷◌, ◌++◌, map, refl}
-use Rattle.std.specs.Prelude.{None, Some, take, ◌==◌, if◌then◌else◌}
+use Rattle.std.specs.Prelude.{None, Some, ◌+◌, ◌-◌, ◌^◌, take, ◌==◌, if◌then◌else◌}
 use Rattle.strm_types.specs.declared.names.Side.TheVariants.{Slave}
 use Rattle.strm_types.specs.declared.names.Dir.TheVariants.{MasterToSlave, SlaveToMaster}
 use Rattle.strm_types.specs.declared.names.Way.TheVariants.{Up, Down}
@@ -12,8 +12,10 @@ use Rattle.strm_types.specs.declared.spots.Spot.{Spot}
 use Rattle.strm_types.specs.declared.spots.Note.TheVariants.{Enable, Room}
 use Rattle.strm_types.specs.Message.{Message, data_message}
 use Rattle.strm_types.specs.Names.{place_of, same_module, direction_at}
-use Rattle.strm_types.specs.Rules.{number_of, no_fates, told_more}
-use Rattle.strm_types.specs.Deliver.{Parcel, Took, Acted, toward, carried, tallied}
+use Rattle.strm_types.specs.Rules.{number_of, no_fates, told_more, made_more}
+use Rattle.strm_types.specs.Deliver.{Parcel, Took, Acted, toward, carried, tallied, Fate, Goes, Comes}
+use Rattle.strm_types.specs.Origins.{map_fate}
+use Rattle.strm_types.specs.Places.{weight_gone, weight_made}
 use Rattle.strm_types.specs.Modules.{may_push, top_name, put_among}
 
 pub rules-have-numbers : map number_of (rules.Read ∷ rules.Igncr ∷ rules.EraseKey ∷ rules.Erased ∷ rules.Killed ∷ rules.EofKey ∷ rules.SignalKey ∷ rules.FlowKey ∷ rules.LnextKey ∷ rules.ReprintKey ∷ rules.LineFull ∷ rules.LineOver ∷ rules.Flushed ∷ rules.RestDiscarded ∷ rules.ControlDropped ∷ rules.Doubled ∷ rules.ModulePopped ∷ rules.EndClosed ∷ rules.Replaced ∷ rules.Onocr ∷ rules.EchoFull ∷ []) ≡ 0 ∷ 1 ∷ 2 ∷ 3 ∷ 4 ∷ 5 ∷ 6 ∷ 7 ∷ 8 ∷ 9 ∷ 10 ∷ 11 ∷ 12 ∷ 13 ∷ 14 ∷ 15 ∷ 16 ∷ 17 ∷ 18 ∷ 19 ∷ 20 ∷ []
@@ -25,6 +27,29 @@ told-in-its-direction = refl
 
 pub told-by-its-rule : take 4 (told_more SlaveToMaster rules.Erased 2 (told_more SlaveToMaster rules.Erased 5 no_fates)).from_slave ≡ 0 ∷ 0 ∷ 0 ∷ 7 ∷ []
 told-by-its-rule = refl
+
+-- and what is made is counted in its own, modulo 2^64
+pub made-in-its-direction : (made_more SlaveToMaster 2 (made_more MasterToSlave 5 no_fates)).made_from_slave ≡ 2
+made-in-its-direction = refl
+
+pub made-modulo : (made_more MasterToSlave 3 (made_more MasterToSlave (2 ^ 64 - 1) no_fates)).made_from_master ≡ 2
+made-modulo = refl
+
+-- A line whose second byte goes, and the echo of the first.
+abbrev echoed : List (Fate ℕ)
+echoed = Comes SlaveToMaster (97 ∷ 94 ∷ []) ∷ Goes MasterToSlave rules.EraseKey (127 ∷ []) ∷ []
+
+pub echo-is-told : tallied echoed no_fates ≡ told_more MasterToSlave rules.EraseKey 1 (made_more SlaveToMaster 2 no_fates)
+echo-is-told = refl
+
+pub echo-is-made : weight_made (λ c. true) echoed ≡ 2
+echo-is-made = refl
+
+pub key-has-gone : weight_gone (λ c. true) echoed ≡ 1
+key-has-gone = refl
+
+pub echo-is-mapped : map (map_fate (λ c. c + 1)) echoed ≡ Comes SlaveToMaster (98 ∷ 95 ∷ []) ∷ Goes MasterToSlave rules.EraseKey (128 ∷ []) ∷ []
+echo-is-mapped = refl
 
 abbrev at : ℕ → Spot
 at n = record { side = Slave; at = n; way = Up }
@@ -49,7 +74,7 @@ abbrev noted : Spot → Message ℕ → List ℕ → Took ℕ (List ℕ)
 noted to m trail = record {
   state = trail ++ to.at ∷ [];
   sent = map parcel (sends to.at);
-  gone = record { direction = MasterToSlave; rule = rules.Igncr; cells = to.at ∷ [] } ∷ [];
+  gone = Goes MasterToSlave rules.Igncr (to.at ∷ []) ∷ [];
 }
 
 -- each message with all that it gives rise to, before the next
@@ -57,7 +82,7 @@ pub first-with-all-its-own : (carried noted 8 (parcel 4) []).state ≡ 4 ∷ 3 �
 unfolding carried
 first-with-all-its-own = refl
 
-pub gone-in-that-order : map (λ f. f.cells) (carried noted 8 (parcel 4) []).gone ≡ (4 ∷ []) ∷ (3 ∷ []) ∷ (1 ∷ []) ∷ (2 ∷ []) ∷ []
+pub gone-in-that-order : (carried noted 8 (parcel 4) []).gone ≡ map (λ n. Goes MasterToSlave rules.Igncr (n ∷ [])) (4 ∷ 3 ∷ 1 ∷ 2 ∷ [])
 unfolding carried
 gone-in-that-order = refl
 

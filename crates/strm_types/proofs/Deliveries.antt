@@ -10,7 +10,7 @@ use Rattle.strm_types.specs.declared.spots.Spot.{Spot}
 use Rattle.strm_types.specs.Flushing.{asked_of, flush_bytes, flush_message}
 use Rattle.strm_types.specs.Kept.{NothingUnread, state_weight}
 use Rattle.strm_types.specs.Message.{Message, weight_of}
-use Rattle.strm_types.specs.Places.{weight_gone}
+use Rattle.strm_types.specs.Places.{weight_gone, weight_made}
 use Rattle.strm_types.specs.Puts.{SameEnds, delivered, far, flushed_on, put_in}
 use Rattle.strm_types.specs.State.{State}
 use Rattle.strm_types.proofs.DeliveryHolds.{carried-holds}
@@ -21,7 +21,7 @@ use Rattle.strm_types.proofs.PutWeights.{weight-flush}
 
 module _ {C : Type 0} where
   pub delivered-keeps : (p : C → Bool) (to : Spot) (m : Message C) (s : State C) → to.at ≤ 4 →
-      state_weight p (delivered to m s).state + weight_gone p (delivered to m s).gone ≡ state_weight p s + weight_of p m
+      state_weight p (delivered to m s).state + weight_gone p (delivered to m s).gone ≡ state_weight p s + (weight_of p m + weight_made p (delivered to m s).gone)
   delivered-keeps p to m s low = carried-keeps p (state_weight p) far put_in (puts-keep p) (puts-fall C) HOPS (record { to = to; message = m }) (far-within to m low) s
 
   pub delivered-unread : (to : Spot) (m : Message C) (s : State C) → NothingUnread s → NothingUnread (delivered to m s).state
@@ -31,7 +31,7 @@ module _ {C : Type 0} where
   delivered-same to m s = carried-holds (SameEnds s) put_in (puts-same s) HOPS (record { to = to; message = m }) s (record { master = refl; slave = refl; locked = refl; next_ioctl = refl; from_master = refl; from_slave = refl })
 
   pub flushed_on-keeps : (p : C → Bool) (band : Option Band) (side : Side) (what : FlushQueues) (s : State C) →
-      state_weight p (flushed_on band side what s).state + weight_gone p (flushed_on band side what s).gone ≡ state_weight p s
+      state_weight p (flushed_on band side what s).state + weight_gone p (flushed_on band side what s).gone ≡ state_weight p s + weight_made p (flushed_on band side what s).gone
   flushed_on-keeps p band side what s =
       let bytes = flush_bytes (asked_of what band) in
       omega (arith, delivered-keeps p (record { side = side; at = 1; way = Down }) (flush_message bytes) s (omega arith), weight-flush p bytes)

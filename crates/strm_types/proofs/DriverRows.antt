@@ -14,7 +14,7 @@ use Rattle.strm_types.specs.declared.rules.Rule.TheVariants.{Flushed, EndClosed}
 use Rattle.strm_types.specs.declared.spots.Across.{Across}
 use Rattle.strm_types.specs.declared.spots.Note.TheVariants.{Enable, Room}
 use Rattle.strm_types.specs.declared.spots.Spot.{Spot}
-use Rattle.strm_types.specs.Deliver.{Acted, Parcel}
+use Rattle.strm_types.specs.Deliver.{Acted, Parcel, Goes}
 use Rattle.strm_types.specs.Drivers.{crosses, driver_put}
 use Rattle.strm_types.specs.Flush.{is_data_kind}
 use Rattle.strm_types.specs.Flushing.{asked_by, read_flush, flush_message}
@@ -70,7 +70,7 @@ unfolding crosses rank_of band_of is_high_priority
 data-is-queued = refl
 
 pub data-goes-once-the-master-is-closed : driver_put Slave (across false true) (here Slave Down) (ordinary (7 ∷ [])) resting
-    ≡ record { state = resting; notes = []; sent = []; gone = record { direction = SlaveToMaster; rule = EndClosed; cells = 7 ∷ [] } ∷ [] }
+    ≡ record { state = resting; notes = []; sent = []; gone = Goes SlaveToMaster EndClosed (7 ∷ []) ∷ [] }
 unfolding crosses cells_of
 data-goes-once-the-master-is-closed = refl
 
@@ -90,7 +90,7 @@ emptied_own sent = record {
   state = record waiting { messages = []; flows = flow 512 1 false ∷ replicate 7 (flow 512 128 false) };
   notes = Room Down ∷ [];
   sent = sent;
-  gone = record { direction = MasterToSlave; rule = Flushed; cells = 1 ∷ 2 ∷ 3 ∷ 4 ∷ 5 ∷ 8 ∷ 9 ∷ [] } ∷ [];
+  gone = Goes MasterToSlave Flushed (1 ∷ 2 ∷ 3 ∷ 4 ∷ 5 ∷ 8 ∷ 9 ∷ []) ∷ [];
 }
 
 abbrev to_readers : Parcel ℕ
@@ -118,7 +118,7 @@ pub flush-that-comes-across : driver_put Master (across true false) (here Master
       state = record waiting { messages = ordinary (8 ∷ 9 ∷ []) ∷ [] };
       notes = [];
       sent = record { to = record { side = Slave; at = 2; way = Up }; message = flush (5 ∷ 2 ∷ []) } ∷ [];
-      gone = record { direction = MasterToSlave; rule = Flushed; cells = 1 ∷ 2 ∷ 3 ∷ 4 ∷ 5 ∷ [] } ∷ [];
+      gone = Goes MasterToSlave Flushed (1 ∷ 2 ∷ 3 ∷ 4 ∷ 5 ∷ []) ∷ [];
     }
 unfolding is_data_kind cells_of size_of band_of is_high_priority
 flush-that-comes-across = refl
@@ -167,7 +167,7 @@ ioctls-of-the-master = refl
 
 -- one of number 0 goes across, and is freed once the master is closed; so is one that is too short
 pub ioctls-of-number-0 : map (λ ended. driver_put Slave (across (not ended) ended) (here Slave Down) (ioctl 0) resting) (false ∷ true ∷ [])
-    ≡ queued_ioctl 0 ∷ record nothing { gone = record { direction = SlaveToMaster; rule = EndClosed; cells = [] } ∷ [] } ∷ []
+    ≡ queued_ioctl 0 ∷ record nothing { gone = Goes SlaveToMaster EndClosed [] ∷ [] } ∷ []
 unfolding cells_of rank_of band_of is_high_priority
 ioctls-of-number-0 = refl
 

@@ -8,7 +8,7 @@ use Rattle.strm_types.specs.declared.names.Side.{Side}
 use Rattle.strm_types.specs.declared.names.Side.TheVariants.{Master, Slave}
 use Rattle.strm_types.specs.declared.rules.Rule.{Rule}
 use Rattle.strm_types.specs.declared.rules.Rule.TheVariants.{EndClosed}
-use Rattle.strm_types.specs.Deliver.{Fate, Carried}
+use Rattle.strm_types.specs.Deliver.{Fate, Goes, Carried}
 use Rattle.strm_types.specs.Emptied.{Choice, of_all, stayed, cells_gone, emptied, none_goes, queue_behind, writer_goes, head_emptied, driver_emptied, and_then, ended, hung_up_at, closed_at}
 use Rattle.strm_types.specs.Message.{Message, cells_of, size_of, map_message}
 use Rattle.strm_types.specs.Names.{driver_of, head_of, direction_of, before, is_open, enable_some}
@@ -22,13 +22,13 @@ use Rattle.strm_types.proofs.Forgetting.{kind-forgets, named_band-forgets, cells
 abbrev head_made : {E : Type 0} → Rule → Side → State E → Queue E → Bool → List E → Carried E (State E)
 head_made rule side s q goes cells = record {
   state = record (with_stream side (with_head_queue q (stream side s)) s) { enabled = enable_some goes (before (head_of side)) s.enabled };
-  gone = record { direction = direction_of (head_of side); rule = rule; cells = cells } ∷ [];
+  gone = Goes (direction_of (head_of side)) rule cells ∷ [];
 }
 
 abbrev driver_made : {E : Type 0} → Rule → Side → State E → Queue E → Bool → List E → Carried E (State E)
 driver_made rule side s q goes cells = record {
   state = record (with_stream side (with_driver_queue q (stream side s)) s) { enabled = enable_some goes (before (driver_of side)) s.enabled };
-  gone = record { direction = direction_of (driver_of side); rule = rule; cells = cells } ∷ [];
+  gone = Goes (direction_of (driver_of side)) rule cells ∷ [];
 }
 
 module _ {C D : Type 0} (f : C → D) where

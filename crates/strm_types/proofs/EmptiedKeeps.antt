@@ -10,10 +10,10 @@ use Rattle.strm_types.specs.Emptied.{Choice, of_all, stayed, cells_gone, emptied
 use Rattle.strm_types.specs.Kept.{state_weight, NothingUnread}
 use Rattle.strm_types.specs.Message.{Message, cells_of}
 use Rattle.strm_types.specs.Names.{is_open}
-use Rattle.strm_types.specs.Places.{weight_gone}
+use Rattle.strm_types.specs.Places.{weight_gone, weight_made}
 use Rattle.strm_types.specs.Queue.{Queue, weight, relieved}
 use Rattle.strm_types.specs.State.{State}
-use Rattle.strm_types.proofs.DeliveryKeeps.{gone-append}
+use Rattle.strm_types.proofs.DeliveryKeeps.{gone-append, made-append}
 use Rattle.strm_types.proofs.Weights.{weight-take, count-join, weight-whole}
 
 module _ {C : Type 0} where
@@ -41,22 +41,22 @@ module _ {C : Type 0} where
     pub behind-keeps : (chosen : Choice) (q : Queue C) → weight p (queue_behind chosen q).messages + count_by p (cells_gone chosen q.messages) ≡ weight p q.messages
     behind-keeps chosen q = ap (λ (ms : List (Message C)). weight p ms + count_by p (cells_gone chosen q.messages)) (behind-is chosen q) ∙ stayed-keeps chosen q.messages
 
-    -- all that stands there, and all that has gone
-    abbrev total : Carried C (State C) → ℕ
-    total t = state_weight p t.state + weight_gone p t.gone
+    -- what a pair comes to that had so many cells
+    abbrev Keeps : Carried C (State C) → ℕ → Type 0
+    Keeps t n = state_weight p t.state + weight_gone p t.gone ≡ n + weight_made p t.gone
 
     -- over a side's head and its driver
-    head_emptied-keeps : (rule : Rule) (chosen : Choice) (side : Side) (s : State C) → total (head_emptied rule chosen side s) ≡ state_weight p s
+    head_emptied-keeps : (rule : Rule) (chosen : Choice) (side : Side) (s : State C) → Keeps (head_emptied rule chosen side s) (state_weight p s)
     head_emptied-keeps rule chosen Master s = omega (arith, behind-keeps chosen s.master.head.queue)
     head_emptied-keeps rule chosen Slave s = omega (arith, behind-keeps chosen s.slave.head.queue)
 
-    driver_emptied-keeps : (rule : Rule) (chosen : Choice) (side : Side) (s : State C) → total (driver_emptied rule chosen side s) ≡ state_weight p s
+    driver_emptied-keeps : (rule : Rule) (chosen : Choice) (side : Side) (s : State C) → Keeps (driver_emptied rule chosen side s) (state_weight p s)
     driver_emptied-keeps rule chosen Master s = omega (arith, behind-keeps chosen s.master.driver.queue)
     driver_emptied-keeps rule chosen Slave s = omega (arith, behind-keeps chosen s.slave.driver.queue)
 
     -- one after the other
-    and_then-keeps : (n : ℕ) (t : Carried C (State C)) (next : State C → Carried C (State C)) → total t ≡ n → ((s : State C) → total (next s) ≡ state_weight p s) → total (and_then t next) ≡ n
-    and_then-keeps n t next is keeps = omega (arith, is, keeps t.state, gone-append p t.gone (next t.state).gone)
+    and_then-keeps : (n : ℕ) (t : Carried C (State C)) (next : State C → Carried C (State C)) → Keeps t n → ((s : State C) → Keeps (next s) (state_weight p s)) → Keeps (and_then t next) n
+    and_then-keeps n t next is keeps = omega (arith, is, keeps t.state, gone-append p t.gone (next t.state).gone, made-append p t.gone (next t.state).gone)
 
     -- a close: what stands on the head has gone before that is as new
     behind-all : (q : Queue C) → weight p (queue_behind of_all q).messages ≡ 0
@@ -74,7 +74,7 @@ module _ {C : Type 0} where
         at true = refl
         at false = refl
 
-    pub closed_at-keeps : (side : Side) (s : State C) → total (closed_at side s) ≡ state_weight p s
+    pub closed_at-keeps : (side : Side) (s : State C) → Keeps (closed_at side s) (state_weight p s)
     closed_at-keeps Slave s = omega (arith, head_emptied-keeps EndClosed of_all Slave s, behind-all s.slave.head.queue)
     closed_at-keeps Master s =
         let heads = head_emptied EndClosed of_all Master s in

@@ -14,7 +14,7 @@ use Rattle.strm_types.specs.declared.names.Way.TheVariants.{Up, Down}
 use Rattle.strm_types.specs.declared.rules.Rule.TheVariants.{Flushed, EndClosed}
 use Rattle.strm_types.specs.declared.spots.Note.TheVariants.{Room}
 use Rattle.strm_types.specs.declared.spots.Spot.{Spot}
-use Rattle.strm_types.specs.Deliver.{Acted, Carried, Fate, Parcel, Took, carried, in_turn}
+use Rattle.strm_types.specs.Deliver.{Acted, Carried, Fate, Goes, Parcel, Took, carried, in_turn}
 use Rattle.strm_types.specs.Drivers.{flush_across, flush_down, freed, own_flushed, reader_flush}
 use Rattle.strm_types.specs.Emptied.{Choice, of_data, and_then, driver_behind, driver_emptied, head_behind, head_emptied, queue_behind, writer_goes}
 use Rattle.strm_types.specs.FlushEffect.{none_gone, reached, write_flushed, read_flushed, flush_effect}
@@ -98,7 +98,7 @@ module _ {C : Type 0} where
 
   head-takes : (side : Side) (bytes : List ℕ) (s : State C) → is_open (stream side s).opened ≡ true → put_in (head_spot side) (flush_message bytes) s ≡ head_took side (asked_by bytes) s
   head-takes side bytes s is =
-      let none : Took C (State C) = record { state = s; sent = []; gone = record { direction = direction_at Up side; rule = EndClosed; cells = cells_of (flush_message bytes) } ∷ [] } in
+      let none : Took C (State C) = record { state = s; sent = []; gone = Goes (direction_at Up side) EndClosed (cells_of (flush_message bytes)) ∷ [] } in
       ap (λ (opened : Bool). cond opened (head_took side (asked_by bytes) s) none) is
 
   head-flushes : (band : Option Band) (side : Side) (s : State C) → head_took side (asked_of Read band) s ≡ record { state = head_behind (of_data band) side s; sent = []; gone = (head_emptied Flushed (of_data band) side s).gone }

@@ -5,11 +5,11 @@ use Rattle.std.specs.Prelude.{not, ◌&&◌, Option, None, Some, option_map}
 use Rattle.strm_types.specs.declared.modes.Wanted.{Wanted}
 use Rattle.strm_types.specs.declared.names.Dir.{Dir}
 use Rattle.strm_types.specs.declared.rules.Rule.TheVariants as rules
-use Rattle.strm_types.specs.Deliver.{Fate}
+use Rattle.strm_types.specs.Deliver.{Fate, Goes}
 use Rattle.strm_types.specs.GetQueues.{gets_none, cells_got, none_got, queue_got, get_queue, writer_let_go, get_lets_go, get_gone}
 use Rattle.strm_types.specs.Gets.{Got, head_get, map_got}
 use Rattle.strm_types.specs.Message.{Message, part}
-use Rattle.strm_types.specs.Places.{weight_gone}
+use Rattle.strm_types.specs.Places.{weight_gone, weight_made}
 use Rattle.strm_types.specs.Queue.{Queue, weight, left_with, relieved, relieves, map_messages, map_queue}
 use Rattle.strm_types.specs.Reads.{no_cells}
 use Rattle.strm_types.proofs.Drawing.{count-joined}
@@ -26,13 +26,13 @@ module _ {C : Type 0} where
 
   -- what goes to the reader
   abbrev fates : Dir → Got C → List (Fate C)
-  fates dir g = record { direction = dir; rule = rules.Read; cells = cells_got g } ∷ []
+  fates dir g = Goes dir rules.Read (cells_got g) ∷ []
 
   pub get_queue-keeps : (p : C → Bool) (dir : Dir) (wanted : Wanted) (cmax dmax : ℕ) (q : Queue C) →
-      weight p (get_queue wanted cmax dmax q).messages + weight_gone p (get_gone dir wanted cmax dmax q.messages) ≡ weight p q.messages
+      weight p (get_queue wanted cmax dmax q).messages + weight_gone p (get_gone dir wanted cmax dmax q.messages) ≡ weight p q.messages + weight_made p (get_gone dir wanted cmax dmax q.messages)
   get_queue-keeps p dir wanted cmax dmax q = at (gets_none wanted q.messages)
     where
-      at : (none : Bool) → let g = head_get wanted cmax dmax q.messages in weight p (cond none q (queue_got g q)).messages + weight_gone p (cond none [] (fates dir g)) ≡ weight p q.messages
+      at : (none : Bool) → let g = head_get wanted cmax dmax q.messages in weight p (cond none q (queue_got g q)).messages + weight_gone p (cond none [] (fates dir g)) ≡ weight p q.messages + weight_made p (cond none [] (fates dir g))
       at true = omega arith
       at false =
           let g = head_get wanted cmax dmax q.messages in

@@ -27,6 +27,7 @@ use Rattle.strm_types.specs.declared.rules.Rule.TheVariants as rules
 use Rattle.strm_types.specs.Books.{new_book}
 use Rattle.strm_types.specs.Calls.{Request, called, content_of}
 use Rattle.strm_types.specs.Cells.{plain}
+use Rattle.strm_types.specs.Deliver.{Goes}
 use Rattle.strm_types.specs.Journal.{content_max, entries_in, answer_len, room_of}
 use Rattle.strm_types.specs.Kept.{came, gone}
 use Rattle.strm_types.specs.Message.{Message, rank_of, band_of, size_of, cells_of, is_held, is_high_priority}
@@ -145,7 +146,7 @@ get-gives-4096-at-most = refl
 
 -- what a get gives has gone to a reader; none else goes, and none comes
 pub got-bytes-go-to-the-reader : gone plain one_waits (Called (caller Slave) (Get Any 1 9) Done) ∷ gone plain one_waits (Called (caller Slave) (Get High 9 9) Done) ∷ gone plain one_waits (Called (caller Master) (Get Any 9 9) Done) ∷ []
-    ≡ (record { direction = MasterToSlave; rule = rules.Read; cells = 1 ∷ 3 ∷ 4 ∷ 5 ∷ [] } ∷ []) ∷ [] ∷ [] ∷ []
+    ≡ (Goes MasterToSlave rules.Read (1 ∷ 3 ∷ 4 ∷ 5 ∷ []) ∷ []) ∷ [] ∷ [] ∷ []
 unfolding rank_of band_of cells_of is_high_priority
 got-bytes-go-to-the-reader = refl
 

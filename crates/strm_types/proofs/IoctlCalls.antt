@@ -11,7 +11,7 @@ use Rattle.strm_types.specs.Ioctls.{asking, ioctl_message}
 use Rattle.strm_types.specs.Kept.{NothingUnread, state_weight}
 use Rattle.strm_types.specs.Message.{Message, cells_of, map_message, weight_of}
 use Rattle.strm_types.specs.Origins.{map_carried}
-use Rattle.strm_types.specs.Places.{weight_gone}
+use Rattle.strm_types.specs.Places.{weight_gone, weight_made}
 use Rattle.strm_types.specs.Puts.{delivered}
 use Rattle.strm_types.specs.Slots.{PlainSlot}
 use Rattle.strm_types.specs.State.{State, map_state, with_ioctl, with_signals}
@@ -44,7 +44,7 @@ module _ {C : Type 0} where
     told-keeps Slave s = refl
 
     pub sent-keeps : (side : Side) (command : ℕ) (body : List ℕ) (s : State C) → let t = ioctl_sent side command body s in
-        state_weight p (ioctl_told side t.state).state + weight_gone p t.gone ≡ state_weight p s
+        state_weight p (ioctl_told side t.state).state + weight_gone p t.gone ≡ state_weight p s + weight_made p t.gone
     sent-keeps side command body s =
         let ioc = asking command s.next_ioctl in
         let m : Message C = ioctl_message ioc body in

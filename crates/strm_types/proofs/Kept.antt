@@ -1,4 +1,4 @@
--- No step of a pair loses or makes a byte.
+-- No step of a pair loses a byte, or makes one that it doesn't tell.
 use Rattle.std.proofs.Common.{ℕ, ◌≡◌, ◌+◌, Bool, true, false, cond, List, [], refl, sym, ap, subst, ◌∙◌, arith}
 use Rattle.std.specs.Prelude.{min, not, None, count_by}
 use Rattle.strm_types.specs.declared.limits.TheConstants.{READ_MAX}
@@ -26,7 +26,8 @@ use Rattle.strm_types.specs.GetQueues.{get_queue, get_lets_go, get_gone}
 use Rattle.strm_types.specs.Journal.{PlainEntry}
 use Rattle.strm_types.specs.Refused.{or_else, unless, asks_a_band, refused_at_once, refused_by_state}
 use Rattle.strm_types.specs.Step.{Step}
-use Rattle.strm_types.specs.Places.{weight_gone}
+use Rattle.strm_types.specs.Turns.{turned}
+use Rattle.strm_types.specs.Places.{weight_gone, weight_made}
 use Rattle.strm_types.specs.Kept.{state_weight, NothingUnread, cells_taken, came, gone}
 use Rattle.strm_types.proofs.Weights.{weight-written}
 use Rattle.strm_types.proofs.EmptiedKeeps.{closed_at-keeps, closed_at-unread}
@@ -61,22 +62,24 @@ module _ {C : Type 0} where
         omega (arith, weight-written p all s.slave.driver.queue)
 
     -- what a read leaves on the queue, and what goes by its rules
-    drawn-keeps : (dir : Dir) (read : ReadMode) (control : ControlMode) (n : ℕ) (q : Queue C) → weight p (read_queue read control n q).messages + weight_gone p (read_gone dir read control n q.messages) ≡ weight p q.messages
+    drawn-keeps : (dir : Dir) (read : ReadMode) (control : ControlMode) (n : ℕ) (q : Queue C) → weight p (read_queue read control n q).messages + weight_gone p (read_gone dir read control n q.messages) ≡ weight p q.messages + weight_made p (read_gone dir read control n q.messages)
     drawn-keeps dir read control n q = at (takes_none control n q.messages)
       where
-        at : (none : Bool) → let d = head_draw read control n q.messages in weight p (cond none q (queue_drawn d q)).messages + weight_gone p (cond none [] (read_fates dir d)) ≡ weight p q.messages
+        at : (none : Bool) → let d = head_draw read control n q.messages in weight p (cond none q (queue_drawn d q)).messages + weight_gone p (cond none [] (read_fates dir d)) ≡ weight p q.messages + weight_made p (cond none [] (read_fates dir d))
         at true = omega arith
         at false =
             let d = head_draw read control n q.messages in
             omega (arith, head_draw-keeps p read control n q.messages, ap (λ (ms : List (Message C)). weight p ms) (left-drawn d q))
 
     read-keeps : (cells : Cells C) (side : Side) (n : ℕ) (answer : Reply) (s : State C) → let h = (stream side s).head in
-        state_weight p (read_at cells side n s).state + weight_gone p (read_gone (direction_of (head_of side)) h.read_mode h.control_mode (min n READ_MAX) h.queue.messages) ≡ state_weight p s
+        let gone = read_gone (direction_of (head_of side)) h.read_mode h.control_mode (min n READ_MAX) h.queue.messages in
+        state_weight p (read_at cells side n s).state + weight_gone p gone ≡ state_weight p s + weight_made p gone
     read-keeps cells Master n answer s = let h = s.master.head in omega (arith, drawn-keeps (direction_of (head_of Master)) h.read_mode h.control_mode (min n READ_MAX) h.queue)
     read-keeps cells Slave n answer s = let h = s.slave.head in omega (arith, drawn-keeps (direction_of (head_of Slave)) h.read_mode h.control_mode (min n READ_MAX) h.queue)
 
     get-keeps : (cells : Cells C) (side : Side) (wanted : Wanted) (cmax dmax : ℕ) (s : State C) →
-        state_weight p (get_at cells side wanted cmax dmax s).state + weight_gone p (get_gone (direction_of (head_of side)) wanted (min cmax READ_MAX) (min dmax READ_MAX) (stream side s).head.queue.messages) ≡ state_weight p s
+        let gone = get_gone (direction_of (head_of side)) wanted (min cmax READ_MAX) (min dmax READ_MAX) (stream side s).head.queue.messages in
+        state_weight p (get_at cells side wanted cmax dmax s).state + weight_gone p gone ≡ state_weight p s + weight_made p gone
     get-keeps cells Master wanted cmax dmax s = omega (arith, get_queue-keeps p (direction_of (head_of Master)) wanted (min cmax READ_MAX) (min dmax READ_MAX) s.master.head.queue)
     get-keeps cells Slave wanted cmax dmax s = omega (arith, get_queue-keeps p (direction_of (head_of Slave)) wanted (min cmax READ_MAX) (min dmax READ_MAX) s.slave.head.queue)
 
@@ -87,7 +90,8 @@ module _ {C : Type 0} where
     mode-keeps Slave (chosen.Control mode) s = refl
 
     call-keeps : (cells : Cells C) (caller : Caller) (asked : Request) (answer : Reply) (s : State C) → NothingUnread s → or_else (refused_at_once s caller asked) (refused_by_state s caller asked) ≡ None
-        → state_weight p (called cells caller asked s).state + weight_gone p (gone cells s (Called caller asked answer)) ≡ state_weight p s + count_by p (came cells s (Called caller asked answer))
+        → let entry = Called caller asked answer in
+        state_weight p (called cells caller asked s).state + weight_gone p (gone cells s entry) ≡ state_weight p s + (count_by p (came cells s entry) + weight_made p (gone cells s entry))
     call-keeps cells caller OpenMaster answer s unread allowed = refl
     call-keeps cells caller Unlock answer s unread allowed = refl
     call-keeps cells caller Shut answer s unread allowed = omega (arith, closed_at-keeps p caller.side s)
@@ -110,12 +114,14 @@ module _ {C : Type 0} where
     call-keeps cells caller (IoctlResult number) answer s unread allowed = omega (arith, told-keeps p caller.side s)
     call-keeps cells caller Signals answer s unread allowed = omega (arith, signals-keep p caller.side [] s)
 
-    -- what stands on the queues after a step, and what it took away, is what stood there before, and what it brought
-    pub step-keeps : (cells : Cells C) (old new : State C) (entry : PlainEntry) → NothingUnread old → Step cells old entry new → state_weight p new + weight_gone p (gone cells old entry) ≡ state_weight p old + count_by p (came cells old entry)
+    -- what stands on the queues after a step, and what it took away, is what stood there before, what it brought, and what was
+    -- made on the way
+    pub step-keeps : (cells : Cells C) (old new : State C) (entry : PlainEntry) → NothingUnread old → Step cells old entry new
+        → state_weight p new + weight_gone p (gone cells old entry) ≡ state_weight p old + (count_by p (came cells old entry) + weight_made p (gone cells old entry))
     step-keeps cells old new (Called caller asked answer) unread step =
         ap (λ (s : State C). state_weight p s + weight_gone p (gone cells old (Called caller asked answer))) (sym step.leads) ∙ call-keeps cells caller asked answer old unread step.allowed
     step-keeps cells old new (Turned name turn) unread step =
-        ap (λ (s : State C). state_weight p s + weight_gone p (gone cells old (Turned name turn))) (sym step.leads) ∙ turn-keeps p cells name turn old ∙ (let none : state_weight p old ≡ state_weight p old + 0 = omega arith in none)
+        ap (λ (s : State C). state_weight p s + weight_gone p (gone cells old (Turned name turn))) (sym step.leads) ∙ turn-keeps p cells name turn old ∙ (let same : state_weight p old + weight_made p (turned cells name turn old).gone ≡ state_weight p old + (0 + weight_made p (turned cells name turn old).gone) = omega arith in same)
 
   -- a side that isn't open has nothing for its readers, from the opening on
   pub opening-unread : NothingUnread {C = C} opening

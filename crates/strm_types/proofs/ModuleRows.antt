@@ -11,6 +11,7 @@ use Rattle.strm_types.specs.declared.names.QueueName.{QueueName}
 use Rattle.strm_types.specs.declared.names.ModuleName.TheVariants.{Ldterm, Ptem}
 use Rattle.strm_types.specs.declared.rules.Rule.TheVariants.{ModulePopped}
 use Rattle.strm_types.specs.declared.spots.Note.TheVariants.{Room}
+use Rattle.strm_types.specs.Deliver.{Goes}
 use Rattle.strm_types.specs.Modules.{without_module}
 use Rattle.strm_types.specs.Names.{driver_of}
 use Rattle.strm_types.specs.Service.{cleared, turn_ended}
@@ -89,9 +90,9 @@ pub cleared-in-order : cleared of_way with_way line_of same Slave ModulePopped (
       state = record { read = Some (emptied_of 3); write = Some (emptied_of 4) };
       notes = Room Up ∷ [];
       sent = [];
-      gone = record { direction = MasterToSlave; rule = ModulePopped; cells = 7 ∷ 8 ∷ 9 ∷ [] }
-          ∷ record { direction = MasterToSlave; rule = ModulePopped; cells = 5 ∷ 6 ∷ [] }
-          ∷ record { direction = SlaveToMaster; rule = ModulePopped; cells = 7 ∷ 8 ∷ 9 ∷ [] } ∷ [];
+      gone = Goes MasterToSlave ModulePopped (7 ∷ 8 ∷ 9 ∷ [])
+          ∷ Goes MasterToSlave ModulePopped (5 ∷ 6 ∷ [])
+          ∷ Goes SlaveToMaster ModulePopped (7 ∷ 8 ∷ 9 ∷ []) ∷ [];
     }
 unfolding data_message band_of is_high_priority size_of cells_of
 cleared-in-order = refl

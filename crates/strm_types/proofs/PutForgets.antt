@@ -15,7 +15,7 @@ use Rattle.strm_types.specs.declared.rules.Rule.TheVariants.{Doubled, EndClosed,
 use Rattle.strm_types.specs.declared.spots.Across.{Across}
 use Rattle.strm_types.specs.declared.spots.Note.TheVariants.{Enable, Room}
 use Rattle.strm_types.specs.declared.spots.Spot.{Spot}
-use Rattle.strm_types.specs.Deliver.{Acted, Parcel, toward}
+use Rattle.strm_types.specs.Deliver.{Acted, Parcel, toward, Goes}
 use Rattle.strm_types.specs.Drivers.{answered, bottom_across, crosses, driver_across, driver_put, freed, ioctl_put, own_flushed, put_across, put_down, reader_flush, taken_in}
 use Rattle.strm_types.specs.Emptied.{of_data, cells_gone, queue_behind, writer_goes}
 use Rattle.strm_types.specs.Flushing.{asked_by, flush_bytes, flush_message, read_flush}
@@ -33,7 +33,7 @@ use Rattle.strm_types.proofs.Forgetting.{cells-forget, kind-forgets, put_enables
 -- a driver whose queue takes a message in, or lets it go
 abbrev taken_made : {E : Type 0} → Side → Bool → Bool → List E → Queue E → Queue E → Acted E (Queue E)
 taken_made side ended enables cells q behind =
-    cond ended (record (freed q) { gone = record { direction = direction_from side; rule = EndClosed; cells = cells } ∷ [] })
+    cond ended (record (freed q) { gone = Goes (direction_from side) EndClosed cells ∷ [] })
     (record (freed behind) { notes = cond enables (Enable Down ∷ []) [] })
 
 -- a driver and a head whose queue is flushed
@@ -42,7 +42,7 @@ own_made side behind goes cells = record {
   state = behind;
   notes = cond goes (Room Down ∷ []) [];
   sent = [];
-  gone = record { direction = direction_from side; rule = Flushed; cells = cells } ∷ [];
+  gone = Goes (direction_from side) Flushed cells ∷ [];
 }
 
 abbrev head_made : {E : Type 0} → Spot → Head E → Queue E → Bool → List E → Acted E (Head E)
@@ -50,13 +50,13 @@ head_made here h behind goes cells = record {
   state = record h { queue = behind };
   notes = cond goes (Room Up ∷ []) [];
   sent = [];
-  gone = record { direction = direction_at Up here.side; rule = Flushed; cells = cells } ∷ [];
+  gone = Goes (direction_at Up here.side) Flushed cells ∷ [];
 }
 
 -- a head that has the message for its readers, or lets it go
 abbrev waits_made : {E : Type 0} → Spot → Bool → List E → Head E → Queue E → Acted E (Head E)
 waits_made here doubled cells h behind =
-    cond doubled (record (passed_by h) { gone = record { direction = direction_at Up here.side; rule = Doubled; cells = cells } ∷ [] })
+    cond doubled (record (passed_by h) { gone = Goes (direction_at Up here.side) Doubled cells ∷ [] })
     (passed_by (record h { queue = behind }))
 
 -- the same, but for what is sent on

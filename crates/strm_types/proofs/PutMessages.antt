@@ -19,7 +19,7 @@ use Rattle.strm_types.specs.Kept.{NothingUnread, state_weight}
 use Rattle.strm_types.specs.Message.{Message, part, cells_of, map_message}
 use Rattle.strm_types.specs.Names.{direction_from}
 use Rattle.strm_types.specs.Origins.{map_carried}
-use Rattle.strm_types.specs.Places.{weight_gone}
+use Rattle.strm_types.specs.Places.{weight_gone, weight_made}
 use Rattle.strm_types.specs.PutMsg.{no_parts, put_message}
 use Rattle.strm_types.specs.Puts.{delivered}
 use Rattle.strm_types.specs.State.{State, book, with_book, map_state}
@@ -47,12 +47,12 @@ module _ {C : Type 0} where
     nothing-put cells side prio s = refl
 
     sent-keeps : (side : Side) (dir : Dir) (n : ℕ) (b : Book) (m : Message C) (s : State C) → let t = booked dir n b (delivered (below side) m s) in
-        state_weight p t.state + weight_gone p t.gone ≡ state_weight p s + count_by p (cells_of m)
+        state_weight p t.state + weight_gone p t.gone ≡ state_weight p s + (count_by p (cells_of m) + weight_made p t.gone)
     sent-keeps side dir n b m s =
         omega (arith, book-weight dir (with_written n b) (delivered (below side) m s).state, delivered-keeps p (below side) m s (omega arith), weight-whole p m)
 
     pub put_at-keeps : (cells : Cells C) (side : Side) (prio : Prio) (control body : Option (List ℕ)) (s : State C) → let t = put_at cells side prio control body s in
-        state_weight p t.state + weight_gone p t.gone ≡ state_weight p s + count_by p (cells_of (message_put cells side prio control body s))
+        state_weight p t.state + weight_gone p t.gone ≡ state_weight p s + (count_by p (cells_of (message_put cells side prio control body s)) + weight_made p t.gone)
     put_at-keeps cells side prio None None s = omega (arith, nothing-put cells side prio s)
     put_at-keeps cells side prio None (Some xs) s = sent-keeps side (direction_from side) (0 + length xs) (book (direction_from side) s) (message_put cells side prio None (Some xs) s) s
     put_at-keeps cells side prio (Some xs) body s =

@@ -25,7 +25,7 @@ use Rattle.strm_types.specs.declared.rules.Rule.TheVariants as rules
 use Rattle.strm_types.specs.Books.{new_book}
 use Rattle.strm_types.specs.Calls.{Request, called, payload_of}
 use Rattle.strm_types.specs.Cells.{Tagged, plain, tagged, cells_written}
-use Rattle.strm_types.specs.Deliver.{carried}
+use Rattle.strm_types.specs.Deliver.{carried, Goes}
 use Rattle.strm_types.specs.Journal.{content_max, entries_in, room_of}
 use Rattle.strm_types.specs.Kept.{came, gone}
 use Rattle.strm_types.specs.Message.{Message, rank_of, band_of, size_of, cells_of, is_high_priority}
@@ -151,7 +151,7 @@ pub put-brings-its-bytes : came plain deserted (Called (caller Slave) (Put (band
 unfolding cells_of
 put-brings-its-bytes = refl
 
-pub put-to-nobody-goes : gone plain deserted (Called (caller Slave) (Put (banded 0) (Some (97 ∷ [])) (Some (98 ∷ []))) Done) ≡ record { direction = SlaveToMaster; rule = rules.EndClosed; cells = 97 ∷ 98 ∷ [] } ∷ []
+pub put-to-nobody-goes : gone plain deserted (Called (caller Slave) (Put (banded 0) (Some (97 ∷ [])) (Some (98 ∷ []))) Done) ≡ Goes SlaveToMaster rules.EndClosed (97 ∷ 98 ∷ []) ∷ []
 unfolding carried cells_of
 put-to-nobody-goes = refl
 

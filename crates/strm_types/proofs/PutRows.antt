@@ -22,7 +22,7 @@ use Rattle.strm_types.specs.declared.spots.Note.{Note}
 use Rattle.strm_types.specs.declared.spots.Note.TheVariants.{Room}
 use Rattle.strm_types.specs.declared.spots.Spot.{Spot}
 use Rattle.strm_types.specs.Books.{new_book}
-use Rattle.strm_types.specs.Deliver.{Acted, Fate, Parcel, Took, carried}
+use Rattle.strm_types.specs.Deliver.{Acted, Fate, Goes, Parcel, Took, carried}
 use Rattle.strm_types.specs.Flush.{is_data_kind}
 use Rattle.strm_types.specs.Flushing.{asked_of, flush_bytes, flush_message}
 use Rattle.strm_types.specs.Heads.{head_put}
@@ -37,7 +37,7 @@ abbrev spot : Side → ℕ → Way → Spot
 spot side at way = record { side = side; at = at; way = way }
 
 abbrev fate : Rule → Dir → List ℕ → Fate ℕ
-fate rule dir cells = record { direction = dir; rule = rule; cells = cells }
+fate rule dir cells = Goes dir rule cells
 
 abbrev asked : Bool → Bool → Option Band → FlushAsked
 asked for_read for_write band = record { for_read = for_read; for_write = for_write; band = band }

@@ -13,7 +13,7 @@ use Rattle.strm_types.specs.declared.rules.Rule.TheVariants.{Doubled, EndClosed}
 use Rattle.strm_types.specs.declared.spots.Across.{Across}
 use Rattle.strm_types.specs.declared.spots.Note.TheVariants.{Enable}
 use Rattle.strm_types.specs.declared.spots.Spot.{Spot}
-use Rattle.strm_types.specs.Deliver.{Acted, Parcel, toward}
+use Rattle.strm_types.specs.Deliver.{Acted, Parcel, toward, Goes}
 use Rattle.strm_types.specs.Drivers.{answered, bottom_across, crosses, driver_across, driver_put, freed, ioctl_put, own_flushed, put_across, put_down, reader_flush, taken_in}
 use Rattle.strm_types.specs.Emptied.{of_data}
 use Rattle.strm_types.specs.Flushing.{asked_by, flush_bytes, flush_message, read_flush}
@@ -21,7 +21,7 @@ use Rattle.strm_types.specs.Ioctls.{nak_message, read_ioc}
 use Rattle.strm_types.specs.Heads.{head_flushed, head_put, is_doubled, obeyed, passed_by, turned_round, waits_for_readers, flush_up, nak_down, with_marks_given}
 use Rattle.strm_types.specs.Options.{options_in}
 use Rattle.strm_types.specs.Message.{Message, cells_of, has_parts, is_part, part, weight_of}
-use Rattle.strm_types.specs.Places.{weight_sent, weight_gone}
+use Rattle.strm_types.specs.Places.{weight_sent, weight_gone, weight_made}
 use Rattle.strm_types.specs.Names.{direction_from, direction_at, is_master}
 use Rattle.strm_types.specs.Queue.{Queue, put_on, put_enables, weight}
 use Rattle.strm_types.specs.State.{Head}
@@ -39,12 +39,12 @@ unfolding weight_of cells_of
 weight-flush p bytes = refl
 
 module _ {C : Type 0} (p : C → Bool) where
-  -- what a put at a queue, and at a head, makes of all cells
-  abbrev pub queue_total : Acted C (Queue C) → ℕ
-  queue_total t = weight p t.state.messages + (weight_sent p t.sent + weight_gone p t.gone)
+  -- a put at a queue, or at a head, that had so many cells with those of the message
+  abbrev pub QueueKeeps : Acted C (Queue C) → ℕ → Type 0
+  QueueKeeps t n = weight p t.state.messages + (weight_sent p t.sent + weight_gone p t.gone) ≡ n + weight_made p t.gone
 
-  abbrev pub head_total : Acted C (Head C) → ℕ
-  head_total t = weight p t.state.queue.messages + (weight_sent p t.sent + weight_gone p t.gone)
+  abbrev pub HeadKeeps : Acted C (Head C) → ℕ → Type 0
+  HeadKeeps t n = weight p t.state.queue.messages + (weight_sent p t.sent + weight_gone p t.gone) ≡ n + weight_made p t.gone
 
   -- nor has a message without parts
   no-parts : (m : Message C) → has_parts m ≡ false → weight_of p m ≡ 0
@@ -65,31 +65,31 @@ module _ {C : Type 0} (p : C → Bool) where
   weight-reads true asked to = omega (arith, weight-flush p (read_flush asked.band))
   weight-reads false asked to = refl
 
-  taken_in-keeps : (side : Side) (across : Across) (m : Message C) (q : Queue C) → queue_total (taken_in side across m q) ≡ weight p q.messages + weight_of p m
+  taken_in-keeps : (side : Side) (across : Across) (m : Message C) (q : Queue C) → QueueKeeps (taken_in side across m q) (weight p q.messages + weight_of p m)
   taken_in-keeps side across m q = at across.ended
     where
-      at : (ended : Bool) → queue_total (cond ended (record (freed q) { gone = record { direction = direction_from side; rule = EndClosed; cells = cells_of m } ∷ [] }) (record (freed (put_on m q)) { notes = cond (put_enables m q) (Enable Down ∷ []) [] })) ≡ weight p q.messages + weight_of p m
+      at : (ended : Bool) → QueueKeeps (cond ended (record (freed q) { gone = Goes (direction_from side) EndClosed (cells_of m) ∷ [] }) (record (freed (put_on m q)) { notes = cond (put_enables m q) (Enable Down ∷ []) [] })) (weight p q.messages + weight_of p m)
       at true = omega (arith, weight-whole p m)
       at false = omega (arith, weight-put p m q.messages)
 
-  crossing-keeps : (side : Side) (across : Across) (m : Message C) (q : Queue C) (goes : Bool) → weight_of p m ≡ 0 → queue_total (cond goes (taken_in side across m q) (freed q)) ≡ weight p q.messages + weight_of p m
+  crossing-keeps : (side : Side) (across : Across) (m : Message C) (q : Queue C) (goes : Bool) → weight_of p m ≡ 0 → QueueKeeps (cond goes (taken_in side across m q) (freed q)) (weight p q.messages + weight_of p m)
   crossing-keeps side across m q true none = taken_in-keeps side across m q
   crossing-keeps side across m q false none = omega (arith, none)
 
   -- the own queue is flushed, or not, and messages without cells go on
-  flushed-keeps : (side : Side) (asked : FlushAsked) (q : Queue C) (own : Bool) (ps : List (Parcel C)) → weight_sent p ps ≡ 0 → queue_total (record (cond own (own_flushed side asked q) (freed q)) { sent = ps }) ≡ weight p q.messages
+  flushed-keeps : (side : Side) (asked : FlushAsked) (q : Queue C) (own : Bool) (ps : List (Parcel C)) → weight_sent p ps ≡ 0 → QueueKeeps (record (cond own (own_flushed side asked q) (freed q)) { sent = ps }) (weight p q.messages)
   flushed-keeps side asked q true ps none = omega (arith, none, behind-keeps p (of_data asked.band) q)
   flushed-keeps side asked q false ps none = omega (arith, none)
 
-  ioctl-keeps : (side : Side) (across : Across) (here : Spot) (known : Option Ioc) (m : Message C) (q : Queue C) → weight_of p m ≡ 0 → queue_total (ioctl_put side across here known m q) ≡ weight p q.messages + weight_of p m
+  ioctl-keeps : (side : Side) (across : Across) (here : Spot) (known : Option Ioc) (m : Message C) (q : Queue C) → weight_of p m ≡ 0 → QueueKeeps (ioctl_put side across here known m q) (weight p q.messages + weight_of p m)
   ioctl-keeps side across here None m q none = omega (arith, none)
   ioctl-keeps side across here (Some ioc) m q none = at (ioc.number == 0 || (is_master side && across.is_open))
     where
-      at : (crosses : Bool) → queue_total (cond crosses (taken_in side across m q) (answered here ioc q)) ≡ weight p q.messages + weight_of p m
+      at : (crosses : Bool) → QueueKeeps (cond crosses (taken_in side across m q) (answered here ioc q)) (weight p q.messages + weight_of p m)
       at true = taken_in-keeps side across m q
       at false = omega (arith, none, weight-nak p ioc)
 
-  put_down-keeps : (side : Side) (across : Across) (here : Spot) (kind : MsgKind) (m : Message C) (q : Queue C) → weight_of p m ≡ 0 → queue_total (put_down side across here kind m q) ≡ weight p q.messages + weight_of p m
+  put_down-keeps : (side : Side) (across : Across) (here : Spot) (kind : MsgKind) (m : Message C) (q : Queue C) → weight_of p m ≡ 0 → QueueKeeps (put_down side across here kind m q) (weight p q.messages + weight_of p m)
   put_down-keeps side across here Flush m q none =
       let asked = asked_by m.plain in
       let across_flush = reader_flush (asked.for_write && across.is_open) asked (bottom_across side across) in
@@ -99,34 +99,34 @@ module _ {C : Type 0} (p : C → Bool) where
   put_down-keeps side across here Ioctl m q none = ioctl-keeps side across here (read_ioc m.plain) m q none
   put_down-keeps side across here kind m q none = crossing-keeps side across m q (crosses kind) none
 
-  put_across-keeps : (side : Side) (across : Across) (kind : MsgKind) (m : Message C) (q : Queue C) → weight_of p m ≡ 0 → queue_total (put_across side across kind m q) ≡ weight p q.messages + weight_of p m
+  put_across-keeps : (side : Side) (across : Across) (kind : MsgKind) (m : Message C) (q : Queue C) → weight_of p m ≡ 0 → QueueKeeps (put_across side across kind m q) (weight p q.messages + weight_of p m)
   put_across-keeps side across Flush m q none = omega (arith, none, at (asked_by m.plain).for_read)
     where
-      at : (own : Bool) → queue_total (cond own (record (own_flushed side (asked_by m.plain) q) { sent = reader_flush across.is_open (asked_by m.plain) (bottom_across side across) }) (freed q)) ≡ weight p q.messages
+      at : (own : Bool) → QueueKeeps (cond own (record (own_flushed side (asked_by m.plain) q) { sent = reader_flush across.is_open (asked_by m.plain) (bottom_across side across) }) (freed q)) (weight p q.messages)
       at true = flushed-keeps side (asked_by m.plain) q true (reader_flush across.is_open (asked_by m.plain) (bottom_across side across)) (weight-reads across.is_open (asked_by m.plain) (bottom_across side across))
       at false = omega arith
   put_across-keeps side across kind m q none = omega (arith, none)
 
-  way-keeps : (way : Way) (side : Side) (across : Across) (here : Spot) (m : Message C) (q : Queue C) → queue_total (driver_put side across (record here { way = way }) m q) ≡ weight p q.messages + weight_of p m
+  way-keeps : (way : Way) (side : Side) (across : Across) (here : Spot) (m : Message C) (q : Queue C) → QueueKeeps (driver_put side across (record here { way = way }) m q) (weight p q.messages + weight_of p m)
   way-keeps Down side across here m q = at (has_parts m) refl
     where
-      at : (parts : Bool) → has_parts m ≡ parts → queue_total (cond parts (taken_in side across m q) (put_down side across (record here { way = Down }) m.kind m q)) ≡ weight p q.messages + weight_of p m
+      at : (parts : Bool) → has_parts m ≡ parts → QueueKeeps (cond parts (taken_in side across m q) (put_down side across (record here { way = Down }) m.kind m q)) (weight p q.messages + weight_of p m)
       at true is = taken_in-keeps side across m q
       at false is = put_down-keeps side across (record here { way = Down }) m.kind m q (no-parts m is)
   way-keeps Up side across here m q = at (has_parts m) refl
     where
-      at : (parts : Bool) → has_parts m ≡ parts → queue_total (cond parts (taken_in side across m q) (put_across side across m.kind m q)) ≡ weight p q.messages + weight_of p m
+      at : (parts : Bool) → has_parts m ≡ parts → QueueKeeps (cond parts (taken_in side across m q) (put_across side across m.kind m q)) (weight p q.messages + weight_of p m)
       at true is = taken_in-keeps side across m q
       at false is = put_across-keeps side across m.kind m q (no-parts m is)
 
-  pub driver_put-keeps : (side : Side) (across : Across) (here : Spot) (m : Message C) (q : Queue C) → queue_total (driver_put side across here m q) ≡ weight p q.messages + weight_of p m
+  pub driver_put-keeps : (side : Side) (across : Across) (here : Spot) (m : Message C) (q : Queue C) → QueueKeeps (driver_put side across here m q) (weight p q.messages + weight_of p m)
   driver_put-keeps side across here m q = way-keeps here.way side across here m q
 
   -- at a head
-  waits-keeps : (here : Spot) (m : Message C) (h : Head C) → head_total (waits_for_readers here m h) ≡ weight p h.queue.messages + weight_of p m
+  waits-keeps : (here : Spot) (m : Message C) (h : Head C) → HeadKeeps (waits_for_readers here m h) (weight p h.queue.messages + weight_of p m)
   waits-keeps here m h = at (is_doubled m h.queue.messages)
     where
-      at : (doubled : Bool) → head_total (cond doubled (record (passed_by h) { gone = record { direction = direction_at Up here.side; rule = Doubled; cells = cells_of m } ∷ [] }) (passed_by (record h { queue = put_on m h.queue }))) ≡ weight p h.queue.messages + weight_of p m
+      at : (doubled : Bool) → HeadKeeps (cond doubled (record (passed_by h) { gone = Goes (direction_at Up here.side) Doubled (cells_of m) ∷ [] }) (passed_by (record h { queue = put_on m h.queue }))) (weight p h.queue.messages + weight_of p m)
       at true = omega (arith, weight-whole p m)
       at false = omega (arith, weight-put p m h.queue.messages)
 
@@ -137,10 +137,10 @@ module _ {C : Type 0} (p : C → Bool) where
       at true = omega (arith, weight-flush p (flush_bytes (record asked { for_read = false })))
       at false = refl
 
-  flush-keeps : (here : Spot) (asked : FlushAsked) (h : Head C) → head_total (flush_up here asked h) ≡ weight p h.queue.messages
+  flush-keeps : (here : Spot) (asked : FlushAsked) (h : Head C) → HeadKeeps (flush_up here asked h) (weight p h.queue.messages)
   flush-keeps here asked h = at asked.for_read
     where
-      at : (own : Bool) → head_total (record (cond own (head_flushed here asked h) (passed_by h)) { sent = turned_round here asked }) ≡ weight p h.queue.messages
+      at : (own : Bool) → HeadKeeps (record (cond own (head_flushed here asked h) (passed_by h)) { sent = turned_round here asked }) (weight p h.queue.messages)
       at true = omega (arith, round-keeps here asked, behind-keeps p (of_data asked.band) h.queue)
       at false = omega (arith, round-keeps here asked)
 
@@ -156,15 +156,15 @@ module _ {C : Type 0} (p : C → Bool) where
   marks-keep None q = refl
   marks-keep (Some marks) q = refl
 
-  obeyed-keeps : (here : Spot) (kind : MsgKind) (bytes : List ℕ) (h : Head C) → head_total (obeyed here kind bytes h) ≡ weight p h.queue.messages
+  obeyed-keeps : (here : Spot) (kind : MsgKind) (bytes : List ℕ) (h : Head C) → HeadKeeps (obeyed here kind bytes h) (weight p h.queue.messages)
   obeyed-keeps here Flush bytes h = flush-keeps here (asked_by bytes) h
   obeyed-keeps here Setopts bytes h = omega (arith, marks-keep (options_in bytes).marks h.queue)
   obeyed-keeps here Ioctl bytes h = omega (arith, nak-keeps here (read_ioc bytes))
   obeyed-keeps here kind bytes h = omega arith
 
-  pub head_put-keeps : (here : Spot) (m : Message C) (h : Head C) → head_total (head_put here m h) ≡ weight p h.queue.messages + weight_of p m
+  pub head_put-keeps : (here : Spot) (m : Message C) (h : Head C) → HeadKeeps (head_put here m h) (weight p h.queue.messages + weight_of p m)
   head_put-keeps here m h = at (has_parts m) refl
     where
-      at : (parts : Bool) → has_parts m ≡ parts → head_total (cond parts (waits_for_readers here m h) (obeyed here m.kind m.plain h)) ≡ weight p h.queue.messages + weight_of p m
+      at : (parts : Bool) → has_parts m ≡ parts → HeadKeeps (cond parts (waits_for_readers here m h) (obeyed here m.kind m.plain h)) (weight p h.queue.messages + weight_of p m)
       at true is = waits-keeps here m h
       at false is = omega (arith, no-parts m is, obeyed-keeps here m.kind m.plain h)

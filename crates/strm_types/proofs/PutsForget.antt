@@ -11,7 +11,7 @@ use Rattle.strm_types.specs.declared.names.Way.{Way}
 use Rattle.strm_types.specs.declared.names.Way.TheVariants.{Up, Down}
 use Rattle.strm_types.specs.declared.rules.Rule.TheVariants.{EndClosed}
 use Rattle.strm_types.specs.declared.spots.Spot.{Spot}
-use Rattle.strm_types.specs.Deliver.{Acted, Took}
+use Rattle.strm_types.specs.Deliver.{Acted, Took, Goes}
 use Rattle.strm_types.specs.Drivers.{driver_put}
 use Rattle.strm_types.specs.Flushing.{is_flush, asked_of, flush_bytes, flush_message}
 use Rattle.strm_types.specs.Heads.{head_put}
@@ -29,7 +29,7 @@ use Rattle.strm_types.proofs.PutForgets.{driver_put-forgets, flush-forgets, head
 abbrev head_took : {E : Type 0} → Side → Bool → Acted E (Head E) → List E → State E → Took E (State E)
 head_took side opened t cells s =
     cond opened (record { state = record (with_stream side (record (stream side s) { head = t.state }) s) { enabled = noted side places.Head t.notes s.enabled }; sent = t.sent; gone = t.gone })
-    (record { state = s; sent = []; gone = record { direction = direction_at Up side; rule = EndClosed; cells = cells } ∷ [] })
+    (record { state = s; sent = []; gone = Goes (direction_at Up side) EndClosed cells ∷ [] })
 
 abbrev driver_took : {E : Type 0} → Side → Acted E (Queue E) → State E → Took E (State E)
 driver_took side t s = record {

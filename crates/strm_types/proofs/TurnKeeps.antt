@@ -11,7 +11,7 @@ use Rattle.strm_types.specs.Cells.{Cells}
 use Rattle.strm_types.specs.Kept.{NothingUnread, state_weight}
 use Rattle.strm_types.specs.Message.{Message, size_of}
 use Rattle.strm_types.specs.Names.{is_open, other, without}
-use Rattle.strm_types.specs.Places.{weight_gone}
+use Rattle.strm_types.specs.Places.{weight_gone, weight_made}
 use Rattle.strm_types.specs.Puts.{delivered}
 use Rattle.strm_types.specs.Queue.{Queue, left_with, relieved, weight}
 use Rattle.strm_types.specs.State.{State, stream}
@@ -63,8 +63,9 @@ module _ {C : Type 0} where
       at Ldterm s unread = unread
 
 module _ {C : Type 0} (p : C → Bool) where
-  abbrev total : TurnOutcome C → ℕ
-  total t = state_weight p t.state + weight_gone p t.gone
+  -- a turn in a pair that had so many cells
+  abbrev Keeps : TurnOutcome C → ℕ → Type 0
+  Keeps t n = state_weight p t.state + weight_gone p t.gone ≡ n + weight_made p t.gone
 
   same-weight : (xs ys : List (Message C)) → xs ≡ ys → weight p xs ≡ weight p ys
   same-weight xs ys is = ap (λ (q : List (Message C)). weight p q) is
@@ -77,7 +78,7 @@ module _ {C : Type 0} (p : C → Bool) where
   taken-keeps Master m rest s is = omega (arith, same-weight _ _ is, weight-take p m rest, weight-take p m [])
   taken-keeps Slave m rest s is = omega (arith, same-weight _ _ is, weight-take p m rest, weight-take p m [])
 
-  moved-keeps : (side : Side) (m : Message C) (rest : List (Message C)) (s : State C) → (stream side s).driver.queue.messages ≡ m ∷ rest → total (moved_across side m rest s) ≡ state_weight p s
+  moved-keeps : (side : Side) (m : Message C) (rest : List (Message C)) (s : State C) → (stream side s).driver.queue.messages ≡ m ∷ rest → Keeps (moved_across side m rest s) (state_weight p s)
   moved-keeps side m rest s is =
       let from = with_driver side (left_with rest (stream side s).driver.queue) s in
       omega (arith, ended-keeps side (size_of m) (delivered (up_across side) m from).state, delivered-keeps p (up_across side) m from (omega arith), taken-keeps side m rest s is, weight-take p m [])
@@ -90,18 +91,18 @@ module _ {C : Type 0} (p : C → Bool) where
   waits-keeps Master s want = refl
   waits-keeps Slave s want = refl
 
-  serves-keeps : (side : Side) (ms : List (Message C)) (s : State C) → (stream side s).driver.queue.messages ≡ ms → total (driver_serves side ms s) ≡ state_weight p s
+  serves-keeps : (side : Side) (ms : List (Message C)) (s : State C) → (stream side s).driver.queue.messages ≡ ms → Keeps (driver_serves side ms s) (state_weight p s)
   serves-keeps side [] s is = omega (arith, waits-keeps side s true)
   serves-keeps side (m ∷ rest) s is =
-      any-holds (λ t. total t ≡ state_weight p s) (is_open (stream (other side) s).opened) (is_stopped m (stream (other side) s).head.queue) _ _ _
+      any-holds (λ t. Keeps t (state_weight p s)) (is_open (stream (other side) s).opened) (is_stopped m (stream (other side) s).head.queue) _ _ _
       (omega (arith, waits-keeps side s false))
       (omega (arith, waits-keeps side s false, blocked-keeps side m (with_driver side (held_back (stream side s).driver.queue) s)))
       (moved-keeps side m rest s is)
 
-  pub turn-keeps : (cells : Cells C) (name : QueueName) (turn : Turn) (s : State C) → total (turned cells name turn s) ≡ state_weight p s
+  pub turn-keeps : (cells : Cells C) (name : QueueName) (turn : Turn) (s : State C) → Keeps (turned cells name turn s) (state_weight p s)
   turn-keeps cells name turn s = at name.place (record s { enabled = without name s.enabled })
     where
-      at : (place : Place) (s : State C) → total (turned_at cells place name.side turn s) ≡ state_weight p s
+      at : (place : Place) (s : State C) → Keeps (turned_at cells place name.side turn s) (state_weight p s)
       at Driver s = serves-keeps name.side (stream name.side s).driver.queue.messages s refl
       at Head s = omega arith
       at Ldterm s = omega arith

@@ -10,7 +10,7 @@ use Rattle.strm_types.specs.declared.rules.Fates.{Fates}
 use Rattle.strm_types.specs.declared.spots.Spot.{Spot}
 use Rattle.strm_types.specs.declared.spots.Note.{Note}
 use Rattle.strm_types.specs.Message.{Message}
-use Rattle.strm_types.specs.Rules.{told_more}
+use Rattle.strm_types.specs.Rules.{told_more, made_more}
 
 -- the next spot that way
 abbrev pub toward : Way → Spot → Spot
@@ -22,27 +22,26 @@ pub record Parcel (C : Type 0) : Type 0 where
   pub to : Spot
   pub message : Message C
 
--- cells of a direction that have gone by a rule
-pub record Fate (C : Type 0) : Type 0 where
-  pub direction : Dir
-  pub rule : Rule
-  pub cells : List C
+-- what is told of cells of a direction: they have gone by a rule, or they were made on the way, as an echo is
+pub data Fate (C : Type 0) : Type 0 where
+  Goes : Dir → Rule → List C → Fate C
+  Comes : Dir → List C → Fate C
 
--- what a put does: the state behind it, what is sent on, in order, and what has gone
+-- what a put does: the state behind it, what is sent on, in order, and what has gone or was made
 pub record Took (C S : Type 0) : Type 0 where
   pub state : S
   pub sent : List (Parcel C)
   pub gone : List (Fate C)
 
 -- what a put at a module does: the module behind it, what becomes of its queues' places on the enabled list, in order, what
--- is sent on after that, in order, and what has gone
+-- is sent on after that, in order, and what has gone or was made
 pub record Acted (C S : Type 0) : Type 0 where
   pub state : S
   pub notes : List Note
   pub sent : List (Parcel C)
   pub gone : List (Fate C)
 
--- what carrying a message leads to: the state behind it, and what has gone
+-- what carrying a message leads to: the state behind it, and what has gone or was made
 pub record Carried (C S : Type 0) : Type 0 where
   pub state : S
   pub gone : List (Fate C)
@@ -70,7 +69,12 @@ AreLower height top sent = AllByRecursion (λ q. height q.to q.message < top) se
 abbrev pub Falls : {C S : Type 0} → (Spot → Message C → ℕ) → (Spot → Message C → S → Took C S) → Type 0
 Falls height put = (to : Spot) (m : Message _) (s : _) → AreLower height (height to m) (put to m s).sent
 
--- the counts with all that has gone
+-- the counts with cells that have gone, or were made
+abbrev pub counted_with : {C : Type 0} → Fate C → Fates → Fates
+counted_with (Goes direction rule cells) fates = told_more direction rule (length cells) fates
+counted_with (Comes direction cells) fates = made_more direction (length cells) fates
+
+-- the counts with all of these
 abbrev pub tallied : {C : Type 0} → List (Fate C) → Fates → Fates
 tallied [] fates = fates
-tallied (f ∷ gone) fates = tallied gone (told_more f.direction f.rule (length f.cells) fates)
+tallied (f ∷ gone) fates = tallied gone (counted_with f fates)

@@ -14,7 +14,7 @@ use Rattle.strm_types.specs.declared.rules.Rule.TheVariants.{Flushed, EndClosed}
 use Rattle.strm_types.specs.declared.spots.Across.{Across}
 use Rattle.strm_types.specs.declared.spots.Note.TheVariants.{Enable, Room}
 use Rattle.strm_types.specs.declared.spots.Spot.{Spot}
-use Rattle.strm_types.specs.Deliver.{Acted, Parcel, toward}
+use Rattle.strm_types.specs.Deliver.{Acted, Parcel, toward, Goes}
 use Rattle.strm_types.specs.Emptied.{of_data, cells_gone, queue_behind, writer_goes}
 use Rattle.strm_types.specs.Flushing.{asked_by, read_flush, flush_message}
 use Rattle.strm_types.specs.Ioctls.{read_ioc, nak_message}
@@ -48,7 +48,7 @@ module _ {C : Type 0} where
   -- the message is put on the queue; once the master is closed nothing crosses any more, and its bytes go
   abbrev pub taken_in : Side → Across → Message C → Queue C → Acted C (Queue C)
   taken_in side across m q =
-      if across.ended then record (freed q) { gone = record { direction = direction_from side; rule = EndClosed; cells = cells_of m } ∷ [] }
+      if across.ended then record (freed q) { gone = Goes (direction_from side) EndClosed (cells_of m) ∷ [] }
       else record (freed (put_on m q)) { notes = if put_enables m q then Enable Down ∷ [] else [] }
 
   -- the driver's own queue is flushed
@@ -59,7 +59,7 @@ module _ {C : Type 0} where
         state = queue_behind chosen q;
         notes = if writer_goes chosen q then Room Down ∷ [] else [];
         sent = [];
-        gone = record { direction = direction_from side; rule = Flushed; cells = cells_gone chosen q.messages } ∷ [];
+        gone = Goes (direction_from side) Flushed (cells_gone chosen q.messages) ∷ [];
       }
 
   -- an M_FLUSH with FLUSHR alone to a spot, where a condition holds

@@ -14,7 +14,7 @@ use Rattle.strm_types.specs.Queue.{Queue, bytes_of, relieved, relieves}
 use Rattle.strm_types.specs.State.{State, stream, with_stream, with_head_queue, with_driver_queue, new_head}
 use Rattle.strm_types.specs.Flush.{is_flushed}
 use Rattle.strm_types.specs.Queue.{is_none_left}
-use Rattle.strm_types.specs.Deliver.{Carried}
+use Rattle.strm_types.specs.Deliver.{Carried, Goes}
 
 -- which messages go, by their kind and their band
 abbrev pub Choice : Type 0
@@ -68,7 +68,7 @@ module _ {C : Type 0} where
   abbrev pub head_emptied : Rule → Choice → Side → State C → Carried C (State C)
   head_emptied rule chosen side s = record {
     state = head_behind chosen side s;
-    gone = record { direction = direction_of (head_of side); rule = rule; cells = cells_gone chosen (stream side s).head.queue.messages } ∷ [];
+    gone = Goes (direction_of (head_of side)) rule (cells_gone chosen (stream side s).head.queue.messages) ∷ [];
   }
 
   -- the driver's queue of a side is emptied
@@ -83,7 +83,7 @@ module _ {C : Type 0} where
   abbrev pub driver_emptied : Rule → Choice → Side → State C → Carried C (State C)
   driver_emptied rule chosen side s = record {
     state = driver_behind chosen side s;
-    gone = record { direction = direction_of (driver_of side); rule = rule; cells = cells_gone chosen (stream side s).driver.queue.messages } ∷ [];
+    gone = Goes (direction_of (driver_of side)) rule (cells_gone chosen (stream side s).driver.queue.messages) ∷ [];
   }
 
   -- one after the other

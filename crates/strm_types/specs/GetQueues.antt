@@ -4,7 +4,7 @@ use Rattle.strm_types.specs.declared.modes.Wanted.{Wanted}
 use Rattle.strm_types.specs.declared.names.Dir.{Dir}
 use Rattle.strm_types.specs.declared.rules.Fates.{Fates}
 use Rattle.strm_types.specs.declared.rules.Rule.TheVariants as rules
-use Rattle.strm_types.specs.Deliver.{Fate, tallied}
+use Rattle.strm_types.specs.Deliver.{Fate, Goes, tallied}
 use Rattle.strm_types.specs.Gets.{Got, is_wanted, head_get}
 use Rattle.strm_types.specs.Message.{Message, part}
 use Rattle.strm_types.specs.Queue.{Queue, left_with, relieved, relieves}
@@ -41,7 +41,7 @@ module _ {C : Type 0} where
   -- what goes by a get, which a reader has then: nothing where it has nothing to take
   abbrev pub get_gone : Dir → Wanted → ℕ → ℕ → List (Message C) → List (Fate C)
   get_gone dir wanted cmax dmax q =
-      if gets_none wanted q then [] else record { direction = dir; rule = rules.Read; cells = cells_got (head_get wanted cmax dmax q) } ∷ []
+      if gets_none wanted q then [] else Goes dir rules.Read (cells_got (head_get wanted cmax dmax q)) ∷ []
 
   abbrev pub get_told : Dir → Wanted → ℕ → ℕ → List (Message C) → Fates → Fates
   get_told dir wanted cmax dmax q fates = tallied (get_gone dir wanted cmax dmax q) fates

@@ -12,7 +12,7 @@ use Rattle.strm_types.specs.declared.options.Options.{Options}
 use Rattle.strm_types.specs.declared.rules.Rule.TheVariants.{Flushed, Doubled}
 use Rattle.strm_types.specs.declared.spots.Note.TheVariants.{Room}
 use Rattle.strm_types.specs.declared.spots.Spot.{Spot}
-use Rattle.strm_types.specs.Deliver.{Acted, Parcel, toward}
+use Rattle.strm_types.specs.Deliver.{Acted, Parcel, toward, Goes}
 use Rattle.strm_types.specs.Emptied.{of_data, cells_gone, queue_behind, writer_goes}
 use Rattle.strm_types.specs.Flushing.{asked_by, flush_bytes, flush_message}
 use Rattle.strm_types.specs.Ioctls.{read_ioc, nak_message}
@@ -41,7 +41,7 @@ module _ {C : Type 0} where
   abbrev pub waits_for_readers : Spot → Message C → Head C → Acted C (Head C)
   waits_for_readers here m h =
       if is_doubled m h.queue.messages
-      then record (passed_by h) { gone = record { direction = direction_at Up here.side; rule = Doubled; cells = cells_of m } ∷ [] }
+      then record (passed_by h) { gone = Goes (direction_at Up here.side) Doubled (cells_of m) ∷ [] }
       else passed_by (record h { queue = put_on m h.queue })
 
   -- the head's own queue is flushed
@@ -52,7 +52,7 @@ module _ {C : Type 0} where
         state = record h { queue = queue_behind chosen h.queue };
         notes = if writer_goes chosen h.queue then Room Up ∷ [] else [];
         sent = [];
-        gone = record { direction = direction_at Up here.side; rule = Flushed; cells = cells_gone chosen h.queue.messages } ∷ [];
+        gone = Goes (direction_at Up here.side) Flushed (cells_gone chosen h.queue.messages) ∷ [];
       }
 
   -- an M_FLUSH with FLUSHW alone to the place below, where FLUSHW is asked for

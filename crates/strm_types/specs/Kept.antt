@@ -1,4 +1,5 @@
--- That no byte is lost or made: what stands on a pair's queues, what a step brings there and what it takes away.
+-- That no byte is lost, and none made but what is told: what stands on a pair's queues, what a step brings there and what it
+-- takes away.
 use Rattle.std.specs.Prelude.{◌≡◌, ℕ, ◌+◌, min, Bool, false, List, [], ◌∷◌, take}
 use Rattle.strm_types.specs.declared.limits.TheConstants.{READ_MAX}
 use Rattle.strm_types.specs.declared.names.Side.{Side}
@@ -48,7 +49,8 @@ module _ {C : Type 0} where
   came cells s (Called caller asked answer) = []
   came cells s (Turned name turn) = []
 
-  -- what an entry takes away, by its rules: what a read or a get gives, what a flush or a close takes, and what goes on its way
+  -- what an entry takes away, by its rules: what a read or a get gives, what a flush or a close takes, and what goes on its way;
+  -- and what is made on the way
   abbrev pub gone : Cells C → State C → PlainEntry → List (Fate C)
   gone cells s (Called caller (Read n) answer) =
       let h = (stream caller.side s).head in
@@ -62,7 +64,7 @@ module _ {C : Type 0} where
   gone cells s (Called caller asked answer) = []
   gone cells s (Turned name turn) = (turned cells name turn s).gone
 
-  -- what entries let go, one after the other, told by its rules
+  -- what entries let go, one after the other, told by its rules, and what they make
   abbrev pub told_by : Cells C → State C → List PlainEntry → Fates → Fates
   told_by cells s [] fates = fates
   told_by cells s (entry ∷ entries) fates = told_by cells (after cells s entry) entries (tallied (gone cells s entry) fates)

@@ -2,14 +2,15 @@
 use Rattle.std.specs.Prelude.{◌≡◌, map}
 use Rattle.strm_types.specs.declared.spots.Spot.{Spot}
 use Rattle.strm_types.specs.Message.{Message, map_message}
-use Rattle.strm_types.specs.Deliver.{Acted, Parcel, Fate, Took, Carried}
+use Rattle.strm_types.specs.Deliver.{Acted, Parcel, Fate, Goes, Comes, Took, Carried}
 
 module _ {C D : Type 0} (f : C → D) where
   abbrev pub map_parcel : Parcel C → Parcel D
   map_parcel q = record { to = q.to; message = map_message f q.message }
 
   abbrev pub map_fate : Fate C → Fate D
-  map_fate x = record { direction = x.direction; rule = x.rule; cells = map f x.cells }
+  map_fate (Goes direction rule cells) = Goes direction rule (map f cells)
+  map_fate (Comes direction cells) = Comes direction (map f cells)
 
   module _ {S T : Type 0} (g : S → T) where
     abbrev pub map_took : Took C S → Took D T

@@ -1,8 +1,8 @@
--- Where the cells are that a delivery moves: each is held, on its way, or gone by a rule.
+-- Where the cells are that a delivery moves: each was there or was made on the way, and is held, on its way, or gone by a rule.
 use Rattle.std.specs.Prelude.{ℕ, ◌≡◌, ◌+◌, Bool, List, [], ◌∷◌, count_by}
 use Rattle.strm_types.specs.declared.spots.Spot.{Spot}
 use Rattle.strm_types.specs.Message.{Message, weight_of}
-use Rattle.strm_types.specs.Deliver.{Parcel, Fate, Took, Carried}
+use Rattle.strm_types.specs.Deliver.{Parcel, Fate, Goes, Comes, Took, Carried}
 
 module _ {C : Type 0} (p : C → Bool) where
   -- how many cells that pass a test are on their way
@@ -10,17 +10,30 @@ module _ {C : Type 0} (p : C → Bool) where
   weight_sent [] = 0
   weight_sent (q ∷ qs) = weight_of p q.message + weight_sent qs
 
-  -- and how many have gone
+  -- how many have gone
+  abbrev pub count_gone : Fate C → ℕ
+  count_gone (Goes direction rule cells) = count_by p cells
+  count_gone (Comes direction cells) = 0
+
   abbrev pub weight_gone : List (Fate C) → ℕ
   weight_gone [] = 0
-  weight_gone (f ∷ fs) = count_by p f.cells + weight_gone fs
+  weight_gone (f ∷ fs) = count_gone f + weight_gone fs
+
+  -- and how many were made
+  abbrev pub count_made : Fate C → ℕ
+  count_made (Goes direction rule cells) = 0
+  count_made (Comes direction cells) = count_by p cells
+
+  abbrev pub weight_made : List (Fate C) → ℕ
+  weight_made [] = 0
+  weight_made (f ∷ fs) = count_made f + weight_made fs
 
 module _ {C S : Type 0} (p : C → Bool) (weigh : S → ℕ) where
-  -- a put loses no cell, and makes none
+  -- a put loses no cell, and makes none but those that it tells
   abbrev pub PutKeeps : (Spot → Message C → S → Took C S) → Type 0
   PutKeeps put = (to : Spot) (m : Message C) (s : S) →
-      weigh (put to m s).state + (weight_sent p (put to m s).sent + weight_gone p (put to m s).gone) ≡ weigh s + weight_of p m
+      weigh (put to m s).state + (weight_sent p (put to m s).sent + weight_gone p (put to m s).gone) ≡ weigh s + (weight_of p m + weight_made p (put to m s).gone)
 
   -- nor does the carrying of a message
   abbrev pub CarryKeeps : (Parcel C → S → Carried C S) → Parcel C → Type 0
-  CarryKeeps carry q = (s : S) → weigh (carry q s).state + weight_gone p (carry q s).gone ≡ weigh s + weight_of p q.message
+  CarryKeeps carry q = (s : S) → weigh (carry q s).state + weight_gone p (carry q s).gone ≡ weigh s + (weight_of p q.message + weight_made p (carry q s).gone)

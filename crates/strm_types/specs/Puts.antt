@@ -17,7 +17,7 @@ use Rattle.strm_types.specs.declared.spots.Across.{Across}
 use Rattle.strm_types.specs.declared.spots.Note.{Note}
 use Rattle.strm_types.specs.declared.spots.Note.TheVariants.{Enable, Room}
 use Rattle.strm_types.specs.declared.spots.Spot.{Spot}
-use Rattle.strm_types.specs.Deliver.{Carried, Took, carried}
+use Rattle.strm_types.specs.Deliver.{Carried, Took, carried, Goes}
 use Rattle.strm_types.specs.Drivers.{driver_put}
 use Rattle.strm_types.specs.Flushing.{is_flush, asked_by, asked_of, flush_bytes, flush_message}
 use Rattle.strm_types.specs.Heads.{head_put}
@@ -66,7 +66,7 @@ module _ {C : Type 0} where
         sent = t.sent;
         gone = t.gone;
       }
-      else record { state = s; sent = []; gone = record { direction = direction_at Up side; rule = EndClosed; cells = cells_of m } ∷ [] }
+      else record { state = s; sent = []; gone = Goes (direction_at Up side) EndClosed (cells_of m) ∷ [] }
 
   -- a message that comes to the driver of a side's stream, which is the first place below the head
   abbrev pub put_at_driver : Side → Spot → Message C → State C → Took C (State C)

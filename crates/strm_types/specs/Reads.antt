@@ -12,7 +12,7 @@ use Rattle.strm_types.specs.Message.{Message, part, cells_of, band_of}
 use Rattle.strm_types.specs.Queue.{Queue, put_back, left_with, relieved, relieves, map_messages}
 use Rattle.strm_types.specs.declared.names.Dir.{Dir}
 use Rattle.strm_types.specs.declared.rules.Rule.TheVariants as rules
-use Rattle.strm_types.specs.Deliver.{Fate, tallied}
+use Rattle.strm_types.specs.Deliver.{Fate, Goes, tallied}
 use Rattle.strm_types.specs.declared.rules.Fates.{Fates}
 
 -- what a read takes: the cells that it gives, those of a message's rest that it discards, those of control parts that it drops,
@@ -164,9 +164,9 @@ module _ {C : Type 0} where
   -- by which rules cells of a direction go by a read
   abbrev pub read_fates : Dir → Drawn C → List (Fate C)
   read_fates dir d =
-      record { direction = dir; rule = rules.Read; cells = d.given }
-      ∷ record { direction = dir; rule = rules.RestDiscarded; cells = d.discarded }
-      ∷ record { direction = dir; rule = rules.ControlDropped; cells = d.dropped } ∷ []
+      Goes dir rules.Read d.given
+      ∷ Goes dir rules.RestDiscarded d.discarded
+      ∷ Goes dir rules.ControlDropped d.dropped ∷ []
 
   -- what goes by a read of up to n cells: nothing where it has nothing to take
   abbrev pub read_gone : Dir → ReadMode → ControlMode → ℕ → List (Message C) → List (Fate C)

@@ -1,4 +1,4 @@
--- The rules by which bytes go, and how many have gone by each.
+-- The rules by which bytes go, how many have gone by each, and how many were made on the way.
 use Rattle.std.specs.Prelude.{ℕ, ◌+◌, ◌%◌, ◌^◌, List, replicate, slice_set, slice_index_or}
 use Rattle.strm_types.specs.declared.names.Dir.{Dir}
 use Rattle.strm_types.specs.declared.names.Dir.TheVariants.{MasterToSlave, SlaveToMaster}
@@ -31,9 +31,9 @@ number_of Replaced = 18
 number_of Onocr = 19
 number_of EchoFull = 20
 
--- nothing has gone
+-- nothing has gone, and nothing was made
 abbrev pub no_fates : Fates
-no_fates = record { from_master = replicate RULES 0; from_slave = replicate RULES 0 }
+no_fates = record { from_master = replicate RULES 0; from_slave = replicate RULES 0; made_from_master = 0; made_from_slave = 0 }
 
 -- the counts of one direction with so many bytes more by a rule
 abbrev pub counted_more : Rule → ℕ → List ℕ → List ℕ
@@ -44,3 +44,8 @@ counted_more rule bytes counts =
 abbrev pub told_more : Dir → Rule → ℕ → Fates → Fates
 told_more MasterToSlave rule bytes fates = record fates { from_master = counted_more rule bytes fates.from_master }
 told_more SlaveToMaster rule bytes fates = record fates { from_slave = counted_more rule bytes fates.from_slave }
+
+-- the counts with so many bytes of a direction more that were made
+abbrev pub made_more : Dir → ℕ → Fates → Fates
+made_more MasterToSlave bytes fates = record fates { made_from_master = (fates.made_from_master + bytes) % 2 ^ 64 }
+made_more SlaveToMaster bytes fates = record fates { made_from_slave = (fates.made_from_slave + bytes) % 2 ^ 64 }

@@ -6,7 +6,7 @@ use Rattle.strm_types.specs.declared.names.Way.{Way}
 use Rattle.strm_types.specs.declared.names.Way.TheVariants.{Up, Down}
 use Rattle.strm_types.specs.declared.rules.Rule.{Rule}
 use Rattle.strm_types.specs.declared.spots.Note.TheVariants.{Room}
-use Rattle.strm_types.specs.Deliver.{Acted, Fate}
+use Rattle.strm_types.specs.Deliver.{Acted, Fate, Goes}
 use Rattle.strm_types.specs.Emptied.{of_all, cells_gone, queue_behind, writer_goes}
 use Rattle.strm_types.specs.ModuleQueues.{messages_at}
 use Rattle.strm_types.specs.Names.{direction_at}
@@ -48,7 +48,7 @@ module _ {C P : Type 0} (queue_of : Way → P → Option (Queue C)) where
 -- the cells of an unfinished line of input, where there are any; it came up
 abbrev pub line_gone : {C : Type 0} → Side → Rule → List C → List (Fate C)
 line_gone side rule [] = []
-line_gone side rule cells = record { direction = direction_at Up side; rule = rule; cells = cells } ∷ []
+line_gone side rule cells = Goes (direction_at Up side) rule cells ∷ []
 
 module _ {C P : Type 0} (queue_of : Way → P → Option (Queue C)) (with_queue : Way → Queue C → P → P) where
   -- A module without what stood on its queue of a way, where it has one.
@@ -61,7 +61,7 @@ module _ {C P : Type 0} (queue_of : Way → P → Option (Queue C)) (with_queue 
         state = with_queue way (queue_behind of_all q) p;
         notes = if writer_goes of_all q then Room way ∷ [] else [];
         sent = [];
-        gone = record { direction = direction_at way side; rule = rule; cells = cells_gone of_all q.messages } ∷ [];
+        gone = Goes (direction_at way side) rule (cells_gone of_all q.messages) ∷ [];
       }
 
   module _ (line_of : P → List C) (without_line : P → P) where

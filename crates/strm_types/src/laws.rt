@@ -19,7 +19,7 @@ ghost use Rattle.strm_types.specs.Calls.{Request, Reply, called, map_outcome, ma
 ghost use Rattle.strm_types.specs.Turns.{turned, map_turn_outcome};
 ghost use Rattle.strm_types.specs.declared.spots.Spot.{Spot};
 ghost use Rattle.strm_types.specs.Deliver.{Parcel, Took, Falls, carried};
-ghost use Rattle.strm_types.specs.Places.{PutKeeps, CarryKeeps, weight_gone};
+ghost use Rattle.strm_types.specs.Places.{PutKeeps, CarryKeeps, weight_gone, weight_made};
 ghost use Rattle.strm_types.specs.Origins.{PutsAgree, CarriesAgree};
 ghost use Rattle.strm_types.specs.Journal.{PlainEntry, content_max, event_len, answer_len, request_in, reply_in, entry_in};
 ghost use Rattle.strm_types.specs.Step.{Step, replay};
@@ -118,16 +118,16 @@ pub fn steps_forget_origins<C>()
         replay plain (map_state cells.byte s) es ≡ map_state cells.byte (replay cells s es) }
 {}
 
-/// Nothing is lost or made: whatever test on bytes is chosen, as 'is this very byte', what stands on a pair's queues
-/// behind a call or a turn, and what has gone by a rule, as what a read(2) or getmsg(2) gave, is what stood there before,
-/// and what a write(2) took or a putmsg(2) sent. A head that is opened is as new, so this wants that a side that isn't open has nothing for its
+/// Nothing is lost, and nothing is made but what is told: whatever test on bytes is chosen, as 'is this very byte', what stands
+/// on a pair's queues behind a call or a turn, and what has gone by a rule, as what a read(2) or getmsg(2) gave, is what stood
+/// there before, what a write(2) took or a putmsg(2) sent, and what was made on the way, as an echo is. A head that is opened is as new, so this wants that a side that isn't open has nothing for its
 /// readers, as it is in a new pair and behind each step. On a queue a put adds what the message has, and a take takes
 /// it away.
 pub fn bytes_are_kept<C>()
     ensures step { (cells : Cells C) (p : C → Bool) (old new : State C) (entry : PlainEntry) → NothingUnread old →
         Step cells old entry new →
         state_weight p new + weight_gone p (gone cells old entry)
-        ≡ state_weight p old + count_by p (came cells old entry) }
+        ≡ state_weight p old + (count_by p (came cells old entry) + weight_made p (gone cells old entry)) }
     ensures unread { (cells : Cells C) (old new : State C) (entry : PlainEntry) → NothingUnread old →
         Step cells old entry new → NothingUnread new }
     ensures opening { (s : State C) → s ≡ opening → NothingUnread s }
@@ -139,8 +139,9 @@ pub fn bytes_are_kept<C>()
         weight p q ≡ weight_of p m + weight p rest }
 {}
 
-/// Where no put loses or makes a cell, and what a put sends on has less before it than what was put, no delivery loses or
-/// makes a cell: of any cells, as many as before are held, or have gone by a rule.
+/// Where no put loses a cell, or makes one that it doesn't tell, and what a put sends on has less before it than what was put, no
+/// delivery does: of any cells, those are held or have gone by a rule that were held before, came with the message, or were made
+/// on the way.
 pub fn delivery_keeps_cells<C, S>()
     ensures { (p : C → Bool) (weigh : S → ℕ) (height : Spot → Message C → ℕ) (put : Spot → Message C → S → Took C S) →
         PutKeeps p weigh put → Falls height put → (hops : ℕ) (q : Parcel C) → height q.to q.message < hops →

@@ -24,7 +24,8 @@ pub fn puts_fall<C>()
     ensures within { (to : Spot) (m : Message C) → to.at ≤ 4 → far to m < HOPS }
 {}
 
-/// No put loses or makes a cell: of any cells, as many as before stand on the queues, are sent on, or have gone by a rule.
+/// No put loses a cell, or makes one that it doesn't tell: of any cells, those stand on the queues, are sent on, or have gone by a
+/// rule that stood there before, came with the message, or were made.
 pub fn puts_keep_cells<C>()
     ensures { (p : C → Bool) → PutKeeps p (state_weight p) put_in }
 {}

@@ -1,7 +1,7 @@
-//! The rules by which bytes of a pair go.
+//! The rules by which bytes of a pair go, and the counts of what has gone and of what was made.
 
 ghost use Rattle.std.specs.Prelude.{◌≡◌, ◌<◌};
-ghost use Rattle.strm_types.specs.Rules.{number_of, no_fates, told_more};
+ghost use Rattle.strm_types.specs.Rules.{number_of, no_fates, told_more, made_more};
 
 use crate::names::Dir;
 
@@ -66,21 +66,26 @@ impl Rule {
     }
 }
 
-/// How many bytes have gone by each rule, in each direction, counted modulo 2^64.
+/// How many bytes have gone by each rule, in each direction, and how many were made on the way, as an echo is. What a
+/// write(2) or a putmsg(2) brings isn't made. All are counted modulo 2^64.
 #[derive(Clone, Copy, Debug, PartialEq, Eq)]
 pub struct Fates {
     pub from_master: [u64; 21],
     pub from_slave: [u64; 21],
+    pub made_from_master: u64,
+    pub made_from_slave: u64,
 }
 
 impl Fates {
-    /// Nothing has gone.
+    /// Nothing has gone, and nothing was made.
     pub fn none() -> Fates
         ensures { result ≡ no_fates }
     {
         Fates {
             from_master: [0; 21],
             from_slave: [0; 21],
+            made_from_master: 0,
+            made_from_slave: 0,
         }
     }
 
@@ -95,6 +100,21 @@ impl Fates {
             }
             Dir::SlaveToMaster => {
                 self.from_slave[at] = self.from_slave[at].wrapping_add(bytes as u64);
+            }
+        }
+    }
+
+    /// So many more bytes of a direction were made on the way: those of messages of M_DATA, M_PROTO or M_PCPROTO that nobody
+    /// wrote, and that go by a rule later, as all others.
+    pub fn tell_made(&mut self, direction: Dir, bytes: usize)
+        ensures { self.new ≡ made_more direction bytes self.old }
+    {
+        match direction {
+            Dir::MasterToSlave => {
+                self.made_from_master = self.made_from_master.wrapping_add(bytes as u64);
+            }
+            Dir::SlaveToMaster => {
+                self.made_from_slave = self.made_from_slave.wrapping_add(bytes as u64);
             }
         }
     }

@@ -2,6 +2,7 @@
 use Rattle.std.proofs.Common.{[], ◌∷◌, refl, sym, ap, subst, ◌∙◌, arith}
 use Rattle.strm_types.specs.declared.names.Way.TheVariants.{Up}
 use Rattle.strm_types.specs.declared.rules.Rule.TheVariants.{EndClosed}
+use Rattle.strm_types.specs.Deliver.{Goes}
 use Rattle.strm_types.specs.Message.{cells_of}
 use Rattle.strm_types.specs.Names.{direction_at, direction_of}
 use Rattle.strm_types.specs.Rules.{told_more}
@@ -32,7 +33,7 @@ returns g c =
     let inside = can-in_hand s i (λ j. 0) c.audit.ensures c.requires.can_put in
     subst (λ w. PutBy name s t p p i 0 made c.args.told.now c.tell.new.self w) (sym (closed-is to.side to m (state_in s p) c.requires.closed))
     (swaps-put name s t p i 0 0 made [] c.args.told.now c.tell.new.self
-    (record { state = state_in s p; sent = []; gone = record { direction = direction_at Up to.side; rule = EndClosed; cells = cells_of m } ∷ [] })
+    (record { state = state_in s p; sent = []; gone = Goes (direction_at Up to.side) EndClosed (cells_of m) ∷ [] })
     c.requires.beside (swaps-freed name s t i made c.audit.ensures inside c.free.ensures c.none.ensures) (omega arith) refl refl
     (c.tell.ensures
     ∙ ap (λ d. told_more d EndClosed c.booked_size-bytes.result c.args.told.now) (c.direction.ensures ∙ ap (λ n. direction_of n) c.head.ensures)
