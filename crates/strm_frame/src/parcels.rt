@@ -1,7 +1,6 @@
 //! Messages that a station sends on, in order.
 
-ghost use Rattle.std.specs.Prelude.{◌≡◌, [], ◌∷◌, MatchOption};
-ghost use Rattle.std.specs.Bool.{OnTrue};
+ghost use Rattle.std.specs.Prelude.{◌≡◌, ◌↔◌, [], ◌∷◌, IsTrue, MatchOption};
 ghost use Rattle.strm_frame.specs.Outboxes.{sent_of};
 
 use strm_types::Spot;
@@ -61,7 +60,7 @@ impl<Mp: Drop> Outbox<Mp> {
 
     /// Whether nothing is on its way.
     pub fn is_empty(&self) -> bool
-        ensures { OnTrue result (sent_of self.now ≡ []) }
+        ensures { IsTrue result ↔ (sent_of self.now ≡ []) }
     {
         self.first.is_none()
             && self.second.is_none()

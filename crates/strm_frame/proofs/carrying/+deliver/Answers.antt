@@ -1,5 +1,5 @@
 -- Each message that was sent is carried in turn, and the rest is as if it alone had been sent.
-use Rattle.std.proofs.Common.{ℕ, suc, ◌≡◌, ◌-◌, sym, ◌∙◌, arith}
+use Rattle.std.proofs.Common.{ℕ, suc, ◌≡◌, ◌-◌, refl, sym, ◌∙◌, arith}
 use Rattle.strm_types.specs.Deliver.{Parcel, carried}
 use Rattle.strm_frame.specs.Outboxes.{message_in, sent_of, parcels_in, parcel_in}
 use Rattle.strm_frame.proofs.Handing.{next-chain, next-chains, next-low, next-lower, next-room, next-spends, no-cost, next-parts, next-can, next-hands, next-same, no-more, no-parts}
@@ -108,7 +108,7 @@ returns-then-is_empty-clause-state g t c =
     let low = c.requires.low in
     let next : c.args.hops ≡ suc (c.args.hops - 1) = omega arith in
     let all = parcels_in g.B.Blocks.name s' (sent_of c.put_at-sent.result) in
-    let none = no-parts g.B.Blocks.name s' (sent_of c.put_at-sent.result) c.if-is_empty.ensures in
+    let none = no-parts g.B.Blocks.name s' (sent_of c.put_at-sent.result) (c.if-is_empty.ensures.0 refl) in
     sym (stops-state (carried w.puts (c.args.hops - 1)) all (w.plain s' c.put_at-sent.new.self) none)
     ∙ begins-state w.puts c.args.hops (c.args.hops - 1) p (w.plain s c.args.stations.now) _ _ next e.state e.sent
 
@@ -122,7 +122,7 @@ returns-then-is_empty-clause-told g t c =
     let low = c.requires.low in
     let next : c.args.hops ≡ suc (c.args.hops - 1) = omega arith in
     let all = parcels_in g.B.Blocks.name s' (sent_of c.put_at-sent.result) in
-    let none = no-parts g.B.Blocks.name s' (sent_of c.put_at-sent.result) c.if-is_empty.ensures in
+    let none = no-parts g.B.Blocks.name s' (sent_of c.put_at-sent.result) (c.if-is_empty.ensures.0 refl) in
     sym (stops-told (carried w.puts (c.args.hops - 1)) all (w.plain s' c.put_at-sent.new.self) c.put_at-sent.new.told none)
     ∙ begins-told w.puts c.args.hops (c.args.hops - 1) p (w.plain s c.args.stations.now) _ _ _ _ next e.state e.sent e.told
 
@@ -131,10 +131,10 @@ returns-then-is_empty-clause-hands g t c =
     let w = g.S.Stations in
     let s0 = g.B.Blocks.value c.args.store.now in
     let s = g.B.Blocks.value c.put_at-sent.new.store in
-    no-more g.B.Blocks.name s0 s (g.B.Blocks.name c.args.message) (w.keeps c.args.stations.now) (w.keeps c.put_at-sent.new.self) (sent_of c.put_at-sent.result) c.if-is_empty.ensures c.put_at-sent.ensures.hands
+    no-more g.B.Blocks.name s0 s (g.B.Blocks.name c.args.message) (w.keeps c.args.stations.now) (w.keeps c.put_at-sent.new.self) (sent_of c.put_at-sent.result) (c.if-is_empty.ensures.0 refl) c.put_at-sent.ensures.hands
 
 pub returns-then-is_empty-clause-spends : goal.returns-then-is_empty-clause-spends
 returns-then-is_empty-clause-spends g t c =
     let s0 = g.B.Blocks.value c.args.store.now in
     let s = g.B.Blocks.value c.put_at-sent.new.store in
-    no-cost g.B.Blocks.name s0 s g.S.Stations.cost _ (sent_of c.put_at-sent.result) c.if-is_empty.ensures c.put_at-sent.ensures.spends
+    no-cost g.B.Blocks.name s0 s g.S.Stations.cost _ (sent_of c.put_at-sent.result) (c.if-is_empty.ensures.0 refl) c.put_at-sent.ensures.spends
