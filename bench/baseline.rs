@@ -1,7 +1,9 @@
 //! What the benchmark compares with, in plain Rust with no proof: queues of chunks as a pair has them, a copy through a ring,
 //! and the system's own pseudoterminal in raw mode.
 //!
-//!     baseline queues|ring|pty ROUNDS SIZE STANDING
+//!     baseline queues|ring|pty ROUNDS SIZE STANDING WARM
+//!
+//! With WARM 1 the queues are cleared after their rounds, and make them again on the memory that they have.
 use std::collections::VecDeque;
 use std::ffi::{c_char, c_int, c_void};
 use std::hint::black_box;
@@ -25,6 +27,11 @@ impl Queue {
         self.count -= message.len();
         Some(message)
     }
+
+    fn clear(&mut self) {
+        self.messages.clear();
+        self.count = 0;
+    }
 }
 
 /// A driver's queue, a head's queue, and a journal of entries with their bytes.
@@ -36,13 +43,21 @@ struct Pair {
 }
 
 impl Pair {
-    fn new(rounds: usize, size: usize) -> Pair {
+    fn new(rounds: usize, size: usize, standing: usize) -> Pair {
         Pair {
             driver: Queue::default(),
             head: Queue::default(),
-            entries: Vec::with_capacity(rounds * 4),
-            bytes: Vec::with_capacity(rounds * size * 2),
+            entries: Vec::with_capacity((rounds + standing) * 4),
+            bytes: Vec::with_capacity(rounds * size * 2 + standing),
         }
+    }
+
+    /// Empties the queues and the journal, which keep their room.
+    fn clear(&mut self) {
+        self.driver.clear();
+        self.head.clear();
+        self.entries.clear();
+        self.bytes.clear();
     }
 
     fn write(&mut self, bytes: &[u8]) -> usize {
@@ -90,8 +105,7 @@ impl Pair {
     }
 }
 
-fn queues(rounds: usize, size: usize, standing: usize) -> usize {
-    let mut pair = Pair::new(rounds, size);
+fn rounds_of(pair: &mut Pair, rounds: usize, size: usize, standing: usize) -> usize {
     let bytes = vec![b'z'; 4096];
     let mut out = Vec::with_capacity(4096);
     for _ in 0..standing {
@@ -104,6 +118,16 @@ fn queues(rounds: usize, size: usize, standing: usize) -> usize {
         while pair.turn() {}
         pair.read(size, &mut out);
         read += black_box(&out).len();
+    }
+    read
+}
+
+fn queues(rounds: usize, size: usize, standing: usize, warm: bool) -> usize {
+    let mut pair = Pair::new(rounds, size, standing);
+    let mut read = rounds_of(&mut pair, rounds, size, standing);
+    if warm {
+        pair.clear();
+        read += rounds_of(&mut pair, rounds, size, standing);
     }
     read
 }
@@ -168,10 +192,10 @@ fn main() {
     let number = |i: usize| words.get(i).and_then(|w| w.parse().ok()).unwrap_or(0);
     let (rounds, size) = (number(2), number(3));
     let read = match words.get(1).map(String::as_str) {
-        Some("queues") => queues(rounds, size, number(4)),
+        Some("queues") => queues(rounds, size, number(4), number(5) == 1),
         Some("ring") => ring(rounds, size),
         Some("pty") => pty(rounds, size),
-        _ => panic!("baseline queues|ring|pty ROUNDS SIZE STANDING"),
+        _ => panic!("baseline queues|ring|pty ROUNDS SIZE STANDING WARM"),
     };
     println!("{read}");
 }

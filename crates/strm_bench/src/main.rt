@@ -1,18 +1,21 @@
 //! Rounds of a write, a turn and a read on a pair, for `bench/run` to time. Each line of standard input is a plan of
-//! six numbers; the answer is how many bytes were read.
+//! seven numbers; the answer is how many bytes were read.
 #![tactic(auto)]
 
 mod plans;
+mod reading;
 mod rounds;
 
-use crate::plans::read_plan;
+use crate::reading::read_plan;
 use crate::rounds::run;
 use std::io;
 
 fn main(rt: HostRuntime) -> io::Result<()> {
     for line in rt.lines(rt.alloc()) {
-        let Some(plan) = read_plan(line?.as_str()) else {
-            println!(rt; "a plan is: pairs rounds size standing blocks entries")?;
+        let line = line?;
+        let words: Vec<&str> = line.split_whitespace().collect(rt.alloc())?;
+        let Some(plan) = read_plan(&words) else {
+            println!(rt; "a plan is: pairs rounds size standing blocks entries warm")?;
             continue;
         };
         match run(rt.alloc(), &plan) {

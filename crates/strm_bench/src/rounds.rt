@@ -1,5 +1,9 @@
 //! Rounds on pairs.
 
+ghost use Rattle.std.specs.Prelude.{◌≤◌, ◌*◌, if◌then◌else◌, length, IfSome};
+ghost use Rattle.std.specs.Bool.{OnTrue};
+ghost use Rattle.strm_bench.specs.Plans.{bytes_asked};
+
 use crate::plans::Plan;
 use std::alloc::Global;
 use strm_blocks::TableStore;
@@ -63,8 +67,17 @@ fn sends(pair: &mut Pair<TableStore>, bytes: &[u8], out: &mut Content) -> bool {
     true
 }
 
+// A read of up to so many bytes on the slave; whether it was granted.
+fn reads(pair: &mut Pair<TableStore>, n: u32, out: &mut Content) -> bool
+    ensures { OnTrue result (length out.new.items ≤ n) }
+{
+    pair.call(SLAVE, &Event::Read { n }, out).is_ok()
+}
+
 // The rounds on a pair: how many bytes were read.
-fn rounds(pair: &mut Pair<TableStore>, plan: &Plan) -> Option<u64> {
+fn rounds(pair: &mut Pair<TableStore>, plan: &Plan) -> Option<u64>
+    ensures { IfSome result (λ bytes. bytes ≤ plan.now.rounds * plan.now.size) }
+{
     let mut out = Content::new();
     if !opens(pair, &mut out) {
         return None;
@@ -76,9 +89,8 @@ fn rounds(pair: &mut Pair<TableStore>, plan: &Plan) -> Option<u64> {
     }
     let mut read = 0u64;
     let bytes = &BYTES[..plan.size as usize];
-    let event = Event::Read { n: plan.size };
     for _ in 0..plan.rounds {
-        if !sends(pair, bytes, &mut out) || !calls(pair, SLAVE, &event, &mut out) {
+        if !sends(pair, bytes, &mut out) || !reads(pair, plan.size, &mut out) {
             return None;
         }
         read = read.saturating_add(out.len() as u64);
@@ -86,14 +98,25 @@ fn rounds(pair: &mut Pair<TableStore>, plan: &Plan) -> Option<u64> {
     Some(read)
 }
 
-// The rounds of a pair of its own.
-fn one_pair(alloc: Global, plan: &Plan) -> Option<u64> {
+// The rounds of a pair of its own, and where the plan is warm once more on the same pair, made as new.
+fn one_pair(alloc: Global, plan: &Plan) -> Option<u64>
+    ensures { IfSome result (λ bytes. bytes ≤ (if plan.now.warm then 2 else 1) * (plan.now.rounds * plan.now.size)) }
+{
     let mut pair = new_pair(alloc, plan)?;
-    rounds(&mut pair, plan)
+    let first = rounds(&mut pair, plan)?;
+    if !plan.warm {
+        return Some(first);
+    }
+    pair.reset();
+    let again = rounds(&mut pair, plan)?;
+    Some(first.saturating_add(again))
 }
 
-/// Carries out a plan, and says how many bytes were read; nothing where memory or a call was refused.
-pub fn run(alloc: Global, plan: &Plan) -> Option<u64> {
+/// Carries out a plan, and says how many bytes were read: no more than its rounds ask for. It says nothing where memory or
+/// a call was refused.
+pub fn run(alloc: Global, plan: &Plan) -> Option<u64>
+    ensures { IfSome result (λ bytes. bytes ≤ bytes_asked plan.now) }
+{
     let mut read = 0u64;
     for _ in 0..plan.pairs {
         read = read.saturating_add(one_pair(alloc, plan)?);

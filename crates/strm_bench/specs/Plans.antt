@@ -1,0 +1,42 @@
+-- Plans, and the words that say them.
+use Rattle.std.specs.Prelude.{ℕ, ◌≡◌, ◌<◌, ◌≤◌, ◌*◌, ◌==◌, if◌then◌else◌, List, [], length, slice_index_or}
+use Rattle.std.specs.Borrow.{Bor}
+use Rattle.strm_bench.specs.Numbers.{IsNumber, number_of}
+use Rattle.strm_bench.specs.declared.plans.Plan.{Plan}
+
+-- the words of a line
+abbrev pub Words : Type 0
+Words = List (Bor (List ℕ))
+
+-- the bytes of a word, none past the end
+abbrev pub word : Words → ℕ → List ℕ
+word words i = (slice_index_or words i (record { ref_ptr = (0, 0); now = [] })).now
+
+-- seven numbers in the ranges of a plan
+pub record IsPlan (words : Words) : Type 0 where
+  pub seven : length words ≡ 7
+  pub pairs : IsNumber (word words 0)
+  pub rounds : IsNumber (word words 1)
+  pub size : IsNumber (word words 2)
+  pub standing : IsNumber (word words 3)
+  pub blocks : IsNumber (word words 4)
+  pub entries : IsNumber (word words 5)
+  pub warm : IsNumber (word words 6)
+  pub small : number_of (word words 2) ≤ 4096
+  pub some_blocks : 0 < number_of (word words 4)
+  pub few_blocks : number_of (word words 4) ≤ 65536
+  pub warm_or_not : number_of (word words 6) ≤ 1
+
+-- a plan has the numbers that the words spell
+pub record Says (words : Words) (plan : Plan) : Type 0 where
+  pub pairs : plan.pairs ≡ number_of (word words 0)
+  pub rounds : plan.rounds ≡ number_of (word words 1)
+  pub size : plan.size ≡ number_of (word words 2)
+  pub standing : plan.standing ≡ number_of (word words 3)
+  pub blocks : plan.blocks ≡ number_of (word words 4)
+  pub entries : plan.entries ≡ number_of (word words 5)
+  pub warm : plan.warm ≡ (number_of (word words 6) == 1)
+
+-- how many bytes the rounds of a plan ask for
+abbrev pub bytes_asked : Plan → ℕ
+bytes_asked plan = plan.pairs * ((if plan.warm then 2 else 1) * (plan.rounds * plan.size))

@@ -1,0 +1,45 @@
+//! How a plan is read.
+
+ghost use Rattle.std.specs.Prelude.{◌↔◌, IsSome, IfSome};
+ghost use Rattle.std.specs.Option.{SomeIff};
+ghost use Rattle.strm_bench.specs.Numbers.{IsNumber, number_of};
+ghost use Rattle.strm_bench.specs.Plans.{IsPlan, Says};
+
+use crate::plans::Plan;
+
+/// The plan that seven words say, each a number: blocks from 1 to 65536, a size of at most 4096, and a last one of 0 or 1,
+/// which is 1 for a warm plan.
+pub fn read_plan(words: &[&str]) -> Option<Plan>
+    ensures known { IsSome result ↔ IsPlan words.now }
+    ensures numbers { IfSome result (Says words.now) }
+{
+    let [pairs, rounds, size, standing, blocks, entries, warm] = *words else {
+        return None;
+    };
+    let pairs = number(pairs)?;
+    let rounds = number(rounds)?;
+    let size = number(size)?;
+    let standing = number(standing)?;
+    let blocks = number(blocks)?;
+    let entries = number(entries)?;
+    let warm = number(warm)?;
+    if blocks == 0 || blocks > 65536 || size > 4096 || warm > 1 {
+        return None;
+    }
+    Some(Plan {
+        pairs,
+        rounds,
+        size,
+        standing,
+        blocks,
+        entries,
+        warm: warm == 1,
+    })
+}
+
+// The number that a word spells.
+fn number(word: &str) -> Option<u32>
+    ensures { SomeIff result (IsNumber word.now) (number_of word.now) }
+{
+    word.parse::<u32>().ok()
+}
