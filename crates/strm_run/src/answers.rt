@@ -1,11 +1,11 @@
 //! The answer lines of a script, as they are printed.
 
-ghost use Rattle.std.specs.Prelude.{◌≡◌, ◌<◌, Some, Ok, take, drop, option_map};
+ghost use Rattle.std.specs.Prelude.{◌≡◌, ◌<◌, Some, Ok, take, drop, option_map, unwrap_or};
 ghost use Rattle.std.specs.List.{position_from, position_or_len};
 ghost use Rattle.strm_run.specs.Script.{side_name, place_name, way_name, module_name};
 ghost use Rattle.strm_types.specs.Journal.{part_in, reply_in};
 ghost use Rattle.strm_run.specs.ScriptAnswers.{hex_digit, is_escaped, printed, quoted, size_text, line_text, refusal_name};
-ghost use Rattle.strm_run.specs.ScriptAnswers.{prio_text, part_text, more_text, signal_text, signals_text, reply_line};
+ghost use Rattle.strm_run.specs.ScriptAnswers.{prio_text, part_text, more_text, signal_text, signals_text, reply_line, Text};
 ghost use Rattle.strm_run.specs.Lines.{line_of};
 
 use std::fmt;
@@ -338,6 +338,34 @@ impl fmt::Display for ShownSignals<'_> {
     }
 }
 
+/// The parts of a message, as they are printed, over its bytes: those of its control part come first.
+fn shown_parts<'a>(
+    control: Option<usize>,
+    body: Option<usize>,
+    bytes: &'a [u8],
+) -> (ShownPart<'a>, ShownPart<'a>)
+    ensures control { option_map (λ part. part.now) result.0.0 ≡ part_in control bytes.now }
+    ensures body { option_map (λ part. part.now) result.1.0 ≡ part_in body (drop (unwrap_or control 0) bytes.now) }
+{
+    let data = behind(bytes, control.unwrap_or(0));
+    (ShownPart(part(control, bytes)), ShownPart(part(body, data)))
+}
+
+/// The bytes of a read, as they are printed.
+#[derive(Drop)]
+struct ShownData<'a>(&'a [u8]);
+
+impl fmt::Display for ShownData<'_> {
+    ghost output = { λ shown. Some (line_text (Text shown.0.now)) };
+
+    #[tactic(auto, unfolding(crate::specs::ScriptAnswers::line_text))]
+    fn fmt<W: fmt::Write>(&self, f: &mut fmt::Formatter<W>) -> fmt::Result {
+        let count = self.0.len();
+        let text = Quoted(self.0);
+        write!(f, "data {count} {text}")
+    }
+}
+
 /// What a call was answered, with the bytes that it gave, as it is printed.
 #[derive(Drop)]
 struct ShownAnswer<'a> {
@@ -358,10 +386,8 @@ impl fmt::Display for ShownAnswer<'_> {
             }
             Answer::Count(n) => write!(f, "ok {n}"),
             Answer::Bytes(len) => {
-                let bytes = front(self.bytes, *len);
-                let count = bytes.len();
-                let text = Quoted(bytes);
-                write!(f, "data {count} {text}")
+                let data = ShownData(front(self.bytes, *len));
+                write!(f, "{data}")
             }
             Answer::Msg {
                 prio,
@@ -371,9 +397,7 @@ impl fmt::Display for ShownAnswer<'_> {
                 more_data,
             } => {
                 let prio = ShownPrio(*prio);
-                let data = behind(self.bytes, control.unwrap_or(0));
-                let body = ShownPart(part(*body, data));
-                let control = ShownPart(part(*control, self.bytes));
+                let (control, body) = shown_parts(*control, *body, self.bytes);
                 let more = More {
                     control: *more_control,
                     body: *more_data,
