@@ -1,5 +1,5 @@
 -- Where the get finds its message the parts are those of that message.
-use Rattle.std.proofs.Common.{◌∙◌, ◌≡◌, ◌+◌, false, sym, ap, refl, arith}
+use Rattle.std.proofs.Common.{◌∙◌, ◌≡◌, false, sym, ap, refl, arith}
 use Rattle.std.specs.Prelude.{nat_lt}
 use Rattle.std.proofs.lemmas.Bool.Decides.{nat_tests}
 use Rattle.strm_blocks.specs.Blocks.{list_at}

@@ -1,5 +1,5 @@
 -- Bytes of the control part are taken first, and the data part stays as it is.
-use Rattle.std.proofs.Common.{◌∙◌, ◌≡◌, ◌+◌, ◌≤◌, ◌++◌, length, take, ap, sym, subst, arith}
+use Rattle.std.proofs.Common.{◌∙◌, ◌≡◌, ◌++◌, length, take, ap, sym, subst, arith}
 use Rattle.std.proofs.lemmas.List.{length-take-le}
 use Rattle.strm_blocks.specs.Blocks.{IsInHand, in_hand, changed}
 use Rattle.strm_msg.specs.Bytes.{control_bytes, data_bytes}

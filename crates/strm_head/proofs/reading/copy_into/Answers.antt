@@ -1,8 +1,7 @@
 -- Each block gives what is still wanted of it.
-use Rattle.std.proofs.Common.{◌≡◌, ◌<◌, ◌++◌, length, take, drop, subst, ap, arith, length-append, length-take-le}
+use Rattle.std.proofs.Common.{◌≡◌, ◌<◌, ◌++◌, length, take, subst, ap, arith, length-append, length-take-le}
 use Rattle.std.specs.Result.{OnOk}
 use Rattle.strm_blocks.specs.Blocks.{in_hand}
-use Rattle.strm_msg.specs.Bytes.{bytes_of}
 use Rattle.strm_head.proofs.Copied.{copied-more, length-first}
 use Rattle.strm_head.proofs.reading.copy_into.Goals as goal
 
