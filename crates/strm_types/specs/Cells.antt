@@ -47,6 +47,11 @@ module _ {C : Type 0} (cells : Cells C) where
   cells_written dir n [] = []
   cells_written dir n (b ∷ bytes) = cells.written dir n b ∷ cells_written dir (suc n) bytes
 
+  -- the cells of bytes that are made in a direction, as an echo is, the first of them as the nth there
+  abbrev pub cells_made : Dir → ℕ → List ℕ → List C
+  cells_made dir n [] = []
+  cells_made dir n (b ∷ bytes) = cells.made dir n b ∷ cells_made dir (suc n) bytes
+
   -- the bytes of cells: their origins are forgotten
   abbrev pub bytes_of : List C → List ℕ
   bytes_of = map cells.byte

@@ -41,3 +41,10 @@ pub mod Signals
 pub mod Slots
 pub mod Options
 pub mod Within
+pub mod Keys
+pub mod Lines
+pub mod Standing
+pub mod Echo
+pub mod Ldterms
+pub mod Typing
+pub mod Input

@@ -12,6 +12,7 @@ pub mod flush_laws;
 mod flushing;
 pub mod head_laws;
 mod ioctls;
+mod keys;
 mod kinds;
 pub mod laws;
 mod limits;
@@ -31,6 +32,7 @@ pub use entries::Entry;
 pub use events::{Caller, Event, FlushQueues};
 pub use flushing::FlushAsked;
 pub use ioctls::{Ioc, TCGETS, TCSETS, TCSETSF, TCSETSW, TIOCGWINSZ, TIOCSIGNAL, TIOCSWINSZ};
+pub use keys::{Key, LINE_MAX, Stroke};
 pub use kinds::{Band, MsgKind};
 pub use limits::{
     BANDS, BLOCK_SIZE, CHANGE_BLOCKS, CLOSE_BLOCKS, CONTENT_MAX, CONTROL_MAX, Config, DATA_MAX,

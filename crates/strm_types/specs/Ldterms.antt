@@ -1,0 +1,151 @@
+-- The module ldterm on a stream: its queues, its unfinished line, and what it does with what is put at it (ldterm(7M); STREAMS
+-- Programming Guide, "Flush Handling").
+use Rattle.std.specs.Prelude.{ℕ, zero, suc, Bool, true, false, ◌&&◌, ◌||◌, ◌==◌, not, if◌then◌else◌, List, [], ◌∷◌, ◌++◌, Option, None, Some, unwrap_or}
+use Rattle.strm_types.specs.declared.flushing.FlushAsked.{FlushAsked}
+use Rattle.strm_types.specs.declared.kinds.Band.{Band}
+use Rattle.strm_types.specs.declared.kinds.MsgKind.{MsgKind}
+use Rattle.strm_types.specs.declared.kinds.MsgKind.TheVariants.{Data, Proto}
+use Rattle.strm_types.specs.declared.names.Way.{Way}
+use Rattle.strm_types.specs.declared.names.Way.TheVariants.{Up, Down}
+use Rattle.strm_types.specs.declared.rules.Rule.TheVariants.{Flushed}
+use Rattle.strm_types.specs.declared.spots.Note.TheVariants.{Enable, Room}
+use Rattle.strm_types.specs.declared.spots.Spot.{Spot}
+use Rattle.strm_types.specs.declared.termios.Termios.{Termios}
+use Rattle.strm_types.specs.Deliver.{Acted, Parcel, toward, Goes}
+use Rattle.strm_types.specs.Emptied.{of_data, cells_gone, queue_behind, writer_goes}
+use Rattle.strm_types.specs.Flushing.{is_flush, asked_by}
+use Rattle.strm_types.specs.Message.{Message}
+use Rattle.strm_types.specs.Names.{direction_at}
+use Rattle.strm_types.specs.Queue.{Queue, new_queue, put_on, put_enables}
+use Rattle.strm_types.specs.Service.{line_gone}
+use Rattle.strm_types.specs.Termios.{first_termios}
+
+-- How far a turn has come with a byte: it is between two bytes; or a byte has begun, and it has started output (true) or hasn't; or
+-- what the byte sends has gone, and these bytes are its echo.
+pub data Stage (C : Type 0) : Type 0 where
+  Between : Stage C
+  Begun : Bool → C → Stage C
+  Answered : List ℕ → Stage C
+
+-- What it is set to; whether its output is stopped, and whether the next byte stands behind LNEXT; the column of its output; the unfinished line; its
+-- queues. In a turn of its read queue also what is left of the message in work, the bytes that wait to go up together, whether the
+-- turn's echo stands last on the write queue, and how far the turn has come.
+pub record Ldterm (C : Type 0) : Type 0 where
+  pub termios : Termios
+  pub stopped : Bool
+  pub after_lnext : Bool
+  pub column : ℕ
+  pub line : List C
+  pub read_queue : Queue C
+  pub write_queue : Queue C
+  pub in_work : Option (Message C)
+  pub gathered : List C
+  pub echoing : Bool
+  pub stage : Stage C
+
+-- whether a flush takes band 0
+abbrev pub takes_band_0 : Option Band → Bool
+takes_band_0 None = true
+takes_band_0 (Some band) = band.0 == 0
+
+-- the kinds that wait on its queues: M_DATA and M_PROTO
+abbrev pub waits_there : MsgKind → Bool
+waits_there Data = true
+waits_there Proto = true
+waits_there _ = false
+
+module _ {C : Type 0} where
+  -- one as it is pushed
+  abbrev pub new_ldterm : Ldterm C
+  new_ldterm = record {
+    termios = first_termios;
+    stopped = false;
+    after_lnext = false;
+    column = 0;
+    line = [];
+    read_queue = new_queue 512 128;
+    write_queue = new_queue 512 128;
+    in_work = None;
+    gathered = [];
+    echoing = false;
+    stage = Between;
+  }
+
+  -- its queues
+  abbrev pub queue_at : Way → Ldterm C → Queue C
+  queue_at Up p = p.read_queue
+  queue_at Down p = p.write_queue
+
+  abbrev pub with_queue_at : Way → Queue C → Ldterm C → Ldterm C
+  with_queue_at Up q p = record p { read_queue = q }
+  with_queue_at Down q p = record p { write_queue = q }
+
+  abbrev pub without_line : Ldterm C → Ldterm C
+  without_line p = record p { line = [] }
+
+  -- nothing happens but that messages are sent on
+  abbrev pub sends : List (Parcel C) → Ldterm C → Acted C (Ldterm C)
+  sends sent p = record { state = p; notes = []; sent = sent; gone = [] }
+
+  -- a message on its way to the next place
+  abbrev pub onward : Way → Spot → Message C → Parcel C
+  onward way here m = record { to = toward way here; message = m }
+
+  -- a message that waits on a queue, which it enables as putq(9F) says
+  abbrev pub queued_at : Way → Message C → Ldterm C → Acted C (Ldterm C)
+  queued_at way m p =
+      let q = queue_at way p in
+      record {
+        state = with_queue_at way (put_on m q) p;
+        notes = if put_enables m q then Enable way ∷ [] else [];
+        sent = [];
+        gone = [];
+      }
+
+  -- one after the other; what the first one sends goes first
+  abbrev pub both : Acted C (Ldterm C) → (Ldterm C → Acted C (Ldterm C)) → Acted C (Ldterm C)
+  both t next =
+      let u = next t.state in
+      record { state = u.state; notes = t.notes ++ u.notes; sent = t.sent ++ u.sent; gone = t.gone ++ u.gone }
+
+  -- A queue is flushed. The echo of a turn under way goes with band 0 of the write queue, so that a new one begins.
+  abbrev pub queue_flushed : Way → Spot → Option Band → Ldterm C → Acted C (Ldterm C)
+  queue_flushed way here band p =
+      let q = queue_at way p in
+      let chosen = of_data band in
+      record {
+        state = with_queue_at way (queue_behind chosen q) p;
+        notes = if writer_goes chosen q then Room way ∷ [] else [];
+        sent = [];
+        gone = Goes (direction_at way here.side) Flushed (cells_gone chosen q.messages) ∷ [];
+      }
+
+  -- the unfinished line goes, where a flush takes band 0
+  abbrev pub line_flushed : Spot → Option Band → Ldterm C → Acted C (Ldterm C)
+  line_flushed here band p =
+      if takes_band_0 band then record (sends [] (without_line p)) { gone = line_gone here.side Flushed p.line } else sends [] p
+
+  -- FLUSHR: what waits to go up, with the line. FLUSHW: what waits to go down, with the echo.
+  abbrev pub read_flushed : Spot → FlushAsked → Ldterm C → Acted C (Ldterm C)
+  read_flushed here asked p =
+      if asked.for_read then both (queue_flushed Up here asked.band p) (line_flushed here asked.band) else sends [] p
+
+  abbrev pub write_flushed : Spot → FlushAsked → Ldterm C → Acted C (Ldterm C)
+  write_flushed here asked p =
+      if asked.for_write
+      then queue_flushed Down here asked.band (record p { echoing = p.echoing && not (takes_band_0 asked.band) })
+      else sends [] p
+
+  -- An M_FLUSH is obeyed, and goes on.
+  abbrev pub flush_passes : Spot → Message C → Ldterm C → Acted C (Ldterm C)
+  flush_passes here m p =
+      let asked = asked_by m.plain in
+      both (both (read_flushed here asked p) (write_flushed here asked)) (sends (onward here.way here m ∷ []))
+
+  -- A message that is put here, on its way up or down: M_DATA and M_PROTO wait for the turn of their queue, an M_FLUSH is obeyed,
+  -- and all else passes at once.
+  abbrev pub ldterm_puts : Spot → Message C → Ldterm C → Acted C (Ldterm C)
+  ldterm_puts here m p =
+      if waits_there m.kind then queued_at here.way m p
+      else (if is_flush m.kind then flush_passes here m p
+      else sends (onward here.way here m ∷ []) p)
