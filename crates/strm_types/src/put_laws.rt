@@ -6,16 +6,20 @@ ghost use Rattle.std.specs.Prelude.{◌≡◌, ◌<◌, ◌≤◌, Bool, true, f
 ghost use Rattle.strm_types.specs.declared.limits.TheConstants.{HOPS};
 ghost use Rattle.strm_types.specs.declared.names.Side.{Side};
 ghost use Rattle.strm_types.specs.declared.names.Way.TheVariants.{Down};
+ghost use Rattle.strm_types.specs.declared.spots.Across.{Across};
 ghost use Rattle.strm_types.specs.declared.spots.Spot.{Spot};
 ghost use Rattle.strm_types.specs.Deliver.{Falls};
+ghost use Rattle.strm_types.specs.Drivers.{driver_put};
+ghost use Rattle.strm_types.specs.Heads.{head_put};
 ghost use Rattle.strm_types.specs.Kept.{NothingUnread, state_weight};
 ghost use Rattle.strm_types.specs.Message.{Message, has_parts};
 ghost use Rattle.strm_types.specs.Names.{is_closed};
 ghost use Rattle.strm_types.specs.Origins.{PutsAgree};
-ghost use Rattle.strm_types.specs.Places.{PutKeeps};
+ghost use Rattle.strm_types.specs.Places.{PutKeeps, weight_made};
 ghost use Rattle.strm_types.specs.PutEffect.{put_effect};
 ghost use Rattle.strm_types.specs.Puts.{SameEnds, delivered, far, put_in};
-ghost use Rattle.strm_types.specs.State.{State, map_state};
+ghost use Rattle.strm_types.specs.Queue.{Queue};
+ghost use Rattle.strm_types.specs.State.{Head, State, map_state};
 
 /// What a put sends on has less before it than what was put, wherever that was; and from the places of a stream, of which the
 /// driver's is the fourth below the head, no message has more before it than a delivery hands on.
@@ -28,6 +32,13 @@ pub fn puts_fall<C>()
 /// rule that stood there before, came with the message, or were made.
 pub fn puts_keep_cells<C>()
     ensures { (p : C → Bool) → PutKeeps p (state_weight p) put_in }
+{}
+
+/// Neither a head nor a driver makes a cell: only modules do.
+pub fn ends_make_nothing<C>()
+    ensures head { (p : C → Bool) (here : Spot) (m : Message C) (h : Head C) → weight_made p (head_put here m h).gone ≡ 0 }
+    ensures driver { (p : C → Bool) (side : Side) (across : Across) (here : Spot) (m : Message C) (q : Queue C) →
+        weight_made p (driver_put side across here m q).gone ≡ 0 }
 {}
 
 /// Puts do the same to cells and to what these are mapped to, as where their origins are forgotten.
