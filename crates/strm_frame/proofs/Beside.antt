@@ -87,6 +87,12 @@ said-of f say [] i x d otherwise within is = absurd (omega arith)
 said-of f say (z ∷ xs) zero x d otherwise within is = ap (λ w. say (f w)) (sym is)
 said-of f say (z ∷ xs) (suc i) x d otherwise within is = said-of f say xs i x d otherwise (omega arith) is
 
+-- and of one that took its place
+pub said-set : {X P A : Type 0} (f : X → P) (say : P → A) (xs : List X) (i : ℕ) (y : X) (otherwise : A) → i < length xs → get_or (map say (map f (set xs i y))) i otherwise ≡ say (f y)
+said-set f say [] i y otherwise within = absurd (omega arith)
+said-set f say (z ∷ xs) zero y otherwise within = refl
+said-set f say (z ∷ xs) (suc i) y otherwise within = said-set f say xs i y otherwise (omega arith)
+
 module _ {X P : Type 0} (plain : StoreValue → X → P) (IsHeld : StoreValue → X → Type 0) (owns keeps : X → ℕ → ℕ)
     (frame : (s t : StoreValue) (x : X) → SameOwn s t (owns x) (keeps x) → IsHeld s x → (plain t x ≡ plain s x) × IsHeld t x)
     (s t : StoreValue) (gone : ℕ → ℕ) (x d y : X) (sent : ℕ → ℕ) (st : IsStore s) (own : OnlyOwn s t (owns x) (owns y)) (hands : Handles s t gone (keeps x) (keeps y) sent) (pool : SamePool s t) where

@@ -1,5 +1,5 @@
 -- A turn of a stream of two modules, step by step.
-use Rattle.std.proofs.Common.{ℕ, zero, suc, ◌≡◌, ◌≢◌, ◌≤◌, ◌<◌, ◌+◌, true, cond, Bool, List, [], ◌∷◌, length, refl, sym, ap, subst, ◌∙◌, arith}
+use Rattle.std.proofs.Common.{ℕ, zero, suc, ◌≡◌, ◌≢◌, ◌≤◌, ◌<◌, ◌+◌, true, cond, Bool, Option, List, [], ◌∷◌, length, get_or, map, refl, sym, ap, subst, ◌∙◌, arith}
 use Rattle.std.proofs.lemmas.List.Sums.{sum_by-cons}
 use Rattle.strm_types.specs.declared.names.Way.{Way}
 use Rattle.strm_types.specs.declared.names.Way.TheVariants.{Up, Down}
@@ -20,6 +20,12 @@ use Rattle.strm_frame.specs.Toys.{Stock, far, far_at, stock_serves, serves_of}
 use Rattle.strm_frame.specs.Rigs.{is_end, took_at, left_at, rig_puts, AtRest}
 use Rattle.strm_frame.proofs.Handing.{once-self, no-hand}
 use Rattle.strm_msg.proofs.Hands.{other-name}
+
+-- nor is a block taken
+pub none-taken : {P : Type 0} (ps : List P) (i : ℕ) → get_or (map {B = ℕ} (λ p. 0) ps) i 0 ≡ 0
+none-taken [] i = refl
+none-taken (p ∷ ps) zero = refl
+none-taken (p ∷ ps) (suc i) = none-taken ps i
 
 -- nothing is kept
 pub kept-none : {X : Type 0} (xs : List X) (i : ℕ) → all_of (λ x j. 0) xs i ≡ 0
@@ -74,11 +80,11 @@ module _ {M : Type 0} (name : M → ℕ) (s t : StoreValue) (kept keeps : ℕ �
     only-one (y ∷ ys) few = absurd (omega arith)
 
     -- and nothing is left when it is delivered
-    pub sent-rest : (here : Spot) (again : Bool) (i : ℕ) (ps : List Stock) (u : StoreValue) (keeps' : ℕ → ℕ) → parcels_in name t all ≡ (act_among (λ p. (stock_serves here again p).acted) i ps).sent
+    pub sent-rest : (here : Spot) (again : Bool) (stop : Option ℕ) (i : ℕ) (ps : List Stock) (u : StoreValue) (keeps' : ℕ → ℕ) → parcels_in name t all ≡ (act_among (λ p. (stock_serves here again stop p).acted) i ps).sent
         → ((j : ℕ) → keeps' j ≡ 0) → Hands t u (name x.message) keeps keeps' (λ _. 0) → u.hand ≡ []
     unfolding times_sent
-    sent-rest here again i ps u keeps' sent keeps_none' carried =
-        let few = act-few (λ p. (stock_serves here again p).acted) (λ p. few-of here p p.queue.messages) i ps in
+    sent-rest here again stop i ps u keeps' sent keeps_none' carried =
+        let few = act-few (λ p. (stock_serves here again stop p).acted) (λ p. few-of here p p.queue.messages) i ps in
         let one = only-one more (subst (λ xs. length (parcels_in name t xs) ≤ 1) split (subst (λ ps. length ps ≤ 1) (sym sent) few)) in
         no-hand u.hand (λ j.
         let c = carried.counts j in let a = times-now j in let e = ap (times_sent name j) split in let n = ap (times_sent name j) one in

@@ -1,5 +1,5 @@
 -- What toys do, step by step.
-use Rattle.std.proofs.Common.{ℕ, ◌≡◌, ◌<◌, ◌≤◌, ◌==◌, eqb, true, false, Bool, List, [], ◌∷◌, map, ◌∙◌, cond, ap, refl, subst, sym, arith}
+use Rattle.std.proofs.Common.{ℕ, ◌≡◌, ◌<◌, ◌≤◌, ◌==◌, eqb, true, false, Bool, List, [], ◌∷◌, map, Option, ◌∙◌, cond, ap, refl, subst, sym, arith}
 use Rattle.strm_types.specs.declared.limits.TheConstants.{MODULES}
 use Rattle.strm_types.specs.declared.kinds.MsgKind.{MsgKind}
 use Rattle.strm_types.specs.declared.names.Way.{Way}
@@ -63,9 +63,9 @@ made-alone s t i bytes none m =
     alone-can t i chain (λ _. 0) (ap (λ v. v.hand) m.made.after ∙ ap (λ h. record { name = i; chain = chain } ∷ h) none) (λ j. refl)
 
 -- nothing is sent, and no call follows
-pub no-room : {M : Type 0} (name : M → ℕ) (s : StoreValue) (cost : Spot → Message ℕ → ℕ) (turn_cost : Spot → Bool → ℕ) (here : Spot) (all : List (Sent M)) → all ≡ [] → HasRoom s (later_cost cost turn_cost here false (parcels_in name s all))
+pub no-room : {M : Type 0} (name : M → ℕ) (s : StoreValue) (cost : Spot → Message ℕ → ℕ) (next : ℕ) (all : List (Sent M)) → all ≡ [] → HasRoom s (later_cost cost false next (parcels_in name s all))
 unfolding cost_of parcels_in
-no-room name s cost turn_cost here all none =
+no-room name s cost next all none =
     let e = ap (λ xs. cost_of cost (parcels_in name s xs)) none in
     record { mblks = omega arith; dblks = omega arith }
 
@@ -102,11 +102,11 @@ pub none-listed : (chains : List (List Block)) (answer : Bool) → answer ≡ is
 none-listed [] answer asked is = refl
 none-listed (chain ∷ chains) answer asked is = absurd (let no = sym asked ∙ is in cc)
 
-pub serves-none : (here : Spot) (again : Bool) (p : Stock) → p.queue.messages ≡ [] → stock_serves here again p ≡ idle p
-serves-none here again p none = ap (serves_of here p) none
+pub serves-none : (here : Spot) (again : Bool) (stop : Option ℕ) (p : Stock) → p.queue.messages ≡ [] → stock_serves here again stop p ≡ idle p
+serves-none here again stop p none = ap (serves_of here p) none
 
-pub serves-first : (here : Spot) (again : Bool) (p : Stock) (m : Message ℕ) (rest : List (Message ℕ)) → p.queue.messages ≡ m ∷ rest → stock_serves here again p ≡ stock_sends here p m rest
-serves-first here again p m rest first = ap (serves_of here p) first
+pub serves-first : (here : Spot) (again : Bool) (stop : Option ℕ) (p : Stock) (m : Message ℕ) (rest : List (Message ℕ)) → p.queue.messages ≡ m ∷ rest → stock_serves here again stop p ≡ stock_sends here p m rest
+serves-first here again stop p m rest first = ap (serves_of here p) first
 
 -- the first message came in hand, and nothing else changed there
 pub took-own : (s t : StoreValue) (q q' : Queue) (i : ℕ) → Dequeued s t q q' i → OnlyOwn s t (once q.list) (once q'.list)
@@ -131,8 +131,8 @@ took-hands name s t q q' x all one d =
           ∙ stays-chain s n (in_hand t n) j (λ e. (let f = d.fresh in let w = ap (λ k. times_in k s.hand) e in absurd (omega arith)));
     }
 
-pub one-room : {M : Type 0} (name : M → ℕ) (s : StoreValue) (turn_cost : Spot → Bool → ℕ) (here : Spot) (x : Sent M) (all : List (Sent M)) → all ≡ x ∷ [] → HasRoom s (later_cost nothing turn_cost here false (parcels_in name s all))
+pub one-room : {M : Type 0} (name : M → ℕ) (s : StoreValue) (next : ℕ) (x : Sent M) (all : List (Sent M)) → all ≡ x ∷ [] → HasRoom s (later_cost nothing false next (parcels_in name s all))
 unfolding cost_of parcels_in
-one-room name s turn_cost here x all one =
+one-room name s next x all one =
     let e = ap (λ xs. cost_of (nothing {C = ℕ}) (parcels_in name s xs)) one in
     record { mblks = omega arith; dblks = omega arith }

@@ -1,12 +1,13 @@
--- What a service procedure may ask, and what it leaves room for.
-use Rattle.std.specs.Prelude.{ℕ, ◌≡◌, ◌<◌, ◌+◌, Bool, if◌then◌else◌, List}
+-- What a service procedure may ask, where it may stop, and what it leaves room for.
+use Rattle.std.specs.Prelude.{ℕ, ◌≡◌, ◌<◌, ◌+◌, min, Bool, true, false, if◌then◌else◌, List, Option, None, Some}
 use Rattle.strm_types.specs.declared.limits.TheConstants.{BANDS}
 use Rattle.strm_types.specs.declared.spots.Spot.{Spot}
 use Rattle.strm_types.specs.Message.{Message}
 use Rattle.strm_types.specs.Deliver.{Parcel}
-use Rattle.strm_blocks.specs.Blocks.{StoreValue}
+use Rattle.strm_blocks.specs.Blocks.{StoreValue, free_m, free_d}
 use Rattle.strm_frame.specs.declared.service.Asks.{Asks}
 use Rattle.strm_frame.specs.declared.service.Asks.TheVariants.{Room}
+use Rattle.strm_frame.specs.declared.service.Served.{Served}
 use Rattle.strm_frame.specs.Outboxes.{cost_of}
 
 -- a band that is asked for is one that queues have
@@ -20,6 +21,18 @@ pub record SameHand (old new : StoreValue) : Type 0 where
   pub mblks : new.mblks ≡ old.mblks
   pub dblks : new.dblks ≡ old.dblks
 
--- how many blocks of each kind are taken at most by what a call has sent, and by the next call of the turn
-abbrev pub later_cost : {C : Type 0} → (Spot → Message C → ℕ) → (Spot → Bool → ℕ) → Spot → Bool → List (Parcel C) → ℕ
-later_cost cost turn_cost here again sent = cost_of cost sent + (if again then turn_cost here again else 0)
+-- how many blocks are free of the kind of which fewer are
+abbrev pub least_free : StoreValue → ℕ
+least_free s = min (free_m s) (free_d s)
+
+-- at how many bytes a call stopped for want of blocks, where it did
+abbrev pub stop_at : Bool → ℕ → Option ℕ
+stop_at true bytes = Some bytes
+stop_at false bytes = None
+
+abbrev pub stop_of : {M : Type 0} → Served M → Option ℕ
+stop_of served = stop_at served.stopped served.bytes
+
+-- how many blocks of each kind are taken at most by what a call has sent, and by the next call of the turn, where one follows
+abbrev pub later_cost : {C : Type 0} → (Spot → Message C → ℕ) → Bool → ℕ → List (Parcel C) → ℕ
+later_cost cost again next sent = cost_of cost sent + (if again then next else 0)

@@ -113,8 +113,9 @@ abbrev pub serves_of : Spot → Stock → List (Message ℕ) → Serving ℕ Sto
 serves_of here p [] = idle p
 serves_of here p (m ∷ rest) = stock_sends here p m rest
 
-abbrev pub stock_serves : Spot → Bool → Stock → Serving ℕ Stock
-stock_serves here again p = serves_of here p p.queue.messages
+-- it stops nowhere
+abbrev pub stock_serves : Spot → Bool → Option ℕ → Stock → Serving ℕ Stock
+stock_serves here again stop p = serves_of here p p.queue.messages
 
 -- how far a message has to go from there that the service procedure sends
 abbrev pub stock_far : Spot → ℕ

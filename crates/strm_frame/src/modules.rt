@@ -1,11 +1,12 @@
 //! What may stand on a stream between its head and its driver.
 
-ghost use Rattle.std.specs.Prelude.{ℕ, ◌≡◌, ◌<◌, ◌≤◌, length, Bool, List, Option};
+ghost use Rattle.std.specs.Prelude.{ℕ, ◌≡◌, ◌<◌, ◌≤◌, length, Bool, true, false, List, Option};
+ghost use Rattle.std.specs.Bool.{OnTrue};
 ghost use Rattle.strm_types.specs.declared.names.ModuleName.{ModuleName};
 ghost use Rattle.strm_types.specs.declared.names.Way.{Way};
 ghost use Rattle.strm_types.specs.declared.spots.Spot.{Spot};
 ghost use Rattle.strm_types.specs.Message.{Message};
-ghost use Rattle.strm_types.specs.declared.limits.TheConstants.{BANDS, MODULES};
+ghost use Rattle.strm_types.specs.declared.limits.TheConstants.{BANDS, MODULES, STOP_BLOCKS};
 ghost use Rattle.strm_types.specs.Deliver.{Acted, AreLower, tallied};
 ghost use Rattle.strm_types.specs.Queue.{Queue, bytes_of};
 ghost use Rattle.strm_types.specs.ModuleQueues.{has_queue, messages_at, full_at, waits, queue_changed};
@@ -15,7 +16,7 @@ ghost use Rattle.strm_msg.specs.Messages.{IsChain};
 ghost use Rattle.strm_frame.specs.Outboxes.{message_in, sent_of, times_sent, parcels_in, AreChains, cost_of};
 ghost use Rattle.strm_queue.specs.Stored.{FreesBlocks};
 ghost use Rattle.strm_frame.specs.declared.service.Asks.{Asks};
-ghost use Rattle.strm_frame.specs.Serves.{IsBand, SameHand, later_cost};
+ghost use Rattle.strm_frame.specs.Serves.{IsBand, SameHand, least_free, stop_of, later_cost};
 ghost use Rattle.strm_frame.specs.Hands.{AreIn, CanPut, Handles, Hands, SamePool, SameOwn, OnlyOwn, HasRoom, Spends};
 
 use crate::parcels::Outbox;
@@ -69,8 +70,9 @@ pub trait Module<B: Blocks>: Drop {
     /// What the first message of its queue of a way asks before it goes on.
     ghost asks: { Way → Plain → Asks };
 
-    /// What a call of its service procedure does: the first one of a turn (false), and one more in the same turn (true).
-    ghost serves: { Spot → Bool → Plain → Serving ℕ Plain };
+    /// What a call of its service procedure does: the first one of a turn (false), and one more in the same turn (true). `Some`
+    /// number of bytes says where the call stops for want of blocks, and `None` that it goes as far as it may.
+    ghost serves: { Spot → Bool → Option ℕ → Plain → Serving ℕ Plain };
 
     /// How often a message can be handed on at most that is put here, with all that it gives rise to.
     ghost height: { Spot → Message ℕ → ℕ };
@@ -81,8 +83,9 @@ pub trait Module<B: Blocks>: Drop {
     /// How often a message can be handed on, less one, that its service procedure sends.
     ghost turn_height: { Spot → ℕ };
 
-    /// How many blocks of each kind a call of its service procedure takes at most, the first one of a turn or one more.
-    ghost turn_cost: { Spot → Bool → ℕ };
+    /// How many blocks of each kind a call of its service procedure takes at most, the first one of a turn or one more. That
+    /// depends on what is under way in the module.
+    ghost turn_cost: { Spot → Bool → Plain → ℕ };
 
     /// Its name.
     fn name(&self) -> ModuleName
@@ -149,24 +152,26 @@ pub trait Module<B: Blocks>: Drop {
         ensures band { IsBand result };
 
     /// Treats the first message of its queue of a way: `srv(9E)`. `again` is for one more call in the same turn, once all
-    /// is delivered that the last one sent.
+    /// is delivered that the last one sent. It may stop within the message only where few blocks are left.
     fn serve(&mut self, store: &mut B, here: Spot, again: bool, told: &mut Fates) -> Served<B::Mp>
         requires held { IsHeld (B.value store.old) self.old }
         requires kept { AreIn (B.value store.old) (λ _. 0) (keeps self.old) }
-        requires room { HasRoom (B.value store.old) (turn_cost here again) }
+        requires room { HasRoom (B.value store.old) (turn_cost here again (plain (B.value store.old) self.old)) }
         requires inside { 0 < here.at }
         requires small { here.at ≤ MODULES }
         ensures state { let s = B.value store.old in
-            plain (B.value store.new) self.new ≡ (serves here again (plain s self.old)).acted.state }
+            plain (B.value store.new) self.new ≡ (serves here again (stop_of result) (plain s self.old)).acted.state }
         ensures notes { let s = B.value store.old in
-            result.acts.notes.items ≡ (serves here again (plain s self.old)).acted.notes }
+            result.acts.notes.items ≡ (serves here again (stop_of result) (plain s self.old)).acted.notes }
         ensures sent { let s = B.value store.old in
             parcels_in B.name (B.value store.new) (sent_of result.acts.sent) ≡
-            (serves here again (plain s self.old)).acted.sent }
+            (serves here again (stop_of result) (plain s self.old)).acted.sent }
         ensures told { let s = B.value store.old in
-            told.new ≡ tallied (serves here again (plain s self.old)).acted.gone told.old }
-        ensures bytes { let s = B.value store.old in result.bytes ≡ (serves here again (plain s self.old)).bytes }
-        ensures again { let s = B.value store.old in result.again ≡ (serves here again (plain s self.old)).again }
+            told.new ≡ tallied (serves here again (stop_of result) (plain s self.old)).acted.gone told.old }
+        ensures bytes { let s = B.value store.old in result.bytes ≡ (serves here again (stop_of result) (plain s self.old)).bytes }
+        ensures again { let s = B.value store.old in result.again ≡ (serves here again (stop_of result) (plain s self.old)).again }
+        ensures stopped { OnTrue result.stopped
+            ((least_free (B.value store.new) < STOP_BLOCKS) × (result.again ≡ false)) }
         ensures held { IsHeld (B.value store.new) self.new }
         ensures own { OnlyOwn (B.value store.old) (B.value store.new) (owns self.old) (owns self.new) }
         ensures chains { AreChains B.name (B.value store.new) (sent_of result.acts.sent) }
@@ -174,7 +179,8 @@ pub trait Module<B: Blocks>: Drop {
             (parcels_in B.name (B.value store.new) (sent_of result.acts.sent)) }
         ensures hands { Handles (B.value store.old) (B.value store.new) (λ _. 0) (keeps self.old) (keeps self.new)
             (λ i. times_sent B.name i (sent_of result.acts.sent)) }
-        ensures room { HasRoom (B.value store.new) (later_cost cost turn_cost here result.again
+        ensures room { HasRoom (B.value store.new) (later_cost cost result.again
+            (turn_cost here true (plain (B.value store.new) self.new))
             (parcels_in B.name (B.value store.new) (sent_of result.acts.sent))) }
         ensures pool { SamePool (B.value store.old) (B.value store.new) };
 

@@ -18,11 +18,13 @@ pub enum Asks {
 }
 
 /// What a call of a service procedure did, how many bytes of the message it treated, and whether it is to be called again in
-/// the same turn, once what it sent is delivered.
+/// the same turn, once what it sent is delivered. Where it stopped for want of blocks, the rest of the message is put back and
+/// the turn ends there.
 #[derive(Drop)]
 pub struct Served<Mp> {
     pub acts: Acts<Mp>,
     pub bytes: usize,
+    pub stopped: bool,
     pub again: bool,
 }
 

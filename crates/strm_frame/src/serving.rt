@@ -2,8 +2,9 @@
 //! what the first message asks, and whether there is room past the place; it serves, delivers what was sent, and ends the
 //! turn.
 
-ghost use Rattle.std.specs.Prelude.{ℕ, ◌≡◌, ◌<◌, ◌≤◌, ◌-◌, false, length, map, slice_index_or};
-ghost use Rattle.strm_types.specs.declared.limits.TheConstants.{MODULES};
+ghost use Rattle.std.specs.Prelude.{ℕ, ◌≡◌, ◌<◌, ◌≤◌, ◌-◌, true, false, length, map, slice_index_or};
+ghost use Rattle.std.specs.Bool.{OnTrue};
+ghost use Rattle.strm_types.specs.declared.limits.TheConstants.{MODULES, STOP_BLOCKS};
 ghost use Rattle.strm_types.specs.Deliver.{AreLower, tallied};
 ghost use Rattle.strm_types.specs.Modules.{change_among, act_among};
 ghost use Rattle.strm_types.specs.ModuleQueues.{at_place, queue_changed};
@@ -11,7 +12,7 @@ ghost use Rattle.strm_types.specs.Service.{Serving, turn_ended, end_relieves, ha
 ghost use Rattle.strm_frame.specs.declared.service.Asks.TheVariants.{Empty};
 ghost use Rattle.strm_frame.specs.Hands.{AreIn, Handles, SamePool, HasRoom};
 ghost use Rattle.strm_frame.specs.Outboxes.{sent_of, times_sent, parcels_in, AreChains};
-ghost use Rattle.strm_frame.specs.Serves.{IsBand, later_cost};
+ghost use Rattle.strm_frame.specs.Serves.{IsBand, least_free, stop_of, later_cost};
 ghost use Rattle.strm_frame.specs.Stacks.{all_of, AreHeld};
 
 use crate::modules::Module;
@@ -65,29 +66,33 @@ fn serve_among<B: Blocks, M: Module<B>>(
     requires within { at < length modules.old }
     requires held { AreHeld M.IsHeld M.owns (B.value store.old) modules.old }
     requires kept { AreIn (B.value store.old) (λ _. 0) (all_of M.keeps modules.old) }
-    requires room { HasRoom (B.value store.old) (M.turn_cost here again) }
+    requires room { HasRoom (B.value store.old) (slice_index_or (map (M.turn_cost here again)
+        (map (M.plain (B.value store.old)) modules.old)) at 0) }
     requires inside { 0 < here.at }
     requires small { here.at ≤ MODULES }
     ensures length { length modules.new ≡ length modules.old }
     ensures state { let s = B.value store.old in map (M.plain (B.value store.new)) modules.new ≡
-        (act_among (λ p. (M.serves here again p).acted) at (map (M.plain s) modules.old)).state }
+        (act_among (λ p. (M.serves here again (stop_of result) p).acted) at (map (M.plain s) modules.old)).state }
     ensures notes { let s = B.value store.old in result.acts.notes.items ≡
-        (act_among (λ p. (M.serves here again p).acted) at (map (M.plain s) modules.old)).notes }
+        (act_among (λ p. (M.serves here again (stop_of result) p).acted) at (map (M.plain s) modules.old)).notes }
     ensures sent { let s = B.value store.old in parcels_in B.name (B.value store.new) (sent_of result.acts.sent) ≡
-        (act_among (λ p. (M.serves here again p).acted) at (map (M.plain s) modules.old)).sent }
+        (act_among (λ p. (M.serves here again (stop_of result) p).acted) at (map (M.plain s) modules.old)).sent }
     ensures told { let s = B.value store.old in told.new ≡
-        tallied (act_among (λ p. (M.serves here again p).acted) at (map (M.plain s) modules.old)).gone told.old }
+        tallied (act_among (λ p. (M.serves here again (stop_of result) p).acted) at (map (M.plain s) modules.old)).gone told.old }
     ensures bytes { let s = B.value store.old in result.bytes ≡
-        slice_index_or (map (λ p. (M.serves here again p).bytes) (map (M.plain s) modules.old)) at 0 }
+        slice_index_or (map (λ p. (M.serves here again (stop_of result) p).bytes) (map (M.plain s) modules.old)) at 0 }
     ensures again { let s = B.value store.old in result.again ≡
-        slice_index_or (map (λ p. (M.serves here again p).again) (map (M.plain s) modules.old)) at false }
+        slice_index_or (map (λ p. (M.serves here again (stop_of result) p).again) (map (M.plain s) modules.old)) at false }
+    ensures stopped { OnTrue result.stopped
+        ((least_free (B.value store.new) < STOP_BLOCKS) × (result.again ≡ false)) }
     ensures held { AreHeld M.IsHeld M.owns (B.value store.new) modules.new }
     ensures chains { AreChains B.name (B.value store.new) (sent_of result.acts.sent) }
     ensures falls { AreLower M.height (M.turn_height here)
         (parcels_in B.name (B.value store.new) (sent_of result.acts.sent)) }
     ensures hands { Handles (B.value store.old) (B.value store.new) (λ _. 0) (all_of M.keeps modules.old)
         (all_of M.keeps modules.new) (λ i. times_sent B.name i (sent_of result.acts.sent)) }
-    ensures room { HasRoom (B.value store.new) (later_cost M.cost M.turn_cost here result.again
+    ensures room { HasRoom (B.value store.new) (later_cost M.cost result.again
+        (slice_index_or (map (M.turn_cost here true) (map (M.plain (B.value store.new)) modules.new)) at 0)
         (parcels_in B.name (B.value store.new) (sent_of result.acts.sent))) }
     ensures pool { SamePool (B.value store.old) (B.value store.new) }
 {
@@ -111,7 +116,7 @@ impl<M: Default + Drop> Stream<M> {
     }
 
     /// Calls the service procedure of a module's queue, at a place: `srv(9E)`. `again` is for one more call in the same turn,
-    /// once all is delivered that the last one sent.
+    /// once all is delivered that the last one sent. It may stop within its message only where few blocks are left.
     pub fn serve<B: Blocks>(
         &mut self,
         store: &mut B,
@@ -125,21 +130,24 @@ impl<M: Default + Drop> Stream<M> {
         requires within { here.at ≤ length self.old.modules.items }
         requires held { AreHeld M.IsHeld M.owns (B.value store.old) self.old.modules.items }
         requires kept { AreIn (B.value store.old) (λ _. 0) (all_of M.keeps self.old.modules.items) }
-        requires room { HasRoom (B.value store.old) (M.turn_cost here again) }
+        requires room { HasRoom (B.value store.old) (at_place (M.turn_cost here again) 0 here.at
+            (map (M.plain (B.value store.old)) self.old.modules.items)) }
         ensures length { length self.new.modules.items ≡ length self.old.modules.items }
         ensures state { let s = B.value store.old in map (M.plain (B.value store.new)) self.new.modules.items ≡
-            (act_among (λ p. (M.serves here again p).acted) (here.at - 1) (map (M.plain s) self.old.modules.items)).state }
+            (act_among (λ p. (M.serves here again (stop_of result) p).acted) (here.at - 1) (map (M.plain s) self.old.modules.items)).state }
         ensures notes { let s = B.value store.old in result.acts.notes.items ≡
-            (act_among (λ p. (M.serves here again p).acted) (here.at - 1) (map (M.plain s) self.old.modules.items)).notes }
+            (act_among (λ p. (M.serves here again (stop_of result) p).acted) (here.at - 1) (map (M.plain s) self.old.modules.items)).notes }
         ensures sent { let s = B.value store.old in parcels_in B.name (B.value store.new) (sent_of result.acts.sent) ≡
-            (act_among (λ p. (M.serves here again p).acted) (here.at - 1) (map (M.plain s) self.old.modules.items)).sent }
+            (act_among (λ p. (M.serves here again (stop_of result) p).acted) (here.at - 1) (map (M.plain s) self.old.modules.items)).sent }
         ensures told { let s = B.value store.old in told.new ≡ tallied
-            (act_among (λ p. (M.serves here again p).acted) (here.at - 1) (map (M.plain s) self.old.modules.items)).gone
+            (act_among (λ p. (M.serves here again (stop_of result) p).acted) (here.at - 1) (map (M.plain s) self.old.modules.items)).gone
             told.old }
         ensures bytes { let s = B.value store.old in result.bytes ≡
-            at_place (λ p. (M.serves here again p).bytes) 0 here.at (map (M.plain s) self.old.modules.items) }
+            at_place (λ p. (M.serves here again (stop_of result) p).bytes) 0 here.at (map (M.plain s) self.old.modules.items) }
         ensures again { let s = B.value store.old in result.again ≡
-            at_place (λ p. (M.serves here again p).again) false here.at (map (M.plain s) self.old.modules.items) }
+            at_place (λ p. (M.serves here again (stop_of result) p).again) false here.at (map (M.plain s) self.old.modules.items) }
+        ensures stopped { OnTrue result.stopped
+            ((least_free (B.value store.new) < STOP_BLOCKS) × (result.again ≡ false)) }
         ensures held { AreHeld M.IsHeld M.owns (B.value store.new) self.new.modules.items }
         ensures chains { AreChains B.name (B.value store.new) (sent_of result.acts.sent) }
         ensures falls { AreLower M.height (M.turn_height here)
@@ -147,7 +155,8 @@ impl<M: Default + Drop> Stream<M> {
         ensures hands { Handles (B.value store.old) (B.value store.new) (λ _. 0)
             (all_of M.keeps self.old.modules.items) (all_of M.keeps self.new.modules.items)
             (λ i. times_sent B.name i (sent_of result.acts.sent)) }
-        ensures room { HasRoom (B.value store.new) (later_cost M.cost M.turn_cost here result.again
+        ensures room { HasRoom (B.value store.new) (later_cost M.cost result.again
+            (at_place (M.turn_cost here true) 0 here.at (map (M.plain (B.value store.new)) self.new.modules.items))
             (parcels_in B.name (B.value store.new) (sent_of result.acts.sent))) }
         ensures pool { SamePool (B.value store.old) (B.value store.new) }
     {

@@ -53,6 +53,9 @@ pub const IOCTL_BLOCKS: usize = 34;
 /// How many blocks of each kind have to be free for a turn of a driver.
 pub const TURN_BLOCKS: usize = 8;
 
+/// A service procedure may stop within a message where fewer blocks than these of some kind are free.
+pub const STOP_BLOCKS: usize = 32;
+
 /// How many blocks of each kind have to be free for a flush, and for a push or a pop.
 pub const CHANGE_BLOCKS: usize = 8;
 

@@ -81,7 +81,7 @@ impl<B: Blocks> Module<B> for Stock {
 
     ghost turn_height = { stock_far };
 
-    ghost turn_cost = { λ here again. 0 };
+    ghost turn_cost = { λ here again p. 0 };
 
     ghost height = { far };
 
@@ -159,6 +159,7 @@ impl<B: Blocks> Module<B> for Stock {
                     sent: Outbox::none(),
                 },
                 bytes: 0,
+                stopped: false,
                 again: false,
             };
         }
@@ -176,6 +177,7 @@ impl<B: Blocks> Module<B> for Stock {
                 }),
             },
             bytes,
+            stopped: false,
             again: false,
         }
     }

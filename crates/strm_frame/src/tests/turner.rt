@@ -69,11 +69,11 @@ impl<B: Blocks> Module<B> for Turner {
 
     ghost asks = { λ way p. Empty };
 
-    ghost serves = { λ here again p. idle p };
+    ghost serves = { λ here again stop p. idle p };
 
     ghost turn_height = { λ here. 0 };
 
-    ghost turn_cost = { λ here again. 0 };
+    ghost turn_cost = { λ here again p. 0 };
 
     ghost height = { far };
 
@@ -126,6 +126,7 @@ impl<B: Blocks> Module<B> for Turner {
                 sent: Outbox::none(),
             },
             bytes: 0,
+            stopped: false,
             again: false,
         }
     }

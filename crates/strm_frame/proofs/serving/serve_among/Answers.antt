@@ -1,9 +1,11 @@
 -- One module acts, and the others stand for the same.
-use Rattle.std.proofs.Common.{get_or, map, refl, sym, ap, ◌∙◌}
+use Rattle.std.proofs.Common.{true, get_or, map, refl, sym, ap, subst, ◌∙◌}
 use Rattle.std.proofs.Math.ListN.{set}
 use Rattle.strm_types.specs.Deliver.{tallied}
-use Rattle.strm_frame.specs.Outboxes.{sent_of, times_sent}
-use Rattle.strm_frame.proofs.Beside.{act-state, act-sent, act-notes, act-gone, said-of, part-can, row-plain, row-held, row-hands}
+use Rattle.strm_frame.specs.Hands.{HasRoom}
+use Rattle.strm_frame.specs.Outboxes.{sent_of, times_sent, parcels_in}
+use Rattle.strm_frame.specs.Serves.{stop_of, later_cost}
+use Rattle.strm_frame.proofs.Beside.{act-state, act-sent, act-notes, act-gone, said-of, said-set, part-can, row-plain, row-held, row-hands}
 use Rattle.strm_frame.proofs.serving.serve_among.Goals as goal
 
 pub returns-clause-state : goal.returns-clause-state
@@ -19,7 +21,7 @@ returns-clause-state g c =
     let e = c.serve.ensures in
     row-plain w.plain w.IsHeld w.owns w.keeps g.met.M.Module.frame s t (λ _. 0) x d y (λ j. times_sent g.B.Blocks.name j (sent_of c.serve.result.acts.sent)) c.audit.ensures e.own e.hands e.pool xs i c.requires.within refl c.requires.held c.requires.kept e.held
     ∙ ap (λ p. set (map (w.plain s) xs) i p) e.state
-    ∙ sym (act-state (λ p. (w.serves c.args.here c.args.again p).acted) (w.plain s) xs i x d c.requires.within refl)
+    ∙ sym (act-state (λ p. (w.serves c.args.here c.args.again (stop_of c.serve.result) p).acted) (w.plain s) xs i x d c.requires.within refl)
 
 pub returns-clause-sent : goal.returns-clause-sent
 returns-clause-sent g c =
@@ -27,7 +29,7 @@ returns-clause-sent g c =
     let w = g.M.Module in
     let d = c.index-modules-at.result in
     let xs = c.args.modules.now in
-    c.serve.ensures.sent ∙ sym (act-sent (λ p. (w.serves c.args.here c.args.again p).acted) (w.plain s) xs c.args.at (get_or xs c.args.at d) d c.requires.within refl)
+    c.serve.ensures.sent ∙ sym (act-sent (λ p. (w.serves c.args.here c.args.again (stop_of c.serve.result) p).acted) (w.plain s) xs c.args.at (get_or xs c.args.at d) d c.requires.within refl)
 
 pub returns-clause-notes : goal.returns-clause-notes
 returns-clause-notes g c =
@@ -35,7 +37,7 @@ returns-clause-notes g c =
     let w = g.M.Module in
     let d = c.index-modules-at.result in
     let xs = c.args.modules.now in
-    c.serve.ensures.notes ∙ sym (act-notes (λ p. (w.serves c.args.here c.args.again p).acted) (w.plain s) xs c.args.at (get_or xs c.args.at d) d c.requires.within refl)
+    c.serve.ensures.notes ∙ sym (act-notes (λ p. (w.serves c.args.here c.args.again (stop_of c.serve.result) p).acted) (w.plain s) xs c.args.at (get_or xs c.args.at d) d c.requires.within refl)
 
 pub returns-clause-told : goal.returns-clause-told
 returns-clause-told g c =
@@ -43,7 +45,7 @@ returns-clause-told g c =
     let w = g.M.Module in
     let d = c.index-modules-at.result in
     let xs = c.args.modules.now in
-    c.serve.ensures.told ∙ ap (λ fates. tallied fates c.args.told.now) (sym (act-gone (λ p. (w.serves c.args.here c.args.again p).acted) (w.plain s) xs c.args.at (get_or xs c.args.at d) d c.requires.within refl))
+    c.serve.ensures.told ∙ ap (λ fates. tallied fates c.args.told.now) (sym (act-gone (λ p. (w.serves c.args.here c.args.again (stop_of c.serve.result) p).acted) (w.plain s) xs c.args.at (get_or xs c.args.at d) d c.requires.within refl))
 
 pub returns-clause-bytes : goal.returns-clause-bytes
 returns-clause-bytes g c =
@@ -51,7 +53,7 @@ returns-clause-bytes g c =
     let w = g.M.Module in
     let d = c.index-modules-at.result in
     let xs = c.args.modules.now in
-    c.serve.ensures.bytes ∙ sym (said-of (w.plain s) (λ p. (w.serves c.args.here c.args.again p).bytes) xs c.args.at (get_or xs c.args.at d) d _ c.requires.within refl)
+    c.serve.ensures.bytes ∙ sym (said-of (w.plain s) (λ p. (w.serves c.args.here c.args.again (stop_of c.serve.result) p).bytes) xs c.args.at (get_or xs c.args.at d) d _ c.requires.within refl)
 
 pub returns-clause-again : goal.returns-clause-again
 returns-clause-again g c =
@@ -59,7 +61,7 @@ returns-clause-again g c =
     let w = g.M.Module in
     let d = c.index-modules-at.result in
     let xs = c.args.modules.now in
-    c.serve.ensures.again ∙ sym (said-of (w.plain s) (λ p. (w.serves c.args.here c.args.again p).again) xs c.args.at (get_or xs c.args.at d) d _ c.requires.within refl)
+    c.serve.ensures.again ∙ sym (said-of (w.plain s) (λ p. (w.serves c.args.here c.args.again (stop_of c.serve.result) p).again) xs c.args.at (get_or xs c.args.at d) d _ c.requires.within refl)
 
 pub returns-clause-held : goal.returns-clause-held
 returns-clause-held g c =
@@ -94,3 +96,19 @@ serve-requires-clause-kept g c =
     let d = c.index-modules-at.result in
     let xs = c.args.modules.now in
     part-can w.keeps s (λ _. 0) xs c.args.at (get_or xs c.args.at d) d c.requires.within refl c.requires.kept
+
+pub serve-requires-clause-room : goal.serve-requires-clause-room
+serve-requires-clause-room g c =
+    let s = g.B.Blocks.value c.args.store.now in
+    let w = g.M.Module in
+    let d = c.index-modules-at.result in
+    let xs = c.args.modules.now in
+    subst (HasRoom s) (said-of (w.plain s) (w.turn_cost c.args.here c.args.again) xs c.args.at (get_or xs c.args.at d) d 0 c.requires.within refl) c.requires.room
+
+pub returns-clause-room : goal.returns-clause-room
+returns-clause-room g c =
+    let t = g.B.Blocks.value c.serve.new.store in
+    let w = g.M.Module in
+    let r = c.serve.result in
+    subst (λ n. HasRoom t (later_cost w.cost r.again n (parcels_in g.B.Blocks.name t (sent_of r.acts.sent))))
+    (sym (said-set (w.plain t) (w.turn_cost c.args.here true) c.args.modules.now c.args.at c.serve.new.self 0 c.requires.within)) c.serve.ensures.room

@@ -1,15 +1,16 @@
 -- What was sent is delivered, and nothing is left in hand.
-use Rattle.std.proofs.Common.{◌∙◌, map, false, subst, arith}
+use Rattle.std.proofs.Common.{◌∙◌, ◌-◌, map, false, subst, arith}
 use Rattle.strm_types.specs.declared.names.Side.TheVariants.{Slave}
 use Rattle.strm_types.specs.declared.names.Way.TheVariants.{Down}
 use Rattle.strm_types.specs.declared.spots.Spot.{Spot}
 use Rattle.strm_frame.specs.Hands.{Hands}
 use Rattle.strm_frame.specs.declared.stack.Stream.{Stream}
 use Rattle.strm_frame.specs.declared.tests.stock.Stock as toy
+use Rattle.strm_frame.specs.Serves.{stop_of}
 use Rattle.strm_frame.specs.Stacks.{all_of}
 use Rattle.strm_frame.specs.ToyLaws.{stock_in}
 use Rattle.strm_frame.proofs.Beside.{rest-in}
-use Rattle.strm_frame.proofs.RigSteps.{kept-none, sent-can, sent-chain, sent-low, sent-rest, none-rest}
+use Rattle.strm_frame.proofs.RigSteps.{none-taken, kept-none, sent-can, sent-chain, sent-low, sent-rest, none-rest}
 use Rattle.strm_frame.proofs.tests.rig.Rig.serve.Goals as goal
 
 pub serve-served-requires : goal.serve-served-requires
@@ -17,7 +18,9 @@ serve-served-requires g c =
     let xs = c.args.self.now.modules.modules.items in
     let two = c.requires.rest.are.two in
     let within = c.requires.within in
-    (omega arith, (c.requires.inside, (omega arith, (c.requires.rest.are.held, (rest-in (g.B.Blocks.value c.args.store.now) (all_of (λ y i. 0) xs) (kept-none xs), record { mblks = omega arith; dblks = omega arith })))))
+    let s = g.B.Blocks.value c.args.store.now in
+    let none = none-taken (map (λ y. stock_in s y.name y.queue) xs) (c.args.at - 1) in
+    (omega arith, (c.requires.inside, (omega arith, (c.requires.rest.are.held, (rest-in s (all_of (λ y i. 0) xs) (kept-none xs), record { mblks = omega arith; dblks = omega arith })))))
 
 pub deliver-requires-clause-held : goal.deliver-requires-clause-held
 deliver-requires-clause-held g c = rw c.note_all.ensures (record { held = c.serve-served.ensures.held; two = c.serve-served.ensures.length ∙ c.requires.rest.are.two })
@@ -72,5 +75,5 @@ returns g c =
     record {
       are = c.deliver.ensures.held;
       hand = sent-rest g.B.Blocks.name s t (all_of (λ y i. 0) xs) (all_of (λ y i. 0) ys) _ c.requires.rest.hand (kept-none xs) (kept-none ys) c.serve-served.ensures.hands c.in-Some.next _ c.in-Some.ensures
-          here false _ (map (λ y. stock_in s y.name y.queue) xs) u (all_of (λ y i. 0) zs) c.serve-served.ensures.sent (kept-none zs) carried;
+          here false (stop_of c.serve-served.result) _ (map (λ y. stock_in s y.name y.queue) xs) u (all_of (λ y i. 0) zs) c.serve-served.ensures.sent (kept-none zs) carried;
     }

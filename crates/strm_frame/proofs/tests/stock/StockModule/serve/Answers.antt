@@ -1,5 +1,5 @@
 -- The first message is sent on, if there is one.
-use Rattle.std.proofs.Common.{ℕ, [], ◌∷◌, sym, ap, ◌∙◌}
+use Rattle.std.proofs.Common.{ℕ, [], ◌∷◌, None, sym, ap, ◌∙◌}
 use Rattle.strm_types.specs.declared.spots.Spot.{Spot}
 use Rattle.strm_types.specs.Service.{Serving}
 use Rattle.strm_blocks.specs.Blocks.{list_at}
@@ -16,7 +16,7 @@ returns-then-is_empty-clause-sent g c =
     let s = g.B.Blocks.value c.args.store.now in
     let none = none-listed (list_at s c.args.self.now.queue.list) c.is_empty.result c.is_empty.ensures c.if-is_empty.true in
     no-parts g.B.Blocks.name _ _ c.none.ensures
-    ∙ ap (λ (v : Serving ℕ Stock). v.acted.sent) (sym (serves-none c.args.here c.args._again (stock_in s c.args.self.now.name c.args.self.now.queue) none))
+    ∙ ap (λ (v : Serving ℕ Stock). v.acted.sent) (sym (serves-none c.args.here c.args._again None (stock_in s c.args.self.now.name c.args.self.now.queue) none))
 
 pub returns-then-is_empty-clause-chains : goal.returns-then-is_empty-clause-chains
 returns-then-is_empty-clause-chains g c = none-chains g.B.Blocks.name _ _ c.none.ensures
@@ -28,7 +28,7 @@ pub returns-then-is_empty-clause-hands : goal.returns-then-is_empty-clause-hands
 returns-then-is_empty-clause-hands g c = none-hands g.B.Blocks.name _ _ (λ _. 0) (λ _. 0) (λ _. 0) _ c.none.ensures (still-hands _ (λ _. 0))
 
 pub returns-then-is_empty-clause-room : goal.returns-then-is_empty-clause-room
-returns-then-is_empty-clause-room g c = no-room g.B.Blocks.name (g.B.Blocks.value c.args.store.now) nothing (λ here again. 0) c.args.here _ c.none.ensures
+returns-then-is_empty-clause-room g c = no-room g.B.Blocks.name (g.B.Blocks.value c.args.store.now) nothing 0 _ c.none.ensures
 
 pub returns-clause-sent : goal.returns-clause-sent
 returns-clause-sent g c =
@@ -39,7 +39,7 @@ returns-clause-sent g c =
     let rest = messages_on t c.dequeue.new.queue.list in
     one-parts g.B.Blocks.name t (record { to = c.toward.result; message = c.in-Some.message }) _ c.one.ensures
     ∙ ap (λ (to : Spot). record { to = to; message = m } ∷ []) c.toward.ensures
-    ∙ ap (λ (v : Serving ℕ Stock). v.acted.sent) (sym (serves-first c.args.here c.args._again p m rest c.in-Some.ensures.first))
+    ∙ ap (λ (v : Serving ℕ Stock). v.acted.sent) (sym (serves-first c.args.here c.args._again None p m rest c.in-Some.ensures.first))
 
 pub returns-clause-own : goal.returns-clause-own
 returns-clause-own g c = took-own _ _ _ _ _ c.in-Some.ensures
@@ -59,4 +59,4 @@ returns-clause-hands g c =
 
 pub returns-clause-room : goal.returns-clause-room
 returns-clause-room g c =
-    one-room g.B.Blocks.name (g.B.Blocks.value c.dequeue.new.store) (λ here again. 0) c.args.here (record { to = c.toward.result; message = c.in-Some.message }) _ c.one.ensures
+    one-room g.B.Blocks.name (g.B.Blocks.value c.dequeue.new.store) 0 (record { to = c.toward.result; message = c.in-Some.message }) _ c.one.ensures

@@ -17,4 +17,4 @@ pub returns-clause-hands : goal.returns-clause-hands
 returns-clause-hands g c = none-hands g.B.Blocks.name _ _ (λ _. 0) (λ _. 0) (λ _. 0) _ c.none.ensures (still-hands _ (λ _. 0))
 
 pub returns-clause-room : goal.returns-clause-room
-returns-clause-room g c = no-room g.B.Blocks.name (g.B.Blocks.value c.args._store.now) nothing (λ here again. 0) c.args._here _ c.none.ensures
+returns-clause-room g c = no-room g.B.Blocks.name (g.B.Blocks.value c.args._store.now) nothing 0 _ c.none.ensures
