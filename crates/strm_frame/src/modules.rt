@@ -70,8 +70,8 @@ pub trait Module<B: Blocks>: Drop {
     /// What the first message of its queue of a way asks before it goes on.
     ghost asks: { Way → Plain → Asks };
 
-    /// What a call of its service procedure does: the first one of a turn (false), and one more in the same turn (true). `Some`
-    /// number of bytes says where the call stops for want of blocks, and `None` that it goes as far as it may.
+    /// What a call of its service procedure does: the first one of a turn (false), and one more in the same turn (true). Where
+    /// it stops for want of blocks, `Some` says at how many bytes. With `None` it goes as far as it may.
     ghost serves: { Spot → Bool → Option ℕ → Plain → Serving ℕ Plain };
 
     /// How often a message can be handed on at most that is put here, with all that it gives rise to.
@@ -152,7 +152,8 @@ pub trait Module<B: Blocks>: Drop {
         ensures band { IsBand result };
 
     /// Treats the first message of its queue of a way: `srv(9E)`. `again` is for one more call in the same turn, once all
-    /// is delivered that the last one sent. It may stop within the message only where few blocks are left.
+    /// is delivered that the last one sent. It may stop within the message only where fewer than `STOP_BLOCKS` blocks of some
+    /// kind are left.
     fn serve(&mut self, store: &mut B, here: Spot, again: bool, told: &mut Fates) -> Served<B::Mp>
         requires held { IsHeld (B.value store.old) self.old }
         requires kept { AreIn (B.value store.old) (λ _. 0) (keeps self.old) }
@@ -168,8 +169,10 @@ pub trait Module<B: Blocks>: Drop {
             (serves here again (stop_of result) (plain s self.old)).acted.sent }
         ensures told { let s = B.value store.old in
             told.new ≡ tallied (serves here again (stop_of result) (plain s self.old)).acted.gone told.old }
-        ensures bytes { let s = B.value store.old in result.bytes ≡ (serves here again (stop_of result) (plain s self.old)).bytes }
-        ensures again { let s = B.value store.old in result.again ≡ (serves here again (stop_of result) (plain s self.old)).again }
+        ensures bytes { let s = B.value store.old in
+            result.bytes ≡ (serves here again (stop_of result) (plain s self.old)).bytes }
+        ensures again { let s = B.value store.old in
+            result.again ≡ (serves here again (stop_of result) (plain s self.old)).again }
         ensures stopped { OnTrue result.stopped
             ((least_free (B.value store.new) < STOP_BLOCKS) × (result.again ≡ false)) }
         ensures held { IsHeld (B.value store.new) self.new }

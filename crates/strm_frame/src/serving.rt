@@ -78,7 +78,8 @@ fn serve_among<B: Blocks, M: Module<B>>(
     ensures sent { let s = B.value store.old in parcels_in B.name (B.value store.new) (sent_of result.acts.sent) ≡
         (act_among (λ p. (M.serves here again (stop_of result) p).acted) at (map (M.plain s) modules.old)).sent }
     ensures told { let s = B.value store.old in told.new ≡
-        tallied (act_among (λ p. (M.serves here again (stop_of result) p).acted) at (map (M.plain s) modules.old)).gone told.old }
+        tallied (act_among (λ p. (M.serves here again (stop_of result) p).acted) at (map (M.plain s) modules.old)).gone
+        told.old }
     ensures bytes { let s = B.value store.old in result.bytes ≡
         slice_index_or (map (λ p. (M.serves here again (stop_of result) p).bytes) (map (M.plain s) modules.old)) at 0 }
     ensures again { let s = B.value store.old in result.again ≡
@@ -116,7 +117,8 @@ impl<M: Default + Drop> Stream<M> {
     }
 
     /// Calls the service procedure of a module's queue, at a place: `srv(9E)`. `again` is for one more call in the same turn,
-    /// once all is delivered that the last one sent. It may stop within its message only where few blocks are left.
+    /// once all is delivered that the last one sent. It may stop within its message only where fewer than `STOP_BLOCKS` blocks of
+    /// some kind are left.
     pub fn serve<B: Blocks>(
         &mut self,
         store: &mut B,
@@ -134,18 +136,23 @@ impl<M: Default + Drop> Stream<M> {
             (map (M.plain (B.value store.old)) self.old.modules.items)) }
         ensures length { length self.new.modules.items ≡ length self.old.modules.items }
         ensures state { let s = B.value store.old in map (M.plain (B.value store.new)) self.new.modules.items ≡
-            (act_among (λ p. (M.serves here again (stop_of result) p).acted) (here.at - 1) (map (M.plain s) self.old.modules.items)).state }
+            (act_among (λ p. (M.serves here again (stop_of result) p).acted) (here.at - 1)
+            (map (M.plain s) self.old.modules.items)).state }
         ensures notes { let s = B.value store.old in result.acts.notes.items ≡
-            (act_among (λ p. (M.serves here again (stop_of result) p).acted) (here.at - 1) (map (M.plain s) self.old.modules.items)).notes }
+            (act_among (λ p. (M.serves here again (stop_of result) p).acted) (here.at - 1)
+            (map (M.plain s) self.old.modules.items)).notes }
         ensures sent { let s = B.value store.old in parcels_in B.name (B.value store.new) (sent_of result.acts.sent) ≡
-            (act_among (λ p. (M.serves here again (stop_of result) p).acted) (here.at - 1) (map (M.plain s) self.old.modules.items)).sent }
+            (act_among (λ p. (M.serves here again (stop_of result) p).acted) (here.at - 1)
+            (map (M.plain s) self.old.modules.items)).sent }
         ensures told { let s = B.value store.old in told.new ≡ tallied
-            (act_among (λ p. (M.serves here again (stop_of result) p).acted) (here.at - 1) (map (M.plain s) self.old.modules.items)).gone
-            told.old }
+            (act_among (λ p. (M.serves here again (stop_of result) p).acted) (here.at - 1)
+            (map (M.plain s) self.old.modules.items)).gone told.old }
         ensures bytes { let s = B.value store.old in result.bytes ≡
-            at_place (λ p. (M.serves here again (stop_of result) p).bytes) 0 here.at (map (M.plain s) self.old.modules.items) }
+            at_place (λ p. (M.serves here again (stop_of result) p).bytes) 0 here.at
+            (map (M.plain s) self.old.modules.items) }
         ensures again { let s = B.value store.old in result.again ≡
-            at_place (λ p. (M.serves here again (stop_of result) p).again) false here.at (map (M.plain s) self.old.modules.items) }
+            at_place (λ p. (M.serves here again (stop_of result) p).again) false here.at
+            (map (M.plain s) self.old.modules.items) }
         ensures stopped { OnTrue result.stopped
             ((least_free (B.value store.new) < STOP_BLOCKS) × (result.again ≡ false)) }
         ensures held { AreHeld M.IsHeld M.owns (B.value store.new) self.new.modules.items }
