@@ -1,0 +1,6 @@
+mod Columns
+mod EchoBytes
+mod EchoSizes
+mod LineEnds
+mod PlainBytes
+mod Runs

@@ -1,0 +1,11 @@
+//! The line discipline of a terminal, the module `ldterm` (ldterm(7M), termio(7I)): keys, the unfinished line, echo, and its two
+//! queues on a store of blocks.
+#![tactic(auto)]
+
+mod echoes;
+mod lines;
+mod strokes;
+
+pub use echoes::{ECHO_MAX, Echo, RUN_MAX, echo_of};
+pub use lines::Line;
+pub use strokes::{restarts, stroke_of};
