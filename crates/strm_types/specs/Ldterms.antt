@@ -1,6 +1,6 @@
 -- The module ldterm on a stream: its queues, its unfinished line, and what it does with what is put at it (ldterm(7M); STREAMS
 -- Programming Guide, "Flush Handling").
-use Rattle.std.specs.Prelude.{ℕ, zero, suc, Bool, true, false, ◌&&◌, ◌||◌, ◌==◌, not, if◌then◌else◌, List, [], ◌∷◌, ◌++◌, Option, None, Some, unwrap_or}
+use Rattle.std.specs.Prelude.{ℕ, zero, suc, Bool, true, false, ◌&&◌, ◌||◌, ◌==◌, nat_lt, not, if◌then◌else◌, List, [], ◌∷◌, ◌++◌, Option, None, Some, unwrap_or}
 use Rattle.strm_types.specs.declared.flushing.FlushAsked.{FlushAsked}
 use Rattle.strm_types.specs.declared.kinds.Band.{Band}
 use Rattle.strm_types.specs.declared.kinds.MsgKind.{MsgKind}
@@ -91,12 +91,17 @@ module _ {C : Type 0} where
   abbrev pub onward : Way → Spot → Message C → Parcel C
   onward way here m = record { to = toward way here; message = m }
 
+  -- A message of band 0 that waits to go down stands behind the turn's echo, so that a new one begins.
+  abbrev pub echo_behind : Way → Message C → Ldterm C → Ldterm C
+  echo_behind Up m p = p
+  echo_behind Down m p = record p { echoing = p.echoing && nat_lt 0 m.band }
+
   -- a message that waits on a queue, which it enables as putq(9F) says
   abbrev pub queued_at : Way → Message C → Ldterm C → Acted C (Ldterm C)
   queued_at way m p =
       let q = queue_at way p in
       record {
-        state = with_queue_at way (put_on m q) p;
+        state = with_queue_at way (put_on m q) (echo_behind way m p);
         notes = if put_enables m q then Enable way ∷ [] else [];
         sent = [];
         gone = [];
