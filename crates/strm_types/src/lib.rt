@@ -1,7 +1,7 @@
 //! What every crate of the stack speaks of: sides, queues, kinds of message, the calls on a pair with their
 //! answers and refusals, and the entries of a pair's journal. `specs/` holds the definitions that every contract
-//! cites, one file for each subject; `laws`, `head_laws` and `put_laws` hold what follows from them, each law the contract of a
-//! function.
+//! cites, one file for each subject; `laws`, `head_laws`, `put_laws` and `line_laws` hold what follows from them, each law the
+//! contract of a function.
 #![tactic(auto)]
 
 mod answers;
@@ -16,6 +16,7 @@ mod keys;
 mod kinds;
 pub mod laws;
 mod limits;
+pub mod line_laws;
 mod modes;
 mod names;
 mod options;
