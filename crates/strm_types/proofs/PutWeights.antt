@@ -56,7 +56,7 @@ module _ {C : Type 0} (p : C → Bool) where
       at None (Some cells) none = absurd (cc)
       at (Some cells) body none = absurd (cc)
 
-  weight-both : (ps qs : List (Parcel C)) → weight_sent p (ps ++ qs) ≡ weight_sent p ps + weight_sent p qs
+  pub weight-both : (ps qs : List (Parcel C)) → weight_sent p (ps ++ qs) ≡ weight_sent p ps + weight_sent p qs
   weight-both [] qs = omega arith
   weight-both (x ∷ ps) qs = let ih = weight-both ps qs in omega arith
 

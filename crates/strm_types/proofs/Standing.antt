@@ -1,10 +1,10 @@
 -- The line that is edited byte by byte is what stands of what was typed.
-use Rattle.std.proofs.Common.{ℕ, zero, suc, ◌≡◌, ◌<◌, ◌≤◌, ◌+◌, ◌-◌, ◌⊎◌, inl, inr, Bool, true, false, cond, List, [], ◌∷◌, ◌++◌, length, take, refl, sym, ap, subst, ◌∙◌, arith, append-nil, length-append}
+use Rattle.std.proofs.Common.{ℕ, zero, suc, ◌≡◌, ◌<◌, ◌+◌, ◌-◌, inl, inr, Bool, true, false, cond, List, [], ◌∷◌, ◌++◌, length, take, refl, sym, ap, subst, ◌∙◌, arith, append-nil, length-append}
 use Rattle.std.proofs.lemmas.Bool.{false≢true, cases_Bool, cases_eq, or_cases, and_parts, and_from, eq-eqb, ne_eqb, ltb-true, leb-true, lt-ltb, le-leb, not-true}
 use Rattle.std.proofs.lemmas.List.{take-append-le}
-use Rattle.std.specs.Prelude.{not, ◌&&◌, ◌||◌, ◌==◌, nat_lt, nat_le, Option, None, Some}
+use Rattle.std.specs.Prelude.{not, ◌&&◌, ◌||◌, nat_lt, nat_le, Option, None, Some}
 use Rattle.strm_types.specs.declared.keys.TheConstants.{LINE_MAX}
-use Rattle.strm_types.specs.Lines.{Edit, Types, ErasesByte, ErasesWord, ErasesAll, edited, has_room, line_of, without_end, without_last, without_word}
+use Rattle.strm_types.specs.Lines.{Edit, Types, ErasesByte, ErasesWord, ErasesAll, edited, has_room, line_of, without_end, without_last}
 use Rattle.strm_types.specs.Queue.{is_none_left}
 use Rattle.strm_types.specs.Standing.{some_below, count_below, typed_by, typed_at, passes, blank_at, stands, where_stands, standing_below, standing_line}
 
@@ -31,14 +31,14 @@ or-right false b is = is
 some-from : (n : ℕ) (test : ℕ → Bool) → some_below n test ≡ true → (k : ℕ) × (k < n) × (test k ≡ true)
 some-from zero test is = absurd (false≢true is)
 some-from (suc n) test is = elim (or_cases (test n) (some_below n test) is) [
-  inl last ↦ (n, omega arith, last)
+  | inl last ↦ (n, omega arith, last)
   | inr before ↦ let found = some-from n test before in (found.0, omega arith, found.2)
 ]
 
 some-to : (n k : ℕ) (test : ℕ → Bool) → k < n → test k ≡ true → some_below n test ≡ true
 some-to zero k test low is = absurd (omega arith)
 some-to (suc n) k test low is = elim (cases_eq k n) [
-  inl last ↦ or-left (test n) (some_below n test) (subst (λ (i : ℕ). test i ≡ true) last is)
+  | inl last ↦ or-left (test n) (some_below n test) (subst (λ (i : ℕ). test i ≡ true) last is)
   | inr other ↦ or-right (test n) (some_below n test) (some-to n k test (omega arith) is)
 ]
 
@@ -104,7 +104,7 @@ module _ {C : Type 0} (blank : C → Bool) where
   counted : (s : ℕ → Bool) (at : ℕ → Option C) (n : ℕ) → AllTyped s at n → count_below n s ≡ length (chosen s at n)
   counted s at zero all = refl
   counted s at (suc n) all = let ih = counted s at n (before s at n all) in elim (cases_Bool (s n)) [
-    inl is ↦ let typed = all n (omega arith) is in
+    | inl is ↦ let typed = all n (omega arith) is in
         ap (λ b. cond b 1 0 + count_below n s) is ∙ omega (arith, ap length (is-chosen s at n typed.0 is typed.1), length-append (chosen s at n) (typed.0 ∷ []))
     | inr is ↦ ap (λ b. cond b 1 0 + count_below n s) is ∙ omega (arith, ap length (not-chosen s at n is))
   ]
@@ -116,7 +116,7 @@ module _ {C : Type 0} (blank : C → Bool) where
   lasts : (s : ℕ → Bool) (at : ℕ → Option C) (n : ℕ) → AllTyped s at n → chosen (but_last s n) at n ≡ without_last (chosen s at n)
   lasts s at zero all = refl
   lasts s at (suc n) all = not-chosen (but_last s (suc n)) at n ends ∙ elim (cases_Bool (s n)) [
-    inl is ↦ let typed = all n (omega arith) is in
+    | inl is ↦ let typed = all n (omega arith) is in
         chosen-same (but_last s (suc n)) s at at n (λ k low. stays k low is) (λ k low. refl)
         ∙ sym (ap (λ l. without_last l) (is-chosen s at n typed.0 is typed.1) ∙ last-gone (chosen s at n) typed.0)
     | inr is ↦
@@ -145,7 +145,7 @@ module _ {C : Type 0} (blank : C → Bool) where
   ends : (test : C → Bool) (s : ℕ → Bool) (at : ℕ → Option C) (n : ℕ) → AllTyped s at n → chosen (but_end test s at n) at n ≡ without_end test (chosen s at n)
   ends test s at zero all = refl
   ends test s at (suc n) all = elim (cases_Bool (s n && not (passes test (at n)))) [
-    inl hit ↦ let here = (and_parts (s n) (not (passes test (at n))) hit).0 in
+    | inl hit ↦ let here = (and_parts (s n) (not (passes test (at n))) hit).0 in
         let typed = all n (omega arith) here in
         let other : test typed.0 ≡ false = not-true (test typed.0) (sym (ap (λ o. not (passes test o)) typed.1) ∙ (and_parts (s n) (not (passes test (at n))) hit).1) in
         chosen-same (but_end test s at (suc n)) s at at (suc n) (λ k low. stays k low hit) (λ k low. refl)
@@ -156,7 +156,7 @@ module _ {C : Type 0} (blank : C → Bool) where
         ∙ chosen-same (but_end test s at (suc n)) (but_end test s at n) at at n (λ k low. falls k miss) (λ k low. refl)
         ∙ ends test s at n (before s at n all)
         ∙ elim (cases_Bool (s n)) [
-          inl here ↦ let typed = all n (omega arith) here in
+          | inl here ↦ let typed = all n (omega arith) here in
               let passed : test typed.0 ≡ true = passes-there here typed.0 typed.1 miss in
               sym (ap (λ l. without_end test l) (is-chosen s at n typed.0 here typed.1) ∙ end-gone test (chosen s at n) typed.0 ∙ ap (λ b. cond b (without_end test (chosen s at n)) (chosen s at n ++ typed.0 ∷ [])) passed)
           | inr gone ↦ sym (ap (λ l. without_end test l) (not-chosen s at n gone))
@@ -165,7 +165,7 @@ module _ {C : Type 0} (blank : C → Bool) where
     where
       passes-there : s n ≡ true → (c : C) → at n ≡ Some c → (s n && not (passes test (at n))) ≡ false → test c ≡ true
       passes-there here c typed miss = elim (cases_Bool (test c)) [
-        inl is ↦ is
+        | inl is ↦ is
         | inr is ↦ absurd (false≢true (sym miss ∙ and_from (s n) (not (passes test (at n))) here (ap (λ o. not (passes test o)) typed ∙ ap (λ b. not b) is)))
       ]
 
@@ -173,7 +173,7 @@ module _ {C : Type 0} (blank : C → Bool) where
       stays k low hit = agree (but_end test s at (suc n) k) (s k)
           (λ both. (and_parts (s k) (some_below (suc n) (λ j. nat_le k j && (s j && not (passes test (at j))))) both).0)
           (λ here. and_from (s k) (some_below (suc n) (λ j. nat_le k j && (s j && not (passes test (at j))))) here
-              (some-to (suc n) n (λ j. nat_le k j && (s j && not (passes test (at j)))) (omega arith) (and_from (nat_le k n) (s n && not (passes test (at n))) (le-leb k n (omega arith)) hit)))
+          (some-to (suc n) n (λ j. nat_le k j && (s j && not (passes test (at j)))) (omega arith) (and_from (nat_le k n) (s n && not (passes test (at n))) (le-leb k n (omega arith)) hit)))
 
       falls : (k : ℕ) → (s n && not (passes test (at n))) ≡ false → but_end test s at (suc n) k ≡ but_end test s at n k
       falls k miss = ap (λ b. s k && (b || some_below n (λ j. nat_le k j && (s j && not (passes test (at j))))))
@@ -205,40 +205,40 @@ module _ {C : Type 0} (blank : C → Bool) where
       but_word s at n i ≡ but_end (λ c. not (blank c)) (but_end blank s at n) at n i
   words s at n all i low = agree (but_word s at n i) (but_end (λ c. not (blank c)) (but_end blank s at n) at n i)
       (λ is. let parts = and_parts (s i) (some_below n (nonblank s at i)) is in
-          let found = some-from n (nonblank s at i) parts.1 in
-          let k = found.0 in
-          let at_k = and_parts (s k) (not (passes blank (at k)) && some_below k (blank_from s at i)) found.2 in
-          let rest = and_parts (not (passes blank (at k))) (some_below k (blank_from s at i)) at_k.1 in
-          let inner = some-from k (blank_from s at i) rest.1 in
-          let j = inner.0 in
-          let at_j = and_parts (nat_le i j) (s j && passes blank (at j)) inner.2 in
-          let stands_j = and_parts (s j) (passes blank (at j)) at_j.1 in
-          let up = leb-true i j at_j.0 in
-          let is_end : (i' : ℕ) → i' < k → s i' ≡ true → but_end blank s at n i' ≡ true = λ i' below here. and_from (s i') (some_below n (other_from s at i')) here
-              (some-to n k (other_from s at i') found.1 (and_from (nat_le i' k) (s k && not (passes blank (at k))) (le-leb i' k (omega arith)) (and_from (s k) (not (passes blank (at k))) at_k.0 rest.0))) in
-          let typed = all j (omega arith) stands_j.0 in
-          and_from (but_end blank s at n i) (some_below n (other_end s at n i)) (is_end i (omega arith) parts.0)
-              (some-to n j (other_end s at n i) (omega arith) (and_from (nat_le i j) (but_end blank s at n j && not (passes (λ c. not (blank c)) (at j))) at_j.0
-                  (and_from (but_end blank s at n j) (not (passes (λ c. not (blank c)) (at j))) (is_end j inner.1 stands_j.0) (turned (at j) stands_j.1)))))
+      let found = some-from n (nonblank s at i) parts.1 in
+      let k = found.0 in
+      let at_k = and_parts (s k) (not (passes blank (at k)) && some_below k (blank_from s at i)) found.2 in
+      let rest = and_parts (not (passes blank (at k))) (some_below k (blank_from s at i)) at_k.1 in
+      let inner = some-from k (blank_from s at i) rest.1 in
+      let j = inner.0 in
+      let at_j = and_parts (nat_le i j) (s j && passes blank (at j)) inner.2 in
+      let stands_j = and_parts (s j) (passes blank (at j)) at_j.1 in
+      let up = leb-true i j at_j.0 in
+      let is_end : (i' : ℕ) → i' < k → s i' ≡ true → but_end blank s at n i' ≡ true = λ i' below here. and_from (s i') (some_below n (other_from s at i')) here
+      (some-to n k (other_from s at i') found.1 (and_from (nat_le i' k) (s k && not (passes blank (at k))) (le-leb i' k (omega arith)) (and_from (s k) (not (passes blank (at k))) at_k.0 rest.0))) in
+      let typed = all j (omega arith) stands_j.0 in
+      and_from (but_end blank s at n i) (some_below n (other_end s at n i)) (is_end i (omega arith) parts.0)
+      (some-to n j (other_end s at n i) (omega arith) (and_from (nat_le i j) (but_end blank s at n j && not (passes (λ c. not (blank c)) (at j))) at_j.0
+      (and_from (but_end blank s at n j) (not (passes (λ c. not (blank c)) (at j))) (is_end j inner.1 stands_j.0) (turned (at j) stands_j.1)))))
       (λ is. let parts = and_parts (but_end blank s at n i) (some_below n (other_end s at n i)) is in
-          let here = (and_parts (s i) (some_below n (other_from s at i)) parts.0).0 in
-          let found = some-from n (other_end s at n i) parts.1 in
-          let j = found.0 in
-          let at_j = and_parts (nat_le i j) (but_end blank s at n j && not (passes (λ c. not (blank c)) (at j))) found.2 in
-          let end_j = and_parts (but_end blank s at n j) (not (passes (λ c. not (blank c)) (at j))) at_j.1 in
-          let from_j = and_parts (s j) (some_below n (other_from s at j)) end_j.0 in
-          let typed = all j found.1 from_j.0 in
-          let blank_j : passes blank (at j) ≡ true = back (at j) typed.0 typed.1 end_j.1 in
-          let inner = some-from n (other_from s at j) from_j.1 in
-          let k = inner.0 in
-          let at_k = and_parts (nat_le j k) (s k && not (passes blank (at k))) inner.2 in
-          let stands_k = and_parts (s k) (not (passes blank (at k))) at_k.1 in
-          let up = leb-true j k at_k.0 in
-          let apart : j ≡ k → ⊥ = λ e. false≢true (sym (not-true (passes blank (at j)) (subst (λ (m : ℕ). not (passes blank (at m)) ≡ true) (sym e) stands_k.1)) ∙ blank_j) in
-          and_from (s i) (some_below n (nonblank s at i)) here (some-to n k (nonblank s at i) inner.1
-              (and_from (s k) (not (passes blank (at k)) && some_below k (blank_from s at i)) stands_k.0
-                  (and_from (not (passes blank (at k))) (some_below k (blank_from s at i)) stands_k.1
-                      (some-to k j (blank_from s at i) (omega arith) (and_from (nat_le i j) (s j && passes blank (at j)) at_j.0 (and_from (s j) (passes blank (at j)) from_j.0 blank_j)))))))
+      let here = (and_parts (s i) (some_below n (other_from s at i)) parts.0).0 in
+      let found = some-from n (other_end s at n i) parts.1 in
+      let j = found.0 in
+      let at_j = and_parts (nat_le i j) (but_end blank s at n j && not (passes (λ c. not (blank c)) (at j))) found.2 in
+      let end_j = and_parts (but_end blank s at n j) (not (passes (λ c. not (blank c)) (at j))) at_j.1 in
+      let from_j = and_parts (s j) (some_below n (other_from s at j)) end_j.0 in
+      let typed = all j found.1 from_j.0 in
+      let blank_j : passes blank (at j) ≡ true = back (at j) typed.0 typed.1 end_j.1 in
+      let inner = some-from n (other_from s at j) from_j.1 in
+      let k = inner.0 in
+      let at_k = and_parts (nat_le j k) (s k && not (passes blank (at k))) inner.2 in
+      let stands_k = and_parts (s k) (not (passes blank (at k))) at_k.1 in
+      let up = leb-true j k at_k.0 in
+      let apart : j ≡ k → ⊥ = λ e. false≢true (sym (not-true (passes blank (at j)) (subst (λ (m : ℕ). not (passes blank (at m)) ≡ true) (sym e) stands_k.1)) ∙ blank_j) in
+      and_from (s i) (some_below n (nonblank s at i)) here (some-to n k (nonblank s at i) inner.1
+      (and_from (s k) (not (passes blank (at k)) && some_below k (blank_from s at i)) stands_k.0
+      (and_from (not (passes blank (at k))) (some_below k (blank_from s at i)) stands_k.1
+      (some-to k j (blank_from s at i) (omega arith) (and_from (nat_le i j) (s j && passes blank (at j)) at_j.0 (and_from (s j) (passes blank (at j)) from_j.0 blank_j)))))))
     where
       turned : (o : Option C) → passes blank o ≡ true → not (passes (λ c. not (blank c)) o) ≡ true
       turned None is = absurd (false≢true is)
@@ -269,7 +269,7 @@ module _ {C : Type 0} (blank : C → Bool) where
   stands-typed : (edits : List (Edit C)) (n : ℕ) → stands blank edits n ≡ true → IsTyped edits n
   stands-typed [] n is = absurd (false≢true is)
   stands-typed (Types c ∷ edits) n is = elim (cases_eq n (length edits)) [
-    inl last ↦ (omega arith, (c, ap (λ b. cond b (Some c) (typed_at n edits)) (eq-eqb n (length edits) last)))
+    | inl last ↦ (omega arith, (c, ap (λ b. cond b (Some c) (typed_at n edits)) (eq-eqb n (length edits) last)))
     | inr other ↦ still-typed (Types c) edits n (stands-typed edits n
         (sym (ap (λ b. cond b (nat_lt (count_below (length edits) (stands blank edits)) LINE_MAX) (stands blank edits n)) (ne_eqb n (length edits) other)) ∙ is))
   ]
@@ -309,9 +309,9 @@ module _ {C : Type 0} (blank : C → Bool) where
       ∙ ap (λ b. standing edits ++ where_stands blank b (Some c)) (sym room)
       ∙ ap (λ o. standing edits ++ where_stands blank (stands blank (Types c ∷ edits) (length edits)) o) (sym (typed-last (Types c) edits))
       ∙ ap (λ l. l ++ where_stands blank (stands blank (Types c ∷ edits) (length edits)) (typed_at (length edits) (Types c ∷ edits)))
-          (chosen-same (stands blank edits) (stands blank (Types c ∷ edits)) (of_edits edits) (of_edits (Types c ∷ edits)) (length edits)
-              (λ k low. sym (ap (λ b. cond b (nat_lt (count_below (length edits) (stands blank edits)) LINE_MAX) (stands blank edits k)) (ne_eqb k (length edits) (omega arith))))
-              (λ k low. sym (typed-before (Types c) edits k low)))
+      (chosen-same (stands blank edits) (stands blank (Types c ∷ edits)) (of_edits edits) (of_edits (Types c ∷ edits)) (length edits)
+      (λ k low. sym (ap (λ b. cond b (nat_lt (count_below (length edits) (stands blank edits)) LINE_MAX) (stands blank edits k)) (ne_eqb k (length edits) (omega arith))))
+      (λ k low. sym (typed-before (Types c) edits k low)))
     where
       room : stands blank (Types c ∷ edits) (length edits) ≡ has_room (standing edits)
       room = ap (λ b. cond b (nat_lt (count_below (length edits) (stands blank edits)) LINE_MAX) (stands blank edits (length edits))) (eq-eqb (length edits) (length edits) refl)
@@ -328,7 +328,7 @@ module _ {C : Type 0} (blank : C → Bool) where
       let first = ends blank s at n (all-typed edits) in
       let second = ends (λ c. not (blank c)) (but_end blank s at n) at n (λ k low is. all-typed edits k low (and_parts (s k) (some_below n (λ j. nat_le k j && (s j && not (passes blank (at j))))) is).0) in
       sym (without-byte ErasesWord edits (but_end (λ c. not (blank c)) (but_end blank s at n) at n) refl (words s at n (all-typed edits))
-          ∙ second ∙ ap (λ l. without_end (λ c. not (blank c)) l) first)
+      ∙ second ∙ ap (λ l. without_end (λ c. not (blank c)) l) first)
   step ErasesAll edits = sym (without-byte ErasesAll edits (λ k. false) refl (λ k low. refl) ∙ none-chosen (of_edits edits) (length edits))
 
   edits-stand : (edits : List (Edit C)) → line_of blank edits ≡ standing edits

@@ -21,7 +21,7 @@ module _ {C : Type 0} (p : C → Bool) where
   pub weight-take : (m : Message C) (q : List (Message C)) → weight p (m ∷ q) ≡ weight_of p m + weight p q
   weight-take = sum_by-cons (weight_of p)
 
-  weight-data : (cells : List C) → weight_of p (data_message cells) ≡ count_by p cells
+  pub weight-data : (cells : List C) → weight_of p (data_message cells) ≡ count_by p cells
   unfolding weight_of data_message cells_of
   weight-data cells = refl
 

@@ -48,3 +48,5 @@ pub mod Echo
 pub mod Ldterms
 pub mod Typing
 pub mod Input
+pub mod LdtermWeights
+pub mod LdtermOrigins

@@ -1,0 +1,206 @@
+-- What ldterm does with what is put at it, and with each byte that is typed, loses no cell and makes none that it doesn't tell.
+use Rattle.std.proofs.Common.{ℕ, ◌≡◌, ◌+◌, Bool, true, false, cond, List, [], ◌∷◌, ◌++◌, length, drop, refl, sym, ap, ◌∙◌, arith}
+use Rattle.std.specs.Prelude.{not, ◌&&◌, Option, count_by}
+use Rattle.std.proofs.lemmas.Bool.{false≢true}
+use Rattle.strm_types.specs.declared.flushing.FlushAsked.{FlushAsked}
+use Rattle.strm_types.specs.declared.keys.Key.{Key}
+use Rattle.strm_types.specs.declared.keys.Key.TheVariants.{Stop, Start, Intr, Quit, Susp, Ignored, Eof, Erase, Kill, Werase, Reprint, Lnext, Delimiter, Ordinary}
+use Rattle.strm_types.specs.declared.kinds.Band.{Band}
+use Rattle.strm_types.specs.declared.kinds.MsgKind.{MsgKind}
+use Rattle.strm_types.specs.declared.kinds.MsgKind.TheVariants as kinds
+use Rattle.strm_types.specs.declared.names.Side.{Side}
+use Rattle.strm_types.specs.declared.names.Way.{Way}
+use Rattle.strm_types.specs.declared.names.Way.TheVariants.{Up, Down}
+use Rattle.strm_types.specs.declared.rules.Rule.{Rule}
+use Rattle.strm_types.specs.declared.rules.Rule.TheVariants.{Igncr, EraseKey, Erased, Killed, SignalKey, FlowKey, LnextKey, ReprintKey, LineFull, LineOver, Flushed}
+use Rattle.strm_types.specs.declared.spots.Spot.{Spot}
+use Rattle.strm_types.specs.Cells.{Cells}
+use Rattle.strm_types.specs.Deliver.{Acted}
+use Rattle.strm_types.specs.Emptied.{of_data}
+use Rattle.strm_types.specs.Flushing.{is_flush, asked_by, flush_bytes, flush_message}
+use Rattle.strm_types.specs.LdtermWeights.{weight_beside, ldterm_weight, ActedKeeps, EchoStands}
+use Rattle.strm_types.specs.Ldterms.{Ldterm, both, flush_passes, ldterm_puts, line_flushed, onward, queue_flushed, queued_at, read_flushed, sends, takes_band_0, waits_there, without_line, write_flushed}
+use Rattle.strm_types.specs.Lines.{Types, ErasesByte, ErasesWord, edited, has_room}
+use Rattle.strm_types.specs.Message.{Message, cells_of, data_message, weight_of}
+use Rattle.strm_types.specs.Places.{weight_sent, weight_gone, weight_made}
+use Rattle.strm_types.specs.Queue.{is_full, is_none_left, weight}
+use Rattle.strm_types.specs.Service.{line_gone}
+use Rattle.strm_types.specs.Termios.{icanon, imaxbel, noflsh}
+use Rattle.strm_types.specs.Typing.{added, bare, both_ways, dropped, echo_grows, echo_lost, echo_stands, gathered_up, goes_up, grown, is_blank_cell, lost, sigint, signals, sigquit, sigtstp, stops, strikes, up_alone}
+use Rattle.strm_types.proofs.DeliveryKeeps.{gone-append, made-append}
+use Rattle.strm_types.proofs.EmptiedKeeps.{behind-keeps}
+use Rattle.strm_types.proofs.Prefixes.{Begins, last-begins, word-begins}
+use Rattle.strm_types.proofs.PutWeights.{weight-both, weight-flush}
+use Rattle.strm_types.proofs.Weights.{count-join, weight-data, weight-put, weight-take, weight-whole}
+
+-- a message without parts has no cells
+pub weight-bare : {C : Type 0} (p : C → Bool) (kind : MsgKind) (bytes : List ℕ) → weight_of p (bare kind bytes) ≡ 0
+unfolding weight_of cells_of
+weight-bare p kind bytes = refl
+
+-- what holds of both holds of the one that is chosen
+either : {A : Type 0} (P : A → Type 0) (b : Bool) (one another : A) → P one → P another → P (cond b one another)
+either P true one another first second = first
+either P false one another first second = second
+
+module _ {C : Type 0} (p : C → Bool) where
+  -- cells that are told as gone
+  lost-gone : (side : Side) (rule : Rule) (cells : List C) → weight_gone p (line_gone side rule cells) ≡ count_by p cells
+  lost-gone side rule [] = refl
+  lost-gone side rule (c ∷ cells) = omega arith
+
+  lost-made : (side : Side) (rule : Rule) (cells : List C) → weight_made p (line_gone side rule cells) ≡ 0
+  lost-made side rule [] = refl
+  lost-made side rule (c ∷ cells) = refl
+
+  -- what is put, and flushed
+  abbrev Holds : Acted C (Ldterm C) → ℕ → Type 0
+  Holds t n = ldterm_weight p t.state + (weight_sent p t.sent + weight_gone p t.gone) ≡ n
+
+  both-hold : (t : Acted C (Ldterm C)) (next : Ldterm C → Acted C (Ldterm C)) (n more : ℕ) → Holds t n → Holds (next t.state) (ldterm_weight p t.state + more) → Holds (both t next) (n + more)
+  both-hold t next n more first second =
+      let u = next t.state in
+      let sent = weight-both p t.sent u.sent in
+      let gone = gone-append p t.gone u.gone in
+      omega arith
+
+  queued-holds : (way : Way) (m : Message C) (l : Ldterm C) → Holds (queued_at way m l) (ldterm_weight p l + weight_of p m)
+  queued-holds Up m l = omega (arith, weight-put p m l.read_queue.messages)
+  queued-holds Down m l = omega (arith, weight-put p m l.write_queue.messages)
+
+  flushed-holds : (way : Way) (here : Spot) (band : Option Band) (l : Ldterm C) → Holds (queue_flushed way here band l) (ldterm_weight p l)
+  flushed-holds Up here band l = omega (arith, behind-keeps p (of_data band) l.read_queue)
+  flushed-holds Down here band l = omega (arith, behind-keeps p (of_data band) l.write_queue)
+
+  line-holds : (here : Spot) (band : Option Band) (l : Ldterm C) → Holds (line_flushed here band l) (ldterm_weight p l + 0)
+  line-holds here band l = either (λ t. Holds t (ldterm_weight p l + 0)) (takes_band_0 band) (record (sends [] (without_line l)) { gone = line_gone here.side Flushed l.line }) (sends [] l)
+      (omega (arith, lost-gone here.side Flushed l.line)) (omega arith)
+
+  read-holds : (here : Spot) (asked : FlushAsked) (l : Ldterm C) → Holds (read_flushed here asked l) (ldterm_weight p l)
+  read-holds here asked l = either (λ t. Holds t (ldterm_weight p l)) asked.for_read (both (queue_flushed Up here asked.band l) (line_flushed here asked.band)) (sends [] l)
+      (let all = both-hold (queue_flushed Up here asked.band l) (line_flushed here asked.band) (ldterm_weight p l) 0 (flushed-holds Up here asked.band l) (line-holds here asked.band (queue_flushed Up here asked.band l).state) in omega arith)
+      (omega arith)
+
+  write-holds : (here : Spot) (asked : FlushAsked) (l : Ldterm C) → Holds (write_flushed here asked l) (ldterm_weight p l + 0)
+  write-holds here asked l =
+      let quiet : Ldterm C = record l { echoing = l.echoing && not (takes_band_0 asked.band) } in
+      either (λ t. Holds t (ldterm_weight p l + 0)) asked.for_write (queue_flushed Down here asked.band quiet) (sends [] l)
+      (omega (arith, behind-keeps p (of_data asked.band) l.write_queue))
+      (omega arith)
+
+  passes-holds : (here : Spot) (m : Message C) (l : Ldterm C) → Holds (sends (onward here.way here m ∷ []) l) (ldterm_weight p l + weight_of p m)
+  passes-holds here m l = omega arith
+
+  flush-holds : (here : Spot) (m : Message C) (l : Ldterm C) → Holds (flush_passes here m l) (ldterm_weight p l + weight_of p m)
+  flush-holds here m l =
+      let asked = asked_by m.plain in
+      let first = read_flushed here asked l in
+      let behind = both first (write_flushed here asked) in
+      let flushed = both-hold first (write_flushed here asked) (ldterm_weight p l) 0 (read-holds here asked l) (write-holds here asked first.state) in
+      let all = both-hold behind (sends (onward here.way here m ∷ [])) (ldterm_weight p l + 0) (weight_of p m) flushed (passes-holds here m behind.state) in
+      omega arith
+
+  pub puts-hold : (here : Spot) (m : Message C) (l : Ldterm C) → Holds (ldterm_puts here m l) (ldterm_weight p l + weight_of p m)
+  puts-hold here m l = either (λ t. Holds t (ldterm_weight p l + weight_of p m)) (waits_there m.kind) (queued_at here.way m l) (cond (is_flush m.kind) (flush_passes here m l) (sends (onward here.way here m ∷ []) l))
+      (queued-holds here.way m l)
+      (either (λ t. Holds t (ldterm_weight p l + weight_of p m)) (is_flush m.kind) (flush_passes here m l) (sends (onward here.way here m ∷ []) l) (flush-holds here m l) (passes-holds here m l))
+
+module _ {C : Type 0} (p : C → Bool) (cells : Cells C) (here : Spot) where
+  -- what a key does, beside the byte that has begun
+  abbrev pub Strikes : Acted C (Ldterm C) → ℕ → Type 0
+  Strikes t n = weight_beside p t.state + (weight_sent p t.sent + weight_gone p t.gone) ≡ n + weight_made p t.gone
+
+  dropped-keeps : (rule : Rule) (c : C) (l : Ldterm C) → Strikes (dropped cells here rule c l) (weight_beside p l + count_by p (c ∷ []))
+  dropped-keeps rule c l = omega arith
+
+  stops-keep : (c : C) (l : Ldterm C) → Strikes (stops cells here c l) (weight_beside p l + count_by p (c ∷ []))
+  stops-keep c l = at l.stopped
+    where
+      at : (stopped : Bool) → Strikes (record (dropped cells here FlowKey c (record l { stopped = true })) { sent = cond stopped [] (onward Down here (bare kinds.Stop []) ∷ []) }) (weight_beside p l + count_by p (c ∷ []))
+      at true = omega arith
+      at false = omega (arith, weight-bare p kinds.Stop [])
+
+  edits-keep : (left : List C) (rule : Rule) (c : C) (l : Ldterm C) → Begins left l.line →
+      Strikes (record { state = record l { line = left }; notes = []; sent = []; gone = lost cells here rule (drop (length left) l.line) ++ lost cells here EraseKey (c ∷ []) }) (weight_beside p l + count_by p (c ∷ []))
+  edits-keep left rule c l begins =
+      let gone = gone-append p (lost cells here rule (drop (length left) l.line)) (lost cells here EraseKey (c ∷ [])) in
+      let made = made-append p (lost cells here rule (drop (length left) l.line)) (lost cells here EraseKey (c ∷ [])) in
+      let taken = lost-gone p here.side rule (drop (length left) l.line) in
+      let none = lost-made p here.side rule (drop (length left) l.line) in
+      let line = sym (count-join p left (drop (length left) l.line)) ∙ ap (λ xs. count_by p xs) begins in
+      omega arith
+
+  line-keeps : (line : List C) → weight_sent p (goes_up cells here line ∷ []) ≡ count_by p line
+  line-keeps line = omega (arith, weight-data p line)
+
+  pub gathered-keeps : (gathered : List C) → weight_sent p (gathered_up cells here gathered) ≡ count_by p gathered
+  gathered-keeps [] = refl
+  gathered-keeps (c ∷ more) = line-keeps (c ∷ more)
+
+  signals-keep : (asked : FlushAsked) (signal : ℕ) (c : C) (l : Ldterm C) → Strikes (signals cells here asked signal c l) (weight_beside p l + count_by p (c ∷ []))
+  signals-keep asked signal c l = at (noflsh l.termios)
+    where
+      at : (kept : Bool) → Strikes (cond kept
+          (record { state = record l { gathered = [] }; notes = []; sent = gathered_up cells here l.gathered ++ onward Up here (bare kinds.Pcsig (signal ∷ [])) ∷ []; gone = lost cells here SignalKey (c ∷ []) })
+          (record { state = record l { gathered = []; line = [] }; notes = []; sent = gathered_up cells here l.gathered ++ onward Up here (flush_message (flush_bytes asked)) ∷ onward Up here (bare kinds.Pcsig (signal ∷ [])) ∷ []; gone = lost cells here Flushed l.line ++ lost cells here SignalKey (c ∷ []) }))
+          (weight_beside p l + count_by p (c ∷ []))
+      at true =
+          let sent = weight-both p (gathered_up cells here l.gathered) (onward Up here (bare kinds.Pcsig (signal ∷ [])) ∷ []) in
+          let key = weight-bare p kinds.Pcsig (signal ∷ []) in
+          let up = gathered-keeps l.gathered in
+          omega arith
+      at false =
+          let sent = weight-both p (gathered_up cells here l.gathered) (onward Up here (flush_message (flush_bytes asked)) ∷ onward Up here (bare kinds.Pcsig (signal ∷ [])) ∷ []) in
+          let key = weight-bare p kinds.Pcsig (signal ∷ []) in
+          let flush = weight-flush p (flush_bytes asked) in
+          let up = gathered-keeps l.gathered in
+          let gone = gone-append p (lost cells here Flushed l.line) (lost cells here SignalKey (c ∷ [])) in
+          let made = made-append p (lost cells here Flushed l.line) (lost cells here SignalKey (c ∷ [])) in
+          let line = lost-gone p here.side Flushed l.line in
+          let none = lost-made p here.side Flushed l.line in
+          omega arith
+
+  added-keeps : (c : C) (l : Ldterm C) → Strikes (added cells here c l) (weight_beside p l + count_by p (c ∷ []))
+  added-keeps c l = at (icanon l.termios) (has_room l.line) (imaxbel l.termios) (edited (is_blank_cell cells here) (Types c) l.line) (λ room. ap (λ b. cond b (l.line ++ c ∷ []) l.line) room)
+    where
+      at : (canonical room bell : Bool) (longer : List C) → (room ≡ true → longer ≡ l.line ++ c ∷ []) →
+          Strikes (cond (not canonical) (sends [] (record l { gathered = l.gathered ++ c ∷ [] }))
+          (cond room (sends [] (record l { line = longer }))
+          (cond bell (dropped cells here LineFull c l) (record (sends [] (record l { line = [] })) { gone = lost cells here LineOver (l.line ++ c ∷ []) }))))
+          (weight_beside p l + count_by p (c ∷ []))
+      at false room bell longer is = omega (arith, count-join p l.gathered (c ∷ []))
+      at true true bell longer is = omega (arith, ap (λ xs. count_by p xs) (is refl), count-join p l.line (c ∷ []))
+      at true false true longer is = omega arith
+      at true false false longer is = omega (arith, lost-gone p here.side LineOver (l.line ++ c ∷ []), lost-made p here.side LineOver (l.line ++ c ∷ []), count-join p l.line (c ∷ []))
+
+  pub strikes-keep : (key : Key) (c : C) (l : Ldterm C) → Strikes (strikes cells here key c l) (weight_beside p l + count_by p (c ∷ []))
+  strikes-keep Stop c l = stops-keep c l
+  strikes-keep Start c l = dropped-keeps FlowKey c l
+  strikes-keep Intr c l = signals-keep both_ways sigint c l
+  strikes-keep Quit c l = signals-keep both_ways sigquit c l
+  strikes-keep Susp c l = signals-keep up_alone sigtstp c l
+  strikes-keep Ignored c l = dropped-keeps Igncr c l
+  strikes-keep Eof c l = omega (arith, line-keeps l.line)
+  strikes-keep Erase c l = edits-keep (edited (is_blank_cell cells here) ErasesByte l.line) Erased c l (last-begins l.line)
+  strikes-keep Werase c l = edits-keep (edited (is_blank_cell cells here) ErasesWord l.line) Erased c l (word-begins (is_blank_cell cells here) l.line)
+  strikes-keep Kill c l = edits-keep [] Killed c l refl
+  strikes-keep Reprint c l = dropped-keeps ReprintKey c l
+  strikes-keep Lnext c l = dropped-keeps LnextKey c l
+  strikes-keep Delimiter c l = omega (arith, line-keeps (l.line ++ c ∷ []), count-join p l.line (c ∷ []))
+  strikes-keep Ordinary c l = added-keeps c l
+
+  -- the echo that grows is the last message of the write queue
+  grown-keeps : (new : List C) (ms : List (Message C)) → is_none_left ms ≡ false → weight p (grown cells here new ms) ≡ weight p ms + count_by p new
+  grown-keeps new [] stands = absurd (false≢true (sym stands))
+  grown-keeps new (m ∷ []) stands = omega (arith, weight-take p (data_message (cells_of m ++ new)) [], weight-data p (cells_of m ++ new), count-join p (cells_of m) new, weight-whole p m, weight-take p m [])
+  grown-keeps new (m ∷ n ∷ ms) stands = omega (arith, grown-keeps new (n ∷ ms) refl, weight-take p m (grown cells here new (n ∷ ms)), weight-take p m (n ∷ ms))
+
+  pub echo-keeps : (new : List C) (l : Ldterm C) → EchoStands l →
+      ActedKeeps p (cond (is_full 0 l.write_queue) (echo_lost cells here new l) (cond l.echoing (echo_grows cells here new l) (echo_stands cells here new l))) (ldterm_weight p l)
+  echo-keeps new l stands = at (is_full 0 l.write_queue) l.echoing stands
+    where
+      at : (full echoing : Bool) → (echoing ≡ true → is_none_left l.write_queue.messages ≡ false) →
+          ActedKeeps p (cond full (echo_lost cells here new l) (cond echoing (echo_grows cells here new l) (echo_stands cells here new l))) (ldterm_weight p l)
+      at true echoing stands = omega arith
+      at false true stands = omega (arith, grown-keeps new l.write_queue.messages (stands refl))
+      at false false stands = omega (arith, weight-put p (data_message new) l.write_queue.messages, weight-data p new)

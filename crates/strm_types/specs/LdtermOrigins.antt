@@ -1,0 +1,32 @@
+-- ldterm over other cells, as where the origins of cells are forgotten.
+use Rattle.std.specs.Prelude.{map, option_map}
+use Rattle.strm_types.specs.Ldterms.{Ldterm, Stage, Between, Begun, Answered}
+use Rattle.strm_types.specs.Message.{map_message}
+use Rattle.strm_types.specs.Origins.{map_acted}
+use Rattle.strm_types.specs.Queue.{map_queue}
+use Rattle.strm_types.specs.Service.{Serving}
+
+module _ {C D : Type 0} (f : C → D) where
+  abbrev pub map_stage : Stage C → Stage D
+  map_stage Between = Between
+  map_stage (Begun started c) = Begun started (f c)
+  map_stage (Answered echo) = Answered echo
+
+  abbrev pub map_ldterm : Ldterm C → Ldterm D
+  map_ldterm l = record {
+    termios = l.termios;
+    stopped = l.stopped;
+    after_lnext = l.after_lnext;
+    column = l.column;
+    line = map f l.line;
+    read_queue = map_queue f l.read_queue;
+    write_queue = map_queue f l.write_queue;
+    in_work = option_map (map_message f) l.in_work;
+    gathered = map f l.gathered;
+    echoing = l.echoing;
+    stage = map_stage l.stage;
+  }
+
+  -- what a call of a service procedure does
+  abbrev pub map_serving : {S T : Type 0} → (S → T) → Serving C S → Serving D T
+  map_serving g t = record { acted = map_acted f g t.acted; bytes = t.bytes; again = t.again }
