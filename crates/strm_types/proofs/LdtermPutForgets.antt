@@ -1,6 +1,6 @@
 -- Forgetting the origins of cells commutes with puts at ldterm.
 use Rattle.std.proofs.Common.{◌≡◌, Bool, true, false, cond, List, [], ◌∷◌, ◌++◌, map, refl, sym, ap, ◌∙◌}
-use Rattle.std.specs.Prelude.{not, ◌&&◌, Option}
+use Rattle.std.specs.Prelude.{not, ◌&&◌, nat_lt, Option}
 use Rattle.std.proofs.lemmas.List.{map-append}
 use Rattle.strm_types.specs.declared.flushing.FlushAsked.{FlushAsked}
 use Rattle.strm_types.specs.declared.kinds.Band.{Band}
@@ -43,6 +43,10 @@ module _ {C D : Type 0} (f : C → D) where
   unfolding map_message
   plain-forgets m = refl
 
+  band-forgets : (m : Message C) → (map_message f m).band ≡ m.band
+  unfolding map_message
+  band-forgets m = refl
+
   pub line_gone-forgets : (side : Side) (rule : Rule) (cells : List C) → line_gone side rule (map f cells) ≡ map (map_fate f) (line_gone side rule cells)
   line_gone-forgets side rule [] = refl
   line_gone-forgets side rule (c ∷ cells) = refl
@@ -52,8 +56,10 @@ module _ {C D : Type 0} (f : C → D) where
       ap (λ b. queued_made Up b (put_on (map_message f m) (map_queue f l.read_queue)) (map_ldterm f l)) (put_enables-forgets f m l.read_queue)
       ∙ ap (λ q. queued_made Up (put_enables m l.read_queue) q (map_ldterm f l)) (put_on-forgets f m l.read_queue)
   queued-forgets Down m l =
-      ap (λ b. queued_made Down b (put_on (map_message f m) (map_queue f l.write_queue)) (map_ldterm f l)) (put_enables-forgets f m l.write_queue)
-      ∙ ap (λ q. queued_made Down (put_enables m l.write_queue) q (map_ldterm f l)) (put_on-forgets f m l.write_queue)
+      ap (λ n. queued_made Down (put_enables (map_message f m) (map_queue f l.write_queue)) (put_on (map_message f m) (map_queue f l.write_queue))
+          (record (map_ldterm f l) { echoing = l.echoing && nat_lt 0 n })) (band-forgets m)
+      ∙ (ap (λ b. queued_made Down b (put_on (map_message f m) (map_queue f l.write_queue)) (record (map_ldterm f l) { echoing = l.echoing && nat_lt 0 m.band })) (put_enables-forgets f m l.write_queue)
+      ∙ ap (λ q. queued_made Down (put_enables m l.write_queue) q (record (map_ldterm f l) { echoing = l.echoing && nat_lt 0 m.band })) (put_on-forgets f m l.write_queue))
 
   flushed-forgets : (way : Way) (here : Spot) (band : Option Band) (l : Ldterm C) → queue_flushed way here band (map_ldterm f l) ≡ image (queue_flushed way here band l)
   flushed-forgets Up here band l =
