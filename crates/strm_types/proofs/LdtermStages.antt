@@ -17,59 +17,58 @@ use Rattle.strm_types.specs.Flushing.{flush_bytes, flush_message}
 use Rattle.strm_types.specs.Keys.{restarts}
 use Rattle.strm_types.specs.LdtermWeights.{weight_in_work, weight_begun, weight_beside, ldterm_weight, ActedKeeps, IgnoresMapping, EchoStands, MayServe}
 use Rattle.strm_types.specs.Ldterms.{Ldterm, Stage, Between, Begun, Answered, onward, sends}
-use Rattle.strm_types.specs.Lines.{Types, edited, has_room}
+use Rattle.strm_types.specs.Lines.{ErasesByte, ErasesWord, Types, edited, has_room}
 use Rattle.strm_types.specs.Message.{Message, cells_of, data_message, weight_of}
 use Rattle.strm_types.specs.Places.{weight_sent}
 use Rattle.strm_types.specs.Queue.{is_full, is_none_left, left_with, put, put_back, weight}
 use Rattle.strm_types.specs.Message.{rank_of}
 use Rattle.strm_types.specs.Termios.{icanon, imaxbel, noflsh}
-use Rattle.strm_types.specs.Typing.{added, bare, begins, both_ways, echo_dir, dropped, echoed, echo_grows, echo_lost, echo_stands, gathered_up, grown, is_blank_cell, is_lnext, lost, sigint, signals, sigquit, sigtstp, stops, up_alone, stroke_at, strikes, struck}
+use Rattle.strm_types.specs.Typing.{added, bare, begins, both_ways, echo_dir, dropped, echoed, echo_grows, echo_lost, echo_stands, gathered_up, grown, is_blank_cell, is_lnext, lost, sigint, signals, sigquit, sigtstp, up_alone, stroke_at, strikes, struck}
 use Rattle.strm_types.proofs.DeliveryKeeps.{gone-append, made-append}
 use Rattle.strm_types.proofs.LdtermKeeps.{weight-bare, strikes-keep, echo-keeps, gathered-keeps}
 use Rattle.strm_types.proofs.Weights.{count-join, weight-put_back, weight-take, weight-whole}
 
-module _ {C : Type 0} (cells : Cells C) (here : Spot) where
-  -- the turn's echo stays through a stage
-
-  signals-echo : (asked : FlushAsked) (signal : ℕ) (c : C) (l : Ldterm C) → EchoStands l → EchoStands (signals cells here asked signal c l).state
-  signals-echo asked signal c l stands = at (noflsh l.termios)
+-- what holds of ldterm whether output is stopped or not, and with any line and any bytes gathered, holds behind a key
+module _ {C : Type 0} (cells : Cells C) (here : Spot) (P : Ldterm C → Type 0) (stays : (l : Ldterm C) (stopped : Bool) (line gathered : List C) → P l → P (record l { stopped = stopped; line = line; gathered = gathered })) where
+  signals-stay : (asked : FlushAsked) (signal : ℕ) (c : C) (l : Ldterm C) → P l → P (signals cells here asked signal c l).state
+  signals-stay asked signal c l holds = at (noflsh l.termios)
     where
-      at : (kept : Bool) → EchoStands (cond {A = Acted C (Ldterm C)} kept
+      at : (kept : Bool) → P (cond {A = Acted C (Ldterm C)} kept
           (record { state = record l { gathered = [] }; notes = []; sent = gathered_up cells here l.gathered ++ onward Up here (bare kinds.Pcsig (signal ∷ [])) ∷ []; gone = lost cells here SignalKey (c ∷ []) })
           (record { state = record l { gathered = []; line = [] }; notes = []; sent = gathered_up cells here l.gathered ++ onward Up here (flush_message (flush_bytes asked)) ∷ onward Up here (bare kinds.Pcsig (signal ∷ [])) ∷ []; gone = lost cells here Flushed l.line ++ lost cells here SignalKey (c ∷ []) })).state
-      at true = stands
-      at false = stands
+      at true = stays l l.stopped l.line [] holds
+      at false = stays l l.stopped [] [] holds
 
-  stops-echo : (c : C) (l : Ldterm C) → EchoStands l → EchoStands (stops cells here c l).state
-  stops-echo c l stands = stands
-
-  added-echo : (c : C) (l : Ldterm C) → EchoStands l → EchoStands (added cells here c l).state
-  added-echo c l stands = at (icanon l.termios) (has_room l.line) (imaxbel l.termios)
+  added-stay : (c : C) (l : Ldterm C) → P l → P (added cells here c l).state
+  added-stay c l holds = at (icanon l.termios) (has_room l.line) (imaxbel l.termios)
     where
       at : (canonical room bell : Bool) →
-          EchoStands (cond (not canonical) (sends [] (record l { gathered = l.gathered ++ c ∷ [] }))
+          P (cond (not canonical) (sends [] (record l { gathered = l.gathered ++ c ∷ [] }))
           (cond room (sends [] (record l { line = edited (is_blank_cell cells here) (Types c) l.line }))
           (cond bell (dropped cells here LineFull c l) (record (sends [] (record l { line = [] })) { gone = lost cells here LineOver (l.line ++ c ∷ []) })))).state
-      at false room bell = stands
-      at true true bell = stands
-      at true false true = stands
-      at true false false = stands
+      at false room bell = stays l l.stopped l.line (l.gathered ++ c ∷ []) holds
+      at true true bell = stays l l.stopped (edited (is_blank_cell cells here) (Types c) l.line) l.gathered holds
+      at true false true = holds
+      at true false false = stays l l.stopped [] l.gathered holds
 
-  strikes-echo : (key : Key) (c : C) (l : Ldterm C) → EchoStands l → EchoStands (strikes cells here key c l).state
-  strikes-echo Stop c l stands = stands
-  strikes-echo Start c l stands = stands
-  strikes-echo Intr c l stands = signals-echo both_ways sigint c l stands
-  strikes-echo Quit c l stands = signals-echo both_ways sigquit c l stands
-  strikes-echo Susp c l stands = signals-echo up_alone sigtstp c l stands
-  strikes-echo Ignored c l stands = stands
-  strikes-echo Eof c l stands = stands
-  strikes-echo Erase c l stands = stands
-  strikes-echo Werase c l stands = stands
-  strikes-echo Kill c l stands = stands
-  strikes-echo Reprint c l stands = stands
-  strikes-echo Lnext c l stands = stands
-  strikes-echo Delimiter c l stands = stands
-  strikes-echo Ordinary c l stands = added-echo c l stands
+  pub strikes-stay : (key : Key) (c : C) (l : Ldterm C) → P l → P (strikes cells here key c l).state
+  strikes-stay Stop c l holds = stays l true l.line l.gathered holds
+  strikes-stay Start c l holds = holds
+  strikes-stay Intr c l holds = signals-stay both_ways sigint c l holds
+  strikes-stay Quit c l holds = signals-stay both_ways sigquit c l holds
+  strikes-stay Susp c l holds = signals-stay up_alone sigtstp c l holds
+  strikes-stay Ignored c l holds = holds
+  strikes-stay Eof c l holds = stays l l.stopped [] l.gathered holds
+  strikes-stay Erase c l holds = stays l l.stopped (edited (is_blank_cell cells here) ErasesByte l.line) l.gathered holds
+  strikes-stay Werase c l holds = stays l l.stopped (edited (is_blank_cell cells here) ErasesWord l.line) l.gathered holds
+  strikes-stay Kill c l holds = stays l l.stopped [] l.gathered holds
+  strikes-stay Reprint c l holds = holds
+  strikes-stay Lnext c l holds = holds
+  strikes-stay Delimiter c l holds = stays l l.stopped [] l.gathered holds
+  strikes-stay Ordinary c l holds = added-stay c l holds
+
+module _ {C : Type 0} (cells : Cells C) (here : Spot) where
+  -- the turn's echo stays through a stage
 
   begins-echo : (c : C) (l : Ldterm C) → EchoStands l → EchoStands (begins cells here c l).state
   begins-echo c l stands = at (l.stopped && restarts l.termios (stroke_at cells here c l))
@@ -111,7 +110,7 @@ module _ {C : Type 0} (cells : Cells C) (here : Spot) where
     where
       at : (stage : Stage C) → EchoStands (stage_at cells here stage made l).state
       at Between = next-begins-echo (cells_left l) l stands
-      at (Begun started c) = strikes-echo (stroke_at cells here c l).key _ (record l { after_lnext = is_lnext (stroke_at cells here c l).key }) stands
+      at (Begun started c) = strikes-stay cells here (λ p. EchoStands p) (λ p stopped line gathered holds. holds) (stroke_at cells here c l).key _ (record l { after_lnext = is_lnext (stroke_at cells here c l).key }) stands
       at (Answered echo) = echoed-echo made echo (record l { stage = Between }) stands
 
   -- A turn comes to its end between two bytes: for a message that is used up it stays there, and else each third stage comes there.

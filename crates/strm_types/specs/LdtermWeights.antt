@@ -1,5 +1,5 @@
--- Where the cells are that ldterm holds: on its queues and in its unfinished line, and in a turn of its read queue also in the message in work,
--- as the byte that has begun, and among those that wait to go up together.
+-- Where the cells are that ldterm holds: on its queues and in its unfinished line, and in a turn of its read queue also in the
+-- message in work, as the byte that has begun, and among those that wait to go up together.
 use Rattle.std.specs.Prelude.{ℕ, ◌≡◌, ◌+◌, ◌*◌, ◌≤◌, Bool, true, false, [], ◌∷◌, count_by, Option, None, Some, unwrap_or}
 use Rattle.strm_types.specs.declared.names.Way.{Way}
 use Rattle.strm_types.specs.declared.names.Way.TheVariants.{Up, Down}
@@ -43,8 +43,8 @@ module _ {C : Type 0} where
   abbrev pub EchoStands : Ldterm C → Type 0
   EchoStands l = l.echoing ≡ true → is_none_left l.write_queue.messages ≡ false
 
-  -- A call of the service procedure of a queue: where a turn of the read queue begins, no message is in work and no byte has begun. Where it
-  -- goes on, the byte that has begun is among those that it may treat.
+  -- A call of the service procedure of a queue: where a turn of the read queue begins, no message is in work and no byte has begun.
+  -- Where it goes on, the byte that has begun is among those that it may treat.
   abbrev pub MayServe : Way → Bool → Option ℕ → Ldterm C → Type 0
   MayServe Down again stop l = Unit {0}
   MayServe Up false stop l = (l.in_work ≡ None) × (l.stage ≡ Between)

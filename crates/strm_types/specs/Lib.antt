@@ -50,3 +50,4 @@ pub mod Typing
 pub mod Input
 pub mod LdtermWeights
 pub mod LdtermOrigins
+pub mod LdtermTurns

@@ -7,7 +7,8 @@ ghost use Rattle.strm_types.specs.Cells.{AreCells, Cells, plain};
 ghost use Rattle.strm_types.specs.Input.{ldterm_serves, next_stage, stages, stages_done};
 ghost use Rattle.strm_types.specs.LdtermWeights.{ActedKeeps, EchoStands, IgnoresMapping, MayServe, ldterm_weight};
 ghost use Rattle.strm_types.specs.LdtermOrigins.{map_ldterm, map_serving};
-ghost use Rattle.strm_types.specs.Ldterms.{Ldterm, ldterm_puts};
+ghost use Rattle.strm_types.specs.LdtermTurns.{IsItsTurn, IsOrderly};
+ghost use Rattle.strm_types.specs.Ldterms.{Ldterm, ldterm_puts, new_ldterm};
 ghost use Rattle.strm_types.specs.Lines.{Edit, ErasesByte, ErasesWord, ErasesAll, edited, line_of};
 ghost use Rattle.strm_types.specs.Message.{Message, map_message, weight_of};
 ghost use Rattle.strm_types.specs.Origins.{map_acted};
@@ -52,4 +53,14 @@ pub fn ldterm_forgets<C, D>()
     ensures serves { (cells : Cells C) (here : Spot) (made : ℕ) (again : Bool) (stop : Option ℕ) (l : Ldterm C) → AreCells cells →
         ldterm_serves plain here made again stop (map_ldterm cells.byte l)
         ≡ map_serving cells.byte (map_ldterm cells.byte) (ldterm_serves cells here made again stop l) }
+{}
+
+/// What holds of ldterm stays so. It holds of one as it is pushed, and behind each put and each call of its service procedure, as no
+/// other turn begins while a turn of its read queue goes on. So the turn's echo is there to grow.
+pub fn ldterm_stays_orderly<C>()
+    ensures new { IsOrderly (new_ldterm {C = C}) }
+    ensures put { (here : Spot) (m : Message C) (l : Ldterm C) → IsOrderly l → IsOrderly (ldterm_puts here m l).state }
+    ensures serves { (cells : Cells C) (here : Spot) (made : ℕ) (again : Bool) (stop : Option ℕ) (l : Ldterm C) → IsOrderly l →
+        IsItsTurn here.way again l → IsOrderly (ldterm_serves cells here made again stop l).acted.state }
+    ensures echo { (l : Ldterm C) → IsOrderly l → EchoStands l }
 {}
