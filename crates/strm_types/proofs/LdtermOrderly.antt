@@ -1,6 +1,6 @@
 -- What holds of ldterm between the calls of its procedures stays so.
 use Rattle.std.proofs.Common.{ℕ, zero, suc, ◌≡◌, ◌+◌, ◌-◌, ◌*◌, Bool, true, false, cond, List, [], ◌∷◌, ◌++◌, refl, sym, ap, ◌∙◌}
-use Rattle.std.specs.Prelude.{not, ◌&&◌, ◌||◌, ◌==◌, nat_le, Option, None, Some, unwrap_or, length}
+use Rattle.std.specs.Prelude.{nat_lt, not, ◌&&◌, ◌||◌, ◌==◌, nat_le, Option, None, Some, unwrap_or, length}
 use Rattle.std.specs.List.{list_any}
 use Rattle.std.proofs.lemmas.Bool.{false≢true, and_left, and_parts, and_right, eqb-false, eqb-true, ne_eqb, not-true}
 use Rattle.strm_types.specs.declared.flushing.FlushAsked.{FlushAsked}
@@ -108,7 +108,10 @@ module _ {C : Type 0} where
 
   queued-orderly : (way : Way) (m : Message C) (l : Ldterm C) → IsOrderly l → IsOrderly (queued_at way m l).state
   queued-orderly Up m l is = record { echo = is.echo; idle = is.idle }
-  queued-orderly Down m l is = record { echo = λ e. echo-put-stays m l.write_queue.messages (is.echo e); idle = is.idle }
+  queued-orderly Down m l is = record {
+    echo = λ e. echo-put-stays m l.write_queue.messages (is.echo (and_parts l.echoing (nat_lt 0 m.band) e).0);
+    idle = λ none. let at = is.idle none in (at.0, at.1, and_left l.echoing (nat_lt 0 m.band) at.2);
+  }
 
   line-orderly : (here : Spot) (band : Option Band) (l : Ldterm C) → IsOrderly l → IsOrderly (line_flushed here band l).state
   line-orderly here band l is = at (takes_band_0 band)
