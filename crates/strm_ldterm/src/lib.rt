@@ -9,3 +9,6 @@ mod strokes;
 pub use echoes::{ECHO_MAX, Echo, RUN_MAX, echo_of};
 pub use lines::Line;
 pub use strokes::{restarts, stroke_of};
+
+#[cfg(test)]
+mod tests;
