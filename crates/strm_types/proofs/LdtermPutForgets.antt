@@ -57,7 +57,7 @@ module _ {C D : Type 0} (f : C → D) where
       ∙ ap (λ q. queued_made Up (put_enables m l.read_queue) q (map_ldterm f l)) (put_on-forgets f m l.read_queue)
   queued-forgets Down m l =
       ap (λ n. queued_made Down (put_enables (map_message f m) (map_queue f l.write_queue)) (put_on (map_message f m) (map_queue f l.write_queue))
-          (record (map_ldterm f l) { echoing = l.echoing && nat_lt 0 n })) (band-forgets m)
+      (record (map_ldterm f l) { echoing = l.echoing && nat_lt 0 n })) (band-forgets m)
       ∙ (ap (λ b. queued_made Down b (put_on (map_message f m) (map_queue f l.write_queue)) (record (map_ldterm f l) { echoing = l.echoing && nat_lt 0 m.band })) (put_enables-forgets f m l.write_queue)
       ∙ ap (λ q. queued_made Down (put_enables m l.write_queue) q (record (map_ldterm f l) { echoing = l.echoing && nat_lt 0 m.band })) (put_on-forgets f m l.write_queue))
 

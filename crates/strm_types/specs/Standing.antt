@@ -41,7 +41,7 @@ module _ {C : Type 0} (blank : C → Bool) where
   stands (ErasesByte ∷ before) n = stands before n && some_below (length before) (λ k. nat_lt n k && stands before k)
   stands (ErasesWord ∷ before) n =
       stands before n && some_below (length before) (λ k.
-          stands before k && (not (blank_at k before) && some_below k (λ j. nat_le n j && (stands before j && blank_at j before))))
+      stands before k && (not (blank_at k before) && some_below k (λ j. nat_le n j && (stands before j && blank_at j before))))
   stands (ErasesAll ∷ before) n = false
 
   -- a byte that was typed, where it stands
