@@ -163,7 +163,7 @@ pub killing-keys : map (λ word. map (λ line. echoes word Kill 21 line []) ((97
 killing-keys = refl
 
 -- REPRINT: the key, a newline, and "a", TAB, a literal LF, ^A and "b"; an empty line
-pub reprinted : map (λ word. map (λ line. echoes word Reprint 18 line line) ((97 ∷ 9 ∷ 10 ∷ 1 ∷ 98 ∷ []) ∷ [] ∷ [])) (0x208 ∷ 0xfffffdff ∷ [])
+pub reprinted : map (λ word. map (λ line. echoes word Reprint 18 line []) ((97 ∷ 9 ∷ 10 ∷ 1 ∷ 98 ∷ []) ∷ [] ∷ [])) (0x208 ∷ 0xfffffdff ∷ [])
     ≡ ((94 ∷ 82 ∷ 10 ∷ 97 ∷ 9 ∷ 94 ∷ 74 ∷ 94 ∷ 65 ∷ 98 ∷ []) ∷ (94 ∷ 82 ∷ 10 ∷ []) ∷ [])
     ∷ ((18 ∷ 10 ∷ 97 ∷ 9 ∷ 10 ∷ 1 ∷ 98 ∷ []) ∷ (18 ∷ 10 ∷ []) ∷ []) ∷ []
 reprinted = refl

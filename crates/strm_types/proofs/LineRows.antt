@@ -72,6 +72,12 @@ edits =
     ∷ (Types 100 ∷ ErasesByte ∷ ErasesWord ∷ Types 32 ∷ Types 32 ∷ Types 98 ∷ Types 32 ∷ Types 97 ∷ [])
     -- a KILL WERASE b
     ∷ (Types 98 ∷ ErasesWord ∷ ErasesAll ∷ Types 97 ∷ [])
+    -- a SP ERASE b WERASE: the space that was taken parts no words
+    ∷ (ErasesWord ∷ Types 98 ∷ ErasesByte ∷ Types 32 ∷ Types 97 ∷ [])
+    -- a b KILL c d ERASE: what was taken once doesn't come back
+    ∷ (ErasesByte ∷ Types 100 ∷ Types 99 ∷ ErasesAll ∷ Types 98 ∷ Types 97 ∷ [])
+    -- a KILL b SP c WERASE
+    ∷ (ErasesWord ∷ Types 99 ∷ Types 32 ∷ Types 98 ∷ ErasesAll ∷ Types 97 ∷ [])
     ∷ []
 
 -- the lines that they lead to
@@ -93,6 +99,9 @@ lines =
     ∷ []
     ∷ (97 ∷ 100 ∷ [])
     ∷ (98 ∷ [])
+    ∷ []
+    ∷ (99 ∷ [])
+    ∷ (98 ∷ 32 ∷ [])
     ∷ []
 
 pub lines-edited : map (line_of is_blank) edits ≡ lines
