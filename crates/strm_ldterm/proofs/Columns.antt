@@ -1,5 +1,5 @@
 -- Columns of lines, and of what is rubbed out.
-use Rattle.std.proofs.Common.{◌≡◌, ℕ, zero, suc, ◌+◌, ◌-◌, ◌*◌, ◌<◌, ◌≤◌, Bool, true, false, List, [], ◌∷◌, ◌++◌, length, take, drop, refl, sym, ap, ◌∙◌, arith}
+use Rattle.std.proofs.Common.{◌≡◌, ℕ, zero, suc, ◌+◌, ◌-◌, ◌*◌, ◌≤◌, Bool, true, false, List, [], ◌∷◌, ◌++◌, length, take, drop, refl, sym, ap, ◌∙◌, arith}
 use Rattle.std.specs.Prelude.{if◌then◌else◌}
 use Rattle.std.proofs.lemmas.List.{take-append-drop}
 use Rattle.strm_types.specs.declared.termios.Termios.{Termios}
@@ -32,7 +32,7 @@ module _ (t : Termios) where
       → rub_out (all - kept) ≡ under_echo t (erase_echo t line (take left line) byte)
   erase_echo-rubs line left byte kept all echoes rubs kept_is all_is =
       let whole : all ≡ column_from t 0 line =
-              all_is ∙ ap (λ n. column_from t n (drop left line)) kept_is ∙ column_from-parts 0 left line in
+      all_is ∙ ap (λ n. column_from t n (drop left line)) kept_is ∙ column_from-parts 0 left line in
       ap (λ n. rub_out (n - kept)) whole
       ∙ ap (λ n. rub_out (column_from t 0 line - n)) kept_is
       ∙ sym (chosen (echoe t) _ _ rubs)

@@ -17,7 +17,7 @@ pub length-echo : (e : Echo) (line bytes : List ℕ) (own columns at rest : ℕ)
     → at ≡ length bytes - e.shown → rest ≡ length (flat_map (shown e.controls) (take (length bytes - at) (drop at bytes))) → own + 3 * columns + rest ≡ length (echo_bytes e line)
 length-echo e line bytes own columns at rest own_is columns_is bytes_is at_is rest_is =
     let end : rest ≡ length (end_shown e.controls e.shown line) =
-            rest_is ∙ ap (λ l. length (flat_map (shown e.controls) l)) (to_end at bytes) ∙ ap (λ n. length (flat_map (shown e.controls) (drop n bytes))) at_is ∙ ap (λ l. length (end_shown e.controls e.shown l)) bytes_is in
+    rest_is ∙ ap (λ l. length (flat_map (shown e.controls) l)) (to_end at bytes) ∙ ap (λ n. length (flat_map (shown e.controls) (drop n bytes))) at_is ∙ ap (λ l. length (end_shown e.controls e.shown l)) bytes_is in
     let one = length-append e.first.items (rub_out e.columns ++ end_shown e.controls e.shown line) in
     let two = length-append (rub_out e.columns) (end_shown e.controls e.shown line) in
     let three = length-rub_out e.columns in

@@ -1,5 +1,5 @@
 -- No key has an echo of more than 6120 bytes: KILL rubs out 255 bytes of 8 columns at most, by three bytes a column.
-use Rattle.std.proofs.Common.{◌≡◌, ℕ, ◌+◌, ◌-◌, ◌*◌, ◌%◌, ◌≤◌, Bool, true, false, not, List, [], ◌∷◌, ◌++◌, length, take, length-append, arith}
+use Rattle.std.proofs.Common.{ℕ, ◌+◌, ◌-◌, ◌*◌, ◌%◌, ◌≤◌, Bool, true, false, not, List, [], ◌∷◌, length, length-append, arith}
 use Rattle.std.specs.Prelude.{◌==◌, ◌&&◌, flat_map, if◌then◌else◌}
 use Rattle.strm_types.specs.declared.keys.Key.{Key}
 use Rattle.strm_types.specs.declared.keys.Key.TheVariants.{Stop, Start, Intr, Quit, Susp, Ignored, Eof, Erase, Kill, Werase, Reprint, Lnext, Delimiter, Ordinary}
@@ -8,7 +8,7 @@ use Rattle.strm_types.specs.declared.termios.Termios.{Termios}
 use Rattle.strm_types.specs.Echo.{column_from, columns, echo_by, echo_byte, erase_echo, is_control, kill_echo, ordinary_echo, reprint_echo, rub_out, shown_control, tab, typed_echo, under_echo, width_at}
 use Rattle.strm_types.specs.Keys.{newline}
 use Rattle.strm_types.specs.Lines.{has_room}
-use Rattle.strm_types.specs.Termios.{echo, echoctl, echoe, echok, echoke, echonl, icanon, imaxbel}
+use Rattle.strm_types.specs.Termios.{echo, echoctl, echoe, echok, echoke, icanon, imaxbel}
 use Rattle.strm_ldterm.proofs.Columns.{length-rub_out}
 
 -- a choice of two lists that are short, and of two numbers that are small

@@ -30,15 +30,15 @@ module _ {C : Type 0} (test : C → Bool) where
   without_end-falls line left d some within passes =
       let same : left - 1 + 1 ≡ left = omega arith in
       sym (ap (λ n. without_end test (take n line)) (sym same)
-          ∙ ap (without_end test) (take_more line (left - 1) d (omega arith))
-          ∙ without_end-taken (take (left - 1) line) (get_or line (left - 1) d) passes)
+      ∙ ap (without_end test) (take_more line (left - 1) d (omega arith))
+      ∙ without_end-taken (take (left - 1) line) (get_or line (left - 1) d) passes)
 
   pub without_end-stays : (line : List C) (left : ℕ) (d : C) → 0 < left → left ≤ length line → test (get_or line (left - 1) d) ≡ false
       → without_end test (take left line) ≡ take left line
   without_end-stays line left d some within fails =
       let same : left - 1 + 1 ≡ left = omega arith in
       let split : take left line ≡ take (left - 1) line ++ get_or line (left - 1) d ∷ [] =
-              ap (λ n. take n line) (sym same) ∙ take_more line (left - 1) d (omega arith) in
+      ap (λ n. take n line) (sym same) ∙ take_more line (left - 1) d (omega arith) in
       ap (without_end test) split ∙ without_end-kept (take (left - 1) line) (get_or line (left - 1) d) fails ∙ sym split
 
 -- whether a byte is a blank, or isn't one

@@ -106,8 +106,8 @@ stroke_of-plain t behind byte near plain may not_behind near_is plain_is may_is 
     let no = sym may_is ∙ not_key in
     let rest = or-right (plain == newline) (plain == carriage_return || list_any (λ c. c == plain) t.control) no in
     sym (taken_as-plain t plain
-            (or-left (plain == newline) (plain == carriage_return || list_any (λ c. c == plain) t.control) no)
-            (or-left (plain == carriage_return) (list_any (λ c. c == plain) t.control) rest)
-            (or-right (plain == carriage_return) (list_any (λ c. c == plain) t.control) rest))
+    (or-left (plain == newline) (plain == carriage_return || list_any (λ c. c == plain) t.control) no)
+    (or-left (plain == carriage_return) (list_any (λ c. c == plain) t.control) rest)
+    (or-right (plain == carriage_return) (list_any (λ c. c == plain) t.control) rest))
     ∙ ap (λ b. taken_as false t b) (plain_is ∙ ap (lowered t) near_is)
     ∙ ap (λ l. taken_as l t (lowered t (stripped t byte))) (sym not_behind)

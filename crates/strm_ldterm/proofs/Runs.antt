@@ -1,5 +1,5 @@
 -- Bytes that are taken from the front of a list, and what is left of it.
-use Rattle.std.proofs.Common.{◌≡◌, ℕ, zero, suc, ◌+◌, ◌-◌, ◌<◌, ◌≤◌, List, [], ◌∷◌, ◌++◌, length, take, drop, refl, sym, ap, ◌∙◌, subst, append-nil, length-drop, arith}
+use Rattle.std.proofs.Common.{◌≡◌, ℕ, zero, suc, ◌+◌, ◌-◌, ◌≤◌, List, [], ◌∷◌, ◌++◌, length, take, drop, refl, sym, ap, ◌∙◌, subst, append-nil, length-drop, arith}
 use Rattle.std.proofs.Math.Seq.{take-append_seam, take-length, drop-append_seam}
 
 -- what stands from a place to the end
@@ -8,9 +8,10 @@ to_end at bytes = ap (λ n. take n (drop at bytes)) (sym (length-drop at bytes))
 
 -- a full run is the first so many bytes, and what is left is the rest
 pub full_run : {C : Type 0} (run rest whole : List C) (n : ℕ) → run ++ rest ≡ whole → length run ≡ n → (run ≡ take n whole) × (rest ≡ drop n whole)
-full_run run rest whole n split full =
-    ( sym (ap (λ m. take m whole) (sym full) ∙ ap (take (length run)) (sym split) ∙ take-append_seam run rest)
-    , sym (ap (λ m. drop m whole) (sym full) ∙ ap (drop (length run)) (sym split) ∙ drop-append_seam run rest))
+full_run run rest whole n split full = (
+  sym (ap (λ m. take m whole) (sym full) ∙ ap (take (length run)) (sym split) ∙ take-append_seam run rest),
+  sym (ap (λ m. drop m whole) (sym full) ∙ ap (drop (length run)) (sym split) ∙ drop-append_seam run rest),
+)
 
 -- all bytes are a run, where they aren't more
 take_all : {C : Type 0} (bytes : List C) (n : ℕ) → length bytes ≤ n → (bytes ≡ take n bytes) × ([] ≡ drop n bytes)

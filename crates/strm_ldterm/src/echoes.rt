@@ -21,10 +21,15 @@ pub const ECHO_MAX: usize = 6120;
 
 // Bytes with a meaning of their own.
 const BELL: u8 = 7;
+
 const BACKSPACE: u8 = 8;
+
 const TAB: u8 = b'\t';
+
 const NEWLINE: u8 = b'\n';
+
 const SPACE: u8 = b' ';
+
 const DELETE: u8 = 127;
 
 /// What is left of an echo: bytes, then columns to rub out, then so many bytes at the end of the line that are shown once more, where

@@ -11,6 +11,7 @@ use strm_types::{ControlChar, InputModes, Key, LocalModes, Stroke, Termios};
 
 // Line feed, which ends a line, and carriage return.
 const NEWLINE: u8 = b'\n';
+
 const CARRIAGE_RETURN: u8 = b'\r';
 
 // The byte without its top bit, where ISTRIP says so.

@@ -54,9 +54,19 @@ fn types(rt: &impl Abort, typed: &[u8], line: &[u8], echo: &[u8]) -> Result<(), 
 fn lines_are_edited_and_echoed(rt: HostRuntime) -> Result<(), Fail> {
     types(&rt, b"ls\x7f", b"l", b"ls\x08 \x08")?;
     types(&rt, b"\x7f", b"", b"")?;
-    types(&rt, b"ab cd \x17", b"ab ", b"ab cd \x08 \x08\x08 \x08\x08 \x08")?;
+    types(
+        &rt,
+        b"ab cd \x17",
+        b"ab ",
+        b"ab cd \x08 \x08\x08 \x08\x08 \x08",
+    )?;
     types(&rt, b"a\x01\x15", b"", b"a^A\x08 \x08\x08 \x08\x08 \x08")?;
-    types(&rt, b"abcdef\t\x7f", b"abcdef", b"abcdef\t\x08 \x08\x08 \x08")?;
+    types(
+        &rt,
+        b"abcdef\t\x7f",
+        b"abcdef",
+        b"abcdef\t\x08 \x08\x08 \x08",
+    )?;
     types(&rt, b"a\x16\x15\x12", b"a\x15", b"a^U^R\na^U")?;
     types(&rt, b"a\x03\r", b"a", b"a^C\n")
 }

@@ -19,4 +19,4 @@ returns-then-contains c =
     let rubs : echoe t ≡ true = search rules in
     let all = c.column_from.ensures.value ∙ ap (λ (l : List ℕ). column_from t kept l) (to_end c.args.left c.args.line.now) in
     λ after. c.of_columns.ensures after
-        ∙ erase_echo-rubs t c.args.line.now c.args.left c.args.byte kept c.column_from.result echoes rubs c.column_from-kept.ensures.value all
+    ∙ erase_echo-rubs t c.args.line.now c.args.left c.args.byte kept c.column_from.result echoes rubs c.column_from-kept.ensures.value all
