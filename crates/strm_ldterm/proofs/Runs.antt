@@ -1,5 +1,5 @@
 -- Bytes that are taken from the front of a list, and what is left of it.
-use Rattle.std.proofs.Common.{◌≡◌, ℕ, zero, suc, ◌+◌, ◌-◌, ◌≤◌, List, [], ◌∷◌, ◌++◌, length, take, drop, refl, sym, ap, ◌∙◌, subst, append-nil, length-drop, arith}
+use Rattle.std.proofs.Common.{◌≡◌, ℕ, zero, suc, ◌-◌, ◌≤◌, List, [], ◌∷◌, ◌++◌, length, take, drop, refl, sym, ap, ◌∙◌, subst, append-nil, length-drop, arith}
 use Rattle.std.proofs.Math.Seq.{take-append_seam, take-length, drop-append_seam}
 
 -- what stands from a place to the end
