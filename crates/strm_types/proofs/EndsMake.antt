@@ -11,9 +11,9 @@ use Rattle.strm_types.specs.declared.names.Way.TheVariants.{Up, Down}
 use Rattle.strm_types.specs.declared.spots.Across.{Across}
 use Rattle.strm_types.specs.declared.spots.Spot.{Spot}
 use Rattle.strm_types.specs.Deliver.{Acted}
-use Rattle.strm_types.specs.Drivers.{answered, bottom_across, crosses, driver_put, flush_across, flush_down, freed, ioctl_put, own_flushed, put_across, put_down, reader_flush, taken_in}
+use Rattle.strm_types.specs.Drivers.{answered, crosses, driver_put, flush_down, freed, ioctl_put, own_flushed, put_across, put_down, taken_in}
 use Rattle.strm_types.specs.Flushing.{asked_by}
-use Rattle.strm_types.specs.Heads.{flush_up, head_flushed, head_put, is_doubled, obeyed, passed_by, waits_for_readers}
+use Rattle.strm_types.specs.Heads.{head_flushed, head_put, is_doubled, obeyed, passed_by}
 use Rattle.strm_types.specs.Ioctls.{read_ioc}
 use Rattle.strm_types.specs.Message.{Message, has_parts}
 use Rattle.strm_types.specs.Names.{is_master}

@@ -1,5 +1,5 @@
 -- Which key a byte is to the line discipline, and as which byte it is taken (termio(7I): c_iflag, c_lflag, "Special Characters").
-use Rattle.std.specs.Prelude.{ℕ, Bool, true, false, ◌&&◌, ◌||◌, ◌==◌, ◌+◌, ◌%◌, nat_le, if◌then◌else◌, List, [], ◌∷◌, ◌++◌}
+use Rattle.std.specs.Prelude.{ℕ, Bool, true, false, ◌&&◌, ◌||◌, ◌==◌, ◌+◌, ◌%◌, nat_le, if◌then◌else◌, List, [], ◌∷◌}
 use Rattle.strm_types.specs.declared.keys.Key.{Key}
 use Rattle.strm_types.specs.declared.keys.Key.TheVariants.{Stop, Start, Intr, Quit, Susp, Ignored, Eof, Erase, Kill, Werase, Reprint, Lnext, Delimiter, Ordinary}
 use Rattle.strm_types.specs.declared.keys.Stroke.{Stroke}

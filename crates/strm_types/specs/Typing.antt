@@ -1,6 +1,6 @@
 -- What a byte does that is typed at a terminal: to the unfinished line, to what goes up and down, and to its echo (termio(7I):
 -- "Canonical Mode Input Processing", "Non-Canonical Mode Input Processing", "Special Characters"; ldterm(7M)).
-use Rattle.std.specs.Prelude.{ℕ, ◌+◌, Bool, true, false, ◌&&◌, ◌||◌, ◌==◌, not, if◌then◌else◌, List, [], ◌∷◌, ◌++◌, length, drop, map, Option, None, Some}
+use Rattle.std.specs.Prelude.{ℕ, Bool, true, false, ◌&&◌, not, if◌then◌else◌, List, [], ◌∷◌, ◌++◌, length, drop, None}
 use Rattle.strm_types.specs.declared.flushing.FlushAsked.{FlushAsked}
 use Rattle.strm_types.specs.declared.keys.Key.{Key}
 use Rattle.strm_types.specs.declared.keys.Key.TheVariants.{Stop, Start, Intr, Quit, Susp, Ignored, Eof, Erase, Kill, Werase, Reprint, Lnext, Delimiter, Ordinary}
@@ -19,11 +19,11 @@ use Rattle.strm_types.specs.Deliver.{Acted, Fate, Goes, Comes, Parcel}
 use Rattle.strm_types.specs.Echo.{echo_of}
 use Rattle.strm_types.specs.Flushing.{flush_bytes, flush_message}
 use Rattle.strm_types.specs.Keys.{stroke_of, restarts}
-use Rattle.strm_types.specs.Ldterms.{Ldterm, Stage, Between, Begun, Answered, sends, onward}
+use Rattle.strm_types.specs.Ldterms.{Ldterm, Begun, Answered, sends, onward}
 use Rattle.strm_types.specs.Lines.{Edit, Types, ErasesByte, ErasesWord, ErasesAll, edited, has_room, is_blank}
 use Rattle.strm_types.specs.Message.{Message, cells_of, data_message}
 use Rattle.strm_types.specs.Names.{direction_at}
-use Rattle.strm_types.specs.Queue.{Queue, put_on, put_enables, is_full, is_none_left}
+use Rattle.strm_types.specs.Queue.{put_on, put_enables, is_full, is_none_left}
 use Rattle.strm_types.specs.Service.{line_gone}
 use Rattle.strm_types.specs.Termios.{icanon, imaxbel, noflsh}
 
@@ -53,10 +53,7 @@ is_lnext Lnext = true
 is_lnext _ = false
 
 module _ {C : Type 0} (cells : Cells C) (here : Spot) where
-  -- the direction of what is typed, and that of its echo
-  abbrev pub typed_dir : Dir
-  typed_dir = direction_at Up here.side
-
+  -- the direction of the echo
   abbrev pub echo_dir : Dir
   echo_dir = direction_at Down here.side
 
