@@ -4,3 +4,13 @@ mod EchoSizes
 mod LineEnds
 mod PlainBytes
 mod Runs
+pub mod Fresh
+pub mod Last
+pub mod Beside
+pub mod Steps
+pub mod Asking
+pub mod Relief
+pub mod Flushed
+pub mod Before
+pub mod Read
+pub mod Passing

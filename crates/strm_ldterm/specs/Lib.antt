@@ -1,1 +1,6 @@
 pub mod Echoes
+pub mod Stands
+pub mod Calls
+pub mod Does
+pub mod Frames
+pub mod Relieved

@@ -3,11 +3,20 @@
 #![tactic(auto)]
 
 mod echoes;
+mod flushing;
+mod ldterm;
 mod lines;
+mod putting;
+mod queues;
+mod reading;
+mod relieving;
 mod strokes;
 
 pub use echoes::{ECHO_MAX, Echo, RUN_MAX, echo_of};
+pub use ldterm::{Ldterm, Stage};
 pub use lines::Line;
+pub use putting::put;
+pub use queues::{asks, is_full, sizes};
 pub use strokes::{restarts, stroke_of};
 
 #[cfg(test)]

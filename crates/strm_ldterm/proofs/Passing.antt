@@ -1,0 +1,93 @@
+-- An M_FLUSH that passes, and puts by their kind.
+use Rattle.std.proofs.Common.{ℕ, ◌≡◌, Bool, true, false, cond, List, [], ◌∷◌, ◌++◌, refl, sym, ap, ◌∙◌, append-nil}
+use Rattle.strm_types.specs.declared.flushing.FlushAsked.{FlushAsked}
+use Rattle.strm_types.specs.declared.kinds.MsgKind.{MsgKind}
+use Rattle.strm_types.specs.declared.kinds.MsgKind.TheVariants as kinds
+use Rattle.strm_types.specs.declared.names.Way.TheVariants.{Up, Down}
+use Rattle.strm_types.specs.declared.rules.Fates.{Fates}
+use Rattle.strm_types.specs.declared.spots.Note.{Note}
+use Rattle.strm_types.specs.declared.spots.Spot.{Spot}
+use Rattle.strm_types.specs.Deliver.{Acted, tallied}
+use Rattle.strm_types.specs.Flush.{is_data_kind}
+use Rattle.strm_types.specs.Flushing.{is_flush}
+use Rattle.strm_types.specs.Ldterms as ldterms
+use Rattle.strm_types.specs.Ldterms.{sends, both, onward, queue_flushed, line_flushed, read_flushed, write_flushed, takes_band_0, flush_passes, ldterm_puts, queued_at, waits_there}
+use Rattle.std.specs.Prelude.{◌&&◌, not}
+use Rattle.strm_types.specs.Message.{Message}
+use Rattle.strm_types.specs.Service.{line_gone}
+use Rattle.strm_types.specs.declared.rules.Rule.TheVariants.{Flushed}
+use Rattle.strm_blocks.specs.Blocks.{StoreValue, IsStore}
+use Rattle.strm_msg.specs.Messages.{message_of}
+use Rattle.strm_frame.specs.declared.modules.Acts.{Acts}
+use Rattle.strm_frame.specs.Hands.{CanPut}
+use Rattle.strm_frame.specs.Outboxes.{message_in}
+use Rattle.strm_ldterm.specs.declared.ldterm.Ldterm.{Ldterm}
+use Rattle.strm_ldterm.specs.Stands.{ldterm_in, keeps}
+use Rattle.strm_ldterm.specs.Does.{Does, Flushes}
+use Rattle.strm_ldterm.proofs.Steps.{still-chain, alters-does}
+
+-- flushes send nothing
+read-sends : (here : Spot) (asked : FlushAsked) (p : ldterms.Ldterm ℕ) → (read_flushed here asked p).sent ≡ []
+read-sends here asked p =
+    elim asked.for_read as (λ v. (cond v (both (queue_flushed Up here asked.band p) (line_flushed here asked.band)) (sends [] p)).sent ≡ []) [
+      | true ↦ line-sends ((queue_flushed Up here asked.band p).state)
+      | false ↦ refl
+    ]
+  where
+    line-sends : (p : ldterms.Ldterm ℕ) → (line_flushed here asked.band p).sent ≡ []
+    line-sends p = at (takes_band_0 asked.band)
+      where
+        at : (v : Bool) → (cond v (record (sends [] (ldterms.without_line p)) { gone = line_gone here.side Flushed p.line }) (sends [] p)).sent ≡ []
+        at true = refl
+        at false = refl
+
+write-sends : (here : Spot) (asked : FlushAsked) (p : ldterms.Ldterm ℕ) → (write_flushed here asked p).sent ≡ []
+write-sends here asked p =
+    elim asked.for_write as (λ v. (cond v (queue_flushed Down here asked.band (record p { echoing = p.echoing && not (takes_band_0 asked.band) })) (sends [] p)).sent ≡ []) [ true ↦ refl | false ↦ refl ]
+
+pub flushes-send : (here : Spot) (asked : FlushAsked) (p : ldterms.Ldterm ℕ) → (both (read_flushed here asked p) (write_flushed here asked)).sent ≡ []
+flushes-send here asked p =
+    ap (λ l. l ++ (write_flushed here asked (read_flushed here asked p).state).sent) (read-sends here asked p) ∙ write-sends here asked (read_flushed here asked p).state
+
+pub flush-plain : (k : MsgKind) → is_flush k ≡ true → is_data_kind k ≡ false
+unfolding is_data_kind
+flush-plain kinds.Flush is = refl
+flush-plain _ is = absurd (cc)
+
+module _ {M : Type 0} (name : M → ℕ) (s u : StoreValue) (x z : Ldterm M) (i : ℕ) (st : IsStore s) (can : CanPut s i (keeps name x)) where
+  -- the message goes on behind what was done
+  pub passes-after : (here : Spot) (notes : List Note) (acts : Acts M) (f f2 : Fates) (a : Acted ℕ (ldterms.Ldterm ℕ)) → Flushes name s u x z notes f f2 a → a.sent ≡ []
+      → Does name u u z z i acts f2 f2 (record (sends (onward here.way here (message_in u i) ∷ []) (ldterm_in name u z)) { notes = notes })
+      → Does name s u x z i acts f f2 (both a (sends (onward here.way here (message_in s i) ∷ [])))
+  passes-after here notes acts f f2 a done none does =
+      let same = still-chain name s u x z i st can done.alters in
+      let d = alters-does name s u x z i st can done.alters u z acts f2 f2 _ _ does refl in
+      record {
+        state = done.state;
+        notes = does.notes ∙ done.noted ∙ sym (append-nil a.notes);
+        sent =
+            does.sent ∙ ap (λ chain. onward here.way here (message_of chain) ∷ []) same
+            ∙ ap (λ l. l ++ onward here.way here (message_in s i) ∷ []) (sym none);
+        told = done.told ∙ ap (λ g. tallied g f) (sym (append-nil a.gone));
+        held = d.held;
+        own = d.own;
+        chains = d.chains;
+        hands = d.hands;
+        frees = d.frees;
+        pool = d.pool;
+      }
+
+-- a put by the kind of its message
+module _ (here : Spot) (m : Message ℕ) (p : ldterms.Ldterm ℕ) where
+  pub puts-wait : waits_there m.kind ≡ true → ldterm_puts here m p ≡ queued_at here.way m p
+  puts-wait is = ap (λ v. cond v (queued_at here.way m p) (cond (is_flush m.kind) (flush_passes here m p) (sends (onward here.way here m ∷ []) p))) is
+
+  pub puts-flush : waits_there m.kind ≡ false → is_flush m.kind ≡ true → ldterm_puts here m p ≡ flush_passes here m p
+  puts-flush is flush =
+      ap (λ v. cond v (queued_at here.way m p) (cond (is_flush m.kind) (flush_passes here m p) (sends (onward here.way here m ∷ []) p))) is
+      ∙ ap (λ v. cond v (flush_passes here m p) (sends (onward here.way here m ∷ []) p)) flush
+
+  pub puts-pass : waits_there m.kind ≡ false → is_flush m.kind ≡ false → ldterm_puts here m p ≡ sends (onward here.way here m ∷ []) p
+  puts-pass is flush =
+      ap (λ v. cond v (queued_at here.way m p) (cond (is_flush m.kind) (flush_passes here m p) (sends (onward here.way here m ∷ []) p))) is
+      ∙ ap (λ v. cond v (flush_passes here m p) (sends (onward here.way here m ∷ []) p)) flush

@@ -1,0 +1,15 @@
+-- The echo stands first where it stands alone.
+use Rattle.std.proofs.Common.{sym, ap, ◌∙◌}
+use Rattle.strm_queue.specs.Stored.{messages_on}
+use Rattle.strm_ldterm.specs.Stands.{ldterm_in}
+use Rattle.strm_ldterm.specs.Calls.{ldterm_asks}
+use Rattle.strm_ldterm.proofs.Asking.{asked-echo}
+use Rattle.strm_ldterm.proofs.queues.asks.Goals as goal
+
+pub returns-in-None-asked_on-clause-asks : goal.returns-in-None-asked_on-clause-asks
+returns-in-None-asked_on-clause-asks g c =
+    let s = g.B.Blocks.value c.args.store.now in
+    let name = g.B.Blocks.name in
+    let x = c.args.ldterm.now in
+    asked-echo name s (messages_on s x.write_queue.list) x.echo c.in-None-asked_on.ensures.asks (sym c.is_some.ensures ∙ c.if-is_some.true) c.requires.held.echoes
+    ∙ ap (λ w. ldterm_asks w (ldterm_in name s x)) (sym c.in-Down.is)

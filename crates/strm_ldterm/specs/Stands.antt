@@ -1,0 +1,86 @@
+-- What the module ldterm stands for beside a store, and what holds of both.
+use Rattle.std.specs.Prelude.{ℕ, ◌≡◌, ◌≢◌, ◌≤◌, ◌+◌, List, [], ◌++◌, Option, None, Some, is_some, IfSome}
+use Rattle.std.specs.Option.{option_to_list}
+use Rattle.strm_types.specs.declared.kinds.MsgKind.TheVariants as kinds
+use Rattle.strm_types.specs.Ldterms as plain
+use Rattle.strm_types.specs.Message.{Message, cells_of}
+use Rattle.strm_types.specs.Queue.{Queue}
+use Rattle.strm_blocks.specs.Blocks.{StoreValue, in_hand, block_at}
+use Rattle.strm_msg.specs.Messages.{IsChain}
+use Rattle.strm_queue.specs.Stored.{queue_in, IsReady}
+use Rattle.strm_frame.specs.Hands.{once}
+use Rattle.strm_frame.specs.Outboxes.{message_in}
+use Rattle.strm_ldterm.specs.declared.ldterm.Ldterm.{Ldterm}
+use Rattle.strm_ldterm.specs.declared.ldterm.Stage.{Stage}
+use Rattle.strm_ldterm.specs.declared.ldterm.Stage.TheVariants.{Between, Begun, Answered}
+
+-- how far a turn has come with a byte
+abbrev pub stage_in : Stage → plain.Stage ℕ
+stage_in Between = plain.Between
+stage_in (Begun started byte) = plain.Begun started byte
+stage_in (Answered echo) = plain.Answered echo.items
+
+-- a queue with a message that stands last
+abbrev pub with_last : Option (Message ℕ) → Queue ℕ → Queue ℕ
+with_last last q = record q { messages = q.messages ++ option_to_list last }
+
+-- the cells of a message, where there is one
+abbrev pub cells_kept : Option (Message ℕ) → List ℕ
+cells_kept None = []
+cells_kept (Some m) = cells_of m
+
+-- M_DATA in hand
+pub record IsData (s : StoreValue) (i : ℕ) : Type 0 where
+  pub chain : IsChain (in_hand s i)
+  pub kind : (block_at 0 (in_hand s i)).kind ≡ kinds.Data
+
+-- and of band 0
+pub record IsOrdinary (s : StoreValue) (i : ℕ) : Type 0 where
+  pub are : IsData s i
+  pub band : (block_at 0 (in_hand s i)).band ≡ 0
+
+-- 1 for each list that is its own
+abbrev pub owns : {M : Type 0} → Ldterm M → ℕ → ℕ
+owns x k = once x.read_queue.list k + once x.write_queue.list k
+
+module _ {M : Type 0} (name : M → ℕ) where
+  -- a message that may be kept in hand
+  abbrev pub kept_in : StoreValue → Option M → Option (Message ℕ)
+  kept_in s None = None
+  kept_in s (Some m) = Some (message_in s (name m))
+
+  -- how often a name is one of a message that is kept
+  unfoldable pub times_kept : Option M → ℕ → ℕ
+  times_kept None i = 0
+  times_kept (Some m) i = once (name m) i
+
+  -- how often it keeps a message of a name in hand
+  abbrev pub keeps : Ldterm M → ℕ → ℕ
+  keeps x i = times_kept x.in_work i + times_kept x.gathered i + times_kept x.echo i
+
+  -- what it stands for
+  abbrev pub ldterm_in : StoreValue → Ldterm M → plain.Ldterm ℕ
+  ldterm_in s x = record {
+    termios = x.termios;
+    stopped = x.stopped;
+    after_lnext = x.after_lnext;
+    column = x.column;
+    line = x.line.items;
+    read_queue = queue_in s x.read_queue;
+    write_queue = with_last (kept_in s x.echo) (queue_in s x.write_queue);
+    in_work = kept_in s x.in_work;
+    gathered = cells_kept (kept_in s x.gathered);
+    echoing = is_some x.echo;
+    stage = stage_in x.stage;
+  }
+
+  -- Its queues are ready, each on a list of its own. The message in work is M_DATA, what is gathered and the turn's echo are M_DATA
+  -- of band 0, and each of them is another message.
+  pub record IsHeld (s : StoreValue) (x : Ldterm M) : Type 0 where
+    pub read : IsReady s x.read_queue
+    pub write : IsReady s x.write_queue
+    pub apart : x.read_queue.list ≢ x.write_queue.list
+    pub work : IfSome x.in_work (λ m. IsData s (name m))
+    pub gathers : IfSome x.gathered (λ m. IsOrdinary s (name m))
+    pub echoes : IfSome x.echo (λ m. IsOrdinary s (name m))
+    pub once_each : (i : ℕ) → keeps x i ≤ 1

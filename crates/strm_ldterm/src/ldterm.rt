@@ -1,0 +1,70 @@
+//! The module ldterm beside a store: what it is set to, its unfinished line, its two queues, and what it has in hand in a turn of
+//! its read queue.
+
+ghost use Rattle.std.specs.Prelude.{ℕ, ◌≡◌, ◌≢◌, ◌<◌, ◌+◌, []};
+ghost use Rattle.strm_types.specs.Ldterms.{new_ldterm};
+ghost use Rattle.strm_blocks.specs.Blocks.{StoreValue, list_at};
+ghost use Rattle.strm_frame.specs.Hands.{once};
+ghost use Rattle.strm_ldterm.specs.Stands.{ldterm_in, owns, keeps, IsHeld};
+
+use arrayvec::ArrayVec;
+use strm_queue::{OTHER_HIGH, OTHER_LOW, Queue};
+use strm_types::Termios;
+
+/// How far a turn of the read queue has come with a byte.
+#[derive(Drop)]
+pub enum Stage {
+    /// It is between two bytes.
+    Between,
+    /// A byte has begun, and it has started output or hasn't.
+    Begun { started: bool, byte: u8 },
+    /// What the byte sends has gone, and these bytes are its echo.
+    Answered { echo: ArrayVec<u8, 2> },
+}
+
+/// The module: what it is set to; whether its output is stopped, and whether the next byte stands behind LNEXT; the column of its
+/// output; the unfinished line; its queues. In a turn of its read queue it has messages in hand: what is left of the message in
+/// work, the bytes that wait to go up together, and the turn's echo, which stands last on the write queue.
+#[derive(Drop)]
+pub struct Ldterm<Mp> {
+    pub termios: Termios,
+    pub stopped: bool,
+    pub after_lnext: bool,
+    pub column: usize,
+    pub line: ArrayVec<u8, 255>,
+    pub read_queue: Queue,
+    pub write_queue: Queue,
+    pub in_work: Option<Mp>,
+    pub gathered: Option<Mp>,
+    pub echo: Option<Mp>,
+    pub stage: Stage,
+}
+
+impl<Mp: Drop> Ldterm<Mp> {
+    /// One as it is pushed, with these lists of its own, on which nothing stands.
+    pub fn new(read_list: usize, write_list: usize) -> Ldterm<Mp>
+        requires read { read_list < 8 }
+        requires write { write_list < 8 }
+        requires apart { read_list ≢ write_list }
+        ensures state { (name : Mp → ℕ) (s : StoreValue) → list_at s read_list ≡ [] → list_at s write_list ≡ [] →
+            ldterm_in name s result ≡ new_ldterm }
+        ensures held { (name : Mp → ℕ) (s : StoreValue) → list_at s read_list ≡ [] → list_at s write_list ≡ [] →
+            IsHeld name s result }
+        ensures rests { (name : Mp → ℕ) (i : ℕ) → keeps name result i ≡ 0 }
+        ensures owns { (k : ℕ) → owns result k ≡ once read_list k + once write_list k }
+    {
+        Ldterm {
+            termios: Termios::new(),
+            stopped: false,
+            after_lnext: false,
+            column: 0,
+            line: ArrayVec::new(),
+            read_queue: Queue::new(read_list, OTHER_HIGH, OTHER_LOW),
+            write_queue: Queue::new(write_list, OTHER_HIGH, OTHER_LOW),
+            in_work: None,
+            gathered: None,
+            echo: None,
+            stage: Stage::Between,
+        }
+    }
+}

@@ -1,0 +1,242 @@
+//! What a put at the module does (ldterm(7M); put(9E); putq(9F)).
+
+ghost use Rattle.std.specs.Prelude.{ℕ, ◌≡◌, ◌<◌, ◌≤◌, if◌then◌else◌, ◌&&◌, not, nat_lt, is_some, [], ◌∷◌, ◌++◌, false};
+ghost use Rattle.strm_types.specs.declared.names.Way.TheVariants.{Up, Down};
+ghost use Rattle.strm_types.specs.declared.rules.Fates.{Fates};
+ghost use Rattle.strm_types.specs.declared.limits.TheConstants.{MODULES};
+ghost use Rattle.strm_types.specs.Ldterms.{queued_at, sends, onward, flush_passes, ldterm_puts};
+ghost use Rattle.strm_types.specs.Flushing.{is_flush};
+ghost use Rattle.strm_types.specs.declared.spots.Note.TheVariants.{Room};
+ghost use Rattle.strm_types.specs.Message.{Message};
+ghost use Rattle.strm_types.specs.Ldterms.{waits_there};
+ghost use Rattle.strm_blocks.specs.Blocks.{in_hand, block_at};
+ghost use Rattle.strm_msg.specs.Messages.{IsChain};
+ghost use Rattle.strm_frame.specs.Hands.{AreIn, CanPut};
+ghost use Rattle.strm_frame.specs.Outboxes.{message_in};
+ghost use Rattle.strm_ldterm.specs.Stands.{ldterm_in, keeps, IsHeld};
+ghost use Rattle.strm_ldterm.specs.Does.{Alters, Does};
+ghost use Rattle.std.specs.Prelude.{true};
+
+use crate::flushing::{flush_read, flush_write};
+use crate::ldterm::Ldterm;
+use crate::reading::asked_of;
+use arrayvec::ArrayVec;
+use strm_blocks::Blocks;
+use strm_frame::{Acts, Outbox, Sent};
+use strm_queue::standing::enqueue;
+use strm_types::{Fates, MsgKind, Note, Spot, Way};
+
+/// A note, where a condition holds.
+pub(crate) fn note_if(holds: bool, note: Note) -> ArrayVec<Note, 4>
+    ensures { result.items ≡ (if holds then note ∷ [] else []) }
+{
+    let mut notes = ArrayVec::new();
+    if holds {
+        notes.push(note);
+    }
+    notes
+}
+
+/// Puts the turn's echo on the write queue, where it stays last. From then on it stands there as any other message, and a new
+/// echo begins.
+pub(crate) fn settle_echo<B: Blocks>(ldterm: &mut Ldterm<B::Mp>, store: &mut B)
+    requires held { IsHeld B.name (B.value store.old) ldterm.old }
+    requires kept { AreIn (B.value store.old) (λ _. 0) (keeps B.name ldterm.old) }
+    ensures state { ldterm_in B.name (B.value store.new) ldterm.new
+        ≡ record (ldterm_in B.name (B.value store.old) ldterm.old) { echoing = false } }
+    ensures alters { Alters B.name (B.value store.old) (B.value store.new) ldterm.old ldterm.new }
+{
+    let Some(echo) = ldterm.echo.take() else {
+        return;
+    };
+    store.audit();
+    enqueue(store, &mut ldterm.write_queue, echo);
+}
+
+// A message waits to go up.
+fn wait_up<B: Blocks>(ldterm: &mut Ldterm<B::Mp>, store: &mut B, message: B::Mp) -> Acts<B::Mp>
+    requires held { IsHeld B.name (B.value store.old) ldterm.old }
+    requires can_put { CanPut (B.value store.old) (B.name message) (keeps B.name ldterm.old) }
+    requires chain { IsChain (in_hand (B.value store.old) (B.name message)) }
+    ensures { (f : Fates) → let s = B.value store.old in
+        Does B.name s (B.value store.new) ldterm.old ldterm.new (B.name message) result f f
+        (queued_at Up (message_in s (B.name message)) (ldterm_in B.name s ldterm.old)) }
+{
+    store.audit();
+    let enables = enqueue(store, &mut ldterm.read_queue, message);
+    Acts {
+        notes: note_if(enables, Note::Enable(Way::Up)),
+        sent: Outbox::none(),
+    }
+}
+
+// A message waits to go down, where it comes to stand before the turn's echo, or there is none.
+fn wait_before<B: Blocks>(ldterm: &mut Ldterm<B::Mp>, store: &mut B, message: B::Mp) -> Acts<B::Mp>
+    requires held { IsHeld B.name (B.value store.old) ldterm.old }
+    requires can_put { CanPut (B.value store.old) (B.name message) (keeps B.name ldterm.old) }
+    requires chain { IsChain (in_hand (B.value store.old) (B.name message)) }
+    requires waits { waits_there (message_in (B.value store.old) (B.name message)).kind ≡ true }
+    requires before { let s = B.value store.old in
+        (is_some ldterm.old.echo && not (nat_lt 0 (message_in s (B.name message)).band)) ≡ false }
+    ensures { (f : Fates) → let s = B.value store.old in
+        Does B.name s (B.value store.new) ldterm.old ldterm.new (B.name message) result f f
+        (queued_at Down (message_in s (B.name message)) (ldterm_in B.name s ldterm.old)) }
+{
+    store.audit();
+    let enables = enqueue(store, &mut ldterm.write_queue, message);
+    Acts {
+        notes: note_if(enables, Note::Enable(Way::Down)),
+        sent: Outbox::none(),
+    }
+}
+
+// A message waits to go down. One of band 0 stands behind the turn's echo.
+fn wait_down<B: Blocks>(ldterm: &mut Ldterm<B::Mp>, store: &mut B, message: B::Mp) -> Acts<B::Mp>
+    requires held { IsHeld B.name (B.value store.old) ldterm.old }
+    requires can_put { CanPut (B.value store.old) (B.name message) (keeps B.name ldterm.old) }
+    requires chain { IsChain (in_hand (B.value store.old) (B.name message)) }
+    requires waits { waits_there (message_in (B.value store.old) (B.name message)).kind ≡ true }
+    ensures { (f : Fates) → let s = B.value store.old in
+        Does B.name s (B.value store.new) ldterm.old ldterm.new (B.name message) result f f
+        (queued_at Down (message_in s (B.name message)) (ldterm_in B.name s ldterm.old)) }
+{
+    store.audit();
+    let band = store.band(&message);
+    if band.0 == 0 {
+        settle_echo(ldterm, store);
+        return wait_before(ldterm, store, message);
+    }
+    wait_before(ldterm, store, message)
+}
+
+// Sends a message on to the next place.
+fn pass_on<B: Blocks>(
+    ldterm: &Ldterm<B::Mp>,
+    store: &B,
+    here: Spot,
+    notes: ArrayVec<Note, 4>,
+    message: B::Mp,
+) -> Acts<B::Mp>
+    requires held { IsHeld B.name (B.value store.now) ldterm.now }
+    requires can_put { CanPut (B.value store.now) (B.name message) (keeps B.name ldterm.now) }
+    requires chain { IsChain (in_hand (B.value store.now) (B.name message)) }
+    requires inside { 0 < here.at }
+    requires small { here.at ≤ MODULES }
+    ensures { (f : Fates) → let s = B.value store.now in let m = message_in s (B.name message) in
+        Does B.name s s ldterm.now ldterm.now (B.name message) result f f
+        (record (sends (onward here.way here m ∷ []) (ldterm_in B.name s ldterm.now)) { notes = notes.items }) }
+{
+    let _ = ldterm;
+    let _ = store;
+    Acts {
+        notes,
+        sent: Outbox::one(Sent {
+            to: here.toward(here.way),
+            message,
+        }),
+    }
+}
+
+// A message waits for the turn of its queue.
+fn wait<B: Blocks>(
+    ldterm: &mut Ldterm<B::Mp>,
+    store: &mut B,
+    way: Way,
+    message: B::Mp,
+) -> Acts<B::Mp>
+    requires held { IsHeld B.name (B.value store.old) ldterm.old }
+    requires can_put { CanPut (B.value store.old) (B.name message) (keeps B.name ldterm.old) }
+    requires chain { IsChain (in_hand (B.value store.old) (B.name message)) }
+    requires waits { waits_there (message_in (B.value store.old) (B.name message)).kind ≡ true }
+    ensures { (f : Fates) → let s = B.value store.old in
+        Does B.name s (B.value store.new) ldterm.old ldterm.new (B.name message) result f f
+        (queued_at way (message_in s (B.name message)) (ldterm_in B.name s ldterm.old)) }
+{
+    match way {
+        Way::Up => wait_up(ldterm, store, message),
+        Way::Down => wait_down(ldterm, store, message),
+    }
+}
+
+// Which queues have room again, for those before them.
+fn rooms(up: bool, down: bool) -> ArrayVec<Note, 4>
+    ensures { result.items ≡ (if up then Room Up ∷ [] else []) ++ (if down then Room Down ∷ [] else []) }
+{
+    let mut notes = ArrayVec::new();
+    if up {
+        notes.push(Note::Room(Way::Up));
+    }
+    if down {
+        notes.push(Note::Room(Way::Down));
+    }
+    notes
+}
+
+// Obeys an M_FLUSH, which goes on.
+fn pass_flush<B: Blocks>(
+    ldterm: &mut Ldterm<B::Mp>,
+    store: &mut B,
+    here: Spot,
+    message: B::Mp,
+    told: &mut Fates,
+) -> Acts<B::Mp>
+    requires held { IsHeld B.name (B.value store.old) ldterm.old }
+    requires can_put { CanPut (B.value store.old) (B.name message) (keeps B.name ldterm.old) }
+    requires chain { IsChain (in_hand (B.value store.old) (B.name message)) }
+    requires kind { is_flush (message_in (B.value store.old) (B.name message)).kind ≡ true }
+    requires inside { 0 < here.at }
+    requires small { here.at ≤ MODULES }
+    ensures { let s = B.value store.old in
+        Does B.name s (B.value store.new) ldterm.old ldterm.new (B.name message) result told.old told.new
+        (flush_passes here (message_in s (B.name message)) (ldterm_in B.name s ldterm.old)) }
+{
+    store.audit();
+    let asked = asked_of(store, &message);
+    let up = flush_read(ldterm, store, here, asked, told);
+    let down = flush_write(ldterm, store, here, asked, told);
+    pass_on(ldterm, store, here, rooms(up, down), message)
+}
+
+// Whether messages of a kind wait on its queues.
+fn waits_there(kind: MsgKind) -> bool
+    ensures { result ≡ waits_there kind }
+{
+    matches!(kind, MsgKind::Data | MsgKind::Proto)
+}
+
+// Whether a message of a kind asks for a flush.
+fn is_flush(kind: MsgKind) -> bool
+    ensures { result ≡ is_flush kind }
+{
+    matches!(kind, MsgKind::Flush)
+}
+
+/// Puts a message in hand here, on its way up or down, and says what it does: `put(9E)`. M_DATA and M_PROTO wait for the turn of their
+/// queue, an M_FLUSH is obeyed and goes on, and all else goes on at once. It takes no block. The cost is a step for each block of
+/// the message, and for an M_FLUSH for each on the queues.
+pub fn put<B: Blocks>(
+    ldterm: &mut Ldterm<B::Mp>,
+    store: &mut B,
+    here: Spot,
+    message: B::Mp,
+    told: &mut Fates,
+) -> Acts<B::Mp>
+    requires held { IsHeld B.name (B.value store.old) ldterm.old }
+    requires can_put { CanPut (B.value store.old) (B.name message) (keeps B.name ldterm.old) }
+    requires chain { IsChain (in_hand (B.value store.old) (B.name message)) }
+    requires inside { 0 < here.at }
+    requires small { here.at ≤ MODULES }
+    ensures { let s = B.value store.old in
+        Does B.name s (B.value store.new) ldterm.old ldterm.new (B.name message) result told.old told.new
+        (ldterm_puts here (message_in s (B.name message)) (ldterm_in B.name s ldterm.old)) }
+{
+    store.audit();
+    let kind = store.kind(&message, 0);
+    if waits_there(kind) {
+        return wait(ldterm, store, here.way, message);
+    }
+    if is_flush(kind) {
+        return pass_flush(ldterm, store, here, message, told);
+    }
+    pass_on(ldterm, store, here, ArrayVec::new(), message)
+}

@@ -1,0 +1,149 @@
+//! The queues of the module: what stands there, whether they are full, writers that wait, and what the first message asks.
+
+ghost use Rattle.std.specs.Prelude.{ℕ, ◌≡◌, ◌<◌, ◌≤◌, ◌+◌, ◌++◌, nat_le, length, [], ◌∷◌, IfSome, OnSome, MatchOption};
+ghost use Rattle.std.specs.Option.{option_to_list};
+ghost use Rattle.strm_types.specs.declared.limits.TheConstants.{BANDS};
+ghost use Rattle.strm_types.specs.Queue.{bytes_of, flow_of, count_of};
+ghost use Rattle.strm_types.specs.ModuleQueues.{has_queue, messages_at, full_at, waits};
+ghost use Rattle.strm_blocks.specs.Blocks.{StoreValue};
+ghost use Rattle.strm_types.specs.Message.{Message};
+ghost use Rattle.strm_queue.specs.Stored.{queue_in, messages_on, IsReady};
+ghost use Rattle.strm_frame.specs.Serves.{IsBand};
+ghost use Rattle.strm_ldterm.specs.Stands.{ldterm_in, owns, keeps, kept_in, IsHeld, IsOrdinary};
+ghost use Rattle.strm_ldterm.specs.Calls.{queue_of, with_queue, asked_by, asked_first, ldterm_asks};
+
+use crate::ldterm::Ldterm;
+use strm_blocks::Blocks;
+use strm_frame::Asks;
+use strm_msg::message_size;
+use strm_queue::{Queue, standing};
+use strm_types::{Band, MsgKind, Way};
+
+impl<Mp: Drop> Ldterm<Mp> {
+    /// Whether it has a queue of a way, with a service procedure: it has both.
+    pub fn has_queue(&self, way: Way) -> bool
+        ensures { (name : Mp → ℕ) (s : StoreValue) → result ≡ has_queue queue_of way (ldterm_in name s self.now) }
+    {
+        let _ = way;
+        true
+    }
+
+    /// Has a writer of a band wait at its queue of a way, until there is room again: want-write is set there.
+    pub fn let_wait(&mut self, way: Way, band: Band)
+        requires band { band.0 < BANDS }
+        ensures state { (name : Mp → ℕ) (s : StoreValue) → ldterm_in name s self.new ≡
+            waits queue_of with_queue way band.0 (ldterm_in name s self.old) }
+        ensures held { (name : Mp → ℕ) (s : StoreValue) → IsHeld name s self.old → IsHeld name s self.new }
+        ensures owns { (k : ℕ) → owns self.new k ≡ owns self.old k }
+        ensures keeps { (name : Mp → ℕ) (i : ℕ) → keeps name self.new i ≡ keeps name self.old i }
+    {
+        match way {
+            Way::Up => self.read_queue.let_wait(band),
+            Way::Down => self.write_queue.let_wait(band),
+        }
+    }
+}
+
+/// How many bytes the turn's echo has, where there is one.
+pub(crate) fn echo_size<B: Blocks>(store: &B, echo: &Option<B::Mp>) -> usize
+    requires { IfSome echo.now (λ m. IsOrdinary (B.value store.now) (B.name m)) }
+    ensures { result ≡ bytes_of (option_to_list (kept_in B.name (B.value store.now) echo.now)) }
+{
+    let Some(message) = echo else {
+        return 0;
+    };
+    store.audit();
+    message_size(store, message)
+}
+
+// Whether a band of a queue is full, where so many more bytes count in it.
+fn is_full_with<B: Blocks>(store: &B, queue: &Queue, band: Band, more: usize) -> bool
+    requires ready { IsReady (B.value store.now) queue.now }
+    requires band { band.0 < BANDS }
+    ensures { let q = queue_in (B.value store.now) queue.now in
+        result ≡ nat_le (flow_of band.0 q).high (count_of band.0 q.messages + more) }
+{
+    let count = standing::count(store, queue, band);
+    let high = queue.flows[usize::from(band.0)].high;
+    high <= count || high - count <= more
+}
+
+/// Whether a band of its queue of a way is full. The turn's echo counts on the write queue.
+pub fn is_full<B: Blocks>(ldterm: &Ldterm<B::Mp>, store: &B, way: Way, band: Band) -> bool
+    requires held { IsHeld B.name (B.value store.now) ldterm.now }
+    requires band { band.0 < BANDS }
+    ensures { result ≡ full_at queue_of way band.0 (ldterm_in B.name (B.value store.now) ldterm.now) }
+{
+    match way {
+        Way::Up => standing::is_full(store, &ldterm.read_queue, band),
+        Way::Down if band.0 == 0 => {
+            let echo = echo_size(store, &ldterm.echo);
+            is_full_with(store, &ldterm.write_queue, band, echo)
+        }
+        Way::Down => is_full_with(store, &ldterm.write_queue, band, 0),
+    }
+}
+
+/// How many messages stand on its queue of a way, and how many bytes they have. The turn's echo stands on the write queue.
+pub fn sizes<B: Blocks>(ldterm: &Ldterm<B::Mp>, store: &B, way: Way) -> (usize, usize)
+    requires held { IsHeld B.name (B.value store.now) ldterm.now }
+    ensures messages { result.0 ≡ length (messages_at queue_of way (ldterm_in B.name (B.value store.now) ldterm.now)) }
+    ensures bytes { result.1 ≡ bytes_of (messages_at queue_of way (ldterm_in B.name (B.value store.now) ldterm.now)) }
+{
+    match way {
+        Way::Up => standing::sizes(store, &ldterm.read_queue),
+        Way::Down => {
+            let listed = standing::sizes(store, &ldterm.write_queue);
+            if ldterm.echo.is_none() {
+                return listed;
+            }
+            store.audit();
+            let echo = echo_size(store, &ldterm.echo);
+            (listed.0 + 1, listed.1 + echo)
+        }
+    }
+}
+
+// What a message of a kind and a band asks.
+fn asked_by(way: Way, kind: MsgKind, band: Band) -> Asks
+    ensures asks { result ≡ asked_by way kind band.0 }
+    ensures band { band.0 < BANDS → IsBand result }
+{
+    match (kind, way) {
+        (MsgKind::Data, Way::Up) => Asks::Room(Band(0)),
+        (MsgKind::Data | MsgKind::Proto, _) => Asks::Room(band),
+        _ => Asks::Free,
+    }
+}
+
+// What the first message on a queue's list asks, where one stands there.
+fn asked_on<B: Blocks>(store: &B, queue: &Queue, way: Way) -> Option<Asks>
+    requires { IsReady (B.value store.now) queue.now }
+    ensures asks { MatchOption result (messages_on (B.value store.now) queue.now.list ≡ [])
+        (λ asks. asked_first way (messages_on (B.value store.now) queue.now.list) ≡ asks) }
+    ensures band { IfSome result IsBand }
+    ensures some { (m : Message ℕ) → OnSome result (asked_first way (messages_on (B.value store.now) queue.now.list ++ m ∷ [])
+        ≡ asked_first way (messages_on (B.value store.now) queue.now.list)) }
+{
+    let peek = store.peek(queue.list)?;
+    Some(asked_by(way, peek.kind, peek.band))
+}
+
+/// What the first message of its queue of a way asks before it goes on.
+pub fn asks<B: Blocks>(ldterm: &Ldterm<B::Mp>, store: &B, way: Way) -> Asks
+    requires held { IsHeld B.name (B.value store.now) ldterm.now }
+    ensures asks { result ≡ ldterm_asks way (ldterm_in B.name (B.value store.now) ldterm.now) }
+    ensures band { IsBand result }
+{
+    match way {
+        Way::Up => match asked_on(store, &ldterm.read_queue, way) {
+            Some(asks) => asks,
+            None => Asks::Empty,
+        },
+        Way::Down => match asked_on(store, &ldterm.write_queue, way) {
+            Some(asks) => asks,
+            None if ldterm.echo.is_some() => Asks::Room(Band(0)),
+            None => Asks::Empty,
+        },
+    }
+}
