@@ -89,3 +89,24 @@ module _ {M : Type 0} (name : M → ℕ) (s : StoreValue) where
   of-echo P more (Some e) some is bytes said =
       said (message_in s (name e)) (band-zero s (name e) is)
       (record { first = count-zero name s (Some e) is ∙ sym bytes; others = λ k above. count-other name s k (Some e) above is })
+
+  -- the echo's bytes count in band 0, and in no other one
+  pub echo-adds : (more : ℕ) (o : Option M) → IfSome o (λ m. IsOrdinary s (name m)) → more ≡ bytes_of (option_to_list (kept_in name s o)) → AddsBytes more (option_to_list (kept_in name s o))
+  echo-adds more o is bytes = record { first = count-zero name s o is ∙ sym bytes; others = λ k above. count-other name s k o above is }
+
+  pub echo-there : (o : Option M) → is_none_left (option_to_list (kept_in name s o)) ≡ not (is_some o)
+  echo-there None = refl
+  echo-there (Some e) = refl
+
+-- nothing stands in two lists, joined
+pub none-joined : {A : Type 0} (xs ys : List A) → is_none_left (xs ++ ys) ≡ (is_none_left ys && is_none_left xs)
+none-joined [] ys = by (is_none_left ys)
+  where
+    by : (v : Bool) → v ≡ (v && true)
+    by true = refl
+    by false = refl
+none-joined (x ∷ xs) ys = by (is_none_left ys)
+  where
+    by : (v : Bool) → false ≡ (v && false)
+    by true = refl
+    by false = refl

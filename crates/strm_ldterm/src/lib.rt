@@ -3,6 +3,7 @@
 #![tactic(auto)]
 
 mod echoes;
+mod ending;
 mod flushing;
 mod ldterm;
 mod lines;
@@ -13,6 +14,7 @@ mod relieving;
 mod strokes;
 
 pub use echoes::{ECHO_MAX, Echo, RUN_MAX, echo_of};
+pub use ending::end_turn;
 pub use ldterm::{Ldterm, Stage};
 pub use lines::Line;
 pub use putting::put;
