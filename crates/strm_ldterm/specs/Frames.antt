@@ -49,7 +49,7 @@ module _ {M : Type 0} (name : M → ℕ) where
     stopped = x.stopped;
     after_lnext = x.after_lnext;
     column = x.column;
-    line = x.line.items;
+    line = x.line;
     read_queue = record { messages = map message_of reads; flows = plain_flows x.read_queue.flows; want_read = x.read_queue.want_read; no_enable = x.read_queue.no_enable };
     write_queue = record {
       messages = map message_of writes ++ option_to_list echo;

@@ -65,7 +65,7 @@ module _ {M : Type 0} (name : M → ℕ) where
     stopped = x.stopped;
     after_lnext = x.after_lnext;
     column = x.column;
-    line = x.line.items;
+    line = x.line;
     read_queue = queue_in s x.read_queue;
     write_queue = with_last (kept_in s x.echo) (queue_in s x.write_queue);
     in_work = kept_in s x.in_work;

@@ -75,15 +75,11 @@ fn flush_line<Mp: Drop>(ldterm: &mut Ldterm<Mp>, here: Spot, band: Option<Band>,
     ensures { (name : Mp → ℕ) (s : StoreValue) → IsHeld name s ldterm.old →
         Flushes name s s ldterm.old ldterm.new [] told.old told.new (line_flushed here band (ldterm_in name s ldterm.old)) }
 {
-    if !takes_band_0(band) || ldterm.line.is_empty() {
+    if !takes_band_0(band) || ldterm.line.len() == 0 {
         return;
     }
-    told.tell(
-        direction_at(Way::Up, here.side),
-        Rule::Flushed,
-        ldterm.line.len(),
-    );
-    ldterm.line.clear();
+    let gone = ldterm.line.clear();
+    told.tell(direction_at(Way::Up, here.side), Rule::Flushed, gone);
 }
 
 /// FLUSHR: what waits to go up goes, and with band 0 the unfinished line. It says whether queues before have room again.

@@ -7,6 +7,7 @@ ghost use Rattle.strm_blocks.specs.Blocks.{StoreValue, list_at};
 ghost use Rattle.strm_frame.specs.Hands.{once};
 ghost use Rattle.strm_ldterm.specs.Stands.{ldterm_in, owns, keeps, IsHeld};
 
+use crate::lines::Line;
 use arrayvec::ArrayVec;
 use strm_queue::{OTHER_HIGH, OTHER_LOW, Queue};
 use strm_types::Termios;
@@ -31,7 +32,7 @@ pub struct Ldterm<Mp> {
     pub stopped: bool,
     pub after_lnext: bool,
     pub column: usize,
-    pub line: ArrayVec<u8, 255>,
+    pub line: Line,
     pub read_queue: Queue,
     pub write_queue: Queue,
     pub in_work: Option<Mp>,
@@ -58,7 +59,7 @@ impl<Mp: Drop> Ldterm<Mp> {
             stopped: false,
             after_lnext: false,
             column: 0,
-            line: ArrayVec::new(),
+            line: Line::new(),
             read_queue: Queue::new(read_list, OTHER_HIGH, OTHER_LOW),
             write_queue: Queue::new(write_list, OTHER_HIGH, OTHER_LOW),
             in_work: None,
