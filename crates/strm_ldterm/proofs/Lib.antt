@@ -14,3 +14,4 @@ pub mod Flushed
 pub mod Before
 pub mod Read
 pub mod Passing
+pub mod Turning

@@ -4,3 +4,4 @@ pub mod Calls
 pub mod Does
 pub mod Frames
 pub mod Relieved
+pub mod Turns

@@ -1,0 +1,32 @@
+-- Several stages of a turn on plain bytes, one after the other, before its end.
+use Rattle.std.specs.Prelude.{ℕ, zero, suc, if◌then◌else◌, [], ◌++◌}
+use Rattle.strm_types.specs.declared.spots.Spot.{Spot}
+use Rattle.strm_types.specs.Cells.{plain}
+use Rattle.strm_types.specs.Deliver.{Acted}
+use Rattle.strm_types.specs.Input.{next_stage}
+use Rattle.strm_types.specs.Ldterms.{Ldterm, Stage, Between, Begun, Answered, sends}
+use Rattle.strm_types.specs.Queue.{is_none_left}
+
+-- one thing and then another, unless the first one sends something
+abbrev pub one_after : Acted ℕ (Ldterm ℕ) → (Ldterm ℕ → Acted ℕ (Ldterm ℕ)) → Acted ℕ (Ldterm ℕ)
+one_after t next = if is_none_left t.sent then joined (next t.state) else t
+  where
+    joined : Acted ℕ (Ldterm ℕ) → Acted ℕ (Ldterm ℕ)
+    joined u = record { state = u.state; notes = t.notes ++ u.notes; sent = u.sent; gone = t.gone ++ u.gone }
+
+-- so many stages, up to the first one that sends something
+abbrev pub ahead : Spot → ℕ → Ldterm ℕ → Acted ℕ (Ldterm ℕ)
+ahead here zero p = sends [] p
+ahead here (suc n) p = one_after (next_stage plain here 0 p) (ahead here n)
+
+-- How many blocks of each kind the rest of a byte takes at most, and how many are free at least behind a call that leaves the byte
+-- there, for it and for the delivery of what the call sent.
+abbrev pub needs : Stage ℕ → ℕ
+needs Between = 0
+needs (Begun started c) = 27
+needs (Answered echo) = 1
+
+abbrev pub leaves : Stage ℕ → ℕ
+leaves Between = 0
+leaves (Begun started c) = 31
+leaves (Answered echo) = 25
