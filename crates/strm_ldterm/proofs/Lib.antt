@@ -15,3 +15,4 @@ pub mod Before
 pub mod Read
 pub mod Passing
 pub mod Turning
+pub mod Counting

@@ -1,5 +1,5 @@
 -- Several stages of a turn on plain bytes, one after the other, before its end.
-use Rattle.std.specs.Prelude.{ℕ, zero, suc, if◌then◌else◌, [], ◌++◌}
+use Rattle.std.specs.Prelude.{ℕ, zero, suc, ◌+◌, true, if◌then◌else◌, [], ◌++◌}
 use Rattle.strm_types.specs.declared.spots.Spot.{Spot}
 use Rattle.strm_types.specs.Cells.{plain}
 use Rattle.strm_types.specs.Deliver.{Acted}
@@ -30,3 +30,11 @@ abbrev pub leaves : Stage ℕ → ℕ
 leaves Between = 0
 leaves (Begun started c) = 31
 leaves (Answered echo) = 25
+
+-- how many notes a call may tell of at most, from where it is: of output that was started, and of the echo that begins
+abbrev pub notes_left : Ldterm ℕ → ℕ
+notes_left p = of_stage p.stage + (if p.echoing then 0 else 1)
+  where
+    of_stage : Stage ℕ → ℕ
+    of_stage (Begun true c) = 1
+    of_stage _ = 0

@@ -1,0 +1,116 @@
+-- What stages of a turn on plain bytes do to what is left to treat and to what is noted.
+use Rattle.std.proofs.Common.{ℕ, zero, suc, ◌≡◌, ◌≤◌, ◌<◌, ◌+◌, ◌-◌, ◌*◌, Bool, true, false, cond, List, [], ◌∷◌, ◌++◌, length, refl, sym, ap, ◌∙◌, arith}
+use Rattle.std.proofs.lemmas.Bool.{false≢true}
+use Rattle.std.specs.Prelude.{not, ◌&&◌, Option, None, Some, is_some, option_map}
+use Rattle.strm_types.specs.declared.spots.Note.{Note}
+use Rattle.strm_types.specs.declared.spots.Note.TheVariants.{Enable}
+use Rattle.strm_types.specs.declared.names.Way.TheVariants.{Up, Down}
+use Rattle.strm_types.specs.declared.kinds.MsgKind.TheVariants as kinds
+use Rattle.strm_types.specs.declared.spots.Spot.{Spot}
+use Rattle.strm_types.specs.Cells.{plain, cells_made}
+use Rattle.strm_types.specs.Deliver.{Acted}
+use Rattle.strm_types.specs.Input.{begins_next, cells_left, next_stage, stage_at, stages_done, to_treat, with_left}
+use Rattle.strm_types.specs.Keys.{restarts}
+use Rattle.strm_types.specs.Ldterms.{Ldterm, Stage, Between, Begun, Answered, onward, sends}
+use Rattle.strm_types.specs.Message.{Message, cells_of}
+use Rattle.strm_types.specs.Queue.{is_none_left, is_full, put_enables}
+use Rattle.strm_types.specs.Typing.{bare, begins, echoed, echo_dir, echo_grows, echo_lost, echo_stands, is_lnext, stroke_at, strikes, struck, wakes}
+use Rattle.strm_types.specs.Message.{data_message}
+use Rattle.strm_types.proofs.LdtermStages.{strikes-stay}
+use Rattle.strm_ldterm.specs.Turns.{ahead, notes_left, one_after}
+use Rattle.strm_ldterm.proofs.Turning.{Acts}
+
+-- A stage leaves as much to treat as it has to, and tells of no more than it may.
+pub record Counts (n : ℕ) (p : Ldterm ℕ) (t : Acts) : Type 0 where
+  pub work : is_some t.state.in_work ≡ is_some p.in_work
+  pub left : 3 * to_treat t.state + (stages_done p.stage + n) ≡ 3 * to_treat p + stages_done t.state.stage
+  pub few : length t.notes ≤ notes_left p
+  pub more : is_none_left t.sent ≡ true → length t.notes + notes_left t.state ≤ notes_left p
+
+abbrev of_stage : Ldterm ℕ → Stage ℕ → Ldterm ℕ
+of_stage p stage = record p { stage = stage }
+
+module _ (here : Spot) where
+  -- a byte that is taken off the message in work
+  left-one : (p : Ldterm ℕ) (c : ℕ) (rest : List ℕ) → cells_left p ≡ c ∷ rest → (length (cells_left (with_left rest p)) ≡ length rest) × (is_some (with_left rest p).in_work ≡ is_some p.in_work)
+  unfolding cells_of
+  left-one p c rest is = at p.in_work is
+    where
+      at : (work : Option (Message ℕ)) → cells_left (record p { in_work = work }) ≡ c ∷ rest
+          → (length (cells_left (with_left rest (record p { in_work = work }))) ≡ length rest) × (is_some (with_left rest (record p { in_work = work })).in_work ≡ is_some work)
+      at None is = absurd (let none = ap length is in omega arith)
+      at (Some m) is = (refl, refl)
+
+  begins-counts : (p : Ldterm ℕ) (c : ℕ) (rest : List ℕ) → p.stage ≡ Between → cells_left p ≡ c ∷ rest → Counts 1 p (begins plain here c (with_left rest p))
+  begins-counts p c rest between is = at (p.stopped && restarts p.termios (stroke_at plain here c (with_left rest p)))
+    where
+      total : to_treat p ≡ length (c ∷ rest)
+      total = (let n : length (cells_left p) + 0 ≡ length (c ∷ rest) = (let e = ap length is in omega arith) in ap (λ (s : Stage ℕ). to_treat (of_stage p s)) between ∙ n)
+      none : stages_done p.stage ≡ 0
+      none = ap stages_done between
+      may : notes_left p ≡ notes_left (of_stage p Between)
+      may = ap (λ (s : Stage ℕ). notes_left (of_stage p s)) between
+      one : (length (cells_left (with_left rest p)) ≡ length rest) × (is_some (with_left rest p).in_work ≡ is_some p.in_work)
+      one = left-one p c rest is
+      at : (starts : Bool) → Counts 1 p (cond starts
+          (sends (onward Down here (bare kinds.Start []) ∷ []) (record (with_left rest p) { stopped = false; stage = Begun true c }))
+          (sends [] (record (with_left rest p) { stage = Begun false c })))
+      at true = record { work = one.1; left = (let e = one.0 in let t = total in let z = none in omega arith); few = omega arith; more = λ e. absurd (false≢true e) }
+      at false = record { work = one.1; left = (let e = one.0 in let t = total in let z = none in omega arith); few = omega arith; more = λ e. (let m = may in omega arith) }
+
+  wakes-few : (started : Bool) (c : ℕ) (p : Ldterm ℕ) → length (wakes plain here started p) + notes_left (of_stage p (Answered [])) ≤ notes_left (of_stage p (Begun started c))
+  wakes-few true c p = at (not (is_none_left p.write_queue.messages))
+    where
+      at : (some : Bool) → length (cond {A = List Note} some (Enable Down ∷ []) []) + notes_left (of_stage p (Answered [])) ≤ notes_left (of_stage p (Begun true c))
+      at true = omega arith
+      at false = omega arith
+  wakes-few false c p = omega arith
+
+  struck-counts : (p : Ldterm ℕ) (started : Bool) (c : ℕ) → p.stage ≡ Begun started c → Counts 1 p (struck plain here started c p)
+  struck-counts p started c begun =
+      let stroke = stroke_at plain here c p in
+      let q = record p { after_lnext = is_lnext stroke.key } in
+      let stays = strikes-stay plain here (λ (l : Ldterm ℕ). (l.in_work ≡ p.in_work) × (l.echoing ≡ p.echoing)) (λ l stopped line gathered holds. holds) stroke.key (plain.mapped stroke.byte c) q (refl, refl) in
+      let t = strikes plain here stroke.key (plain.mapped stroke.byte c) q in
+      let same : length (cells_left t.state) ≡ length (cells_left p) = ap (λ (w : Option (Message ℕ)). length (cells_left (record p { in_work = w }))) stays.0 in
+      let total : to_treat p ≡ length (cells_left p) + 1 = ap (λ (s : Stage ℕ). to_treat (of_stage p s)) begun in
+      let one : stages_done p.stage ≡ 1 = ap stages_done begun in
+      let may : notes_left p ≡ notes_left (of_stage p (Begun started c)) = ap (λ (s : Stage ℕ). notes_left (of_stage p s)) begun in
+      let wake = wakes-few started c p in
+      let left : notes_left (of_stage t.state (Answered [])) ≡ notes_left (of_stage p (Answered [])) = ap (λ (v : Bool). notes_left (record (of_stage p (Answered [])) { echoing = v })) stays.1 in
+      record { work = ap is_some stays.0; left = omega arith; few = omega arith; more = λ e. omega arith }
+
+  echoed-counts : (p : Ldterm ℕ) (echo : List ℕ) → p.stage ≡ Answered echo → Counts 1 p (echoed plain here 0 echo (of_stage p Between))
+  echoed-counts p echo answered = by echo
+    where
+      total : to_treat p ≡ length (cells_left p) + 1
+      total = ap (λ (s : Stage ℕ). to_treat (of_stage p s)) answered
+      two : stages_done p.stage ≡ 2
+      two = ap stages_done answered
+      may : notes_left p ≡ notes_left (of_stage p Between)
+      may = ap (λ (s : Stage ℕ). notes_left (of_stage p s)) answered
+      at : (new : List ℕ) (full echoing : Bool) → p.echoing ≡ echoing → Counts 1 p (cond full (echo_lost plain here new (of_stage p Between)) (cond echoing (echo_grows plain here new (of_stage p Between)) (echo_stands plain here new (of_stage p Between))))
+      at new true echoing is = record { work = refl; left = (let t = total in let z = two in omega arith); few = omega arith; more = λ e. (let m = may in omega arith) }
+      at new false true is = record { work = refl; left = (let t = total in let z = two in omega arith); few = omega arith; more = λ e. (let m = may in omega arith) }
+      at new false false is =
+          stands (put_enables (data_message new) p.write_queue)
+        where
+          able : notes_left (of_stage p Between) ≡ 1
+          able = ap (λ (v : Bool). notes_left (record (of_stage p Between) { echoing = v })) is
+          stands : (enables : Bool) → Counts 1 p (record (echo_stands plain here new (of_stage p Between)) { notes = cond {A = List Note} enables (Enable Down ∷ []) [] })
+          stands true = record { work = refl; left = (let t = total in let z = two in omega arith); few = (let m = may in let a = able in omega arith); more = λ e. (let m = may in let a = able in omega arith) }
+          stands false = record { work = refl; left = (let t = total in let z = two in omega arith); few = omega arith; more = λ e. (let m = may in let a = able in omega arith) }
+      by : (bytes : List ℕ) → Counts 1 p (echoed plain here 0 bytes (of_stage p Between))
+      by [] = record { work = refl; left = (let t = total in let z = two in omega arith); few = omega arith; more = λ e. (let m = may in omega arith) }
+      by (b ∷ bytes) = at (cells_made plain (echo_dir plain here) 0 (b ∷ bytes)) (is_full 0 p.write_queue) p.echoing refl
+
+  next-counts : (p : Ldterm ℕ) → 0 < to_treat p → Counts 1 p (next_stage plain here 0 p)
+  next-counts p some = at p.stage refl
+    where
+      left : (cells : List ℕ) → p.stage ≡ Between → cells_left p ≡ cells → Counts 1 p (begins_next plain here cells p)
+      left [] between is = absurd (let t : to_treat p ≡ length (cells_left p) + 0 = ap (λ (s : Stage ℕ). to_treat (of_stage p s)) between in let e = ap length is in omega arith)
+      left (c ∷ rest) between is = begins-counts p c rest between is
+      at : (stage : Stage ℕ) → p.stage ≡ stage → Counts 1 p (stage_at plain here stage 0 p)
+      at Between is = left (cells_left p) is refl
+      at (Begun started c) is = struck-counts p started c is
+      at (Answered echo) is = echoed-counts p echo is
