@@ -1,6 +1,7 @@
 -- What stages of a turn on plain bytes do to what is left to treat and to what is noted.
 use Rattle.std.proofs.Common.{ℕ, zero, suc, ◌≡◌, ◌≤◌, ◌<◌, ◌+◌, ◌-◌, ◌*◌, Bool, true, false, cond, List, [], ◌∷◌, ◌++◌, length, refl, sym, ap, ◌∙◌, arith}
 use Rattle.std.proofs.lemmas.Bool.{false≢true}
+use Rattle.std.proofs.lemmas.List.{length-append}
 use Rattle.std.specs.Prelude.{not, ◌&&◌, Option, None, Some, is_some, option_map}
 use Rattle.strm_types.specs.declared.spots.Note.{Note}
 use Rattle.strm_types.specs.declared.spots.Note.TheVariants.{Enable}
@@ -114,3 +115,45 @@ module _ (here : Spot) where
       at Between is = left (cells_left p) is refl
       at (Begun started c) is = struck-counts p started c is
       at (Answered echo) is = echoed-counts p echo is
+
+  -- so many stages, of those that are left
+  pub record Reaches (n : ℕ) (p : Ldterm ℕ) (t : Acts) : Type 0 where
+    pub count : ℕ
+    pub within : count ≤ n
+    pub some : is_none_left t.sent ≡ false → 0 < count
+    pub all : is_none_left t.sent ≡ true → count ≡ n
+    pub counts : Counts count p t
+
+  counts-joined : (k : ℕ) (p : Ldterm ℕ) (t u : Acts) → is_none_left t.sent ≡ true → Counts 1 p t → Counts k t.state u
+      → Counts (suc k) p (record { state = u.state; notes = t.notes ++ u.notes; sent = u.sent; gone = t.gone ++ u.gone })
+  counts-joined k p t u none c d =
+      let l = length-append t.notes u.notes in
+      let e = c.left in
+      let f = d.left in
+      let m = c.more none in
+      let g = d.few in
+      record { work = d.work ∙ c.work; left = omega arith; few = omega arith; more = λ is. (let h = d.more is in omega arith) }
+
+  abbrev one : Ldterm ℕ → Acts
+  one p = next_stage plain here 0 p
+
+  reaches-more : (n : ℕ) (p : Ldterm ℕ) → Counts 1 p (one p) → Reaches n (one p).state (ahead here n (one p).state) → Reaches (suc n) p (ahead here (suc n) p)
+  reaches-more n p c later = at (is_none_left (one p).sent) refl
+    where
+      at : (none : Bool) → is_none_left (one p).sent ≡ none
+          → Reaches (suc n) p (cond {A = Acts} none (let t = one p in let u = ahead here n t.state in record { state = u.state; notes = t.notes ++ u.notes; sent = u.sent; gone = t.gone ++ u.gone }) (one p))
+      at true none = record {
+        count = suc later.count;
+        within = (let w = later.within in omega arith);
+        some = λ e. omega arith;
+        all = λ e. (let a = later.all e in omega arith);
+        counts = counts-joined later.count p (one p) (ahead here n (one p).state) none c later.counts;
+      }
+      at false some = record { count = 1; within = omega arith; some = λ e. omega arith; all = λ e. absurd (false≢true (sym some ∙ e)); counts = c }
+
+  pub ahead-reaches : (n : ℕ) (p : Ldterm ℕ) → n + stages_done p.stage ≤ 3 * to_treat p → Reaches n p (ahead here n p)
+  ahead-reaches zero p room = record { count = 0; within = omega arith; some = λ e. absurd (false≢true (sym e)); all = λ e. refl; counts = record { work = refl; left = omega arith; few = omega arith; more = λ e. omega arith } }
+  ahead-reaches (suc n) p room =
+      let c = next-counts p (omega arith) in
+      let e = c.left in
+      reaches-more n p c (ahead-reaches n (one p).state (omega arith))

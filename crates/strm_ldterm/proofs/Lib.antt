@@ -16,3 +16,4 @@ pub mod Read
 pub mod Passing
 pub mod Turning
 pub mod Counting
+pub mod Joining

@@ -1,0 +1,72 @@
+-- One stage of a turn after the other, on a store.
+use Rattle.std.proofs.Common.{ℕ, ◌≡◌, ◌<◌, ◌+◌, Bool, true, false, cond, List, [], ◌∷◌, ◌++◌, refl, sym, ap, subst, ◌∙◌, arith}
+use Rattle.strm_types.specs.declared.rules.Fates.{Fates}
+use Rattle.strm_types.specs.declared.spots.Note.{Note}
+use Rattle.strm_types.specs.Deliver.{Fate, Parcel, counted_with, tallied}
+use Rattle.strm_types.specs.Ldterms as ldterms
+use Rattle.strm_types.specs.Queue.{is_none_left}
+use Rattle.strm_blocks.specs.Blocks.{StoreValue, IsStore}
+use Rattle.strm_frame.specs.declared.parcels.Sent.{Sent}
+use Rattle.strm_frame.specs.Hands.{AreIn}
+use Rattle.strm_frame.specs.Outboxes.{parcels_in, times_sent}
+use Rattle.strm_ldterm.specs.declared.ldterm.Ldterm.{Ldterm}
+use Rattle.strm_ldterm.specs.Stands.{ldterm_in, keeps}
+use Rattle.strm_ldterm.specs.Does.{Proceeds}
+use Rattle.strm_ldterm.specs.Turns.{one_after}
+use Rattle.strm_ldterm.proofs.Turning.{Acts}
+
+tallied-joined : (a b : List (Fate ℕ)) (f : Fates) → tallied (a ++ b) f ≡ tallied b (tallied a f)
+tallied-joined [] b f = refl
+tallied-joined (x ∷ a) b f = tallied-joined a b (counted_with x f)
+
+module _ {M : Type 0} (name : M → ℕ) where
+  parcels-none : (s : StoreValue) (sent : List (Sent M)) → is_none_left (parcels_in name s sent) ≡ is_none_left sent
+  unfolding parcels_in
+  parcels-none s [] = refl
+  parcels-none s (x ∷ more) = refl
+
+  module _ (s0 s : StoreValue) (x0 x : Ldterm M) (k : ℕ) (notes : List Note) (t0 t : Fates) (is : Acts) where
+    -- what is sent ends it
+    pub sent-ends : (sent : List (Sent M)) (next : ldterms.Ldterm ℕ → Acts) → is_none_left sent ≡ false → Proceeds name s0 s x0 x k notes sent t0 t is → Proceeds name s0 s x0 x k notes sent t0 t (one_after is next)
+    sent-ends sent next some a =
+        let same : is ≡ one_after is next = ap (λ v. cond {A = Acts} v (let u = next is.state in record { state = u.state; notes = is.notes ++ u.notes; sent = u.sent; gone = is.gone ++ u.gone }) is)
+            (sym (sym (ap is_none_left a.parcels) ∙ parcels-none s sent ∙ some)) in
+        subst (Proceeds name s0 s x0 x k notes sent t0 t) same a
+
+    module _ (st : IsStore s) (a : Proceeds name s0 s x0 x k notes [] t0 t is) where
+      -- nothing was sent, and more may follow
+      pub nothing-sent : is_none_left is.sent ≡ true
+      nothing-sent = sym (ap is_none_left a.parcels) ∙ parcels-none s []
+
+      pub still-kept : AreIn s0 (λ _. 0) (keeps name x0) → AreIn s (λ _. 0) (keeps name x)
+      unfolding times_sent
+      still-kept can = record { apart = λ i. let c = a.hands.counts i in let b = can.apart i in omega arith }
+
+      pub proceeds-joined : (s' : StoreValue) (x' : Ldterm M) (j : ℕ) (notes' : List Note) (sent' : List (Sent M)) (t' : Fates) (next : ldterms.Ldterm ℕ → Acts)
+          → Proceeds name s s' x x' j notes' sent' t t' (next (ldterm_in name s x)) → Proceeds name s0 s' x0 x' (k + j) (notes ++ notes') sent' t0 t' (one_after is next)
+      unfolding times_sent
+      proceeds-joined s' x' j notes' sent' t' next b =
+          let joined : Acts → Acts = λ u. record { state = u.state; notes = is.notes ++ u.notes; sent = u.sent; gone = is.gone ++ u.gone } in
+          let same : joined (next (ldterm_in name s x)) ≡ one_after is next =
+              ap (λ p. joined (next p)) a.state ∙ ap (λ v. cond {A = Acts} v (joined (next is.state)) is) (sym nothing-sent) in
+          subst (Proceeds name s0 s' x0 x' (k + j) (notes ++ notes') sent' t0 t') same (record {
+            state = b.state;
+            noted = ap (λ ns. ns ++ notes') a.noted ∙ ap (λ ns. is.notes ++ ns) b.noted;
+            parcels = b.parcels;
+            told = b.told ∙ ap (tallied (next (ldterm_in name s x)).gone) a.told ∙ sym (tallied-joined is.gone (next (ldterm_in name s x)).gone t0);
+            held = b.held;
+            own = record {
+              lists = λ i none. b.own.lists i (a.own.owns_same i ∙ none) ∙ a.own.lists i none;
+              owns_same = λ i. b.own.owns_same i ∙ a.own.owns_same i;
+            };
+            chains = b.chains;
+            hands = record {
+              counts = λ i. let c = a.hands.counts i in let d = b.hands.counts i in omega arith;
+              others = λ i gone kept some.
+                  let c = a.hands.counts i in let few = st.apart i in
+                  b.hands.others i refl (omega arith) (omega arith) ∙ a.hands.others i refl kept some;
+            };
+            mblks = (let c = a.mblks in let d = b.mblks in omega arith);
+            dblks = (let c = a.dblks in let d = b.dblks in omega arith);
+            pool = record { mblks = b.pool.mblks ∙ a.pool.mblks; dblks = b.pool.dblks ∙ a.pool.dblks };
+          })
