@@ -7,6 +7,7 @@ ghost use Rattle.arrayvec.specs.ArrayVec.{array_vec_len};
 ghost use Rattle.strm_types.specs.Echo.{column_from, echo_byte, echo_of, erase_echo, is_control, kill_echo, ordinary_echo, reprint_echo, rub_out, shown_control, typed_echo, under_echo, width_at};
 ghost use Rattle.strm_types.specs.Termios.{echo};
 ghost use Rattle.strm_ldterm.specs.Echoes.{echo_bytes, shown, MayLeave};
+ghost use Rattle.strm_ldterm.specs.Turns.{may_send};
 
 use crate::lines::{Line, left_without_word};
 use arrayvec::ArrayVec;
@@ -109,8 +110,8 @@ fn echoes(termios: &Termios) -> bool
     termios.lflag.contains(LocalModes::ECHO)
 }
 
-// An echo of these bytes alone.
-fn of_bytes(bytes: ArrayVec<u8, 3>) -> Echo
+/// An echo of these bytes alone.
+pub(crate) fn of_bytes(bytes: ArrayVec<u8, 3>) -> Echo
     ensures { (line : List ℕ) → echo_bytes result line ≡ bytes.items }
 {
     Echo {
@@ -205,29 +206,42 @@ fn reprint_echo(termios: &Termios, line: &[u8], byte: u8) -> Echo
 }
 
 // What is echoed of a byte as an ordinary one, under ECHO.
-fn shown_echo(termios: &Termios, byte: u8) -> Echo
-    ensures { (after : List ℕ) → echo_bytes result after ≡ under_echo termios.now (echo_byte termios.now byte) }
+fn shown_echo(termios: &Termios, byte: u8) -> ArrayVec<u8, 3>
+    ensures { result.items ≡ under_echo termios.now (echo_byte termios.now byte) }
 {
     if !echoes(termios) {
-        return nothing();
+        return ArrayVec::new();
     }
-    of_bytes(shown(termios.lflag.contains(LocalModes::ECHOCTL), byte))
+    shown(termios.lflag.contains(LocalModes::ECHOCTL), byte)
 }
 
 // What is echoed of a byte that ends a line or is added to it.
-fn typed_echo(termios: &Termios, stroke: Stroke) -> Echo
-    ensures { (after : List ℕ) → echo_bytes result after ≡ typed_echo termios.now stroke }
+fn typed_echo(termios: &Termios, stroke: Stroke) -> ArrayVec<u8, 3>
+    ensures { result.items ≡ typed_echo termios.now stroke }
 {
     if stroke.byte != NEWLINE || stroke.literal {
         return shown_echo(termios, stroke.byte);
     }
     let local = termios.lflag;
+    let mut bytes = ArrayVec::new();
     if echoes(termios)
         || (local.contains(LocalModes::ECHONL) && local.contains(LocalModes::ICANON))
     {
-        of_byte(NEWLINE)
-    } else {
-        nothing()
+        bytes.push(NEWLINE);
+    }
+    bytes
+}
+
+/// What is echoed of a key that may send something, at most 3 bytes whatever the line is: of STOP and EOF nothing, of a signal's key and of
+/// a delimiter the key.
+pub(crate) fn short_echo(termios: &Termios, stroke: Stroke) -> ArrayVec<u8, 3>
+    requires { may_send stroke.key ≡ true }
+    ensures { (before after : List ℕ) → result.items ≡ echo_of termios.now before after stroke }
+{
+    match stroke.key {
+        Key::Intr | Key::Quit | Key::Susp => shown_echo(termios, stroke.byte),
+        Key::Delimiter => typed_echo(termios, stroke),
+        _ => ArrayVec::new(),
     }
 }
 
@@ -236,7 +250,7 @@ fn ordinary_echo(termios: &Termios, line: &[u8], stroke: Stroke) -> Echo
     ensures { (after : List ℕ) → echo_bytes result after ≡ ordinary_echo termios.now line.now stroke }
 {
     if !termios.lflag.contains(LocalModes::ICANON) || line.len() < LINE_MAX {
-        typed_echo(termios, stroke)
+        of_bytes(typed_echo(termios, stroke))
     } else if termios.iflag.contains(InputModes::IMAXBEL) {
         of_byte(BELL)
     } else {
@@ -251,12 +265,12 @@ fn echo_by(termios: &Termios, line: &[u8], stroke: Stroke) -> Echo
 {
     match stroke.key {
         Key::Stop | Key::Start | Key::Ignored | Key::Eof | Key::Lnext => nothing(),
-        Key::Intr | Key::Quit | Key::Susp => shown_echo(termios, stroke.byte),
+        Key::Intr | Key::Quit | Key::Susp => of_bytes(shown_echo(termios, stroke.byte)),
         Key::Erase => erase_echo(termios, line, line.len().saturating_sub(1), stroke.byte),
         Key::Werase => erase_echo(termios, line, left_without_word(line), stroke.byte),
         Key::Kill => kill_echo(termios, line, stroke.byte),
         Key::Reprint => reprint_echo(termios, line, stroke.byte),
-        Key::Delimiter => typed_echo(termios, stroke),
+        Key::Delimiter => of_bytes(typed_echo(termios, stroke)),
         Key::Ordinary => ordinary_echo(termios, line, stroke),
     }
 }

@@ -20,7 +20,7 @@ pub enum Stage {
     /// A byte has begun, and it has started output or hasn't.
     Begun { started: bool, byte: u8 },
     /// What the byte sends has gone, and these bytes are its echo.
-    Answered { echo: ArrayVec<u8, 2> },
+    Answered { echo: ArrayVec<u8, 3> },
 }
 
 /// The module: what it is set to; whether its output is stopped, and whether the next byte stands behind LNEXT; the column of its
