@@ -17,3 +17,4 @@ pub mod Passing
 pub mod Turning
 pub mod Counting
 pub mod Joining
+pub mod Sends

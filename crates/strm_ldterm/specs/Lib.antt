@@ -5,3 +5,4 @@ pub mod Does
 pub mod Frames
 pub mod Relieved
 pub mod Turns
+pub mod Sending

@@ -11,6 +11,7 @@ mod putting;
 mod queues;
 mod reading;
 mod relieving;
+mod sending;
 mod strokes;
 
 pub use echoes::{ECHO_MAX, Echo, RUN_MAX, echo_of};
