@@ -1,16 +1,46 @@
--- A message that was made in one block.
-use Rattle.std.proofs.Common.{ℕ, ◌≡◌, ◌≤◌, ◌+◌, false, List, length, sym, ap, ◌∙◌, arith, inl, inr}
+-- Messages that are made in one block, and that the module sends on.
+use Rattle.std.proofs.Common.{ℕ, ◌≡◌, ◌≤◌, ◌<◌, ◌+◌, ◌-◌, cond, eqb, true, false, List, [], ◌∷◌, ◌++◌, length, take, refl, sym, ap, subst, ◌∙◌, arith, inl, inr}
+use Rattle.std.specs.Prelude.{min, nat_lt}
+use Rattle.std.proofs.lemmas.Bool.Decides.{nat_tests}
+use Rattle.std.proofs.lemmas.List.{take_all}
+use Rattle.std.proofs.lemmas.List.Sums.{sum_by-cons}
 use Rattle.strm_types.specs.declared.kinds.MsgKind.{MsgKind}
+use Rattle.strm_types.specs.declared.kinds.MsgKind.TheVariants.{Data, Stop}
+use Rattle.strm_types.specs.declared.names.Dir.{Dir}
+use Rattle.strm_types.specs.declared.names.Way.TheVariants.{Up}
+use Rattle.strm_types.specs.declared.rules.Fates.{Fates}
+use Rattle.strm_types.specs.declared.rules.Rule.{Rule}
+use Rattle.strm_types.specs.declared.spots.Spot.{Spot}
+use Rattle.strm_types.specs.Cells.{plain}
+use Rattle.strm_types.specs.Deliver.{Acted, Fate, Parcel, tallied}
 use Rattle.strm_types.specs.Flush.{is_data_kind}
-use Rattle.strm_types.specs.Typing.{bare}
+use Rattle.strm_types.specs.Ldterms as ldterms
+use Rattle.strm_types.specs.Message.{Message, data_message}
+use Rattle.strm_types.specs.Names.{direction_at}
+use Rattle.strm_types.specs.Rules.{told_more}
+use Rattle.strm_types.specs.Typing.{bare, lost}
 use Rattle.strm_types.specs.Write.{chunk_count}
-use Rattle.strm_blocks.specs.Blocks.{StoreValue, in_hand, held, free_m, free_d}
+use Rattle.strm_blocks.specs.Blocks.{Block, Held, StoreValue, IsFreshName, in_hand, list_at, held, changed, times_in, references, free_m, free_d, copy_of, filled_block, written, taken_by, extended}
+use Rattle.strm_blocks.specs.Outcomes.{Copied, NoneFree}
 use Rattle.strm_blocks.proofs.Laws.{in_hand-held}
+use Rattle.strm_msg.specs.Bytes.{bytes_of, data_bytes}
 use Rattle.strm_msg.specs.Made.{MadeOf, TooFew, copies_of, pieces}
+use Rattle.strm_msg.specs.Messages.{message_of, IsChain}
+use Rattle.strm_msg.proofs.Chains.{data-shown, data_in, data-all, data-control}
+use Rattle.strm_msg.proofs.Counts.{references-held, free_m-held, free_d-fresh}
+use Rattle.strm_msg.proofs.Hands.{stays-chain, held-changed}
 use Rattle.strm_msg.proofs.MadePlain.{made-plain}
+use Rattle.strm_msg.proofs.Making.{names-one}
 use Rattle.strm_msg.proofs.Pieces.{length-pieces}
 use Rattle.strm_queue.proofs.OneMade.{chunk-one}
-use Rattle.strm_frame.specs.Hands.{HasRoom}
+use Rattle.strm_frame.specs.declared.parcels.Sent.{Sent}
+use Rattle.strm_frame.specs.Hands.{once, AreIn, SameOwn, HasRoom}
+use Rattle.strm_frame.specs.Outboxes.{times_sent}
+use Rattle.strm_frame.proofs.Handing.{one-parts, one-chains, no-parts, none-chains}
+use Rattle.strm_ldterm.specs.declared.ldterm.Ldterm.{Ldterm}
+use Rattle.strm_ldterm.specs.Stands.{ldterm_in, owns, keeps, IsHeld}
+use Rattle.strm_ldterm.specs.Does.{Proceeds}
+use Rattle.strm_ldterm.specs.Frames.{ldterm-frame}
 use Rattle.strm_ldterm.specs.Sending.{MadeOne}
 
 -- there is room for one block
@@ -18,6 +48,9 @@ pub never-few : (s t : StoreValue) (n : ℕ) → n ≤ 256 → HasRoom s 1 → T
 never-few s t n few room fails =
     let one = chunk-one n few in
     elim fails.few [ inl m ↦ absurd (let r = room.mblks in omega arith) | inr d ↦ absurd (let r = room.dblks in omega arith) ]
+
+pub never-none : (s t : StoreValue) → HasRoom s 1 → NoneFree s t → ⊥
+never-none s t room fails = elim fails.none [ inl m ↦ absurd (let r = room.mblks in omega arith) | inr d ↦ absurd (let r = room.dblks in omega arith) ]
 
 pub made-bare : (s t : StoreValue) (i : ℕ) (kind : MsgKind) (bytes : List ℕ) → is_data_kind kind ≡ false → length bytes ≤ 256 → MadeOf s t i kind 0 bytes → MadeOne s t i (bare kind bytes)
 made-bare s t i kind bytes none few m =
@@ -33,3 +66,159 @@ made-bare s t i kind bytes none few m =
       chain = plain.one;
       shows = plain.is;
     }
+
+-- one M_DATA block of band 0 that shows these bytes
+append-none : (xs : List ℕ) → xs ++ [] ≡ xs
+append-none [] = refl
+append-none (x ∷ xs) = ap (λ ys. x ∷ ys) (append-none xs)
+
+data-chain : (b : Block) → b.kind ≡ Data → b.band ≡ 0 → IsChain (b ∷ [])
+data-chain b kind band = record {
+  some = omega arith;
+  all_data = λ k. (kind, tt);
+  parted = λ control. absurd (let no = data-control b.kind kind in cc);
+  high = λ high. band;
+  low = omega (arith, band);
+}
+
+data-shows : (b : Block) → b.kind ≡ Data → b.band ≡ 0 → message_of (b ∷ []) ≡ data_message b.bytes
+unfolding data_message
+data-shows b kind band =
+    data-shown (b ∷ []) (omega arith) kind ∙ ap (λ n. data_in n (data_bytes (b ∷ []))) band
+    ∙ ap (λ xs. data_in 0 xs) (ap bytes_of (data-all (b ∷ []) (kind, tt)) ∙ append-none b.bytes)
+
+made-data : (s t : StoreValue) (i : ℕ) (b : Block) → IsFreshName s i → b.number < s.dblks → references s b.number ≡ 0 → 0 < free_m s → t ≡ held s i (b ∷ []) → b.kind ≡ Data → b.band ≡ 0 → MadeOne s t i (data_message b.bytes)
+made-data s t i b fresh exists none room after kind band =
+    let here : in_hand t i ≡ b ∷ [] = ap (λ v. in_hand v i) after ∙ in_hand-held s i (b ∷ []) in
+    record {
+      fresh = fresh;
+      after = after ∙ ap (λ c. held s i c) (sym here);
+      room_m = ap (λ v. free_m v + 1) after ∙ free_m-held s i (b ∷ []) (omega arith);
+      room_d = ap (λ v. free_d v + 1) after ∙ free_d-fresh s i b exists none;
+      chain = subst IsChain (sym here) (data-chain b kind band);
+      shows = ap (λ c. message_of c) here ∙ data-shows b kind band;
+    }
+
+-- Bytes are written into a new block, and others behind them, where all of them fit.
+pub made-line : (s t u : StoreValue) (i n : ℕ) (line ending : List ℕ) → length line + length ending ≤ 256 → Copied s t i (filled_block Data 0 line) → n ≡ taken_by t (in_hand t i) (length ending)
+    → u ≡ changed t i (extended (take n ending) (in_hand t i)) → MadeOne s u i (data_message (line ++ ending))
+made-line s t u i n line ending few made count after =
+    let copy = copy_of made.number (filled_block Data 0 line) in
+    let here : in_hand t i ≡ copy ∷ [] = ap (λ v. in_hand v i) made.after ∙ in_hand-held s i (copy ∷ []) in
+    let refs : references t made.number ≡ 1 =
+    ap (λ v. references v made.number) made.after ∙ references-held s i (copy ∷ []) made.number ∙ (let one = names-one made.number copy in let none = made.fresh_number in let hit : eqb made.number made.number ≡ true = grind (arith, nat_tests) in let is = ap (λ v. cond {A = ℕ} v 1 0) hit in omega arith) in
+    let all : n ≡ length ending =
+    count ∙ ap (λ c. taken_by t c (length ending)) here ∙ ap (λ r. cond {A = ℕ} (nat_lt 1 r) 0 (min (length ending) (256 - length line))) refs ∙ (omega arith) in
+    let chain : extended (take n ending) (in_hand t i) ≡ written ending copy ∷ [] =
+    ap (λ c. extended (take n ending) c) here ∙ ap (λ xs. written xs copy ∷ []) (take_all n ending (omega arith)) in
+    made-data s u i (written ending copy) made.fresh_name made.exists made.fresh_number made.room_m
+    (after ∙ ap (λ v. changed v i (extended (take n ending) (in_hand t i))) made.after ∙ held-changed s i (copy ∷ []) (extended (take n ending) (in_hand t i)) ∙ ap (λ c. held s i c) chain) refl refl
+
+-- a message that came
+times-held : (s : StoreValue) (i : ℕ) (chain : List Block) (j : ℕ) → times_in j (held s i chain).hand ≡ once i j + times_in j s.hand
+unfolding once
+times-held s i chain j = sum_by-cons (λ (h : Held). cond (eqb h.name j) 1 0) (record { name = i; chain = chain }) s.hand
+
+module _ {M : Type 0} (name : M → ℕ) where
+  times-one : (i : ℕ) (z : Sent M) (sent : List (Sent M)) → sent ≡ z ∷ [] → times_sent name i sent ≡ once (name z.message) i
+  unfolding times_sent
+  times-one i z sent one = let e = ap (times_sent name i) one in omega arith
+
+  times-none : (i : ℕ) (sent : List (Sent M)) → sent ≡ [] → times_sent name i sent ≡ 0
+  unfolding times_sent
+  times-none i sent none = ap (times_sent name i) none
+
+  -- what the module keeps is as it was, where a message was made
+  module _ (s t : StoreValue) (x : Ldterm M) (i : ℕ) (m : Message ℕ) (made : MadeOne s t i m) where
+    made-stays : (j : ℕ) → 0 < times_in j s.hand → in_hand t j ≡ in_hand s j
+    made-stays j some =
+        ap (λ v. in_hand v j) made.after ∙ stays-chain s i (in_hand t i) j (λ e. (let f = made.fresh in let w = ap (λ k. times_in k s.hand) e in absurd (omega arith)))
+
+    pub made-same : AreIn s (λ _. 0) (keeps name x) → SameOwn s t (owns x) (keeps name x)
+    made-same kept = record {
+      lists = λ k some. ap (λ v. list_at v k) made.after;
+      mblks = ap (λ v. v.mblks) made.after;
+      dblks = ap (λ v. v.dblks) made.after;
+      kept = λ j some. made-stays j (let a = kept.apart j in omega arith);
+    }
+
+  -- The module has changed beside its lists and what it keeps, and one message was made that is sent on.
+  pub sends-made : (s t : StoreValue) (x y : Ldterm M) (z : Sent M) (sent : List (Sent M)) (f f' : Fates) (m : Message ℕ) (to : Spot) (is : Acted ℕ (ldterms.Ldterm ℕ)) → IsHeld name s y → AreIn s (λ _. 0) (keeps name y)
+      → ((k : ℕ) → owns y k ≡ owns x k) → ((i : ℕ) → keeps name y i ≡ keeps name x i) → MadeOne s t (name z.message) m → sent ≡ z ∷ [] → z.to ≡ to → ldterm_in name s y ≡ is.state → [] ≡ is.notes
+      → ◌≡◌ {A = List (Parcel ℕ)} (record { to = to; message = m } ∷ []) is.sent → f' ≡ tallied is.gone f → Proceeds name s t x y 1 [] sent f f' is
+  sends-made s t x y z sent f f' m to is holds kept own keep made one place state notes parcels told =
+      let i = name z.message in
+      let same = made-same s t y i m made kept in
+      let framed = ldterm-frame name s t y same holds in
+      record {
+        state = framed.0 ∙ state;
+        noted = notes;
+        parcels =
+            one-parts name t z sent one ∙ ap (λ (w : Message ℕ). record { to = z.to; message = w } ∷ []) made.shows
+            ∙ ap (λ (w : Spot). record { to = w; message = m } ∷ []) place ∙ parcels;
+        told = told;
+        held = framed.1;
+        own = record { lists = λ k none. ap (λ v. list_at v k) made.after; owns_same = own };
+        chains = one-chains name t z sent one made.chain;
+        hands = record {
+          counts = λ j.
+              let a = ap (λ v. times_in j v.hand) made.after in
+              let h = times-held s i (in_hand t i) j in
+              let o = times-one j z sent one in
+              let e = keep j in
+              omega arith;
+          others = λ j gone none some. made-stays s t y i m made j some;
+        };
+        mblks = (let r = made.room_m in omega arith);
+        dblks = (let r = made.room_d in omega arith);
+        pool = record { mblks = same.mblks; dblks = same.dblks };
+      }
+
+  -- It has changed, and nothing is sent.
+  pub sends-none : (s : StoreValue) (x y : Ldterm M) (sent : List (Sent M)) (f f' : Fates) (takes : ℕ) (is : Acted ℕ (ldterms.Ldterm ℕ)) → IsHeld name s y → ((k : ℕ) → owns y k ≡ owns x k) → ((i : ℕ) → keeps name y i ≡ keeps name x i)
+      → sent ≡ [] → ldterm_in name s y ≡ is.state → [] ≡ is.notes → [] ≡ is.sent → f' ≡ tallied is.gone f → Proceeds name s s x y takes [] sent f f' is
+  sends-none s x y sent f f' takes is holds own keep none state notes parcels told = record {
+    state = state;
+    noted = notes;
+    parcels = no-parts name s sent none ∙ parcels;
+    told = told;
+    held = holds;
+    own = record { lists = λ k none. refl; owns_same = own };
+    chains = none-chains name s sent none;
+    hands = record { counts = λ j. let o = times-none j sent none in let e = keep j in omega arith; others = λ j gone none some. refl };
+    mblks = omega arith;
+    dblks = omega arith;
+    pool = record { mblks = refl; dblks = refl };
+  }
+
+  -- whether output is stopped, and the line, are beside what it holds
+  pub held-stopped : (s : StoreValue) (x : Ldterm M) → IsHeld name s x → IsHeld name s (record x { stopped = true })
+  held-stopped s x h = record { read = h.read; write = h.write; apart = h.apart; work = h.work; gathers = h.gathers; echoes = h.echoes; once_each = h.once_each }
+
+  pub held-line : (s : StoreValue) (x : Ldterm M) (line : List ℕ) → IsHeld name s x → IsHeld name s (record x { line = line })
+  held-line s x line h = record { read = h.read; write = h.write; apart = h.apart; work = h.work; gathers = h.gathers; echoes = h.echoes; once_each = h.once_each }
+
+  -- what a key tells beside what is sent
+  pub tells : (s t : StoreValue) (x y : Ldterm M) (takes : ℕ) (sent : List (Sent M)) (f f' : Fates) (is : Acted ℕ (ldterms.Ldterm ℕ)) (gone : List (Fate ℕ)) → Proceeds name s t x y takes [] sent f f is → f' ≡ tallied gone f
+      → Proceeds name s t x y takes [] sent f f' (record is { gone = gone })
+  tells s t x y takes sent f f' is gone did told = record {
+    state = did.state;
+    noted = did.noted;
+    parcels = did.parcels;
+    told = told;
+    held = did.held;
+    own = did.own;
+    chains = did.chains;
+    hands = did.hands;
+    mblks = did.mblks;
+    dblks = did.dblks;
+    pool = did.pool;
+  }
+
+pub stop-plain : is_data_kind Stop ≡ false
+unfolding is_data_kind
+stop-plain = refl
+
+-- a key goes by its rule
+pub key-told : (here : Spot) (rule : Rule) (byte : ℕ) (d : Dir) (f f' : Fates) → f' ≡ told_more d rule 1 f → d ≡ direction_at Up here.side → f' ≡ tallied (lost plain here rule (byte ∷ [])) f
+key-told here rule byte d f f' told is = told ∙ ap (λ d. told_more d rule 1 f) is
