@@ -18,3 +18,4 @@ pub mod Turning
 pub mod Counting
 pub mod Joining
 pub mod Sends
+pub mod Grows

@@ -6,3 +6,4 @@ pub mod Frames
 pub mod Relieved
 pub mod Turns
 pub mod Sending
+pub mod Grown

@@ -5,6 +5,7 @@
 mod echoes;
 mod ending;
 mod flushing;
+mod growing;
 mod ldterm;
 mod lines;
 mod putting;
