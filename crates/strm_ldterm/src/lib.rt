@@ -3,6 +3,7 @@
 #![tactic(auto)]
 
 mod echoes;
+mod echoing;
 mod ending;
 mod flushing;
 mod growing;
