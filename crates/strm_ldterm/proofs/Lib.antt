@@ -19,3 +19,4 @@ pub mod Counting
 pub mod Joining
 pub mod Sends
 pub mod Grows
+pub mod EchoSteps
