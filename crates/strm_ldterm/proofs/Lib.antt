@@ -20,3 +20,4 @@ pub mod Joining
 pub mod Sends
 pub mod Grows
 pub mod EchoSteps
+pub mod EchoStands

@@ -1,16 +1,30 @@
 //! The echo of a byte, which stands last on the write queue while a turn is under way (termio(7I): ECHO; ldterm(7M)).
 
-ghost use Rattle.std.specs.Prelude.{ℕ, ◌≡◌, ◌<◌, ◌≤◌, ◌*◌, length};
-ghost use Rattle.strm_frame.specs.Hands.{HasRoom};
-ghost use Rattle.strm_ldterm.specs.Stands.{IsData};
+ghost use Rattle.std.specs.Prelude.{ℕ, ◌≡◌, ◌<◌, ◌≤◌, ◌*◌, length, [], ◌∷◌, true, false, is_some, not, ◌&&◌, if◌then◌else◌};
+ghost use Rattle.strm_types.specs.declared.names.Way.TheVariants.{Down};
+ghost use Rattle.strm_types.specs.declared.rules.Fates.{Fates};
+ghost use Rattle.strm_types.specs.declared.spots.Note.TheVariants.{Enable};
+ghost use Rattle.strm_types.specs.declared.spots.Spot.{Spot};
+ghost use Rattle.strm_types.specs.Cells.{plain};
+ghost use Rattle.strm_types.specs.Typing.{echo_grows, echo_stands, echoed};
+ghost use Rattle.strm_types.specs.Write.{chunk_count};
+ghost use Rattle.strm_frame.specs.Hands.{AreIn, HasRoom};
+ghost use Rattle.strm_ldterm.specs.Stands.{IsData, IsHeld, keeps, ldterm_in};
+ghost use Rattle.strm_ldterm.specs.Does.{Proceeds};
 ghost use Rattle.strm_ldterm.specs.Echoes.{echo_bytes};
 ghost use Rattle.strm_ldterm.specs.Grown.{Grown, Begins};
 
 use crate::echoes::Echo;
+use crate::flushing::direction_at;
 use crate::growing::{begin, grow};
+use crate::ldterm::Ldterm;
 use crate::lines::Line;
+use crate::putting::note_if;
+use crate::queues::is_full;
 use arrayvec::ArrayVec;
 use strm_blocks::Blocks;
+use strm_queue::Queue;
+use strm_types::{Band, Fates, Note, Rule, Spot, Way, chunk_count};
 
 // Adds an echo to a message of data, run by run, so many at most.
 fn grow_by_runs<B: Blocks>(
@@ -48,4 +62,109 @@ fn begin_by_runs<B: Blocks>(store: &mut B, plan: Echo, line: &Line, runs: usize)
     plan.take_run(line, &mut run);
     let begun = begin(store, run.as_slice());
     grow_by_runs(store, begun, plan, line, runs - 1)
+}
+
+// Whether a message of band 0 that is put on a queue enables it: putq(9F).
+fn enables(queue: &Queue) -> bool
+    ensures { result ≡ (not queue.now.no_enable && queue.now.want_read) }
+{
+    !queue.no_enable && queue.want_read
+}
+
+// Adds an echo to that of the turn, run by run, so many at most.
+fn grow_echo<B: Blocks>(ldterm: &mut Ldterm<B::Mp>, store: &mut B, plan: Echo, runs: usize)
+    requires held { IsHeld B.name (B.value store.old) ldterm.old }
+    requires some { is_some ldterm.old.echo ≡ true }
+    requires enough { length (echo_bytes plan ldterm.old.line) ≤ runs * 256 }
+    requires room { HasRoom (B.value store.old) runs }
+    ensures { (here : Spot) (f : Fates) → let s = B.value store.old in
+        Proceeds B.name s (B.value store.new) ldterm.old ldterm.new runs [] [] f f
+        (record (echo_grows plain here (echo_bytes plan ldterm.old.line) (ldterm_in B.name s ldterm.old)) { gone = [] }) }
+{
+    let Some(echo) = ldterm.echo.take() else {
+        unreachable!()
+    };
+    ldterm.echo = Some(grow_by_runs(store, echo, plan, &ldterm.line, runs));
+}
+
+// Begins the turn's echo, run by run, so many at most, and says whether that enables the write queue.
+fn begin_echo<B: Blocks>(
+    ldterm: &mut Ldterm<B::Mp>,
+    store: &mut B,
+    plan: Echo,
+    runs: usize,
+) -> bool
+    requires held { IsHeld B.name (B.value store.old) ldterm.old }
+    requires kept { AreIn (B.value store.old) (λ _. 0) (keeps B.name ldterm.old) }
+    requires none { is_some ldterm.old.echo ≡ false }
+    requires some { 0 < runs }
+    requires enough { length (echo_bytes plan ldterm.old.line) ≤ runs * 256 }
+    requires room { HasRoom (B.value store.old) runs }
+    ensures { (here : Spot) (f : Fates) → let s = B.value store.old in
+        Proceeds B.name s (B.value store.new) ldterm.old ldterm.new runs (if result then Enable Down ∷ [] else []) [] f f
+        (record (echo_stands plain here (echo_bytes plan ldterm.old.line) (ldterm_in B.name s ldterm.old)) { gone = [] }) }
+{
+    store.audit();
+    ldterm.echo = Some(begin_by_runs(store, plan, &ldterm.line, runs));
+    enables(&ldterm.write_queue)
+}
+
+// Lets an echo of some bytes stand last on the write queue, where band 0 isn't full.
+fn let_stand<B: Blocks>(
+    ldterm: &mut Ldterm<B::Mp>,
+    store: &mut B,
+    plan: Echo,
+    runs: usize,
+) -> ArrayVec<Note, 4>
+    requires held { IsHeld B.name (B.value store.old) ldterm.old }
+    requires kept { AreIn (B.value store.old) (λ _. 0) (keeps B.name ldterm.old) }
+    requires some { 0 < runs }
+    requires enough { length (echo_bytes plan ldterm.old.line) ≤ runs * 256 }
+    requires room { HasRoom (B.value store.old) runs }
+    ensures { (here : Spot) (f : Fates) → let s = B.value store.old in let p = ldterm_in B.name s ldterm.old in
+        let bytes = echo_bytes plan ldterm.old.line in
+        Proceeds B.name s (B.value store.new) ldterm.old ldterm.new runs result.items [] f f
+        (record (if is_some ldterm.old.echo then echo_grows plain here bytes p else echo_stands plain here bytes p) { gone = [] }) }
+{
+    if ldterm.echo.is_some() {
+        grow_echo(ldterm, store, plan, runs);
+        return ArrayVec::new();
+    }
+    note_if(
+        begin_echo(ldterm, store, plan, runs),
+        Note::Enable(Way::Down),
+    )
+}
+
+/// Echoes a byte, the last of what a byte does: these bytes are told as made in the direction of the write queue, and where its band 0
+/// isn't full they stand last on it. There the turn's echo is one message, which grows; it begins with the first byte that is echoed,
+/// and that enables the queue as putq(9F) says. Where band 0 is full before, none of them stands, and all are told as gone (EchoFull). It takes one block
+/// of each kind at most for each begun 256 bytes. The cost is a step for each byte, and for each message on the queue.
+pub(crate) fn echo<B: Blocks>(
+    ldterm: &mut Ldterm<B::Mp>,
+    store: &mut B,
+    here: Spot,
+    plan: Echo,
+    told: &mut Fates,
+) -> ArrayVec<Note, 4>
+    requires held { IsHeld B.name (B.value store.old) ldterm.old }
+    requires kept { AreIn (B.value store.old) (λ _. 0) (keeps B.name ldterm.old) }
+    requires room { HasRoom (B.value store.old) (chunk_count (length (echo_bytes plan ldterm.old.line))) }
+    ensures { let s = B.value store.old in let bytes = echo_bytes plan ldterm.old.line in
+        Proceeds B.name s (B.value store.new) ldterm.old ldterm.new (chunk_count (length bytes)) result.items [] told.old told.new
+        (echoed plain here 0 bytes (ldterm_in B.name s ldterm.old)) }
+{
+    let len = plan.len(&ldterm.line);
+    if len == 0 {
+        return ArrayVec::new();
+    }
+    store.audit();
+    let runs = chunk_count(len);
+    let direction = direction_at(Way::Down, here.side);
+    told.tell_made(direction, len);
+    if is_full(ldterm, store, Way::Down, Band(0)) {
+        told.tell(direction, Rule::EchoFull, len);
+        return ArrayVec::new();
+    }
+    let_stand(ldterm, store, plan, runs)
 }
