@@ -21,3 +21,4 @@ pub mod Sends
 pub mod Grows
 pub mod EchoSteps
 pub mod EchoStands
+pub mod Strikes

@@ -7,3 +7,4 @@ pub mod Relieved
 pub mod Turns
 pub mod Sending
 pub mod Grown
+pub mod Quiet

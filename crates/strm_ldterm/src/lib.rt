@@ -15,6 +15,7 @@ mod reading;
 mod relieving;
 mod sending;
 mod strokes;
+mod typing;
 
 pub use echoes::{ECHO_MAX, Echo, RUN_MAX, echo_of};
 pub use ending::end_turn;

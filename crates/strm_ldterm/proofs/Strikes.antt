@@ -1,0 +1,75 @@
+-- Keys that send nothing, step by step.
+use Rattle.std.proofs.Common.{ℕ, ◌≡◌, ◌<◌, ◌≤◌, ◌-◌, Bool, true, false, cond, List, [], ◌∷◌, ◌++◌, length, refl, sym, ap, subst, ◌∙◌, arith}
+use Rattle.strm_types.specs.declared.names.Way.TheVariants.{Up}
+use Rattle.strm_types.specs.declared.rules.Fates.{Fates}
+use Rattle.strm_types.specs.declared.rules.Rule.{Rule}
+use Rattle.strm_types.specs.declared.spots.Spot.{Spot}
+use Rattle.strm_types.specs.Cells.{plain}
+use Rattle.strm_types.specs.Deliver.{Acted, Fate, counted_with, tallied}
+use Rattle.strm_types.specs.Ldterms as ldterms
+use Rattle.strm_types.specs.Ldterms.{sends}
+use Rattle.strm_types.specs.Names.{direction_at}
+use Rattle.strm_types.specs.Rules.{told_more}
+use Rattle.strm_types.specs.Lines.{edited, has_room, is_blank, Types}
+use Rattle.strm_types.specs.Termios.{icanon, imaxbel}
+use Rattle.strm_types.specs.declared.rules.Rule.TheVariants.{LineFull, LineOver}
+use Rattle.strm_types.specs.Typing.{added, dropped, lost}
+use Rattle.strm_blocks.specs.Blocks.{StoreValue}
+use Rattle.strm_frame.specs.Outboxes.{times_sent, parcels_in, AreChains}
+use Rattle.strm_ldterm.specs.declared.ldterm.Ldterm.{Ldterm}
+use Rattle.strm_ldterm.specs.Stands.{ldterm_in, IsHeld}
+use Rattle.strm_ldterm.specs.Does.{Proceeds}
+
+pub told-append : (a b : List (Fate ℕ)) (f : Fates) → tallied (a ++ b) f ≡ tallied b (tallied a f)
+told-append [] b f = refl
+told-append (x ∷ a) b f = told-append a b (counted_with x f)
+
+-- what was told of bytes that have gone, where there are some, and where there are none
+pub lost-some : (here : Spot) (rule : Rule) (gone : List ℕ) (n : ℕ) (f : Fates) → length gone ≡ n → 0 < n → told_more (direction_at Up here.side) rule n f ≡ tallied (lost plain here rule gone) f
+lost-some here rule [] n f is some = absurd (omega arith)
+lost-some here rule (c ∷ gone) n f is some = ap (λ k. told_more (direction_at Up here.side) rule k f) (sym is)
+
+pub lost-none : (here : Spot) (rule : Rule) (gone : List ℕ) (f : Fates) → length gone ≡ 0 → f ≡ tallied (lost plain here rule gone) f
+lost-none here rule [] f is = refl
+lost-none here rule (c ∷ gone) f is = absurd (omega arith)
+
+-- an ordinary byte, by the mode and the line
+module _ (here : Spot) (c : ℕ) (p : ldterms.Ldterm ℕ) where
+  pub added-raw : icanon p.termios ≡ false → added plain here c p ≡ sends [] (record p { gathered = p.gathered ++ c ∷ [] })
+  added-raw raw = rw raw refl
+
+  pub added-room : icanon p.termios ≡ true → has_room p.line ≡ true → added plain here c p ≡ sends [] (record p { line = edited is_blank (Types c) p.line })
+  added-room lines room = rw (lines, room) refl
+
+  pub added-full : icanon p.termios ≡ true → has_room p.line ≡ false → imaxbel p.termios ≡ true → added plain here c p ≡ dropped plain here LineFull c p
+  added-full lines full bell = rw (lines, full, bell) refl
+
+  pub added-over : icanon p.termios ≡ true → has_room p.line ≡ false → imaxbel p.termios ≡ false → added plain here c p ≡ record (sends [] (record p { line = [] })) { gone = lost plain here LineOver (p.line ++ c ∷ []) }
+  added-over lines full still = rw (lines, full, still) refl
+
+module _ {M : Type 0} (name : M → ℕ) where
+  -- only the line altered
+  pub line-proceeds : (s : StoreValue) (x : Ldterm M) (line line' : List ℕ) (f f' : Fates) (is : Acted ℕ (ldterms.Ldterm ℕ)) → IsHeld name s x → line ≡ line' → record (ldterm_in name s x) { line = line' } ≡ is.state
+      → [] ≡ is.notes → [] ≡ is.sent → f' ≡ tallied is.gone f → Proceeds name s s x (record x { line = line }) 1 [] [] f f' is
+  unfolding times_sent parcels_in AreChains
+  line-proceeds s x line line' f f' is held same state notes sent told = record {
+    state = ap (λ l. record (ldterm_in name s x) { line = l }) same ∙ state;
+    noted = notes;
+    parcels = sent;
+    told = told;
+    held = record {
+      read = held.read;
+      write = held.write;
+      apart = held.apart;
+      work = held.work;
+      gathers = held.gathers;
+      echoes = held.echoes;
+      once_each = held.once_each;
+    };
+    own = record { lists = λ k none. refl; owns_same = λ k. refl };
+    chains = tt;
+    hands = record { counts = λ i. refl; others = λ i gone kept some. refl };
+    mblks = omega arith;
+    dblks = omega arith;
+    pool = record { mblks = refl; dblks = refl };
+  }

@@ -1,0 +1,112 @@
+//! Keys that send nothing: what they do to the unfinished line, and bytes that are gathered where no lines are made (termio(7I):
+//! "Canonical Mode Input Processing", "Non-Canonical Mode Input Processing", "Special Characters").
+
+ghost use Rattle.std.specs.Prelude.{ℕ, ◌≡◌, ◌∷◌, ◌++◌, List, [], true, length};
+ghost use Rattle.strm_types.specs.declared.rules.Rule.TheVariants.{EraseKey, Erased, Killed};
+ghost use Rattle.strm_types.specs.Cells.{plain};
+ghost use Rattle.strm_types.specs.Deliver.{tallied};
+ghost use Rattle.strm_types.specs.Lines.{ErasesByte, ErasesWord, ErasesAll};
+ghost use Rattle.strm_types.specs.Termios.{icanon};
+ghost use Rattle.strm_types.specs.Ldterms as ldterms;
+ghost use Rattle.strm_types.specs.Typing.{added, dropped, edits, lost, strikes};
+ghost use Rattle.strm_blocks.specs.Blocks.{StoreValue};
+ghost use Rattle.strm_ldterm.specs.Stands.{ldterm_in, IsHeld};
+ghost use Rattle.strm_ldterm.specs.Does.{Proceeds};
+ghost use Rattle.strm_ldterm.specs.Quiet.{is_quiet, is_edit, is_dropped};
+
+use crate::flushing::direction_at;
+use crate::ldterm::Ldterm;
+use bitflags::Flags;
+use strm_types::{Fates, InputModes, Key, Rule, Spot, Way};
+
+// Tells of bytes that came up and have gone by a rule, where there are any.
+fn tell_lost(told: &mut Fates, here: Spot, rule: Rule, bytes: usize)
+    ensures { (gone : List ℕ) → length gone ≡ bytes → told.new ≡ tallied (lost plain here rule gone) told.old }
+{
+    if bytes > 0 {
+        told.tell(direction_at(Way::Up, here.side), rule, bytes);
+    }
+}
+
+// The rule by which a key is dropped.
+fn rule_of_dropped(key: Key) -> Rule
+    requires { is_dropped key ≡ true }
+    ensures { (c : ℕ) (p : ldterms.Ldterm ℕ) (here : Spot) → strikes plain here key c p ≡ dropped plain here result c p }
+{
+    match key {
+        Key::Start => Rule::FlowKey,
+        Key::Ignored => Rule::Igncr,
+        Key::Reprint => Rule::ReprintKey,
+        Key::Lnext => Rule::LnextKey,
+        _ => unreachable!(),
+    }
+}
+
+// A key that is dropped, by its rule.
+fn strike_dropped<Mp: Drop>(ldterm: &Ldterm<Mp>, here: Spot, key: Key, byte: u8, told: &mut Fates)
+    requires { is_dropped key ≡ true }
+    ensures { (name : Mp → ℕ) (s : StoreValue) → IsHeld name s ldterm.now →
+        Proceeds name s s ldterm.now ldterm.now 1 [] [] told.old told.new (strikes plain here key byte (ldterm_in name s ldterm.now)) }
+{
+    let _ = ldterm;
+    let _ = byte;
+    tell_lost(told, here, rule_of_dropped(key), 1);
+}
+
+// Tells of the bytes that a key took from the line, by their rule, and of the key.
+fn tell_edit(told: &mut Fates, here: Spot, rule: Rule, bytes: usize)
+    ensures { (gone : List ℕ) (c : ℕ) → length gone ≡ bytes →
+        told.new ≡ tallied (lost plain here rule gone ++ lost plain here EraseKey (c ∷ [])) told.old }
+{
+    tell_lost(told, here, rule, bytes);
+    tell_lost(told, here, Rule::EraseKey, 1);
+}
+
+// ERASE takes the last byte of the line.
+fn strike_erase<Mp: Drop>(ldterm: &mut Ldterm<Mp>, here: Spot, byte: u8, told: &mut Fates)
+    ensures { (name : Mp → ℕ) (s : StoreValue) → IsHeld name s ldterm.old →
+        Proceeds name s s ldterm.old ldterm.new 1 [] [] told.old told.new (edits plain here ErasesByte Erased byte (ldterm_in name s ldterm.old)) }
+{
+    let _ = byte;
+    let gone = ldterm.line.erase_byte();
+    tell_edit(told, here, Rule::Erased, gone);
+}
+
+// WERASE takes the last word of the line, and the blanks behind it.
+fn strike_werase<Mp: Drop>(ldterm: &mut Ldterm<Mp>, here: Spot, byte: u8, told: &mut Fates)
+    ensures { (name : Mp → ℕ) (s : StoreValue) → IsHeld name s ldterm.old →
+        Proceeds name s s ldterm.old ldterm.new 1 [] [] told.old told.new (edits plain here ErasesWord Erased byte (ldterm_in name s ldterm.old)) }
+{
+    let _ = byte;
+    let gone = ldterm.line.erase_word();
+    tell_edit(told, here, Rule::Erased, gone);
+}
+
+// KILL takes the whole line.
+fn strike_kill<Mp: Drop>(ldterm: &mut Ldterm<Mp>, here: Spot, byte: u8, told: &mut Fates)
+    ensures { (name : Mp → ℕ) (s : StoreValue) → IsHeld name s ldterm.old →
+        Proceeds name s s ldterm.old ldterm.new 1 [] [] told.old told.new (edits plain here ErasesAll Killed byte (ldterm_in name s ldterm.old)) }
+{
+    let _ = byte;
+    let gone = ldterm.line.clear();
+    tell_edit(told, here, Rule::Killed, gone);
+}
+
+// A byte that is typed in canonical mode. It is added to the line, where there is room. In a full line it is lost under IMAXBEL, and
+// else the line is lost with it.
+fn add_to_line<Mp: Drop>(ldterm: &mut Ldterm<Mp>, here: Spot, byte: u8, told: &mut Fates)
+    requires { icanon ldterm.old.termios ≡ true }
+    ensures { (name : Mp → ℕ) (s : StoreValue) → IsHeld name s ldterm.old →
+        Proceeds name s s ldterm.old ldterm.new 1 [] [] told.old told.new (added plain here byte (ldterm_in name s ldterm.old)) }
+{
+    if ldterm.line.has_room() {
+        ldterm.line.push(byte);
+        return;
+    }
+    if ldterm.termios.iflag.contains(InputModes::IMAXBEL) {
+        tell_lost(told, here, Rule::LineFull, 1);
+        return;
+    }
+    tell_lost(told, here, Rule::LineOver, ldterm.line.len() + 1);
+    ldterm.line.clear();
+}
