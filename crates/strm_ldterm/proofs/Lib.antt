@@ -22,3 +22,4 @@ pub mod Grows
 pub mod EchoSteps
 pub mod EchoStands
 pub mod Strikes
+pub mod Gathered

@@ -16,13 +16,6 @@ is_quiet Lnext = true
 is_quiet Ordinary = true
 is_quiet _ = false
 
--- Whether a key takes bytes of the line.
-abbrev pub is_edit : Key → Bool
-is_edit Erase = true
-is_edit Kill = true
-is_edit Werase = true
-is_edit _ = false
-
 -- Whether a key is dropped, by a rule of its own.
 abbrev pub is_dropped : Key → Bool
 is_dropped Start = true

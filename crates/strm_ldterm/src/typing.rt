@@ -1,23 +1,28 @@
 //! Keys that send nothing: what they do to the unfinished line, and bytes that are gathered where no lines are made (termio(7I):
 //! "Canonical Mode Input Processing", "Non-Canonical Mode Input Processing", "Special Characters").
 
-ghost use Rattle.std.specs.Prelude.{ℕ, ◌≡◌, ◌∷◌, ◌++◌, List, [], true, length};
+ghost use Rattle.std.specs.Prelude.{ℕ, ◌≡◌, ◌≤◌, ◌∷◌, ◌++◌, List, [], true, length};
 ghost use Rattle.strm_types.specs.declared.rules.Rule.TheVariants.{EraseKey, Erased, Killed};
 ghost use Rattle.strm_types.specs.Cells.{plain};
 ghost use Rattle.strm_types.specs.Deliver.{tallied};
 ghost use Rattle.strm_types.specs.Lines.{ErasesByte, ErasesWord, ErasesAll};
 ghost use Rattle.strm_types.specs.Termios.{icanon};
+ghost use Rattle.strm_types.specs.declared.rules.Fates.{Fates};
 ghost use Rattle.strm_types.specs.Ldterms as ldterms;
+ghost use Rattle.strm_types.specs.Ldterms.{sends};
 ghost use Rattle.strm_types.specs.Typing.{added, dropped, edits, lost, strikes};
 ghost use Rattle.strm_blocks.specs.Blocks.{StoreValue};
-ghost use Rattle.strm_ldterm.specs.Stands.{ldterm_in, IsHeld};
+ghost use Rattle.strm_frame.specs.Hands.{AreIn, HasRoom};
+ghost use Rattle.strm_ldterm.specs.Stands.{ldterm_in, keeps, IsHeld};
 ghost use Rattle.strm_ldterm.specs.Does.{Proceeds};
-ghost use Rattle.strm_ldterm.specs.Quiet.{is_quiet, is_edit, is_dropped};
+ghost use Rattle.strm_ldterm.specs.Quiet.{is_quiet, is_dropped};
 
 use crate::flushing::direction_at;
+use crate::growing::{begin, grow};
 use crate::ldterm::Ldterm;
 use bitflags::Flags;
-use strm_types::{Fates, InputModes, Key, Rule, Spot, Way};
+use strm_blocks::Blocks;
+use strm_types::{Fates, InputModes, Key, LocalModes, Rule, Spot, Way};
 
 // Tells of bytes that came up and have gone by a rule, where there are any.
 fn tell_lost(told: &mut Fates, here: Spot, rule: Rule, bytes: usize)
@@ -109,4 +114,90 @@ fn add_to_line<Mp: Drop>(ldterm: &mut Ldterm<Mp>, here: Spot, byte: u8, told: &m
     }
     tell_lost(told, here, Rule::LineOver, ldterm.line.len() + 1);
     ldterm.line.clear();
+}
+
+/// Bytes that are typed where no lines are made wait to go up together, behind those that wait already. At most 256 come at a time, and
+/// they take one block of each kind at most.
+pub(crate) fn gather<B: Blocks>(ldterm: &mut Ldterm<B::Mp>, store: &mut B, bytes: &[u8])
+    requires held { IsHeld B.name (B.value store.old) ldterm.old }
+    requires kept { AreIn (B.value store.old) (λ _. 0) (keeps B.name ldterm.old) }
+    requires few { length bytes.now ≤ 256 }
+    requires room { HasRoom (B.value store.old) 1 }
+    ensures { (f : Fates) → let s = B.value store.old in let p = ldterm_in B.name s ldterm.old in
+        Proceeds B.name s (B.value store.new) ldterm.old ldterm.new 1 [] [] f f
+        (sends [] (record p { gathered = p.gathered ++ bytes.now })) }
+{
+    match ldterm.gathered.take() {
+        Some(message) => ldterm.gathered = Some(grow(store, message, bytes)),
+        None => {
+            let first = begin(store, bytes);
+            store.audit();
+            ldterm.gathered = Some(first);
+        }
+    }
+}
+
+// An ordinary byte: it is added to the line, or gathered where no lines are made.
+fn strike_ordinary<B: Blocks>(
+    ldterm: &mut Ldterm<B::Mp>,
+    store: &mut B,
+    here: Spot,
+    byte: u8,
+    told: &mut Fates,
+)
+    requires held { IsHeld B.name (B.value store.old) ldterm.old }
+    requires kept { AreIn (B.value store.old) (λ _. 0) (keeps B.name ldterm.old) }
+    requires room { HasRoom (B.value store.old) 1 }
+    ensures { let s = B.value store.old in
+        Proceeds B.name s (B.value store.new) ldterm.old ldterm.new 1 [] [] told.old told.new (added plain here byte (ldterm_in B.name s ldterm.old)) }
+{
+    if ldterm.termios.lflag.contains(LocalModes::ICANON) {
+        add_to_line(ldterm, here, byte, told);
+    } else {
+        gather(ldterm, store, &[byte]);
+    }
+}
+
+/// A key that sends nothing does to the unfinished line, or to the bytes that are gathered, what it does (termio(7I)). At most one block of
+/// each kind is taken. The cost is in proportion to what goes of the line.
+pub(crate) fn strike_quiet<B: Blocks>(
+    ldterm: &mut Ldterm<B::Mp>,
+    store: &mut B,
+    here: Spot,
+    key: Key,
+    byte: u8,
+    told: &mut Fates,
+)
+    requires held { IsHeld B.name (B.value store.old) ldterm.old }
+    requires kept { AreIn (B.value store.old) (λ _. 0) (keeps B.name ldterm.old) }
+    requires room { HasRoom (B.value store.old) 1 }
+    requires quiet { is_quiet key ≡ true }
+    ensures { let s = B.value store.old in
+        Proceeds B.name s (B.value store.new) ldterm.old ldterm.new 1 [] [] told.old told.new
+        (strikes plain here key byte (ldterm_in B.name s ldterm.old)) }
+{
+    match key {
+        Key::Erase => strike_erase(ldterm, here, byte, told),
+        Key::Werase => strike_werase(ldterm, here, byte, told),
+        Key::Kill => strike_kill(ldterm, here, byte, told),
+        Key::Ordinary => strike_ordinary(ldterm, store, here, byte, told),
+        _ => strike_dropped(ldterm, here, key, byte, told),
+    }
+}
+
+/// Whether a key sends nothing.
+pub(crate) fn is_quiet(key: Key) -> bool
+    ensures { result ≡ is_quiet key }
+{
+    matches!(
+        key,
+        Key::Start
+            | Key::Ignored
+            | Key::Erase
+            | Key::Kill
+            | Key::Werase
+            | Key::Reprint
+            | Key::Lnext
+            | Key::Ordinary
+    )
 }
