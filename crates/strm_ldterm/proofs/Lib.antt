@@ -23,3 +23,6 @@ pub mod EchoSteps
 pub mod EchoStands
 pub mod Strikes
 pub mod Gathered
+pub mod Returning
+pub mod Proceeding
+pub mod Finished

@@ -5,6 +5,7 @@
 mod echoes;
 mod echoing;
 mod ending;
+mod finishing;
 mod flushing;
 mod growing;
 mod ldterm;

@@ -1,0 +1,164 @@
+-- What the module keeps in hand, and lets go at the end of a call.
+use Rattle.std.proofs.Common.{ℕ, ◌≡◌, ◌+◌, true, false, cond, List, [], ◌∷◌, length, refl, sym, ap, subst, ◌∙◌, arith}
+use Rattle.std.specs.Prelude.{Option, None, Some, IfSome}
+use Rattle.strm_types.specs.declared.names.Way.TheVariants.{Up}
+use Rattle.strm_types.specs.declared.rules.Fates.{Fates}
+use Rattle.strm_types.specs.declared.spots.Spot.{Spot}
+use Rattle.strm_types.specs.Cells as cells
+use Rattle.strm_types.specs.Deliver.{toward}
+use Rattle.strm_types.specs.Input.{back_on}
+use Rattle.strm_types.specs.Ldterms.{sends, onward}
+use Rattle.strm_types.specs.Message.{Message, cells_of, data_message}
+use Rattle.strm_types.specs.Queue as plain
+use Rattle.strm_types.specs.Queue.{is_none_left}
+use Rattle.strm_types.specs.Typing.{gathered_up}
+use Rattle.strm_blocks.specs.Blocks.{StoreValue, IsStore, in_hand, dropped}
+use Rattle.strm_msg.specs.Bytes.{data_bytes}
+use Rattle.strm_msg.proofs.Chains.{data_in, data-shown, data_in-cells}
+use Rattle.strm_frame.specs.declared.parcels.Sent.{Sent}
+use Rattle.strm_frame.specs.Hands.{once, AreIn, CanPut}
+use Rattle.strm_frame.specs.Outboxes.{message_in, times_sent}
+use Rattle.strm_frame.proofs.Handing.{one-parts, one-chains}
+use Rattle.strm_ldterm.specs.declared.ldterm.Ldterm.{Ldterm}
+use Rattle.strm_ldterm.specs.Stands.{ldterm_in, kept_in, cells_kept, times_kept, keeps, IsHeld, IsData, IsOrdinary}
+use Rattle.strm_ldterm.specs.Does.{Alters, Proceeds}
+use Rattle.strm_ldterm.proofs.Flushed.{alters-none}
+use Rattle.strm_ldterm.proofs.Proceeding.{proceeds-alters}
+use Rattle.strm_ldterm.proofs.Returning.{freed-plain, freed-alters}
+
+none-is-left : {A : Type 0} (l : List A) → length l ≡ 0 → is_none_left l ≡ true
+none-is-left [] is = refl
+none-is-left (x ∷ l) is = absurd (omega arith)
+
+some-is-left : {A : Type 0} (l : List A) → (length l ≡ 0 → ⊥) → is_none_left l ≡ false
+some-is-left [] some = absurd (some refl)
+some-is-left (x ∷ l) some = refl
+
+-- what goes back to a queue
+pub back-none : (o : Option (Message ℕ)) (m : Message ℕ) (q : plain.Queue ℕ) → o ≡ Some m → length (cells_of m) ≡ 0 → back_on o q ≡ q
+back-none o m q there none =
+    ap (λ v. back_on v q) there ∙ ap (λ v. cond {A = plain.Queue ℕ} v q (record q { messages = plain.put_back m q.messages })) (none-is-left (cells_of m) none)
+
+pub back-some : (o : Option (Message ℕ)) (m : Message ℕ) (q : plain.Queue ℕ) → o ≡ Some m → (length (cells_of m) ≡ 0 → ⊥) → back_on o q ≡ record q { messages = plain.put_back m q.messages }
+back-some o m q there some =
+    ap (λ v. back_on v q) there ∙ ap (λ v. cond {A = plain.Queue ℕ} v q (record q { messages = plain.put_back m q.messages })) (some-is-left (cells_of m) some)
+
+-- an ordinary message of data is one
+pub ordinary-shown : (s : StoreValue) (i : ℕ) → IsOrdinary s i → message_in s i ≡ data_message (cells_of (message_in s i))
+unfolding data_message
+ordinary-shown s i is =
+    let chain = in_hand s i in
+    let bytes = data_bytes chain in
+    let shown = data-shown chain is.are.chain.some is.are.kind ∙ ap (λ b. data_in b bytes) is.band in
+    shown ∙ ap (λ l. data_in 0 l) (sym (ap cells_of shown ∙ data_in-cells 0 bytes))
+
+pub up-none : (here : Spot) (l : List ℕ) → length l ≡ 0 → gathered_up cells.plain here l ≡ []
+up-none here [] none = refl
+up-none here (b ∷ l) none = absurd (omega arith)
+
+pub up-some : (here : Spot) (l : List ℕ) → (length l ≡ 0 → ⊥) → gathered_up cells.plain here l ≡ onward Up here (data_message l) ∷ []
+up-some here [] some = absurd (some refl)
+up-some here (b ∷ l) some = refl
+
+module _ {M : Type 0} (name : M → ℕ) (s : StoreValue) (x : Ldterm M) (m : M) where
+  -- the message in work
+  module _ (there : x.in_work ≡ Some m) where
+    pub work-splits : (j : ℕ) → keeps name x j ≡ once (name m) j + keeps name (record x { in_work = None }) j
+    unfolding times_kept
+    work-splits j = let e = ap (λ o. times_kept name o j) there in omega arith
+
+    pub work-shown : kept_in name s x.in_work ≡ Some (message_in s (name m))
+    work-shown = ap (kept_in name s) there
+
+    pub work-is : IsHeld name s x → IsData s (name m)
+    work-is held = subst (λ o. IfSome o (λ y. IsData s (name y))) there held.work
+
+    pub work-can : AreIn s (λ _. 0) (keeps name x) → CanPut s (name m) (keeps name (record x { in_work = None }))
+    work-can kept = record { apart = λ j. let a = kept.apart j in let e = work-splits j in omega arith }
+
+    pub work-held : IsHeld name s x → IsHeld name s (record x { in_work = None })
+    work-held held = record {
+      read = held.read;
+      write = held.write;
+      apart = held.apart;
+      work = tt;
+      gathers = held.gathers;
+      echoes = held.echoes;
+      once_each = λ j. let few = held.once_each j in let e = work-splits j in omega arith;
+    }
+
+  -- what is gathered
+  module _ (there : x.gathered ≡ Some m) where
+    pub gathered-splits : (j : ℕ) → keeps name x j ≡ once (name m) j + keeps name (record x { gathered = None }) j
+    unfolding times_kept
+    gathered-splits j = let e = ap (λ o. times_kept name o j) there in omega arith
+
+    pub gathered-shown : cells_kept (kept_in name s x.gathered) ≡ cells_of (message_in s (name m))
+    gathered-shown = ap (λ o. cells_kept (kept_in name s o)) there
+
+    pub gathered-is : IsHeld name s x → IsOrdinary s (name m)
+    gathered-is held = subst (λ o. IfSome o (λ y. IsOrdinary s (name y))) there held.gathers
+
+    pub gathered-can : AreIn s (λ _. 0) (keeps name x) → CanPut s (name m) (keeps name (record x { gathered = None }))
+    gathered-can kept = record { apart = λ j. let a = kept.apart j in let e = gathered-splits j in omega arith }
+
+    pub gathered-held : IsHeld name s x → IsHeld name s (record x { gathered = None })
+    gathered-held held = record {
+      read = held.read;
+      write = held.write;
+      apart = held.apart;
+      work = held.work;
+      gathers = tt;
+      echoes = held.echoes;
+      once_each = λ j. let few = held.once_each j in let e = gathered-splits j in omega arith;
+    }
+
+    -- it goes up
+    pub gathered-sent : (here to : Spot) (f : Fates) → IsHeld name s x → (length (cells_of (message_in s (name m))) ≡ 0 → ⊥) → to ≡ toward Up here
+        → Proceeds name s s x (record x { gathered = None }) 0 [] (record { to = to; message = m } ∷ []) f f (sends (gathered_up cells.plain here (cells_kept (kept_in name s x.gathered))) (record (ldterm_in name s x) { gathered = [] }))
+    unfolding times_sent
+    gathered-sent here to f held some place =
+        let z : Sent M = record { to = to; message = m } in
+        let is = gathered-is held in
+        record {
+          state = refl;
+          noted = refl;
+          parcels =
+              one-parts name s z (z ∷ []) refl
+              ∙ ap (λ (spot : Spot). record { to = spot; message = message_in s (name m) } ∷ []) place
+              ∙ ap (λ (w : Message ℕ). onward Up here w ∷ []) (ordinary-shown s (name m) is)
+              ∙ sym (ap (gathered_up cells.plain here) gathered-shown ∙ up-some here (cells_of (message_in s (name m))) some);
+          told = refl;
+          held = gathered-held held;
+          own = record { lists = λ k none. refl; owns_same = λ k. refl };
+          chains = one-chains name s z (z ∷ []) refl is.are.chain;
+          hands = record { counts = λ j. let e = gathered-splits j in omega arith; others = λ j gone kept some. refl };
+          mblks = omega arith;
+          dblks = omega arith;
+          pool = record { mblks = refl; dblks = refl };
+        }
+
+module _ {M : Type 0} (name : M → ℕ) (s : StoreValue) (x : Ldterm M) (here : Spot) (f : Fates) where
+  quiet : (t : StoreValue) (y : Ldterm M) → Alters name s t x y → ldterm_in name t y ≡ record (ldterm_in name s x) { gathered = [] } → length (cells_kept (kept_in name s x.gathered)) ≡ 0
+      → Proceeds name s t x y 0 [] [] f f (sends (gathered_up cells.plain here (cells_kept (kept_in name s x.gathered))) (record (ldterm_in name s x) { gathered = [] }))
+  quiet t y alters is none =
+      subst (λ ps. Proceeds name s t x y 0 [] [] f f (sends ps (record (ldterm_in name s x) { gathered = [] }))) (sym (up-none here (cells_kept (kept_in name s x.gathered)) none))
+      (proceeds-alters name s t x y f (record (ldterm_in name s x) { gathered = [] }) alters is)
+
+  -- nothing was gathered
+  pub gathered-none : x.gathered ≡ None → IsHeld name s x
+      → Proceeds name s s x (record x { gathered = None }) 0 [] [] f f (sends (gathered_up cells.plain here (cells_kept (kept_in name s x.gathered))) (record (ldterm_in name s x) { gathered = [] }))
+  gathered-none there held =
+      quiet s (record x { gathered = None }) (subst (λ o. Alters name s s x (record x { gathered = o })) there (alters-none name s x held)) refl
+      (ap (λ o. length (cells_kept (kept_in name s o))) there)
+
+  -- or no bytes were
+  pub gathered-freed : (m : M) → x.gathered ≡ Some m → IsStore s → IsHeld name s x → AreIn s (λ _. 0) (keeps name x) → length (cells_of (message_in s (name m))) ≡ 0
+      → Proceeds name s (dropped s (name m)) x (record x { gathered = None }) 0 [] [] f f (sends (gathered_up cells.plain here (cells_kept (kept_in name s x.gathered))) (record (ldterm_in name s x) { gathered = [] }))
+  gathered-freed m there st held kept none =
+      let y = record x { gathered = None } in
+      let h = gathered-held name s x m there held in
+      let can = gathered-can name s x m there kept in
+      let splits = gathered-splits name s x m there in
+      quiet (dropped s (name m)) y (freed-alters name s x y (name m) st h can splits (λ k. refl)) (freed-plain name s x y (name m) st h can splits (λ k. refl))
+      (ap length (gathered-shown name s x m there) ∙ none)
