@@ -1,15 +1,11 @@
 -- Keys that send nothing, step by step.
-use Rattle.std.proofs.Common.{ℕ, ◌≡◌, ◌<◌, true, false, List, [], ◌∷◌, ◌++◌, length, refl, sym, ap, ◌∙◌, arith}
-use Rattle.strm_types.specs.declared.names.Way.TheVariants.{Up}
+use Rattle.std.proofs.Common.{ℕ, ◌≡◌, true, false, List, [], ◌∷◌, ◌++◌, refl, ap, ◌∙◌, arith}
 use Rattle.strm_types.specs.declared.rules.Fates.{Fates}
-use Rattle.strm_types.specs.declared.rules.Rule.{Rule}
 use Rattle.strm_types.specs.declared.spots.Spot.{Spot}
 use Rattle.strm_types.specs.Cells.{plain}
 use Rattle.strm_types.specs.Deliver.{Acted, Fate, counted_with, tallied}
 use Rattle.strm_types.specs.Ldterms as ldterms
 use Rattle.strm_types.specs.Ldterms.{sends}
-use Rattle.strm_types.specs.Names.{direction_at}
-use Rattle.strm_types.specs.Rules.{told_more}
 use Rattle.strm_types.specs.Lines.{edited, has_room, is_blank, Types}
 use Rattle.strm_types.specs.Termios.{icanon, imaxbel}
 use Rattle.strm_types.specs.declared.rules.Rule.TheVariants.{LineFull, LineOver}
@@ -23,15 +19,6 @@ use Rattle.strm_ldterm.specs.Does.{Proceeds}
 pub told-append : (a b : List (Fate ℕ)) (f : Fates) → tallied (a ++ b) f ≡ tallied b (tallied a f)
 told-append [] b f = refl
 told-append (x ∷ a) b f = told-append a b (counted_with x f)
-
--- what was told of bytes that have gone, where there are some, and where there are none
-pub lost-some : (here : Spot) (rule : Rule) (gone : List ℕ) (n : ℕ) (f : Fates) → length gone ≡ n → 0 < n → told_more (direction_at Up here.side) rule n f ≡ tallied (lost plain here rule gone) f
-lost-some here rule [] n f is some = absurd (omega arith)
-lost-some here rule (c ∷ gone) n f is some = ap (λ k. told_more (direction_at Up here.side) rule k f) (sym is)
-
-pub lost-none : (here : Spot) (rule : Rule) (gone : List ℕ) (f : Fates) → length gone ≡ 0 → f ≡ tallied (lost plain here rule gone) f
-lost-none here rule [] f is = refl
-lost-none here rule (c ∷ gone) f is = absurd (omega arith)
 
 -- an ordinary byte, by the mode and the line
 module _ (here : Spot) (c : ℕ) (p : ldterms.Ldterm ℕ) where

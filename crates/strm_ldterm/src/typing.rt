@@ -158,8 +158,8 @@ fn strike_ordinary<B: Blocks>(
     }
 }
 
-/// A key that sends nothing does to the unfinished line, or to the bytes that are gathered, what it does (termio(7I)). At most one block of
-/// each kind is taken. The cost is in proportion to what goes of the line.
+/// What a key that sends nothing does to the unfinished line, or to the bytes that are gathered (termio(7I)). It takes one block of each kind
+/// at most. The cost is in proportion to the bytes that go of the line.
 pub(crate) fn strike_quiet<B: Blocks>(
     ldterm: &mut Ldterm<B::Mp>,
     store: &mut B,
