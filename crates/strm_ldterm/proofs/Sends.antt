@@ -10,6 +10,7 @@ use Rattle.strm_types.specs.declared.names.Dir.{Dir}
 use Rattle.strm_types.specs.declared.names.Way.TheVariants.{Up}
 use Rattle.strm_types.specs.declared.rules.Fates.{Fates}
 use Rattle.strm_types.specs.declared.rules.Rule.{Rule}
+use Rattle.strm_types.specs.declared.spots.Note.{Note}
 use Rattle.strm_types.specs.declared.spots.Spot.{Spot}
 use Rattle.strm_types.specs.Cells.{plain}
 use Rattle.strm_types.specs.Deliver.{Acted, Fate, Parcel, tallied}
@@ -20,7 +21,7 @@ use Rattle.strm_types.specs.Names.{direction_at}
 use Rattle.strm_types.specs.Rules.{told_more}
 use Rattle.strm_types.specs.Typing.{bare, lost}
 use Rattle.strm_types.specs.Write.{chunk_count}
-use Rattle.strm_blocks.specs.Blocks.{Block, Held, StoreValue, IsFreshName, in_hand, list_at, held, changed, times_in, references, free_m, free_d, copy_of, filled_block, written, taken_by, extended}
+use Rattle.strm_blocks.specs.Blocks.{Block, Held, StoreValue, IsStore, IsInHand, IsFreshName, in_hand, list_at, held, changed, times_in, references, free_m, free_d, copy_of, filled_block, written, taken_by, extended}
 use Rattle.strm_blocks.specs.Outcomes.{Copied, NoneFree}
 use Rattle.strm_blocks.proofs.Laws.{in_hand-held}
 use Rattle.strm_msg.specs.Bytes.{bytes_of, data_bytes}
@@ -36,7 +37,7 @@ use Rattle.strm_queue.proofs.OneMade.{chunk-one}
 use Rattle.strm_frame.specs.declared.parcels.Sent.{Sent}
 use Rattle.strm_frame.specs.Hands.{once, AreIn, SameOwn, HasRoom}
 use Rattle.strm_frame.specs.Outboxes.{times_sent}
-use Rattle.strm_frame.proofs.Handing.{one-parts, one-chains, no-parts, none-chains}
+use Rattle.strm_frame.proofs.Handing.{once-self, one-parts, one-chains, no-parts, none-chains}
 use Rattle.strm_ldterm.specs.declared.ldterm.Ldterm.{Ldterm}
 use Rattle.strm_ldterm.specs.Stands.{ldterm_in, owns, keeps, IsHeld}
 use Rattle.strm_ldterm.specs.Does.{Proceeds}
@@ -214,6 +215,25 @@ module _ {M : Type 0} (name : M → ℕ) where
     dblks = did.dblks;
     pool = did.pool;
   }
+
+  -- Behind a stage of a turn: what is kept is in hand, what was sent is beside it, and what wasn't taken is free.
+  module _ (s t : StoreValue) (x y : Ldterm M) (takes : ℕ) (notes : List Note) (sent : List (Sent M)) (f f' : Fates) (is : Acted ℕ (ldterms.Ldterm ℕ)) (did : Proceeds name s t x y takes notes sent f f' is) where
+    pub proceeds-kept : AreIn s (λ _. 0) (keeps name x) → AreIn t (λ _. 0) (keeps name y)
+    proceeds-kept kept = record { apart = λ i. let c = did.hands.counts i in let a = kept.apart i in omega arith }
+
+    pub proceeds-sent : AreIn s (λ _. 0) (keeps name x) → (i : ℕ) → times_sent name i sent ≤ times_in i t.hand
+    proceeds-sent kept i = let c = did.hands.counts i in let a = kept.apart i in omega arith
+
+    pub proceeds-room : (n more : ℕ) → takes + more ≤ n → HasRoom s n → HasRoom t more
+    proceeds-room n more few room = record { mblks = (let r = room.mblks in let d = did.mblks in omega arith); dblks = (let r = room.dblks in let d = did.dblks in omega arith) }
+
+  -- the first message that is sent is in hand
+  pub first-in_hand : (s : StoreValue) (sent rest : List (Sent M)) (z : Sent M) → IsStore s → sent ≡ z ∷ rest → ((i : ℕ) → times_sent name i sent ≤ times_in i s.hand) → IsInHand s (name z.message)
+  unfolding times_sent
+  first-in_hand s sent rest z st first within =
+      let i = name z.message in
+      let e = ap (times_sent name i) first in let some = within i in let few = st.apart i in let one = once-self i in
+      omega arith
 
 pub stop-plain : is_data_kind Stop ≡ false
 unfolding is_data_kind

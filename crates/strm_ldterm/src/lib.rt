@@ -27,4 +27,6 @@ pub use queues::{asks, is_full, sizes};
 pub use strokes::{restarts, stroke_of};
 
 #[cfg(test)]
+mod sent_tests;
+#[cfg(test)]
 mod tests;
