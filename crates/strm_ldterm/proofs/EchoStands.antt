@@ -1,5 +1,5 @@
 -- The turn's echo, which begins or grows last on the write queue.
-use Rattle.std.proofs.Common.{ℕ, zero, suc, ◌≡◌, ◌≢◌, ◌≤◌, ◌<◌, ◌+◌, Bool, true, false, cond, List, [], ◌∷◌, ◌++◌, length, refl, sym, ap, subst, ◌∙◌, arith, append-nil, inl, inr}
+use Rattle.std.proofs.Common.{ℕ, zero, suc, ◌≡◌, ◌≢◌, ◌≤◌, ◌<◌, ◌+◌, ◌*◌, Bool, true, false, cond, List, [], ◌∷◌, ◌++◌, length, refl, sym, ap, subst, ◌∙◌, arith, append-nil, inl, inr}
 use Rattle.std.specs.Prelude.{Option, None, Some, is_some, not, ◌&&◌, slice_index_or, IfSome}
 use Rattle.std.proofs.lemmas.Bool.{cases_eq}
 use Rattle.strm_types.specs.declared.kinds.MsgKind.TheVariants as kinds
@@ -11,16 +11,19 @@ use Rattle.strm_types.specs.declared.spots.Note.{Note}
 use Rattle.strm_types.specs.declared.spots.Note.TheVariants.{Enable}
 use Rattle.strm_types.specs.declared.spots.Spot.{Spot}
 use Rattle.strm_types.specs.Cells.{plain, cells_made}
-use Rattle.strm_types.specs.Deliver.{Acted, tallied}
+use Rattle.strm_types.specs.Deliver.{Acted, Fate, Comes, tallied}
 use Rattle.strm_types.specs.Ldterms as ldterms
 use Rattle.strm_types.specs.Ldterms.{sends}
 use Rattle.strm_types.specs.Message.{Message, cells_of, data_message, rank_of, band_of, is_high_priority}
 use Rattle.strm_types.specs.Queue as queues
+use Rattle.strm_types.specs.Rules.{told_more, made_more}
 use Rattle.strm_types.specs.Typing.{echo_dir, grown, echo_grows, echo_stands, echo_lost, echoed}
+use Rattle.strm_types.specs.Write.{chunk_count}
+use Rattle.strm_blocks.proofs.Laws.{free_m-is}
 use Rattle.strm_blocks.specs.Blocks.{Block, StoreValue, IsStore, in_hand, list_at, times_in}
 use Rattle.strm_queue.specs.Stored.{queue_in}
 use Rattle.strm_msg.proofs.Hands.{other-name}
-use Rattle.strm_frame.specs.Hands.{once, AreIn, Handles, OnlyOwn, SameOwn}
+use Rattle.strm_frame.specs.Hands.{once, AreIn, Handles, OnlyOwn, SameOwn, HasRoom}
 use Rattle.strm_frame.specs.Outboxes.{message_in, times_sent, parcels_in, AreChains}
 use Rattle.strm_frame.proofs.Handing.{once-self, once-apart}
 use Rattle.strm_ldterm.specs.declared.ldterm.Ldterm.{Ldterm}
@@ -208,12 +211,13 @@ module _ {M : Type 0} (name : M → ℕ) where
   }
 
   -- nothing is done but that something is told
-  pub proceeds-still : (s : StoreValue) (x : Ldterm M) (n : ℕ) (f f' : Fates) (is : Acted ℕ (ldterms.Ldterm ℕ)) → IsHeld name s x → f' ≡ tallied is.gone f → is ≡ record (sends [] (ldterm_in name s x)) { gone = is.gone } → Proceeds name s s x x n [] [] f f' is
+  pub proceeds-still : (s : StoreValue) (x : Ldterm M) (n : ℕ) (notes : List Note) (f f' : Fates) (gone : List (Fate ℕ)) (is : Acted ℕ (ldterms.Ldterm ℕ)) → IsHeld name s x → notes ≡ [] → f' ≡ tallied gone f
+      → is ≡ record (sends [] (ldterm_in name s x)) { gone = gone } → Proceeds name s s x x n notes [] f f' is
   unfolding parcels_in AreChains times_sent
-  proceeds-still s x n f f' is held told same = record {
-    state = sym (ap (λ (a : Acted ℕ (ldterms.Ldterm ℕ)). a.state) same);
-    noted = sym (ap (λ (a : Acted ℕ (ldterms.Ldterm ℕ)). a.notes) same);
-    parcels = sym (ap (λ (a : Acted ℕ (ldterms.Ldterm ℕ)). a.sent) same);
+  proceeds-still s x n notes f f' gone is held none told same = subst (λ a. Proceeds name s s x x n notes [] f f' a) (sym same) (record {
+    state = refl;
+    noted = none;
+    parcels = refl;
     told = told;
     held = held;
     own = record { lists = λ k none. refl; owns_same = λ k. refl };
@@ -222,7 +226,13 @@ module _ {M : Type 0} (name : M → ℕ) where
     mblks = omega arith;
     dblks = omega arith;
     pool = record { mblks = refl; dblks = refl };
-  }
+  })
+
+  -- it grows or it begins
+  pub stands-by : (s t : StoreValue) (x x' : Ldterm M) (n : ℕ) (notes notes' : List Note) (here : Spot) (f : Fates) (bytes : List ℕ) (v w : Bool) → w ≡ v → notes' ≡ notes
+      → Proceeds name s t x x' n notes [] f f (record (cond v (echo_grows plain here bytes (ldterm_in name s x)) (echo_stands plain here bytes (ldterm_in name s x))) { gone = [] })
+      → Proceeds name s t x x' n notes' [] f f (record (cond w (echo_grows plain here bytes (ldterm_in name s x)) (echo_stands plain here bytes (ldterm_in name s x))) { gone = [] })
+  stands-by s t x x' n notes notes' here f bytes v w is same did = rw (is, same) did
 
 -- plain bytes that are made
 pub made-plain : (d : Dir) (n : ℕ) (bytes : List ℕ) → cells_made plain d n bytes ≡ bytes
@@ -235,7 +245,7 @@ module _ (here : Spot) (p : ldterms.Ldterm ℕ) where
   echoed-none [] none = refl
   echoed-none (b ∷ bytes) none = absurd (omega arith)
 
-  by_case : List ℕ → Bool → Acted ℕ (ldterms.Ldterm ℕ)
+  abbrev by_case : List ℕ → Bool → Acted ℕ (ldterms.Ldterm ℕ)
   by_case bytes full = cond full (echo_lost plain here bytes p) (cond p.echoing (echo_grows plain here bytes p) (echo_stands plain here bytes p))
 
   echoed-by : (bytes : List ℕ) → (length bytes ≡ 0 → ⊥) → echoed plain here 0 bytes p ≡ by_case bytes (queues.is_full 0 p.write_queue)
@@ -247,3 +257,22 @@ module _ (here : Spot) (p : ldterms.Ldterm ℕ) where
 
   pub echoed-room : (bytes : List ℕ) → (length bytes ≡ 0 → ⊥) → queues.is_full 0 p.write_queue ≡ false → echoed plain here 0 bytes p ≡ cond p.echoing (echo_grows plain here bytes p) (echo_stands plain here bytes p)
   echoed-room bytes some room = echoed-by bytes some ∙ ap (by_case bytes) room
+
+  pub stands-gone : (bytes : List ℕ) (v : Bool) → (cond v (echo_grows plain here bytes p) (echo_stands plain here bytes p)).gone ≡ Comes (echo_dir plain here) bytes ∷ []
+  stands-gone bytes true = refl
+  stands-gone bytes false = refl
+
+-- what is told of an echo that is lost
+pub told-lost : (d d' : Dir) (n n' : ℕ) (f f1 f2 : Fates) → d ≡ d' → n ≡ n' → f1 ≡ made_more d n f → f2 ≡ told_more d EchoFull n f1 → f2 ≡ told_more d' EchoFull n' (made_more d' n' f)
+told-lost d d' n n' f f1 f2 same long made told = told ∙ ap (λ v. told_more d EchoFull n v) made ∙ ap (λ v. told_more v EchoFull n (made_more v n f)) same ∙ ap (λ v. told_more d' EchoFull v (made_more d' v f)) long
+
+pub told-made : (d d' : Dir) (n n' : ℕ) (f f1 : Fates) → d ≡ d' → n ≡ n' → f1 ≡ made_more d n f → f1 ≡ made_more d' n' f
+told-made d d' n n' f f1 same long made = made ∙ ap (λ v. made_more v n f) same ∙ ap (λ v. made_more d' v f) long
+
+-- its runs
+pub runs-enough : (n : ℕ) → n ≤ chunk_count n * 256
+unfolding chunk_count
+runs-enough n = omega arith
+
+pub few-bytes : (s : StoreValue) (n : ℕ) → IsStore s → HasRoom s (chunk_count n) → n < 9223372036854775808
+few-bytes s n st room = let e = runs-enough n in let r = room.mblks in let f = free_m-is s in let m = st.few_mblks in omega arith
