@@ -1,8 +1,7 @@
 -- The turn's echo, which begins or grows last on the write queue.
-use Rattle.std.proofs.Common.{ℕ, zero, suc, ◌≡◌, ◌≢◌, ◌≤◌, ◌<◌, ◌+◌, ◌*◌, Bool, true, false, cond, List, [], ◌∷◌, ◌++◌, length, refl, sym, ap, subst, ◌∙◌, arith, append-nil, inl, inr}
-use Rattle.std.specs.Prelude.{Option, None, Some, is_some, not, ◌&&◌, slice_index_or, IfSome}
+use Rattle.std.proofs.Common.{ℕ, suc, ◌≡◌, ◌≢◌, ◌≤◌, ◌<◌, ◌+◌, ◌*◌, Bool, true, false, cond, List, [], ◌∷◌, ◌++◌, length, refl, sym, ap, subst, ◌∙◌, arith, append-nil, inl, inr}
+use Rattle.std.specs.Prelude.{None, Some, not, ◌&&◌, slice_index_or}
 use Rattle.std.proofs.lemmas.Bool.{cases_eq}
-use Rattle.strm_types.specs.declared.kinds.MsgKind.TheVariants as kinds
 use Rattle.strm_types.specs.declared.names.Dir.{Dir}
 use Rattle.strm_types.specs.declared.names.Way.TheVariants.{Down}
 use Rattle.strm_types.specs.declared.rules.Fates.{Fates}
@@ -20,10 +19,10 @@ use Rattle.strm_types.specs.Rules.{told_more, made_more}
 use Rattle.strm_types.specs.Typing.{echo_dir, grown, echo_grows, echo_stands, echo_lost, echoed}
 use Rattle.strm_types.specs.Write.{chunk_count}
 use Rattle.strm_blocks.proofs.Laws.{free_m-is}
-use Rattle.strm_blocks.specs.Blocks.{Block, StoreValue, IsStore, in_hand, list_at, times_in}
+use Rattle.strm_blocks.specs.Blocks.{StoreValue, IsStore, in_hand, times_in}
 use Rattle.strm_queue.specs.Stored.{queue_in}
 use Rattle.strm_msg.proofs.Hands.{other-name}
-use Rattle.strm_frame.specs.Hands.{once, AreIn, Handles, OnlyOwn, SameOwn, HasRoom}
+use Rattle.strm_frame.specs.Hands.{once, AreIn, Handles, SameOwn, HasRoom}
 use Rattle.strm_frame.specs.Outboxes.{message_in, times_sent, parcels_in, AreChains}
 use Rattle.strm_frame.proofs.Handing.{once-self, once-apart}
 use Rattle.strm_ldterm.specs.declared.ldterm.Ldterm.{Ldterm}

@@ -1,11 +1,10 @@
 -- An echo that is added to a message run by run.
-use Rattle.std.proofs.Common.{ℕ, zero, suc, ◌≡◌, ◌≢◌, ◌≤◌, ◌<◌, ◌+◌, ◌-◌, ◌*◌, Bool, true, false, cond, List, [], ◌∷◌, ◌++◌, length, take, drop, refl, sym, ap, subst, ◌∙◌, arith, length-drop, take-append-drop}
+use Rattle.std.proofs.Common.{ℕ, ◌≡◌, ◌≤◌, ◌<◌, ◌+◌, ◌-◌, ◌*◌, List, ◌++◌, length, take, drop, refl, sym, ap, subst, ◌∙◌, arith, length-drop, take-append-drop}
 use Rattle.std.proofs.Math.Seq.{take-add}
 use Rattle.std.proofs.lemmas.List.{drop-drop, take_all}
-use Rattle.strm_types.specs.Message.{Message, cells_of, data_message}
-use Rattle.strm_blocks.specs.Blocks.{StoreValue, IsStore, in_hand, free_m, free_d}
+use Rattle.strm_blocks.specs.Blocks.{StoreValue}
 use Rattle.strm_frame.specs.Hands.{HasRoom}
-use Rattle.strm_ldterm.specs.Stands.{IsData, IsOrdinary}
+use Rattle.strm_ldterm.specs.Stands.{IsData}
 use Rattle.strm_ldterm.specs.Grown.{Grown, Begins}
 use Rattle.strm_ldterm.proofs.Grows.{grown-none, grown-both, begins-grown}
 
@@ -24,7 +23,7 @@ grew-more s t u i j k bytes rest rest' run at was taken more is same =
     let is' = subst (λ n. Grown t u n run 1) was.name is in
     let both = grown-both s t u i (take (at * 256) bytes) run at 1 was.grown is' in
     let joined : take (at * 256) bytes ++ run ≡ take ((at + 1) * 256) bytes =
-        ap (λ xs. take (at * 256) bytes ++ xs) (taken ∙ ap (take 256) was.left) ∙ sym (take-add (at * 256) 256 bytes) ∙ ap (λ n. take n bytes) e in
+    ap (λ xs. take (at * 256) bytes ++ xs) (taken ∙ ap (take 256) was.left) ∙ sym (take-add (at * 256) 256 bytes) ∙ ap (λ n. take n bytes) e in
     record {
       name = same ∙ was.name;
       grown = subst (λ xs. Grown s u i xs (at + 1)) joined both;

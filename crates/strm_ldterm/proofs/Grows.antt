@@ -1,13 +1,13 @@
 -- Messages of data in hand that grow.
-use Rattle.std.proofs.Common.{ℕ, zero, suc, ◌≡◌, ◌≢◌, ◌≤◌, ◌<◌, ◌+◌, ◌-◌, Bool, true, false, cond, eqb, List, [], ◌∷◌, ◌++◌, length, take, drop, refl, sym, ap, subst, ◌∙◌, arith, append_assoc, append-nil, length-append, take-append-drop, inl, inr}
+use Rattle.std.proofs.Common.{ℕ, suc, ◌≡◌, ◌≢◌, ◌≤◌, ◌<◌, ◌+◌, ◌-◌, false, cond, eqb, List, [], ◌∷◌, ◌++◌, length, take, drop, refl, sym, ap, subst, ◌∙◌, arith, append_assoc, append-nil, length-append, take-append-drop, inl, inr}
 use Rattle.std.proofs.lemmas.List.{take_all}
 use Rattle.std.proofs.lemmas.List.Sums.{sum_by-cons, sum_by-append}
 use Rattle.strm_types.specs.declared.kinds.MsgKind.{MsgKind}
 use Rattle.strm_types.specs.declared.kinds.MsgKind.TheVariants as kinds
 use Rattle.strm_types.specs.Message.{Message, cells_of, data_message, is_high_priority}
 use Rattle.strm_types.specs.Write.{chunk_count}
-use Rattle.strm_blocks.specs.Blocks.{Block, Held, StoreValue, times_in, IsStore, IsInHand, IsFreshName, block_at, in_hand, held, dropped, changed, extended, with_block, written, total, names_of, used, references, free_m, free_d}
-use Rattle.strm_blocks.proofs.Laws.{in_hand-changed_other, in_hand-held, total-held, total-changed, used-is, references-is, free_m-is, free_d-same}
+use Rattle.strm_blocks.specs.Blocks.{Block, Held, StoreValue, times_in, IsStore, IsInHand, block_at, in_hand, dropped, changed, extended, with_block, written, total, names_of, free_m, free_d}
+use Rattle.strm_blocks.proofs.Laws.{in_hand-changed_other, total-held, total-changed, used-is, references-is, free_m-is, free_d-same}
 use Rattle.strm_msg.specs.Bytes.{bytes_of, data_bytes}
 use Rattle.strm_msg.specs.Made.{MadeOf, TooFew}
 use Rattle.strm_msg.specs.Messages.{message_of, AreData, IsChain}
@@ -138,8 +138,8 @@ grown-append s t i bytes st is after =
     let e = is-extended bytes c is.chain.some in
     let here = chain-in-hand s i st is.chain.some in
     let free = same-free s t (ap (λ v. v.mblks) after) (ap (λ v. v.dblks) after)
-        (ap (total length) after ∙ (let a = total-changed length s i (extended bytes c) here in let l = e.len in omega arith))
-        (λ d. ap (total (names_of d)) after ∙ (let a = total-changed (names_of d) s i (extended bytes c) here in let l = e.names d in omega arith)) in
+    (ap (total length) after ∙ (let a = total-changed length s i (extended bytes c) here in let l = e.len in omega arith))
+    (λ d. ap (total (names_of d)) after ∙ (let a = total-changed (names_of d) s i (extended bytes c) here in let l = e.names d in omega arith)) in
     let m = free.0 in
     let d = free.1 in
     grown-by s t i (extended bytes c) st is after bytes 0 (let l = e.len in let some = is.chain.some in omega arith) (e.all (is.chain.all_data is.kind)) e.band e.shows (omega arith) (omega arith)
@@ -177,15 +177,15 @@ grown-hang s u t i j bytes st is made linked =
     let all : AreData e = made.are.are.chain.all_data made.are.are.kind in
     let len = length-append c e in
     let free = same-free u t (ap (λ v. v.mblks) after ∙ sym (ap (λ v. v.mblks) made.after)) (ap (λ v. v.dblks) after ∙ sym (ap (λ v. v.dblks) made.after))
-        (ap (total length) after ∙ (let a = total-changed length s i (c ++ e) here in let b = total-held length s j e in omega arith) ∙ sym (ap (total length) made.after))
-        (λ d. ap (total (names_of d)) after ∙ (let a = total-changed (names_of d) s i (c ++ e) here in let b = total-held (names_of d) s j e in let l = sum_by-append (λ (x : Block). cond {A = ℕ} (eqb x.number d) 1 0) c e in omega arith) ∙ sym (ap (total (names_of d)) made.after)) in
+    (ap (total length) after ∙ (let a = total-changed length s i (c ++ e) here in let b = total-held length s j e in omega arith) ∙ sym (ap (total length) made.after))
+    (λ d. ap (total (names_of d)) after ∙ (let a = total-changed (names_of d) s i (c ++ e) here in let b = total-held (names_of d) s j e in let l = sum_by-append (λ (x : Block). cond {A = ℕ} (eqb x.number d) 1 0) c e in omega arith) ∙ sym (ap (total (names_of d)) made.after)) in
     let m = free.0 in
     let d = free.1 in
     let mm = made.mblks in
     let dd = made.dblks in
     let shown : bytes_of e ≡ bytes = sym (data-cells e made.are.are.chain.some all) ∙ ap cells_of made.shows ∙ cells-data bytes in
     grown-by s t i (c ++ e) st is after bytes 1 (let some = is.chain.some in omega arith) (data-append c e (is.chain.all_data is.kind) all) (ap (λ b. b.band) (first-append c e is.chain.some))
-        (bytes-append c e ∙ ap (λ xs. bytes_of c ++ xs) shown) (omega arith) (omega arith)
+    (bytes-append c e ∙ ap (λ xs. bytes_of c ++ xs) shown) (omega arith) (omega arith)
 
 -- what is hung and what it is hung behind are both in hand
 pub hang-first : (s u : StoreValue) (i j : ℕ) (bytes : List ℕ) → IsStore s → IsData s i → Begins s u j bytes 1 → IsInHand u i

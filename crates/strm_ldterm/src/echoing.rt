@@ -88,12 +88,7 @@ fn grow_echo<B: Blocks>(ldterm: &mut Ldterm<B::Mp>, store: &mut B, plan: Echo, r
 }
 
 // Begins the turn's echo, run by run, so many at most, and says whether that enables the write queue.
-fn begin_echo<B: Blocks>(
-    ldterm: &mut Ldterm<B::Mp>,
-    store: &mut B,
-    plan: Echo,
-    runs: usize,
-) -> bool
+fn begin_echo<B: Blocks>(ldterm: &mut Ldterm<B::Mp>, store: &mut B, plan: Echo, runs: usize) -> bool
     requires held { IsHeld B.name (B.value store.old) ldterm.old }
     requires kept { AreIn (B.value store.old) (λ _. 0) (keeps B.name ldterm.old) }
     requires none { is_some ldterm.old.echo ≡ false }

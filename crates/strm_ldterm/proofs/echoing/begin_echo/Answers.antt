@@ -1,5 +1,5 @@
 -- The echo begins, where none was.
-use Rattle.std.proofs.Common.{◌≡◌, true, false, cond, List, [], ◌∷◌, refl, sym, ap, subst, ◌∙◌}
+use Rattle.std.proofs.Common.{◌≡◌, false, cond, List, [], ◌∷◌, refl, sym, subst}
 use Rattle.std.specs.Prelude.{Option, None, Some, is_some}
 use Rattle.strm_types.specs.declared.names.Way.TheVariants.{Down}
 use Rattle.strm_types.specs.declared.spots.Note.{Note}
@@ -29,5 +29,5 @@ returns g c = λ here f.
     let kept = subst (λ o. AreIn s (λ _. 0) (keeps name (record x { echo = o }))) none c.requires.kept in
     let bytes = echo_bytes c.args.plan x.line in
     subst (λ o. Proceeds name s t (record x { echo = o }) (record x { echo = Some e }) c.args.runs (cond {A = List Note} c.enables.result (Enable Down ∷ []) []) [] f f
-        (record (echo_stands plain here bytes (ldterm_in name s (record x { echo = o }))) { gone = [] })) (sym none)
+    (record (echo_stands plain here bytes (ldterm_in name s (record x { echo = o }))) { gone = [] })) (sym none)
     (begins-proceeds name s t x e bytes c.args.runs c.audit.ensures held kept c.begin_by_runs.ensures here f c.enables.result c.enables.ensures)

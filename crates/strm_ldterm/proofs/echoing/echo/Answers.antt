@@ -1,15 +1,12 @@
 -- No byte, a full band, or an echo that stands.
-use Rattle.std.proofs.Common.{◌≡◌, ℕ, ◌<◌, ◌≤◌, ◌*◌, true, false, [], ◌∷◌, cond, length, refl, sym, ap, subst, ◌∙◌, arith}
+use Rattle.std.proofs.Common.{◌≡◌, [], ◌∷◌, cond, length, refl, sym, ap, subst, ◌∙◌, arith}
 use Rattle.std.specs.Prelude.{is_some}
-use Rattle.strm_types.specs.declared.names.Way.TheVariants.{Down}
 use Rattle.strm_types.specs.declared.rules.Rule.TheVariants.{EchoFull}
 use Rattle.strm_types.specs.Cells.{plain}
 use Rattle.strm_types.specs.Deliver.{Comes, Goes, tallied}
-use Rattle.strm_types.specs.Names.{direction_at}
 use Rattle.strm_types.specs.Typing.{echo_dir, echo_grows, echo_stands, echoed}
 use Rattle.strm_types.specs.Write.{chunk_count}
 use Rattle.strm_msg.proofs.Pieces.{chunk-some}
-use Rattle.strm_frame.specs.Hands.{HasRoom}
 use Rattle.strm_ldterm.specs.Stands.{ldterm_in}
 use Rattle.strm_ldterm.specs.Does.{Proceeds}
 use Rattle.strm_ldterm.specs.Echoes.{echo_bytes}

@@ -1,6 +1,6 @@
 -- The echo grows where it stands.
-use Rattle.std.proofs.Common.{◌≡◌, true, [], sym, ap, subst, ◌∙◌}
-use Rattle.std.specs.Prelude.{Option, None, Some, is_some}
+use Rattle.std.proofs.Common.{◌≡◌, [], sym, subst, ◌∙◌}
+use Rattle.std.specs.Prelude.{Some}
 use Rattle.strm_types.specs.Cells.{plain}
 use Rattle.strm_types.specs.Typing.{echo_grows}
 use Rattle.strm_ldterm.specs.Echoes.{echo_bytes}
@@ -20,5 +20,5 @@ returns g c = λ here f.
     let held = subst (λ o. IsHeld name s (record x { echo = o })) there c.requires.held in
     let bytes = echo_bytes c.args.plan x.line in
     subst (λ o. Proceeds name s t (record x { echo = o }) (record x { echo = Some c.grow_by_runs.result }) c.args.runs [] [] f f
-        (record (echo_grows plain here bytes (ldterm_in name s (record x { echo = o }))) { gone = [] })) (sym there)
+    (record (echo_grows plain here bytes (ldterm_in name s (record x { echo = o }))) { gone = [] })) (sym there)
     (grows-proceeds name s t x e c.grow_by_runs.result bytes c.args.runs held c.grow_by_runs.ensures.grown c.grow_by_runs.ensures.kept_name here f)
