@@ -131,10 +131,11 @@ fn let_stand<B: Blocks>(
     )
 }
 
-/// Echoes a byte, the last of what a byte does: these bytes are told as made in the direction of the write queue, and where its band 0
-/// isn't full they stand last on it. There the turn's echo is one message, which grows; it begins with the first byte that is echoed,
-/// and that enables the queue as putq(9F) says. Where band 0 is full before, none of them stands, and all are told as gone (EchoFull). It takes one block
-/// of each kind at most for each begun 256 bytes. The cost is a step for each byte, and for each message on the queue.
+/// Echoes a byte, which is the last of what a byte does. Its echo is told as made in the direction of the write queue, and where band 0
+/// of that queue isn't full it stands last there: the turn's echo is one message, which grows. The first byte that is echoed begins it,
+/// and that enables the queue as `putq(9F)` says. Where band 0 is full before, none of the echo stands, and all of it is told as gone
+/// (EchoFull). It takes one block of each kind at most for each begun 256 bytes. The cost is a step for each byte of the echo, and for
+/// each block of the turn's echo.
 pub(crate) fn echo<B: Blocks>(
     ldterm: &mut Ldterm<B::Mp>,
     store: &mut B,
