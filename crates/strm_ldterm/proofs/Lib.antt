@@ -26,3 +26,4 @@ pub mod Gathered
 pub mod Returning
 pub mod Proceeding
 pub mod Finished
+pub mod Passed

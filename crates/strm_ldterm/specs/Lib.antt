@@ -8,3 +8,4 @@ pub mod Turns
 pub mod Sending
 pub mod Grown
 pub mod Quiet
+pub mod Began

@@ -2,6 +2,7 @@
 //! queues on a store of blocks.
 #![tactic(auto)]
 
+mod beginning;
 mod echoes;
 mod echoing;
 mod ending;

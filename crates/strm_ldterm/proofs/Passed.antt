@@ -1,0 +1,313 @@
+-- The first message of a queue is taken into the hand, where the module keeps none there.
+use Rattle.std.proofs.Common.{ℕ, ◌≡◌, ◌<◌, ◌+◌, eqb, Bool, true, false, cond, List, [], ◌∷◌, ◌++◌, length, map, refl, sym, ap, subst, ◌∙◌, arith}
+use Rattle.std.specs.Prelude.{Option, None, Some, unwrap_or}
+use Rattle.std.proofs.lemmas.List.Sums.{sum_by-cons}
+use Rattle.strm_types.specs.declared.kinds.MsgKind.{MsgKind}
+use Rattle.strm_types.specs.declared.kinds.MsgKind.TheVariants as kinds
+use Rattle.strm_types.specs.declared.names.Way.TheVariants.{Up, Down}
+use Rattle.strm_types.specs.declared.rules.Fates.{Fates}
+use Rattle.strm_types.specs.declared.spots.Spot.{Spot}
+use Rattle.strm_types.specs.Cells as cells
+use Rattle.strm_types.specs.Deliver.{toward}
+use Rattle.strm_types.specs.Input.{is_data, input_begins, output_passes, passes, treats, nothing_served}
+use Rattle.strm_types.specs.Ldterms as ldterms
+use Rattle.strm_types.specs.Ldterms.{sends}
+use Rattle.strm_types.specs.Message.{Message, cells_of, size_of}
+use Rattle.strm_types.specs.Queue as plain
+use Rattle.strm_types.specs.Queue.{left_with}
+use Rattle.strm_types.specs.Service.{Serving}
+use Rattle.strm_blocks.specs.Blocks.{Block, Held, StoreValue, IsStore, in_hand, list_at, block_at, held, times_in, chain_in}
+use Rattle.strm_blocks.proofs.Laws.{in_hand-held_other}
+use Rattle.strm_msg.specs.Bytes.{data_bytes}
+use Rattle.strm_msg.specs.Messages.{message_of, IsChain}
+use Rattle.strm_msg.proofs.Chains.{kind-is, data-shown, data_in-cells, data_in-size}
+use Rattle.strm_queue.specs.declared.queue.Queue.{Queue}
+use Rattle.strm_queue.specs.Stored.{messages_on, Dequeued}
+use Rattle.strm_frame.specs.declared.parcels.Sent.{Sent}
+use Rattle.strm_frame.specs.Hands.{once, OnlyOwn}
+use Rattle.strm_frame.specs.Outboxes.{message_in, times_sent, parcels_in, AreChains}
+use Rattle.strm_frame.proofs.Handing.{once-self, once-apart, one-parts, one-chains, no-parts, none-chains}
+use Rattle.strm_ldterm.specs.declared.ldterm.Ldterm.{Ldterm}
+use Rattle.strm_ldterm.specs.Stands.{ldterm_in, owns, times_kept, keeps, IsHeld, with_last}
+use Rattle.strm_ldterm.specs.Does.{Proceeds}
+use Rattle.strm_ldterm.specs.Frames.{form-same, list-ready}
+use Rattle.strm_ldterm.specs.Began.{BeganWhole, BeganWork}
+
+-- what stands on an empty list
+pub none-there : (chains : List (List Block)) → plain.is_none_left chains ≡ true → map message_of chains ≡ []
+none-there [] is = refl
+none-there (chain ∷ chains) is = absurd (cc)
+
+-- the size of M_DATA is that of its cells
+pub data-size : (chain : List Block) → IsChain chain → (block_at 0 chain).kind ≡ kinds.Data → size_of (message_of chain) ≡ length (cells_of (message_of chain))
+data-size chain one is =
+    let shown = data-shown chain one.some is in
+    let band = (block_at 0 chain).band in
+    ap size_of shown ∙ data_in-size band (data_bytes chain) ∙ ap length (sym (ap cells_of shown ∙ data_in-cells band (data_bytes chain)))
+
+module _ {M : Type 0} (name : M → ℕ) where
+  -- a module that keeps nothing in hand
+  none-kept : (o : Option M) → ((i : ℕ) → times_kept name o i ≡ 0) → o ≡ None
+  unfolding times_kept
+  none-kept None none = refl
+  none-kept (Some m) none = let one = once-self (name m) in let z = none (name m) in absurd (omega arith)
+
+  abbrev at_rest : Ldterm M → Ldterm M
+  at_rest x = record x { in_work = None; gathered = None; echo = None }
+
+  rests-is : (x : Ldterm M) → ((i : ℕ) → keeps name x i ≡ 0) → x ≡ at_rest x
+  rests-is x rests =
+      let work = none-kept x.in_work (λ i. let r = rests i in omega arith) in
+      let gathers = none-kept x.gathered (λ i. let r = rests i in omega arith) in
+      let echo = none-kept x.echo (λ i. let r = rests i in omega arith) in
+      ap (λ o. record x { in_work = o }) work
+      ∙ ap (λ o. record x { in_work = None; gathered = o }) gathers
+      ∙ ap (λ o. record x { in_work = None; gathered = None; echo = o }) echo
+
+  -- nothing happens
+  pub stays : (s : StoreValue) (x : Ldterm M) (sent : List (Sent M)) (f : Fates) → IsHeld name s x → sent ≡ [] → Proceeds name s s x x 0 [] sent f f (sends [] (ldterm_in name s x))
+  unfolding times_sent
+  stays s x sent f held none = record {
+    state = refl;
+    noted = refl;
+    parcels = no-parts name s sent none;
+    told = refl;
+    held = held;
+    own = record { lists = λ k none. refl; owns_same = λ k. refl };
+    chains = none-chains name s sent none;
+    hands = record { counts = λ i. let e = ap (times_sent name i) none in omega arith; others = λ i gone kept some. refl };
+    mblks = omega arith;
+    dblks = omega arith;
+    pool = record { mblks = refl; dblks = refl };
+  }
+
+  -- the message that was taken, beside the others in hand
+  module _ (s t : StoreValue) (q q' : Queue) (i : ℕ) (is : Dequeued s t q q' i) where
+    pub taken-comes : (j : ℕ) → times_in j t.hand ≡ once i j + times_in j s.hand
+    unfolding once
+    taken-comes j = ap (times_in j) is.hand ∙ sum_by-cons (λ (h : Held). cond {A = ℕ} (eqb h.name j) 1 0) (record { name = i; chain = in_hand t i }) s.hand
+
+    pub taken-stays : (j : ℕ) → 0 < times_in j s.hand → in_hand t j ≡ in_hand s j
+    taken-stays j some =
+        ap (λ h. chain_in j h) is.hand
+        ∙ in_hand-held_other s i j (in_hand t i) (λ e. (let w = ap (λ k. times_in k s.hand) e in let z = is.fresh in absurd (omega arith)))
+
+  -- nothing stands there
+  module _ (s : StoreValue) (x : Ldterm M) (rests : (i : ℕ) → keeps name x i ≡ 0) (here : Spot) where
+    down-none : messages_on s x.write_queue.list ≡ [] → output_passes cells.plain here (ldterm_in name s x).write_queue.messages (ldterm_in name s x) ≡ nothing_served cells.plain here (ldterm_in name s x)
+    down-none none =
+        subst (λ (y : Ldterm M). output_passes cells.plain here (ldterm_in name s y).write_queue.messages (ldterm_in name s y) ≡ nothing_served cells.plain here (ldterm_in name s y)) (sym (rests-is x rests))
+        (ap (λ (ms : List (Message ℕ)). output_passes cells.plain here (ms ++ []) (ldterm_in name s (at_rest x))) none)
+
+    pub down-bytes : messages_on s x.write_queue.list ≡ [] → 0 ≡ (output_passes cells.plain here (ldterm_in name s x).write_queue.messages (ldterm_in name s x)).bytes
+    down-bytes none = sym (ap (λ (v : Serving ℕ (ldterms.Ldterm ℕ)). v.bytes) (down-none none))
+
+    pub stays-down : (sent : List (Sent M)) (f : Fates) → IsHeld name s x → messages_on s x.write_queue.list ≡ [] → sent ≡ []
+        → Proceeds name s s x x 0 [] sent f f (output_passes cells.plain here (ldterm_in name s x).write_queue.messages (ldterm_in name s x)).acted
+    stays-down sent f held none empty = subst (λ (v : Serving ℕ (ldterms.Ldterm ℕ)). Proceeds name s s x x 0 [] sent f f v.acted) (sym (down-none none)) (stays s x sent f held empty)
+
+  pub stays-up : (s : StoreValue) (here : Spot) (x : Ldterm M) → IsHeld name s x → messages_on s x.read_queue.list ≡ [] → BeganWhole name s s here x x [] 0
+  stays-up s here x held none =
+      let is = λ (stop : Option ℕ). ap (λ (ms : List (Message ℕ)). input_begins cells.plain here stop 0 ms (ldterm_in name s x)) none in
+      record {
+        passes = λ stop f. subst (λ (v : Serving ℕ (ldterms.Ldterm ℕ)). Proceeds name s s x x 0 [] [] f f v.acted) (sym (is stop)) (stays s x [] f held refl);
+        size = λ stop. sym (ap (λ (v : Serving ℕ (ldterms.Ldterm ℕ)). v.bytes) (is stop));
+        again = λ stop. ap (λ (v : Serving ℕ (ldterms.Ldterm ℕ)). v.again) (is stop);
+      }
+
+  -- off the write queue
+  module _ (s t : StoreValue) (x : Ldterm M) (q' : Queue) (z : Sent M) (held : IsHeld name s (at_rest x)) (is : Dequeued s t x.write_queue q' (name z.message)) where
+    reads-stay : list_at t x.read_queue.list ≡ list_at s x.read_queue.list
+    reads-stay = is.others x.read_queue.list held.apart
+
+    down-plain : ldterm_in name t (record (at_rest x) { write_queue = q' })
+        ≡ record (ldterm_in name s (at_rest x)) { write_queue = left_with (messages_on t q'.list ++ []) (ldterm_in name s (at_rest x)).write_queue }
+    down-plain =
+        form-same name (record (at_rest x) { write_queue = q' }) _ _ (list_at t q'.list) (list_at t q'.list) None None None None None None reads-stay refl refl refl refl
+        ∙ ap (λ (q : plain.Queue ℕ). record (ldterm_in name s (at_rest x)) { write_queue = with_last None q }) is.queue
+
+    down-proceeds : (here : Spot) (sent : List (Sent M)) (f : Fates) → sent ≡ z ∷ [] → z.to ≡ toward Down here
+        → Proceeds name s t (at_rest x) (record (at_rest x) { write_queue = q' }) 0 [] sent f f (passes cells.plain here Down (message_in t (name z.message)) (messages_on t q'.list ++ []) (ldterm_in name s (at_rest x))).acted
+    unfolding times_kept times_sent
+    down-proceeds here sent f one to = record {
+      state = down-plain;
+      noted = refl;
+      parcels = one-parts name t z sent one ∙ ap (λ (spot : Spot). record { to = spot; message = message_in t (name z.message) } ∷ []) to;
+      told = refl;
+      held = record {
+        read = list-ready s t x.read_queue reads-stay held.read;
+        write = is.ready;
+        apart = λ e. held.apart (e ∙ is.list);
+        work = tt;
+        gathers = tt;
+        echoes = tt;
+        once_each = held.once_each;
+      };
+      own = record {
+        lists = λ k none. is.others k (λ e. once-apart x.write_queue.list k (omega arith) (sym e));
+        owns_same = λ k. ap (λ l. once x.read_queue.list k + once l k) is.list;
+      };
+      chains = one-chains name t z sent one is.chain;
+      hands = record {
+        counts = λ j. let c = taken-comes s t x.write_queue q' (name z.message) is j in let e = ap (times_sent name j) one in omega arith;
+        others = λ j gone kept some. taken-stays s t x.write_queue q' (name z.message) is j some;
+      };
+      mblks = (let a = is.frees.mblks in omega arith);
+      dblks = (let a = is.frees.dblks in omega arith);
+      pool = record { mblks = is.mblks; dblks = is.dblks };
+    }
+
+    down-is : (here : Spot) → let p = ldterm_in name s (at_rest x) in
+        output_passes cells.plain here p.write_queue.messages p ≡ passes cells.plain here Down (message_in t (name z.message)) (messages_on t q'.list ++ []) p
+    down-is here = ap (λ (ms : List (Message ℕ)). output_passes cells.plain here (ms ++ []) (ldterm_in name s (at_rest x))) is.first
+
+  pub passes-down : (s t : StoreValue) (x : Ldterm M) (q' : Queue) (z : Sent M) (here : Spot) (sent : List (Sent M)) (f : Fates) → IsHeld name s x → ((i : ℕ) → keeps name x i ≡ 0) → Dequeued s t x.write_queue q' (name z.message)
+      → sent ≡ z ∷ [] → z.to ≡ toward Down here → Proceeds name s t x (record x { write_queue = q' }) 0 [] sent f f (output_passes cells.plain here (ldterm_in name s x).write_queue.messages (ldterm_in name s x)).acted
+  passes-down s t x q' z here sent f held rests is one to =
+      let quiet = rests-is x rests in
+      let there : IsHeld name s (at_rest x) = subst (IsHeld name s) quiet held in
+      subst (λ (y : Ldterm M). Proceeds name s t y (record y { write_queue = q' }) 0 [] sent f f (output_passes cells.plain here (ldterm_in name s y).write_queue.messages (ldterm_in name s y)).acted) (sym quiet)
+      (subst (λ (v : Serving ℕ (ldterms.Ldterm ℕ)). Proceeds name s t (at_rest x) (record (at_rest x) { write_queue = q' }) 0 [] sent f f v.acted) (sym (down-is s t x q' z there is here))
+      (down-proceeds s t x q' z there is here sent f one to))
+
+  -- off the read queue
+  module _ (s t : StoreValue) (x : Ldterm M) (q' : Queue) (m : M) (held : IsHeld name s (at_rest x)) (is : Dequeued s t x.read_queue q' (name m)) where
+    writes-stay : list_at t x.write_queue.list ≡ list_at s x.write_queue.list
+    writes-stay = is.others x.write_queue.list (λ e. held.apart (sym e))
+
+    up-plain : ldterm_in name t (record (at_rest x) { read_queue = q' })
+        ≡ record (ldterm_in name s (at_rest x)) { read_queue = left_with (messages_on t q'.list) (ldterm_in name s (at_rest x)).read_queue }
+    up-plain =
+        form-same name (record (at_rest x) { read_queue = q' }) (list_at t q'.list) (list_at t q'.list) _ _ None None None None None None refl writes-stay refl refl refl
+        ∙ ap (λ (q : plain.Queue ℕ). record (ldterm_in name s (at_rest x)) { read_queue = q }) is.queue
+
+    up-own : OnlyOwn s t (owns x) (owns (record x { read_queue = q' }))
+    up-own = record {
+      lists = λ k none. is.others k (λ e. once-apart x.read_queue.list k (omega arith) (sym e));
+      owns_same = λ k. ap (λ l. once l k + once x.write_queue.list k) is.list;
+    }
+
+    -- and sent on
+    up-proceeds : (to : Spot) (here : Spot) (sent : List (Sent M)) (f : Fates) → sent ≡ record { to = to; message = m } ∷ [] → to ≡ toward Up here
+        → Proceeds name s t (at_rest x) (record (at_rest x) { read_queue = q' }) 0 [] sent f f (passes cells.plain here Up (message_in t (name m)) (messages_on t q'.list) (ldterm_in name s (at_rest x))).acted
+    unfolding times_kept times_sent
+    up-proceeds to here sent f one there = record {
+      state = up-plain;
+      noted = refl;
+      parcels = one-parts name t (record { to = to; message = m }) sent one ∙ ap (λ (spot : Spot). record { to = spot; message = message_in t (name m) } ∷ []) there;
+      told = refl;
+      held = record {
+        read = is.ready;
+        write = list-ready s t x.write_queue writes-stay held.write;
+        apart = λ e. held.apart (sym is.list ∙ e);
+        work = tt;
+        gathers = tt;
+        echoes = tt;
+        once_each = held.once_each;
+      };
+      own = record { lists = up-own.lists; owns_same = up-own.owns_same };
+      chains = one-chains name t (record { to = to; message = m }) sent one is.chain;
+      hands = record {
+        counts = λ j. let c = taken-comes s t x.read_queue q' (name m) is j in let e = ap (times_sent name j) one in omega arith;
+        others = λ j gone kept some. taken-stays s t x.read_queue q' (name m) is j some;
+      };
+      mblks = (let a = is.frees.mblks in omega arith);
+      dblks = (let a = is.frees.dblks in omega arith);
+      pool = record { mblks = is.mblks; dblks = is.dblks };
+    }
+
+    -- or kept in work
+    work-plain : ldterm_in name t (record (at_rest x) { read_queue = q'; in_work = Some m })
+        ≡ record (ldterm_in name s (at_rest x)) { read_queue = left_with (messages_on t q'.list) (ldterm_in name s (at_rest x)).read_queue; in_work = Some (message_in t (name m)) }
+    work-plain = ap (λ (p : ldterms.Ldterm ℕ). record p { in_work = Some (message_in t (name m)) }) up-plain
+
+    work-proceeds : (f : Fates) → IsStore t → (block_at 0 (in_hand t (name m))).kind ≡ kinds.Data
+        → Proceeds name s t (at_rest x) (record (at_rest x) { read_queue = q'; in_work = Some m }) 0 [] [] f f
+        (sends [] (record (ldterm_in name s (at_rest x)) { read_queue = left_with (messages_on t q'.list) (ldterm_in name s (at_rest x)).read_queue; in_work = Some (message_in t (name m)) }))
+    unfolding times_kept times_sent parcels_in AreChains
+    work-proceeds f st kind = record {
+      state = work-plain;
+      noted = refl;
+      parcels = refl;
+      told = refl;
+      held = record {
+        read = is.ready;
+        write = list-ready s t x.write_queue writes-stay held.write;
+        apart = λ e. held.apart (sym is.list ∙ e);
+        work = record { chain = is.chain; kind = kind };
+        gathers = tt;
+        echoes = tt;
+        once_each = λ j. let c = taken-comes s t x.read_queue q' (name m) is j in let few = st.apart j in omega arith;
+      };
+      own = record { lists = up-own.lists; owns_same = up-own.owns_same };
+      chains = tt;
+      hands = record {
+        counts = λ j. let c = taken-comes s t x.read_queue q' (name m) is j in omega arith;
+        others = λ j gone kept some. taken-stays s t x.read_queue q' (name m) is j some;
+      };
+      mblks = (let a = is.frees.mblks in omega arith);
+      dblks = (let a = is.frees.dblks in omega arith);
+      pool = record { mblks = is.mblks; dblks = is.dblks };
+    }
+
+    -- what the definition says of it
+    up-is : (here : Spot) (stop : Option ℕ) (v : Bool) → is_data (message_in t (name m)).kind ≡ v
+        → let p = ldterm_in name s (at_rest x) in let i = message_in t (name m) in let rest = messages_on t q'.list in
+        input_begins cells.plain here stop 0 p.read_queue.messages p
+        ≡ cond {A = Serving ℕ (ldterms.Ldterm ℕ)} v (treats cells.plain here (unwrap_or stop (length (cells_of i))) 0 (record p { read_queue = left_with rest p.read_queue; in_work = Some i })) (passes cells.plain here Up i rest p)
+    up-is here stop v kind =
+        let p = ldterm_in name s (at_rest x) in
+        let i = message_in t (name m) in
+        let rest = messages_on t q'.list in
+        ap (λ (ms : List (Message ℕ)). input_begins cells.plain here stop 0 ms p) is.first
+        ∙ ap (λ (w : Bool). cond {A = Serving ℕ (ldterms.Ldterm ℕ)} w (treats cells.plain here (unwrap_or stop (length (cells_of i))) 0 (record p { read_queue = left_with rest p.read_queue; in_work = Some i })) (passes cells.plain here Up i rest p)) kind
+
+    whole-rest : (to : Spot) (here : Spot) (sent : List (Sent M)) (bytes : ℕ) → sent ≡ record { to = to; message = m } ∷ [] → to ≡ toward Up here → is_data (message_in t (name m)).kind ≡ false
+        → bytes ≡ size_of (message_in t (name m)) → BeganWhole name s t here (at_rest x) (record (at_rest x) { read_queue = q' }) sent bytes
+    whole-rest to here sent bytes one there kind size = record {
+      passes = λ stop f.
+          subst (λ (v : Serving ℕ (ldterms.Ldterm ℕ)). Proceeds name s t (at_rest x) (record (at_rest x) { read_queue = q' }) 0 [] sent f f v.acted) (sym (up-is here stop false kind))
+          (up-proceeds to here sent f one there);
+      size = λ stop. size ∙ sym (ap (λ (v : Serving ℕ (ldterms.Ldterm ℕ)). v.bytes) (up-is here stop false kind));
+      again = λ stop. ap (λ (v : Serving ℕ (ldterms.Ldterm ℕ)). v.again) (up-is here stop false kind);
+    }
+
+    work-rest : (here : Spot) (bytes : ℕ) → IsStore t → (block_at 0 (in_hand t (name m))).kind ≡ kinds.Data → is_data (message_in t (name m)).kind ≡ true → bytes ≡ length (cells_of (message_in t (name m)))
+        → BeganWork name s t here (at_rest x) (record (at_rest x) { read_queue = q'; in_work = Some m }) bytes
+    work-rest here bytes st kind treated size = record {
+      message = message_in t (name m);
+      rest = messages_on t q'.list;
+      first = is.first;
+      kind = kind-is (in_hand t (name m)) ∙ kind;
+      size = size;
+      works = λ f. work-proceeds f st kind;
+      treated = λ stop.
+          up-is here stop true treated
+          ∙ ap (λ n. treats cells.plain here (unwrap_or stop n) 0 (record (ldterm_in name s (at_rest x)) { read_queue = left_with (messages_on t q'.list) (ldterm_in name s (at_rest x)).read_queue; in_work = Some (message_in t (name m)) })) (sym size)
+          ∙ ap (λ (p : ldterms.Ldterm ℕ). treats cells.plain here (unwrap_or stop bytes) 0 p) (sym work-plain);
+      stage = refl;
+    }
+
+  -- M_DATA alone is treated byte by byte
+  data-only : (k : MsgKind) → is_data k ≡ true → k ≡ kinds.Data
+  data-only kinds.Data is = refl
+  data-only _ is = absurd (cc)
+
+  module _ (s t : StoreValue) (x : Ldterm M) (q' : Queue) (m : M) (here : Spot) (held : IsHeld name s x) (rests : (i : ℕ) → keeps name x i ≡ 0) (is : Dequeued s t x.read_queue q' (name m)) (bytes : ℕ)
+      (size : bytes ≡ size_of (message_in t (name m))) where
+    kind-same : is_data (message_in t (name m)).kind ≡ is_data (block_at 0 (in_hand t (name m))).kind
+    kind-same = ap is_data (kind-is (in_hand t (name m)))
+
+    pub began-whole : (to : Spot) (sent : List (Sent M)) → sent ≡ record { to = to; message = m } ∷ [] → to ≡ toward Up here → is_data (block_at 0 (in_hand t (name m))).kind ≡ false
+        → BeganWhole name s t here x (record x { read_queue = q' }) sent bytes
+    began-whole to sent one there kind =
+        let quiet = rests-is x rests in
+        subst (λ (y : Ldterm M). BeganWhole name s t here y (record y { read_queue = q' }) sent bytes) (sym quiet)
+        (whole-rest s t x q' m (subst (IsHeld name s) quiet held) is to here sent bytes one there (kind-same ∙ kind) size)
+
+    pub began-work : IsStore t → is_data (block_at 0 (in_hand t (name m))).kind ≡ true → BeganWork name s t here x (record x { read_queue = q'; in_work = Some m }) bytes
+    began-work st kind =
+        let quiet = rests-is x rests in
+        let of_data = data-only (block_at 0 (in_hand t (name m))).kind kind in
+        subst (λ (y : Ldterm M). BeganWork name s t here y (record y { read_queue = q'; in_work = Some m }) bytes) (sym quiet)
+        (work-rest s t x q' m (subst (IsHeld name s) quiet held) is here bytes st of_data (kind-same ∙ kind) (size ∙ data-size (in_hand t (name m)) is.chain of_data))
