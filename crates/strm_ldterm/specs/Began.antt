@@ -13,8 +13,8 @@ use Rattle.strm_types.specs.Ldterms as ldterms
 use Rattle.strm_blocks.specs.Blocks.{StoreValue}
 use Rattle.strm_frame.specs.declared.parcels.Sent.{Sent}
 use Rattle.strm_frame.specs.Outboxes.{sent_of}
-use Rattle.strm_ldterm.specs.declared.beginning.InputBegun.{InputBegun}
-use Rattle.strm_ldterm.specs.declared.beginning.InputBegun.TheVariants as begun
+use Rattle.strm_ldterm.specs.declared.opening.InputBegun.{InputBegun}
+use Rattle.strm_ldterm.specs.declared.opening.InputBegun.TheVariants as begun
 use Rattle.strm_ldterm.specs.declared.ldterm.Ldterm.{Ldterm}
 use Rattle.strm_ldterm.specs.Does.{Proceeds}
 use Rattle.strm_ldterm.specs.Stands.{ldterm_in}

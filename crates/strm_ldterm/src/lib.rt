@@ -2,7 +2,7 @@
 //! queues on a store of blocks.
 #![tactic(auto)]
 
-mod beginning;
+mod opening;
 mod echoes;
 mod echoing;
 mod ending;

@@ -1,7 +1,7 @@
 -- The first message is sent on.
 use Rattle.std.proofs.Common.{sym, ◌∙◌}
 use Rattle.strm_ldterm.proofs.Passed.{none-there, down-bytes, stays-down, passes-down}
-use Rattle.strm_ldterm.proofs.beginning.pass_down.Goals as goal
+use Rattle.strm_ldterm.proofs.opening.pass_down.Goals as goal
 
 pub returns-then-is_empty-clause-passes : goal.returns-then-is_empty-clause-passes
 returns-then-is_empty-clause-passes g c = λ f.

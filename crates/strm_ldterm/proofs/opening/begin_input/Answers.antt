@@ -2,7 +2,7 @@
 use Rattle.std.proofs.Common.{sym, ap, ◌∙◌}
 use Rattle.strm_types.specs.Input.{is_data}
 use Rattle.strm_ldterm.proofs.Passed.{none-there, stays-up, began-whole, began-work}
-use Rattle.strm_ldterm.proofs.beginning.begin_input.Goals as goal
+use Rattle.strm_ldterm.proofs.opening.begin_input.Goals as goal
 
 pub returns-then-is_empty : goal.returns-then-is_empty
 returns-then-is_empty g c =
