@@ -9,3 +9,4 @@ pub mod Sending
 pub mod Grown
 pub mod Quiet
 pub mod Began
+pub mod Becoming

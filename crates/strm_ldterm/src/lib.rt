@@ -3,6 +3,7 @@
 #![tactic(auto)]
 
 mod opening;
+mod beginning;
 mod echoes;
 mod echoing;
 mod ending;

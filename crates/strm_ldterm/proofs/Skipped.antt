@@ -1,0 +1,293 @@
+-- Blocks and bytes that leave the front of a message of data in hand.
+use Rattle.std.proofs.lemmas.Bool.{cases_eq}
+use Rattle.std.proofs.Common.{inl, inr, ℕ, ◌≡◌, ◌≢◌, ◌≤◌, ◌<◌, ◌+◌, Bool, true, false, cond, eqb, List, [], ◌∷◌, ◌++◌, length, drop, refl, sym, ap, subst, ◌∙◌, arith}
+use Rattle.std.specs.Prelude.{slice_index_or}
+use Rattle.std.specs.List.{AllByRecursion}
+use Rattle.std.proofs.lemmas.List.Sums.{sum_by-cons}
+use Rattle.strm_types.specs.declared.kinds.MsgKind.{MsgKind}
+use Rattle.strm_types.specs.declared.kinds.MsgKind.TheVariants as kinds
+use Rattle.strm_types.specs.Input.{left_of}
+use Rattle.strm_types.specs.Message.{Message, cells_of, is_high_priority}
+use Rattle.strm_blocks.specs.Blocks.{Block, Held, StoreValue, IsStore, IsFreshName, IsInHand, in_hand, block_at, held, dropped, changed, banded, trimmed_head, with_block, without, times_in, names_of, total}
+use Rattle.strm_blocks.specs.Outcomes.{Unlinked}
+use Rattle.strm_blocks.proofs.Laws.{total-held, total-dropped, total-changed, used-is, references-is, free_m-is, free_d-more, IsInHand-held_other, IsInHand-changed, in_hand-changed, in_hand-changed_other}
+use Rattle.strm_msg.specs.Bytes.{bytes_of, data_bytes}
+use Rattle.strm_msg.specs.Messages.{message_of, IsChain, AreData}
+use Rattle.strm_msg.proofs.Chains.{data_in, data-shown, data-all, data-control, data_in-cells}
+use Rattle.strm_msg.proofs.Hands.{other-name, held-is, held-chain, held-changed, stays-chain, dropped-changed, times-replaced}
+use Rattle.strm_msg.proofs.InHand.{fresh-dropped}
+use Rattle.strm_frame.specs.Hands.{once, CanPut, Shifts}
+use Rattle.strm_frame.specs.Outboxes.{message_in}
+use Rattle.strm_frame.proofs.Handing.{freed-hands, once-self, once-apart}
+use Rattle.strm_ldterm.specs.Becoming.{Becomes}
+use Rattle.strm_ldterm.specs.Stands.{IsData}
+
+-- a fresh name is none in hand
+fresh-apart : (s : StoreValue) (i j : ℕ) → IsInHand s i → IsFreshName s j → i ≢ j
+fresh-apart s i j is fresh e = let w = ap (λ k. times_in k s.hand) e in absurd (omega arith)
+
+-- A first block that is parted from its message and freed.
+module _ (s t : StoreValue) (i first j : ℕ) (is : IsInHand s i) (u : Unlinked s t i first j) where
+  pub first-in_hand : IsInHand t first
+  first-in_hand =
+      subst (λ k. IsInHand t k) (sym u.kept_name) (subst (λ v. IsInHand v i) (sym u.after)
+      (IsInHand-held_other (changed s i (u.block ∷ [])) j i u.chain (λ e. fresh-apart s i j is u.fresh_name (sym e)) (IsInHand-changed s i i (u.block ∷ []) is)))
+
+  module _ (v : StoreValue) (freed : v ≡ dropped t first) where
+    rest-is : v ≡ held (dropped s i) j u.chain
+    rest-is =
+        let miss : eqb j i ≡ false = other-name j i (λ e. fresh-apart s i j is u.fresh_name (sym e)) in
+        let w = changed s i (u.block ∷ []) in
+        freed ∙ ap (λ k. dropped t k) u.kept_name ∙ ap (λ z. dropped z i) u.after
+        ∙ ap (λ b. record w { hand = cond b w.hand (record { name = j; chain = u.chain } ∷ without i w.hand) }) miss
+        ∙ ap (λ z. held z j u.chain) (dropped-changed s i (u.block ∷ []))
+
+    pub rest-in_hand : IsInHand v j
+    rest-in_hand = subst (λ z. IsInHand z j) (sym rest-is) (held-is (dropped s i) j u.chain (fresh-dropped s i j u.fresh_name))
+
+    pub rest-after : (w : StoreValue) (band : ℕ) → band ≡ (block_at 0 (in_hand s i)).band → w ≡ changed v j (banded band (in_hand v j))
+        → w ≡ held (dropped s i) j (banded (block_at 0 (in_hand s i)).band (drop 1 (in_hand s i)))
+    rest-after w band same is =
+        is ∙ ap (λ z. changed z j (banded band (in_hand z j))) rest-is
+        ∙ ap (λ c. changed (held (dropped s i) j u.chain) j (banded band c)) (held-chain (dropped s i) j u.chain)
+        ∙ held-changed (dropped s i) j u.chain (banded band u.chain)
+        ∙ ap (λ b. held (dropped s i) j (banded b u.chain)) same
+        ∙ ap (λ c. held (dropped s i) j (banded (block_at 0 (in_hand s i)).band (drop 1 c))) (sym u.joined)
+
+-- messages of data by their chains
+pub shown-bytes : (chain : List Block) → IsChain chain → (block_at 0 chain).kind ≡ kinds.Data → message_of chain ≡ data_in (block_at 0 chain).band (bytes_of chain)
+shown-bytes chain one kind =
+    data-shown chain one.some kind ∙ ap (λ bs. data_in (block_at 0 chain).band (bytes_of bs)) (data-all chain (one.all_data kind))
+
+data-from : (chain : List Block) (b : Block) (rest : List Block) → IsChain chain → (block_at 0 chain).kind ≡ kinds.Data → AreData (b ∷ rest) → b.band ≡ (block_at 0 chain).band → IsChain (b ∷ rest)
+data-from chain b rest one kind all band = record {
+  some = omega arith;
+  all_data = λ k. all;
+  parted = λ control. absurd (let no = data-control b.kind all.0 in cc);
+  high = λ high. band ∙ one.high (ap is_high_priority (kind ∙ sym all.0) ∙ high);
+  low = omega (arith, band, one.low);
+}
+
+no-bytes : (l : List ℕ) → length l ≡ 0 → l ≡ []
+no-bytes [] none = refl
+no-bytes (x ∷ l) none = absurd (omega arith)
+
+-- without a first block that has no bytes
+pub record SameShown (chain new : List Block) : Type 0 where
+  pub one : IsChain new
+  pub kind : (block_at 0 new).kind ≡ kinds.Data
+  pub shows : message_of new ≡ message_of chain
+  pub fewer : length new + 1 ≡ length chain
+  pub names : (d : ℕ) → names_of d new ≤ names_of d chain
+
+pub without-first : (chain : List Block) → IsChain chain → (block_at 0 chain).kind ≡ kinds.Data → 1 < length chain → length (block_at 0 chain).bytes ≡ 0 → SameShown chain (banded (block_at 0 chain).band (drop 1 chain))
+without-first [] one kind more none = absurd (omega arith)
+without-first (b ∷ []) one kind more none = absurd (omega arith)
+without-first (b ∷ c ∷ rest) one kind more none =
+    let all = one.all_data kind in
+    let next : Block = record c { band = b.band } in
+    let new = data-from (b ∷ c ∷ rest) next rest one kind all.1 refl in
+    record {
+      one = new;
+      kind = all.1.0;
+      shows =
+          shown-bytes (next ∷ rest) new all.1.0
+          ∙ ap (λ l. data_in b.band (l ++ (c.bytes ++ bytes_of rest))) (sym (no-bytes b.bytes none))
+          ∙ sym (shown-bytes (b ∷ c ∷ rest) one kind);
+      fewer = omega arith;
+      names = λ d. let x = sum_by-cons (λ (x : Block). cond {A = ℕ} (eqb x.number d) 1 0) b (c ∷ rest) in
+          let y = sum_by-cons (λ (x : Block). cond {A = ℕ} (eqb x.number d) 1 0) c rest in
+          let z = sum_by-cons (λ (x : Block). cond {A = ℕ} (eqb x.number d) 1 0) next rest in omega arith;
+    }
+
+times-came : (s : StoreValue) (i : ℕ) (chain : List Block) (j : ℕ) → times_in j (held s i chain).hand ≡ once i j + times_in j s.hand
+unfolding once
+times-came s i chain j = sum_by-cons (λ (h : Held). cond (eqb h.name j) 1 0) (record { name = i; chain = chain }) s.hand
+
+-- a message in hand, where nothing is kept
+once-none : (i j : ℕ) → i ≢ j → once i j ≡ 0
+unfolding once
+once-none i j ne = ap (λ v. cond {A = ℕ} v 1 0) (other-name i j ne)
+
+can-of : (s : StoreValue) (i : ℕ) → IsInHand s i → CanPut s i (λ _. 0)
+can-of s i is = record {
+  apart = λ j. elim (cases_eq i j) [
+    | inl e ↦ (let t = ap (λ k. times_in k s.hand) e in let o = ap (λ k. once i k) e in let u = once-self i in omega arith)
+    | inr ne ↦ (let o = once-none i j ne in omega arith)
+  ];
+}
+
+-- one message comes for another one
+module _ (s : StoreValue) (i j : ℕ) (st : IsStore s) (is : IsInHand s i) (fresh : IsFreshName s j) (new : List Block) (fewer : length new ≤ length (in_hand s i)) (names : (d : ℕ) → names_of d new ≤ names_of d (in_hand s i)) where
+  swapped : Shifts s (held (dropped s i) j new) (once i) (once j) 0
+  swapped =
+      let t = held (dropped s i) j new in
+      let h = freed-hands s i (λ _. 0) st (can-of s i is) in
+      record {
+        counts = λ k. let c = h.counts k in let n = times-came (dropped s i) j new k in omega arith;
+        others = λ k none some.
+            stays-chain (dropped s i) j new k (λ e. (let w = ap (λ n. times_in n s.hand) e in absurd (omega arith))) ∙ h.others k none refl some;
+        mblks = (let a = total-held length (dropped s i) j new in let b = total-dropped length s i is in let c = free_m-is s in let d = free_m-is t in let e = used-is s in let f = used-is t in omega arith);
+        dblks = (let m = free_d-more s t refl (λ d. let a = total-held (names_of d) (dropped s i) j new in let b = total-dropped (names_of d) s i is in let n = names d in let e = references-is s d in let f = references-is t d in omega arith) in omega arith);
+        pool = record { mblks = refl; dblks = refl };
+      }
+
+module _ (s t : StoreValue) (i j : ℕ) (st : IsStore s) (is : IsInHand s i) (msg : IsData s i) (fresh : IsFreshName s j) (more : 1 < length (in_hand s i)) (none : length (block_at 0 (in_hand s i)).bytes ≡ 0)
+    (after : t ≡ held (dropped s i) j (banded (block_at 0 (in_hand s i)).band (drop 1 (in_hand s i)))) where
+  abbrev new : List Block
+  new = banded (block_at 0 (in_hand s i)).band (drop 1 (in_hand s i))
+
+  same : SameShown (in_hand s i) new
+  same = without-first (in_hand s i) msg.chain msg.kind more none
+
+  here : in_hand t j ≡ new
+  here = ap (λ v. in_hand v j) after ∙ held-chain (dropped s i) j new
+
+  pub first-in : IsInHand t j
+  first-in = subst (λ v. IsInHand v j) (sym after) (held-is (dropped s i) j new (fresh-dropped s i j fresh))
+
+  pub first-fewer : length (in_hand t j) + 1 ≡ length (in_hand s i)
+  first-fewer = ap (λ c. length c + 1) here ∙ same.fewer
+
+  pub first-becomes : Becomes s t i j (message_in s i)
+  first-becomes = record {
+    lists = ap (λ v. v.lists) after;
+    hands = subst (λ v. Shifts s v (once i) (once j) 0) (sym after) (swapped s i j st is fresh new (let f = same.fewer in omega arith) same.names);
+    is = record { chain = subst IsChain (sym here) same.one; kind = ap (λ c. (block_at 0 c).kind) here ∙ same.kind };
+    shows = ap message_of here ∙ same.shows;
+  }
+
+-- nothing changed, and one after the other
+pub becomes-none : (s : StoreValue) (i : ℕ) → IsData s i → Becomes s s i i (message_in s i)
+becomes-none s i is = record {
+  lists = refl;
+  hands = record { counts = λ k. refl; others = λ k none some. refl; mblks = omega arith; dblks = omega arith; pool = record { mblks = refl; dblks = refl } };
+  is = is;
+  shows = refl;
+}
+
+pub becomes-both : (s t u : StoreValue) (i j k : ℕ) (m n : Message ℕ) → IsStore t → Becomes s t i j m → Becomes t u j k n → Becomes s u i k n
+becomes-both s t u i j k m n st first second = record {
+  lists = second.lists ∙ first.lists;
+  hands = record {
+    counts = λ q. let a = first.hands.counts q in let b = second.hands.counts q in omega arith;
+    others = λ q none some.
+        let a = first.hands.counts q in let few = st.apart q in
+        second.hands.others q (omega arith) (omega arith) ∙ first.hands.others q none some;
+    mblks = (let a = first.hands.mblks in let b = second.hands.mblks in omega arith);
+    dblks = (let a = first.hands.dblks in let b = second.hands.dblks in omega arith);
+    pool = record { mblks = second.hands.pool.mblks ∙ first.hands.pool.mblks; dblks = second.hands.pool.dblks ∙ first.hands.pool.dblks };
+  };
+  is = second.is;
+  shows = second.shows;
+}
+
+-- How far a walk over blocks without bytes has come.
+pub record Skips (s t : StoreValue) (i j k : ℕ) : Type 0 where
+  pub became : Becomes s t i j (message_in s i)
+  pub here : IsInHand t j
+  pub left : length (in_hand t j) + k ≡ length (in_hand s i) + 1
+
+pub skips-none : (s : StoreValue) (i : ℕ) → IsInHand s i → IsData s i → Skips s s i i 1
+skips-none s i is msg = record { became = becomes-none s i msg; here = is; left = refl }
+
+pub skips-more : (s t u : StoreValue) (i j k n : ℕ) → IsStore t → Skips s t i j n → 1 < length (in_hand t j) → length (block_at 0 (in_hand t j)).bytes ≡ 0 → IsFreshName t k
+    → u ≡ held (dropped t j) k (banded (block_at 0 (in_hand t j)).band (drop 1 (in_hand t j))) → Skips s u i k (n + 1)
+skips-more s t u i j k n st w more none fresh after =
+    let b = first-becomes t u j k st w.here w.became.is fresh more none after in
+    let both = becomes-both s t u i j k (message_in s i) (message_in t j) st w.became b in
+    record {
+      became = record { lists = both.lists; hands = both.hands; is = both.is; shows = both.shows ∙ w.became.shows };
+      here = first-in t u j k st w.here w.became.is fresh more none after;
+      left = (let l = w.left in let f = first-fewer t u j k st w.here w.became.is fresh more none after in omega arith);
+    }
+
+-- a message of one block without bytes has none
+none-shown : (chain : List Block) → IsChain chain → (block_at 0 chain).kind ≡ kinds.Data → length chain ≡ 1 → length (block_at 0 chain).bytes ≡ 0 → cells_of (message_of chain) ≡ []
+none-shown [] one kind single none = absurd (omega arith)
+none-shown (b ∷ c ∷ rest) one kind single none = absurd (omega arith)
+none-shown (b ∷ []) one kind single none =
+    ap cells_of (shown-bytes (b ∷ []) one kind) ∙ data_in-cells b.band (b.bytes ++ []) ∙ ap (λ l. l ++ []) (no-bytes b.bytes none)
+
+pub skipped-none : (s t : StoreValue) (i j : ℕ) → Becomes s t i j (message_in s i) → length (in_hand t j) ≡ 1 → length (block_at 0 (in_hand t j)).bytes ≡ 0 → cells_of (message_in s i) ≡ []
+skipped-none s t i j b single none = ap cells_of (sym b.shows) ∙ none-shown (in_hand t j) b.is.chain b.is.kind single none
+
+-- the next byte of a message whose first block has one
+pub record LessShown (chain new : List Block) (byte : ℕ) : Type 0 where
+  pub one : IsChain new
+  pub kind : (block_at 0 new).kind ≡ kinds.Data
+  pub shows : message_of new ≡ left_of (drop 1 (cells_of (message_of chain))) (message_of chain)
+  pub cells : cells_of (message_of chain) ≡ byte ∷ drop 1 (cells_of (message_of chain))
+  pub same : length new ≡ length chain
+  pub names : (d : ℕ) → names_of d new ≡ names_of d chain
+
+pub without-byte : (chain : List Block) → IsChain chain → (block_at 0 chain).kind ≡ kinds.Data → (length (block_at 0 chain).bytes ≡ 0 → ⊥)
+    → LessShown chain (with_block 0 (trimmed_head 1 (block_at 0 chain)) chain) (slice_index_or (block_at 0 chain).bytes 0 0)
+without-byte [] one kind some = absurd (let l = one.some in omega arith)
+without-byte (b ∷ rest) one kind some = at b.bytes refl
+  where
+    less : Block
+    less = trimmed_head 1 b
+
+    at : (l : List ℕ) → b.bytes ≡ l → LessShown (b ∷ rest) (less ∷ rest) (slice_index_or b.bytes 0 0)
+    at [] e = absurd (some (ap length e))
+    at (x ∷ xs) e =
+        let all = one.all_data kind in
+        let new = data-from (b ∷ rest) less rest one kind all refl in
+        let m = message_of (b ∷ rest) in
+        let shown = shown-bytes (b ∷ rest) one kind in
+        let cells : cells_of m ≡ x ∷ (xs ++ bytes_of rest) = ap cells_of shown ∙ data_in-cells b.band (bytes_of (b ∷ rest)) ∙ ap (λ l. l ++ bytes_of rest) e in
+        record {
+          one = new;
+          kind = kind;
+          shows =
+              shown-bytes (less ∷ rest) new kind
+              ∙ ap (λ l. data_in b.band (drop 1 l ++ bytes_of rest)) e
+              ∙ sym (ap (λ c. left_of (drop 1 c) m) cells ∙ ap (left_of (xs ++ bytes_of rest)) shown);
+          cells = cells ∙ ap (λ y. y ∷ (xs ++ bytes_of rest)) (sym (ap (λ l. slice_index_or l 0 0) e)) ∙ ap (λ c. slice_index_or b.bytes 0 0 ∷ drop 1 c) (sym cells);
+          same = refl;
+          names = λ d. let y = sum_by-cons (λ (x : Block). cond {A = ℕ} (eqb x.number d) 1 0) b rest in
+              let z = sum_by-cons (λ (x : Block). cond {A = ℕ} (eqb x.number d) 1 0) less rest in omega arith;
+        }
+
+module _ (s t : StoreValue) (i : ℕ) (is : IsInHand s i) (msg : IsData s i) (some : length (block_at 0 (in_hand s i)).bytes ≡ 0 → ⊥) (after : t ≡ changed s i (with_block 0 (trimmed_head 1 (block_at 0 (in_hand s i))) (in_hand s i))) where
+  abbrev left : List Block
+  left = with_block 0 (trimmed_head 1 (block_at 0 (in_hand s i))) (in_hand s i)
+
+  less : LessShown (in_hand s i) left (slice_index_or (block_at 0 (in_hand s i)).bytes 0 0)
+  less = without-byte (in_hand s i) msg.chain msg.kind some
+
+  left-is : in_hand t i ≡ left
+  left-is = ap (λ v. in_hand v i) after ∙ in_hand-changed s i left is
+
+  pub byte-is : cells_of (message_in s i) ≡ slice_index_or (block_at 0 (in_hand s i)).bytes 0 0 ∷ drop 1 (cells_of (message_in s i))
+  byte-is = less.cells
+
+  trimmed : Shifts s (changed s i left) (once i) (once i) 0
+  trimmed =
+      let t = changed s i left in
+      record {
+        counts = λ k. let r = times-replaced i k left s.hand in omega arith;
+        others = λ k none some. in_hand-changed_other s i k left (once-apart i k none);
+        mblks = (let a = total-changed length s i left is in let l = less.same in let c = free_m-is s in let d = free_m-is t in let e = used-is s in let f = used-is t in omega arith);
+        dblks = (let m = free_d-more s t refl (λ d. let a = total-changed (names_of d) s i left is in let n = less.names d in let e = references-is s d in let f = references-is t d in omega arith) in omega arith);
+        pool = record { mblks = refl; dblks = refl };
+      }
+
+  pub byte-becomes : Becomes s t i i (left_of (drop 1 (cells_of (message_in s i))) (message_in s i))
+  byte-becomes = record {
+    lists = ap (λ v. v.lists) after;
+    hands = subst (λ v. Shifts s v (once i) (once i) 0) (sym after) trimmed;
+    is = record { chain = subst IsChain (sym left-is) less.one; kind = ap (λ c. (block_at 0 c).kind) left-is ∙ less.kind };
+    shows = ap message_of left-is ∙ less.shows;
+  }
+
+-- where no byte is left, nothing is taken
+pub left-none : (s : StoreValue) (i : ℕ) → IsData s i → cells_of (message_in s i) ≡ [] → left_of (drop 1 (cells_of (message_in s i))) (message_in s i) ≡ message_in s i
+left-none s i msg none =
+    let chain = in_hand s i in
+    let m = message_in s i in
+    let band = (block_at 0 chain).band in
+    let shown = shown-bytes chain msg.chain msg.kind in
+    let is : m ≡ data_in band (cells_of m) = shown ∙ ap (data_in band) (sym (ap cells_of shown ∙ data_in-cells band (bytes_of chain))) in
+    ap (λ c. left_of (drop 1 c) m) none ∙ ap (left_of []) is ∙ sym (is ∙ ap (data_in band) none)
