@@ -30,3 +30,4 @@ pub mod Passed
 pub mod Sends
 pub mod Skipped
 pub mod Begun
+pub mod Signals

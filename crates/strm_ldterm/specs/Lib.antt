@@ -10,3 +10,4 @@ pub mod Grown
 pub mod Quiet
 pub mod Began
 pub mod Becoming
+pub mod SignalKeys

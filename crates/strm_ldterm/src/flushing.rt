@@ -70,8 +70,13 @@ fn flush_queue<B: Blocks>(
     empty(store, queue, chosen)
 }
 
-// The unfinished line goes, where a flush takes band 0.
-fn flush_line<Mp: Drop>(ldterm: &mut Ldterm<Mp>, here: Spot, band: Option<Band>, told: &mut Fates)
+/// The unfinished line goes, where a flush takes band 0.
+pub(crate) fn flush_line<Mp: Drop>(
+    ldterm: &mut Ldterm<Mp>,
+    here: Spot,
+    band: Option<Band>,
+    told: &mut Fates,
+)
     ensures { (name : Mp → ℕ) (s : StoreValue) → IsHeld name s ldterm.old →
         Flushes name s s ldterm.old ldterm.new [] told.old told.new (line_flushed here band (ldterm_in name s ldterm.old)) }
 {

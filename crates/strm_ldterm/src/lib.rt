@@ -17,6 +17,7 @@ mod queues;
 mod reading;
 mod relieving;
 mod sending;
+mod signalling;
 mod strokes;
 mod typing;
 
