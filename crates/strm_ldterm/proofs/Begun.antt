@@ -1,5 +1,5 @@
 -- A byte of the message in work that begins.
-use Rattle.std.proofs.Common.{ℕ, ◌≡◌, ◌<◌, ◌+◌, Bool, true, false, cond, List, [], ◌∷◌, drop, refl, sym, ap, subst, ◌∙◌, arith}
+use Rattle.std.proofs.Common.{ℕ, ◌≡◌, ◌+◌, Bool, true, false, cond, List, [], ◌∷◌, drop, refl, sym, ap, subst, ◌∙◌, arith}
 use Rattle.std.specs.Prelude.{Option, None, Some, option_map, slice_index_or, MatchOption, ◌&&◌}
 use Rattle.strm_types.specs.declared.kinds.MsgKind.TheVariants.{Start}
 use Rattle.strm_types.specs.declared.names.Way.TheVariants.{Down}
@@ -8,13 +8,13 @@ use Rattle.strm_types.specs.declared.spots.Spot.{Spot}
 use Rattle.strm_types.specs.Cells as cells
 use Rattle.strm_types.specs.Deliver.{Acted, toward}
 use Rattle.strm_types.specs.Flush.{is_data_kind}
-use Rattle.strm_types.specs.Input.{cells_left, left_of, with_left, begins_next}
+use Rattle.strm_types.specs.Input.{cells_left, left_of, with_left}
 use Rattle.strm_types.specs.Keys.{restarts}
 use Rattle.strm_types.specs.Ldterms as ldterms
 use Rattle.strm_types.specs.Ldterms.{sends, onward}
 use Rattle.strm_types.specs.Message.{Message, cells_of}
 use Rattle.strm_types.specs.Typing.{bare, begins, stroke_at}
-use Rattle.strm_blocks.specs.Blocks.{StoreValue, IsStore, in_hand}
+use Rattle.strm_blocks.specs.Blocks.{StoreValue, IsStore}
 use Rattle.strm_frame.specs.declared.parcels.Sent.{Sent}
 use Rattle.strm_frame.specs.Hands.{once, AreIn, HasRoom, SameOwn}
 use Rattle.strm_frame.specs.Outboxes.{message_in, times_sent, parcels_in, AreChains}
@@ -24,7 +24,7 @@ use Rattle.strm_ldterm.specs.Becoming.{Becomes}
 use Rattle.strm_ldterm.specs.Does.{Alters, Proceeds}
 use Rattle.strm_ldterm.specs.Frames.{ldterm-frame}
 use Rattle.strm_ldterm.specs.Sending.{MadeOne}
-use Rattle.strm_ldterm.specs.Stands.{ldterm_in, kept_in, times_kept, owns, keeps, IsHeld, IsData}
+use Rattle.strm_ldterm.specs.Stands.{ldterm_in, kept_in, times_kept, owns, keeps, IsHeld}
 use Rattle.strm_ldterm.proofs.Finished.{work-splits, work-shown, work-is, work-held}
 use Rattle.strm_ldterm.proofs.Flushed.{alters-none}
 use Rattle.strm_ldterm.proofs.Proceeding.{proceeds-alters}

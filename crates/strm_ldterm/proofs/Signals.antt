@@ -1,5 +1,5 @@
 -- Signal keys, step by step.
-use Rattle.std.proofs.Common.{ℕ, ◌≡◌, ◌≤◌, ◌+◌, Bool, true, false, cond, List, [], ◌∷◌, ◌++◌, refl, sym, ap, subst, ◌∙◌, arith, append-nil}
+use Rattle.std.proofs.Common.{ℕ, ◌≡◌, ◌+◌, Bool, true, false, cond, List, [], ◌∷◌, ◌++◌, refl, sym, subst, arith, append-nil}
 use Rattle.std.specs.Prelude.{None}
 use Rattle.strm_types.specs.declared.kinds.MsgKind.TheVariants.{Flush, Pcsig}
 use Rattle.strm_types.specs.declared.names.Way.TheVariants.{Up}
@@ -8,7 +8,7 @@ use Rattle.strm_types.specs.declared.flushing.FlushAsked.{FlushAsked}
 use Rattle.strm_types.specs.declared.rules.Rule.TheVariants.{Flushed, SignalKey}
 use Rattle.strm_types.specs.declared.spots.Spot.{Spot}
 use Rattle.strm_types.specs.Cells.{plain}
-use Rattle.strm_types.specs.Deliver.{Acted, tallied}
+use Rattle.strm_types.specs.Deliver.{Acted}
 use Rattle.strm_types.specs.Flush.{is_data_kind}
 use Rattle.strm_types.specs.Flushing.{flush_message, flush_bytes}
 use Rattle.strm_types.specs.Ldterms as ldterms

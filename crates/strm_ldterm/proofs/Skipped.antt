@@ -1,17 +1,15 @@
 -- Blocks and bytes that leave the front of a message of data in hand.
 use Rattle.std.proofs.lemmas.Bool.{cases_eq}
-use Rattle.std.proofs.Common.{inl, inr, ℕ, ◌≡◌, ◌≢◌, ◌≤◌, ◌<◌, ◌+◌, Bool, true, false, cond, eqb, List, [], ◌∷◌, ◌++◌, length, drop, refl, sym, ap, subst, ◌∙◌, arith}
+use Rattle.std.proofs.Common.{inl, inr, ℕ, ◌≡◌, ◌≢◌, ◌≤◌, ◌<◌, ◌+◌, false, cond, eqb, List, [], ◌∷◌, ◌++◌, length, drop, refl, sym, ap, subst, ◌∙◌, arith}
 use Rattle.std.specs.Prelude.{slice_index_or}
-use Rattle.std.specs.List.{AllByRecursion}
 use Rattle.std.proofs.lemmas.List.Sums.{sum_by-cons}
-use Rattle.strm_types.specs.declared.kinds.MsgKind.{MsgKind}
 use Rattle.strm_types.specs.declared.kinds.MsgKind.TheVariants as kinds
 use Rattle.strm_types.specs.Input.{left_of}
 use Rattle.strm_types.specs.Message.{Message, cells_of, is_high_priority}
-use Rattle.strm_blocks.specs.Blocks.{Block, Held, StoreValue, IsStore, IsFreshName, IsInHand, in_hand, block_at, held, dropped, changed, banded, trimmed_head, with_block, without, times_in, names_of, total}
+use Rattle.strm_blocks.specs.Blocks.{Block, Held, StoreValue, IsStore, IsFreshName, IsInHand, in_hand, block_at, held, dropped, changed, banded, trimmed_head, with_block, without, times_in, names_of}
 use Rattle.strm_blocks.specs.Outcomes.{Unlinked}
 use Rattle.strm_blocks.proofs.Laws.{total-held, total-dropped, total-changed, used-is, references-is, free_m-is, free_d-more, IsInHand-held_other, IsInHand-changed, in_hand-changed, in_hand-changed_other}
-use Rattle.strm_msg.specs.Bytes.{bytes_of, data_bytes}
+use Rattle.strm_msg.specs.Bytes.{bytes_of}
 use Rattle.strm_msg.specs.Messages.{message_of, IsChain, AreData}
 use Rattle.strm_msg.proofs.Chains.{data_in, data-shown, data-all, data-control, data_in-cells}
 use Rattle.strm_msg.proofs.Hands.{other-name, held-is, held-chain, held-changed, stays-chain, dropped-changed, times-replaced}

@@ -1,5 +1,5 @@
 -- The byte is taken first.
-use Rattle.std.proofs.Common.{ℕ, [], ◌∷◌, drop, sym, ap, subst, ◌∙◌}
+use Rattle.std.proofs.Common.{ℕ, [], drop, sym, ap, subst, ◌∙◌}
 use Rattle.strm_types.specs.Cells.{plain}
 use Rattle.strm_types.specs.Input.{cells_left, with_left, begins_next}
 use Rattle.strm_types.specs.Ldterms as ldterms

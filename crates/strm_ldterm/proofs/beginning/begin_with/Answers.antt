@@ -1,5 +1,5 @@
 -- Whether the byte starts output.
-use Rattle.std.proofs.Common.{◌≡◌, true, false, sym, ap, ◌∙◌}
+use Rattle.std.proofs.Common.{◌≡◌, sym, ap, ◌∙◌}
 use Rattle.std.specs.Prelude.{◌&&◌}
 use Rattle.strm_types.specs.Cells.{plain}
 use Rattle.strm_types.specs.Keys.{restarts}

@@ -1,6 +1,6 @@
 -- The message in work has a byte less.
-use Rattle.std.proofs.Common.{ℕ, ◌≡◌, [], drop, sym, ap, subst, ◌∙◌}
-use Rattle.std.specs.Prelude.{None, Some}
+use Rattle.std.proofs.Common.{ℕ, ◌≡◌, [], drop, sym, subst, ◌∙◌}
+use Rattle.std.specs.Prelude.{Some}
 use Rattle.strm_types.specs.Input.{cells_left, left_of, with_left}
 use Rattle.strm_types.specs.Ldterms as ldterms
 use Rattle.strm_types.specs.Ldterms.{sends}

@@ -1,5 +1,5 @@
 -- A block at a time.
-use Rattle.std.proofs.Common.{ℕ, ◌≡◌, ◌<◌, length, arith}
+use Rattle.std.proofs.Common.{◌≡◌, ◌<◌, length, arith}
 use Rattle.strm_blocks.specs.Blocks.{in_hand}
 use Rattle.strm_ldterm.proofs.Skipped.{skips-more, skipped-none}
 use Rattle.strm_ldterm.proofs.beginning.skip_empty.Goals as goal

@@ -1,5 +1,5 @@
 -- The first block has the next byte, or none is left.
-use Rattle.std.proofs.Common.{ℕ, ◌≡◌, [], ◌∷◌, drop, length, sym, ap, subst, ◌∙◌}
+use Rattle.std.proofs.Common.{ℕ, ◌≡◌, ◌∷◌, drop, length, sym, ap, subst, ◌∙◌}
 use Rattle.std.specs.Prelude.{slice_index_or}
 use Rattle.strm_types.specs.Input.{left_of}
 use Rattle.strm_types.specs.Message.{Message, cells_of}
