@@ -38,7 +38,7 @@ module _ {M : Type 0} (name : M → ℕ) where
     chains-up : (i : ℕ) → in_hand t i ≡ in_hand s i
     chains-up i = ap (λ h. chain_in i h) changes.hand
 
-    writes-stay : list_at t x.write_queue.list ≡ list_at s x.write_queue.list
+    pub writes-stay : list_at t x.write_queue.list ≡ list_at s x.write_queue.list
     writes-stay = changes.others x.write_queue.list (λ e. held.apart (sym e))
 
     pub read-plain : ldterm_in name t (record x { read_queue = q' }) ≡ record (ldterm_in name s x) { read_queue = queue_in t q' }

@@ -26,7 +26,7 @@ use Rattle.strm_ldterm.specs.Stands.{ldterm_in, kept_in, keeps, IsHeld, with_las
 use Rattle.strm_ldterm.specs.Does.{Alters, Flushes}
 use Rattle.strm_ldterm.proofs.Beside.{read-plain, read-alters, write-plain, write-alters}
 
-tallied-append : (a b : List (Fate ℕ)) (f : Fates) → tallied (a ++ b) f ≡ tallied b (tallied a f)
+pub tallied-append : (a b : List (Fate ℕ)) (f : Fates) → tallied (a ++ b) f ≡ tallied b (tallied a f)
 tallied-append [] b f = refl
 tallied-append (x ∷ a) b f = tallied-append a b (counted_with x f)
 

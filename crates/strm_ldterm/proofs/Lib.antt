@@ -31,3 +31,4 @@ pub mod Sends
 pub mod Skipped
 pub mod Begun
 pub mod Signals
+pub mod Cleared

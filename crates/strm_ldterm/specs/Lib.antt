@@ -11,3 +11,5 @@ pub mod Quiet
 pub mod Began
 pub mod Becoming
 pub mod SignalKeys
+pub mod Popped
+pub mod Blank

@@ -3,6 +3,7 @@
 
 ghost use Rattle.std.specs.Prelude.{ℕ, ◌≡◌, ◌≢◌, ◌<◌, ◌+◌, []};
 ghost use Rattle.strm_types.specs.Ldterms.{new_ldterm};
+ghost use Rattle.strm_types.specs.declared.names.ModuleName.TheVariants as names;
 ghost use Rattle.strm_blocks.specs.Blocks.{StoreValue, list_at};
 ghost use Rattle.strm_frame.specs.Hands.{once};
 ghost use Rattle.strm_ldterm.specs.Stands.{ldterm_in, owns, keeps, IsHeld};
@@ -10,7 +11,7 @@ ghost use Rattle.strm_ldterm.specs.Stands.{ldterm_in, owns, keeps, IsHeld};
 use crate::lines::Line;
 use arrayvec::ArrayVec;
 use strm_queue::{OTHER_HIGH, OTHER_LOW, Queue};
-use strm_types::Termios;
+use strm_types::{ModuleName, Termios};
 
 /// How far a turn of the read queue has come with a byte.
 #[derive(Drop)]
@@ -68,4 +69,23 @@ impl<Mp: Drop> Ldterm<Mp> {
             stage: Stage::Between,
         }
     }
+}
+
+impl<Mp: Drop> Default for Ldterm<Mp> {
+    ghost use Rattle.strm_ldterm.specs.Blank.{IsNew};
+
+    ghost is_default = { λ x. IsNew x 0 1 };
+
+    /// One as it is pushed, on lists 0 and 1: what stands in the unused places of an array. One that is pushed has lists of its own,
+    /// by `new`.
+    fn default() -> Ldterm<Mp> {
+        Ldterm::new(0, 1)
+    }
+}
+
+/// The module's name.
+pub fn name() -> ModuleName
+    ensures { result ≡ names.Ldterm }
+{
+    ModuleName::Ldterm
 }

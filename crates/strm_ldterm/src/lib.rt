@@ -4,6 +4,7 @@
 
 mod opening;
 mod beginning;
+mod clearing;
 mod echoes;
 mod echoing;
 mod ending;
@@ -21,9 +22,10 @@ mod signalling;
 mod strokes;
 mod typing;
 
+pub use clearing::clear;
 pub use echoes::{ECHO_MAX, Echo, RUN_MAX, echo_of};
 pub use ending::end_turn;
-pub use ldterm::{Ldterm, Stage};
+pub use ldterm::{Ldterm, Stage, name};
 pub use lines::Line;
 pub use putting::put;
 pub use queues::{asks, is_full, sizes};

@@ -158,8 +158,8 @@ fn wait<B: Blocks>(
     }
 }
 
-// Which queues have room again, for those before them.
-fn rooms(up: bool, down: bool) -> ArrayVec<Note, 4>
+/// Which queues have room again, for those before them.
+pub(crate) fn rooms(up: bool, down: bool) -> ArrayVec<Note, 4>
     ensures { result.items ≡ (if up then Room Up ∷ [] else []) ++ (if down then Room Down ∷ [] else []) }
 {
     let mut notes = ArrayVec::new();

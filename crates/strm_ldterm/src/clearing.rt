@@ -1,0 +1,66 @@
+//! What the module lets go when it is taken off its stream (ldterm(7M); streamio(7I): I_POP; close(2)).
+
+ghost use Rattle.std.specs.Prelude.{ℕ, ◌≡◌, []};
+ghost use Rattle.strm_types.specs.Deliver.{tallied};
+ghost use Rattle.strm_types.specs.Ldterms.{without_line};
+ghost use Rattle.strm_types.specs.Service.{cleared, line_gone};
+ghost use Rattle.strm_queue.specs.Stored.{FreesBlocks};
+ghost use Rattle.strm_frame.specs.Hands.{OnlyOwn};
+ghost use Rattle.strm_frame.specs.Serves.{SameHand};
+ghost use Rattle.strm_ldterm.specs.Stands.{ldterm_in, owns, keeps, IsHeld};
+ghost use Rattle.strm_ldterm.specs.Calls.{queue_of, with_queue};
+ghost use Rattle.strm_ldterm.specs.Popped.{line_of};
+
+use crate::flushing::direction_at;
+use crate::ldterm::Ldterm;
+use crate::lines::Line;
+use crate::putting::rooms;
+use arrayvec::ArrayVec;
+use strm_blocks::Blocks;
+use strm_frame::clear_queue;
+use strm_types::{Fates, Note, Rule, Side, Way};
+
+// The unfinished line goes by a rule. It came up; where no byte stands in it, nothing is told.
+fn clear_line(line: &mut Line, side: Side, rule: Rule, told: &mut Fates)
+    ensures line { line.new ≡ [] }
+    ensures told { told.new ≡ tallied (line_gone side rule line.old) told.old }
+{
+    let gone = line.clear();
+    if gone == 0 {
+        return;
+    }
+    told.tell(direction_at(Way::Up, side), rule, gone);
+}
+
+/// Lets all go that stands on its queues and in its line, before the module is taken off a side's stream: the messages of its read
+/// queue, then the unfinished line, then the messages of its write queue. The bytes go by a rule. It tells which queues before its
+/// own have room again, the read queue's first. It keeps nothing in hand, and takes no block. The cost is a step for each block on
+/// the queues.
+pub fn clear<B: Blocks>(
+    ldterm: &mut Ldterm<B::Mp>,
+    store: &mut B,
+    side: Side,
+    rule: Rule,
+    told: &mut Fates,
+) -> ArrayVec<Note, 4>
+    requires held { IsHeld B.name (B.value store.old) ldterm.old }
+    requires rests { (i : ℕ) → keeps B.name ldterm.old i ≡ 0 }
+    ensures state { let s = B.value store.old in ldterm_in B.name (B.value store.new) ldterm.new ≡
+        (cleared queue_of with_queue line_of without_line side rule (ldterm_in B.name s ldterm.old)).state }
+    ensures notes { let s = B.value store.old in result.items ≡
+        (cleared queue_of with_queue line_of without_line side rule (ldterm_in B.name s ldterm.old)).notes }
+    ensures told { let s = B.value store.old in told.new ≡
+        tallied (cleared queue_of with_queue line_of without_line side rule (ldterm_in B.name s ldterm.old)).gone told.old }
+    ensures held { IsHeld B.name (B.value store.new) ldterm.new }
+    ensures rests { (i : ℕ) → keeps B.name ldterm.new i ≡ 0 }
+    ensures own { OnlyOwn (B.value store.old) (B.value store.new) (owns ldterm.old) (owns ldterm.new) }
+    ensures hand { SameHand (B.value store.old) (B.value store.new) }
+    ensures frees { FreesBlocks (B.value store.old) (B.value store.new) }
+{
+    let up = direction_at(Way::Up, side);
+    let above = clear_queue(store, &mut ldterm.read_queue, up, rule, told);
+    clear_line(&mut ldterm.line, side, rule, told);
+    let down = direction_at(Way::Down, side);
+    let below = clear_queue(store, &mut ldterm.write_queue, down, rule, told);
+    rooms(above, below)
+}
