@@ -47,12 +47,16 @@ module _ (here : Spot) where
     where
       total : to_treat p ≡ length (c ∷ rest)
       total = (let n : length (cells_left p) + 0 ≡ length (c ∷ rest) = (let e = ap length is in omega arith) in ap (λ (s : Stage ℕ). to_treat (of_stage p s)) between ∙ n)
+
       none : stages_done p.stage ≡ 0
       none = ap stages_done between
+
       may : notes_left p ≡ notes_left (of_stage p Between)
       may = ap (λ (s : Stage ℕ). notes_left (of_stage p s)) between
+
       one : (length (cells_left (with_left rest p)) ≡ length rest) × (is_some (with_left rest p).in_work ≡ is_some p.in_work)
       one = left-one p c rest is
+
       at : (starts : Bool) → Counts 1 p (cond starts
           (sends (onward Down here (bare kinds.Start []) ∷ []) (record (with_left rest p) { stopped = false; stage = Begun true c }))
           (sends [] (record (with_left rest p) { stage = Begun false c })))
@@ -86,10 +90,13 @@ module _ (here : Spot) where
     where
       total : to_treat p ≡ length (cells_left p) + 1
       total = ap (λ (s : Stage ℕ). to_treat (of_stage p s)) answered
+
       two : stages_done p.stage ≡ 2
       two = ap stages_done answered
+
       may : notes_left p ≡ notes_left (of_stage p Between)
       may = ap (λ (s : Stage ℕ). notes_left (of_stage p s)) answered
+
       at : (new : List ℕ) (full echoing : Bool) → p.echoing ≡ echoing → Counts 1 p (cond full (echo_lost plain here new (of_stage p Between)) (cond echoing (echo_grows plain here new (of_stage p Between)) (echo_stands plain here new (of_stage p Between))))
       at new true echoing is = record { work = refl; left = (let t = total in let z = two in omega arith); few = omega arith; more = λ e. (let m = may in omega arith) }
       at new false true is = record { work = refl; left = (let t = total in let z = two in omega arith); few = omega arith; more = λ e. (let m = may in omega arith) }
@@ -98,9 +105,11 @@ module _ (here : Spot) where
         where
           able : notes_left (of_stage p Between) ≡ 1
           able = ap (λ (v : Bool). notes_left (record (of_stage p Between) { echoing = v })) is
+
           stands : (enables : Bool) → Counts 1 p (record (echo_stands plain here new (of_stage p Between)) { notes = cond {A = List Note} enables (Enable Down ∷ []) [] })
           stands true = record { work = refl; left = (let t = total in let z = two in omega arith); few = (let m = may in let a = able in omega arith); more = λ e. (let m = may in let a = able in omega arith) }
           stands false = record { work = refl; left = (let t = total in let z = two in omega arith); few = omega arith; more = λ e. (let m = may in let a = able in omega arith) }
+
       by : (bytes : List ℕ) → Counts 1 p (echoed plain here 0 bytes (of_stage p Between))
       by [] = record { work = refl; left = (let t = total in let z = two in omega arith); few = omega arith; more = λ e. (let m = may in omega arith) }
       by (b ∷ bytes) = at (cells_made plain (echo_dir plain here) 0 (b ∷ bytes)) (is_full 0 p.write_queue) p.echoing refl
@@ -111,6 +120,7 @@ module _ (here : Spot) where
       left : (cells : List ℕ) → p.stage ≡ Between → cells_left p ≡ cells → Counts 1 p (begins_next plain here cells p)
       left [] between is = absurd (let t : to_treat p ≡ length (cells_left p) + 0 = ap (λ (s : Stage ℕ). to_treat (of_stage p s)) between in let e = ap length is in omega arith)
       left (c ∷ rest) between is = begins-counts p c rest between is
+
       at : (stage : Stage ℕ) → p.stage ≡ stage → Counts 1 p (stage_at plain here stage 0 p)
       at Between is = left (cells_left p) is refl
       at (Begun started c) is = struck-counts p started c is

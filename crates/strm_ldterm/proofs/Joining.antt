@@ -1,5 +1,5 @@
 -- One stage of a turn after the other, on a store.
-use Rattle.std.proofs.Common.{ℕ, ◌≡◌, ◌<◌, ◌+◌, Bool, true, false, cond, List, [], ◌∷◌, ◌++◌, refl, sym, ap, subst, ◌∙◌, arith}
+use Rattle.std.proofs.Common.{ℕ, ◌≡◌, ◌<◌, ◌≤◌, ◌+◌, Bool, true, false, cond, List, [], ◌∷◌, ◌++◌, refl, sym, ap, subst, ◌∙◌, arith}
 use Rattle.strm_types.specs.declared.rules.Fates.{Fates}
 use Rattle.strm_types.specs.declared.spots.Note.{Note}
 use Rattle.strm_types.specs.Deliver.{Fate, Parcel, counted_with, tallied}
@@ -10,7 +10,8 @@ use Rattle.strm_frame.specs.declared.parcels.Sent.{Sent}
 use Rattle.strm_frame.specs.Hands.{AreIn}
 use Rattle.strm_frame.specs.Outboxes.{parcels_in, times_sent}
 use Rattle.strm_ldterm.specs.declared.ldterm.Ldterm.{Ldterm}
-use Rattle.strm_ldterm.specs.Stands.{ldterm_in, keeps}
+use Rattle.strm_ldterm.specs.declared.ldterm.Stage.{Stage}
+use Rattle.strm_ldterm.specs.Stands.{ldterm_in, keeps, stage_in}
 use Rattle.strm_ldterm.specs.Does.{Proceeds}
 use Rattle.strm_ldterm.specs.Turns.{one_after}
 use Rattle.strm_ldterm.proofs.Turning.{Acts}
@@ -25,12 +26,28 @@ module _ {M : Type 0} (name : M → ℕ) where
   parcels-none s [] = refl
   parcels-none s (x ∷ more) = refl
 
+  -- more blocks may be said to be taken
+  pub takes-more : (s0 s : StoreValue) (x0 x : Ldterm M) (k n : ℕ) (notes : List Note) (sent : List (Sent M)) (t0 t : Fates) (is : Acts) → k ≤ n → Proceeds name s0 s x0 x k notes sent t0 t is → Proceeds name s0 s x0 x n notes sent t0 t is
+  takes-more s0 s x0 x k n notes sent t0 t is few a = record {
+    state = a.state;
+    noted = a.noted;
+    parcels = a.parcels;
+    told = a.told;
+    held = a.held;
+    own = a.own;
+    chains = a.chains;
+    hands = a.hands;
+    mblks = (let c = a.mblks in omega arith);
+    dblks = (let c = a.dblks in omega arith);
+    pool = a.pool;
+  }
+
   module _ (s0 s : StoreValue) (x0 x : Ldterm M) (k : ℕ) (notes : List Note) (t0 t : Fates) (is : Acts) where
     -- what is sent ends it
     pub sent-ends : (sent : List (Sent M)) (next : ldterms.Ldterm ℕ → Acts) → is_none_left sent ≡ false → Proceeds name s0 s x0 x k notes sent t0 t is → Proceeds name s0 s x0 x k notes sent t0 t (one_after is next)
     sent-ends sent next some a =
         let same : is ≡ one_after is next = ap (λ v. cond {A = Acts} v (let u = next is.state in record { state = u.state; notes = is.notes ++ u.notes; sent = u.sent; gone = is.gone ++ u.gone }) is)
-            (sym (sym (ap is_none_left a.parcels) ∙ parcels-none s sent ∙ some)) in
+        (sym (sym (ap is_none_left a.parcels) ∙ parcels-none s sent ∙ some)) in
         subst (Proceeds name s0 s x0 x k notes sent t0 t) same a
 
     module _ (st : IsStore s) (a : Proceeds name s0 s x0 x k notes [] t0 t is) where
@@ -48,7 +65,7 @@ module _ {M : Type 0} (name : M → ℕ) where
       proceeds-joined s' x' j notes' sent' t' next b =
           let joined : Acts → Acts = λ u. record { state = u.state; notes = is.notes ++ u.notes; sent = u.sent; gone = is.gone ++ u.gone } in
           let same : joined (next (ldterm_in name s x)) ≡ one_after is next =
-              ap (λ p. joined (next p)) a.state ∙ ap (λ v. cond {A = Acts} v (joined (next is.state)) is) (sym nothing-sent) in
+          ap (λ p. joined (next p)) a.state ∙ ap (λ v. cond {A = Acts} v (joined (next is.state)) is) (sym nothing-sent) in
           subst (Proceeds name s0 s' x0 x' (k + j) (notes ++ notes') sent' t0 t') same (record {
             state = b.state;
             noted = ap (λ ns. ns ++ notes') a.noted ∙ ap (λ ns. is.notes ++ ns) b.noted;
@@ -70,3 +87,52 @@ module _ {M : Type 0} (name : M → ℕ) where
             dblks = (let c = a.dblks in let d = b.dblks in omega arith);
             pool = record { mblks = b.pool.mblks ∙ a.pool.mblks; dblks = b.pool.dblks ∙ a.pool.dblks };
           })
+
+  module _ (s0 s : StoreValue) (x0 x : Ldterm M) (k : ℕ) (notes : List Note) (sent : List (Sent M)) (t0 t : Fates) (is : Acts) where
+    -- It is of no matter at which stage it begins, and whether LNEXT stands before.
+    pub from-other : (lnext : Bool) (stage : Stage) → Proceeds name s0 s (record x0 { after_lnext = lnext; stage = stage }) x k notes sent t0 t is → Proceeds name s0 s x0 x k notes sent t0 t is
+    from-other lnext stage a = record {
+      state = a.state;
+      noted = a.noted;
+      parcels = a.parcels;
+      told = a.told;
+      held = a.held;
+      own = record { lists = a.own.lists; owns_same = a.own.owns_same };
+      chains = a.chains;
+      hands = record { counts = a.hands.counts; others = a.hands.others };
+      mblks = a.mblks;
+      dblks = a.dblks;
+      pool = a.pool;
+    }
+
+    -- and behind it the byte stands at another stage
+    pub to-stage : (stage : Stage) → Proceeds name s0 s x0 x k notes sent t0 t is → Proceeds name s0 s x0 (record x { stage = stage }) k notes sent t0 t (record is { state = record is.state { stage = stage_in stage } })
+    to-stage stage a = record {
+      state = ap (λ (p : ldterms.Ldterm ℕ). record p { stage = stage_in stage }) a.state;
+      noted = a.noted;
+      parcels = a.parcels;
+      told = a.told;
+      held = record { read = a.held.read; write = a.held.write; apart = a.held.apart; work = a.held.work; gathers = a.held.gathers; echoes = a.held.echoes; once_each = a.held.once_each };
+      own = record { lists = a.own.lists; owns_same = a.own.owns_same };
+      chains = a.chains;
+      hands = record { counts = a.hands.counts; others = a.hands.others };
+      mblks = a.mblks;
+      dblks = a.dblks;
+      pool = a.pool;
+    }
+
+    -- and something more is noted
+    pub with-notes : (more : List Note) → Proceeds name s0 s x0 x k notes sent t0 t is → Proceeds name s0 s x0 x k more sent t0 t (record is { notes = more })
+    with-notes more a = record {
+      state = a.state;
+      noted = refl;
+      parcels = a.parcels;
+      told = a.told;
+      held = a.held;
+      own = a.own;
+      chains = a.chains;
+      hands = a.hands;
+      mblks = a.mblks;
+      dblks = a.dblks;
+      pool = a.pool;
+    }

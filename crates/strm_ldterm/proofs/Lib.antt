@@ -32,3 +32,4 @@ pub mod Skipped
 pub mod Begun
 pub mod Signals
 pub mod Cleared
+pub mod Struck

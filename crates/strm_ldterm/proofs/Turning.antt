@@ -1,5 +1,6 @@
 -- Stages of a turn on plain bytes, one after the other.
 use Rattle.std.proofs.Common.{ℕ, zero, suc, ◌≡◌, ◌≤◌, ◌+◌, ◌-◌, ◌*◌, ◌⊎◌, inl, inr, Bool, true, false, cond, List, [], ◌∷◌, ◌++◌, length, refl, sym, ap, ◌∙◌, arith, append-nil, append_assoc}
+use Rattle.std.proofs.lemmas.Bool.{false≢true}
 use Rattle.std.specs.Prelude.{not, ◌&&◌, Option, None, Some, is_some, option_map}
 use Rattle.strm_types.specs.declared.names.Dir.{Dir}
 use Rattle.strm_types.specs.declared.spots.Note.{Note}
@@ -34,9 +35,11 @@ after-assoc t f g = outer (is_none_left t.sent) refl
     joined u v =
         ap (λ notes. record { state = v.state; notes = notes; sent = v.sent; gone = (t.gone ++ u.gone) ++ v.gone }) (append_assoc t.notes u.notes v.notes)
         ∙ ap (λ gone. record { state = v.state; notes = t.notes ++ (u.notes ++ v.notes); sent = v.sent; gone = gone }) (append_assoc t.gone u.gone v.gone)
+
     inner : (u : Acts) (none : Bool) → cond none (both (both t u) (g u.state)) (both t u) ≡ both t (cond {A = Acts} none (both u (g u.state)) u)
     inner u true = joined u (g u.state)
     inner u false = refl
+
     outer : (none : Bool) → is_none_left t.sent ≡ none → one_after (cond {A = Acts} none (both t (f t.state)) t) g ≡ cond {A = Acts} none (both t (one_after (f t.state) g)) t
     outer true is = inner (f t.state) (is_none_left (f t.state).sent)
     outer false is = ap (λ v. cond {A = Acts} v (both t (g t.state)) t) is
@@ -55,6 +58,7 @@ module _ (here : Spot) where
       echoed-any (b ∷ bytes) q =
           ap (λ new. cond {A = Acts} (is_full 0 q.write_queue) (echo_lost plain here new q) (cond q.echoing (echo_grows plain here new q) (echo_stands plain here new q)))
           (made-plain (echo_dir plain here) made (b ∷ bytes) ∙ sym (made-plain (echo_dir plain here) 0 (b ∷ bytes)))
+
       at : (stage : Stage ℕ) → stage_at plain here stage made p ≡ stage_at plain here stage 0 p
       at Between = refl
       at (Begun started c) = refl
@@ -89,3 +93,24 @@ module _ (here : Spot) where
       ∙ stages-step (n + k) p
       ∙ after-same t (ends (n + k)) (λ q. one_after (ahead here n q) (ends k)) (ends-more n k t.state)
       ∙ sym (after-assoc t (ahead here n) (ends k))
+
+  -- one stage, and two
+  pub ahead-one : (p : Ldterm ℕ) → ahead here 1 p ≡ next_stage plain here 0 p
+  ahead-one p = at (next_stage plain here 0 p)
+    where
+      joined : (t : Acts) (none : Bool) → is_none_left t.sent ≡ none → cond {A = Acts} none (both t (sends [] t.state)) t ≡ t
+      joined t true is =
+          ap (λ notes. record { state = t.state; notes = notes; sent = []; gone = t.gone ++ [] }) (append-nil t.notes)
+          ∙ ap (λ gone. record { state = t.state; notes = t.notes; sent = []; gone = gone }) (append-nil t.gone)
+          ∙ ap (λ sent. record { state = t.state; notes = t.notes; sent = sent; gone = t.gone }) (empty t.sent is)
+        where
+          empty : {A : Type 0} (xs : List A) → is_none_left xs ≡ true → [] ≡ xs
+          empty [] is = refl
+          empty (x ∷ xs) is = absurd (false≢true is)
+      joined t false is = refl
+
+      at : (t : Acts) → one_after t (sends []) ≡ t
+      at t = joined t (is_none_left t.sent) refl
+
+  pub ahead-two : (p : Ldterm ℕ) → ahead here 2 p ≡ one_after (next_stage plain here 0 p) (next_stage plain here 0)
+  ahead-two p = let t = next_stage plain here 0 p in after-same t (ahead here 1) (next_stage plain here 0) (ahead-one t.state)

@@ -1,7 +1,5 @@
 -- Several stages of a turn on plain bytes, one after the other, before its end.
 use Rattle.std.specs.Prelude.{ℕ, zero, suc, ◌+◌, Bool, true, false, if◌then◌else◌, [], ◌++◌}
-use Rattle.strm_types.specs.declared.keys.Key.{Key}
-use Rattle.strm_types.specs.declared.keys.Key.TheVariants.{Stop, Intr, Quit, Susp, Eof, Delimiter}
 use Rattle.strm_types.specs.declared.spots.Spot.{Spot}
 use Rattle.strm_types.specs.Cells.{plain}
 use Rattle.strm_types.specs.Deliver.{Acted}
@@ -40,16 +38,6 @@ notes_left p = of_stage p.stage + (if p.echoing then 0 else 1)
     of_stage : Stage ℕ → ℕ
     of_stage (Begun true c) = 1
     of_stage _ = 0
-
--- the keys that may send something
-abbrev pub may_send : Key → Bool
-may_send Stop = true
-may_send Intr = true
-may_send Quit = true
-may_send Susp = true
-may_send Eof = true
-may_send Delimiter = true
-may_send _ = false
 
 -- how many stages of a byte that has begun are left
 abbrev pub stages_left : Stage ℕ → ℕ

@@ -1,13 +1,13 @@
 //! What is echoed of a key (termio(7I): ECHO, ECHOE, ECHOK, ECHOKE, ECHONL, ECHOCTL; ldterm(7M)). An echo may have thousands of bytes, as
 //! that of KILL on a line of TABs has, so it isn't made at once: its length is known first, and its bytes come in runs.
 
-ghost use Rattle.std.specs.Prelude.{◌≡◌, ℕ, ◌+◌, ◌*◌, ◌≤◌, true, List, [], ◌∷◌, ◌++◌, length, take, drop, flat_map, IfNone};
+ghost use Rattle.std.specs.Prelude.{◌≡◌, ℕ, ◌+◌, ◌*◌, ◌≤◌, false, true, List, [], ◌∷◌, ◌++◌, length, take, drop, flat_map, IfNone};
 ghost use Rattle.std.specs.Option.{option_to_list};
 ghost use Rattle.arrayvec.specs.ArrayVec.{array_vec_len};
 ghost use Rattle.strm_types.specs.Echo.{column_from, echo_byte, echo_of, erase_echo, is_control, kill_echo, ordinary_echo, reprint_echo, rub_out, shown_control, typed_echo, under_echo, width_at};
 ghost use Rattle.strm_types.specs.Termios.{echo};
 ghost use Rattle.strm_ldterm.specs.Echoes.{echo_bytes, shown, MayLeave};
-ghost use Rattle.strm_ldterm.specs.Turns.{may_send};
+ghost use Rattle.strm_ldterm.specs.Quiet.{is_quiet};
 
 use crate::lines::{Line, left_without_word};
 use arrayvec::ArrayVec;
@@ -110,8 +110,8 @@ fn echoes(termios: &Termios) -> bool
     termios.lflag.contains(LocalModes::ECHO)
 }
 
-/// An echo of these bytes alone.
-pub(crate) fn of_bytes(bytes: ArrayVec<u8, 3>) -> Echo
+// An echo of these bytes alone.
+fn of_bytes(bytes: ArrayVec<u8, 3>) -> Echo
     ensures { (line : List ℕ) → echo_bytes result line ≡ bytes.items }
 {
     Echo {
@@ -120,6 +120,18 @@ pub(crate) fn of_bytes(bytes: ArrayVec<u8, 3>) -> Echo
         shown: 0,
         controls: false,
     }
+}
+
+/// An echo of at most 3 bytes.
+pub(crate) fn of_slice(bytes: &[u8]) -> Echo
+    requires { length bytes.now ≤ 3 }
+    ensures { (line : List ℕ) → echo_bytes result line ≡ bytes.now }
+{
+    let mut first = ArrayVec::new();
+    let Ok(()) = first.try_extend_from_slice(bytes) else {
+        unreachable!()
+    };
+    of_bytes(first)
 }
 
 // No echo.
@@ -235,7 +247,7 @@ fn typed_echo(termios: &Termios, stroke: Stroke) -> ArrayVec<u8, 3>
 /// What is echoed of a key that may send something, at most 3 bytes whatever the line is: of STOP and EOF nothing, of a signal's key and of
 /// a delimiter the key.
 pub(crate) fn short_echo(termios: &Termios, stroke: Stroke) -> ArrayVec<u8, 3>
-    requires { may_send stroke.key ≡ true }
+    requires { is_quiet stroke.key ≡ false }
     ensures { (before after : List ℕ) → result.items ≡ echo_of termios.now before after stroke }
 {
     match stroke.key {

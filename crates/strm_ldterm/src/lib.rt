@@ -2,7 +2,6 @@
 //! queues on a store of blocks.
 #![tactic(auto)]
 
-mod opening;
 mod beginning;
 mod clearing;
 mod echoes;
@@ -13,12 +12,14 @@ mod flushing;
 mod growing;
 mod ldterm;
 mod lines;
+mod opening;
 mod putting;
 mod queues;
 mod reading;
 mod relieving;
 mod sending;
 mod signalling;
+mod striking;
 mod strokes;
 mod typing;
 

@@ -1,0 +1,37 @@
+use Rattle.std.proofs.Common.{ℕ, ◌≡◌, ◌≤◌, ◌+◌, [], length, sym, ap, subst, ◌∙◌, arith}
+use Rattle.strm_types.specs.declared.limits.TheConstants.{MODULES, STOP_BLOCKS}
+use Rattle.strm_types.specs.declared.spots.Spot as spots
+use Rattle.strm_types.specs.Cells.{plain}
+use Rattle.strm_types.specs.Input.{cells_left, next_stage}
+use Rattle.strm_types.specs.Queue.{is_none_left}
+use Rattle.strm_types.specs.Typing.{is_lnext, strikes, struck, stroke_at, wakes}
+use Rattle.strm_frame.specs.Hands.{AreIn, HasRoom}
+use Rattle.strm_frame.specs.Outboxes.{sent_of}
+use Rattle.strm_ldterm.specs.Stands.{ldterm_in, keeps, stage_in, IsHeld}
+use Rattle.strm_ldterm.specs.Does.{Proceeds}
+use Rattle.strm_ldterm.specs.Echoes.{echo_bytes}
+use Rattle.strm_ldterm.specs.Quiet.{is_quiet}
+use Rattle.strm_ldterm.specs.Turns.{ahead, leaves, needs, one_after, stages_left}
+use Rattle.strm_types.specs.Ldterms as ldterms
+use Rattle.strm_ldterm.specs.declared.ldterm.Stage.TheVariants as stages
+use Rattle.strm_ldterm.proofs.striking.resume.Goals as goal
+use Rattle.strm_ldterm.proofs.Joining.{takes-more}
+use Rattle.strm_ldterm.proofs.Struck.{answered-ahead, begun-ahead}
+
+pub returns-in-Some-clause-does : goal.returns-in-Some-clause-does
+returns-in-Some-clause-does g c =
+    let p = ldterm_in g.B.Blocks.name (g.B.Blocks.value c.args.store.now) c.args.ldterm.now in
+    subst (Proceeds g.B.Blocks.name (g.B.Blocks.value c.args.store.now) (g.B.Blocks.value c.strike.new.store) c.args.ldterm.now c.strike.new.ldterm 26 c.strike.result.notes.items (sent_of c.strike.result.sent) c.args.told.now c.strike.new.told)
+    (begun-ahead c.args.here p c.in-Some.started c.in-Some.byte c.in-Some.ensures.some) c.strike.ensures.does
+
+pub returns-in-None-clause-does : goal.returns-in-None-clause-does
+returns-in-None-clause-does g c =
+    let name = g.B.Blocks.name in
+    let s = g.B.Blocks.value c.args.store.now in
+    let s' = g.B.Blocks.value c.answer.new.store in
+    let p = ldterm_in name s c.args.ldterm.now in
+    let most = c.in-None.ensures.none in
+    let some = c.requires.stage in
+    takes-more name s s' c.args.ldterm.now c.answer.new.ldterm 1 26 c.answer.result.items (sent_of c.none.result) c.args.told.now c.answer.new.told (ahead c.args.here (stages_left p.stage) p) (omega arith)
+    (subst (λ out. Proceeds name s s' c.args.ldterm.now c.answer.new.ldterm 1 c.answer.result.items out c.args.told.now c.answer.new.told (ahead c.args.here (stages_left p.stage) p)) (sym c.none.ensures)
+    (subst (Proceeds name s s' c.args.ldterm.now c.answer.new.ldterm 1 c.answer.result.items [] c.args.told.now c.answer.new.told) (answered-ahead c.args.here p (omega arith)) c.answer.ensures))

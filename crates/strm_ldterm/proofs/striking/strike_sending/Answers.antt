@@ -1,0 +1,26 @@
+use Rattle.std.proofs.Common.{ℕ, ◌≡◌, ◌≤◌, ◌+◌, [], length, sym, ap, subst, ◌∙◌, arith}
+use Rattle.strm_types.specs.declared.limits.TheConstants.{MODULES, STOP_BLOCKS}
+use Rattle.strm_types.specs.declared.spots.Spot as spots
+use Rattle.strm_types.specs.Cells.{plain}
+use Rattle.strm_types.specs.Input.{cells_left, next_stage}
+use Rattle.strm_types.specs.Queue.{is_none_left}
+use Rattle.strm_types.specs.Typing.{is_lnext, strikes, struck, stroke_at, wakes}
+use Rattle.strm_frame.specs.Hands.{AreIn, HasRoom}
+use Rattle.strm_frame.specs.Outboxes.{sent_of}
+use Rattle.strm_ldterm.specs.Stands.{ldterm_in, keeps, stage_in, IsHeld}
+use Rattle.strm_ldterm.specs.Does.{Proceeds}
+use Rattle.strm_ldterm.specs.Echoes.{echo_bytes}
+use Rattle.strm_ldterm.specs.Quiet.{is_quiet}
+use Rattle.strm_ldterm.specs.Turns.{ahead, leaves, needs, one_after, stages_left}
+use Rattle.strm_types.specs.Ldterms as ldterms
+use Rattle.strm_ldterm.specs.declared.ldterm.Stage.TheVariants as stages
+use Rattle.strm_ldterm.proofs.striking.strike_sending.Goals as goal
+use Rattle.strm_ldterm.proofs.Joining.{takes-more}
+
+pub returns-in-Delimiter : goal.returns-in-Delimiter
+returns-in-Delimiter g c =
+    let s = g.B.Blocks.value c.args.store.now in
+    takes-more g.B.Blocks.name s (g.B.Blocks.value c.end_line.new.store) c.args.ldterm.now c.end_line.new.ldterm 1 2 [] (sent_of c.end_line.result) c.args.told.now c.args.told.now
+    (strikes plain c.args.here c.args.key c.args.byte (ldterm_in g.B.Blocks.name s c.args.ldterm.now)) (omega arith)
+    (subst (λ k. Proceeds g.B.Blocks.name s (g.B.Blocks.value c.end_line.new.store) c.args.ldterm.now c.end_line.new.ldterm 1 [] (sent_of c.end_line.result) c.args.told.now c.args.told.now (strikes plain c.args.here k c.args.byte (ldterm_in g.B.Blocks.name s c.args.ldterm.now)))
+    (sym c.in-Delimiter.is) (c.end_line.ensures c.args.told.now))
