@@ -33,3 +33,4 @@ pub mod Begun
 pub mod Signals
 pub mod Cleared
 pub mod Struck
+pub mod Treated
