@@ -27,6 +27,7 @@ use Rattle.strm_ldterm.specs.Calls.{queue_of, with_queue}
 use Rattle.strm_ldterm.specs.Popped.{line_of}
 use Rattle.strm_ldterm.proofs.Beside.{read-plain, read-held, read-own, writes-stay, write-plain, write-own}
 use Rattle.strm_ldterm.proofs.Flushed.{tallied-append}
+use Rattle.strm_ldterm.proofs.Sends.{held-line}
 
 module _ {M : Type 0} (name : M → ℕ) where
   none-kept : (o : Option M) → ((i : ℕ) → times_kept name o i ≡ 0) → o ≡ None
@@ -48,15 +49,12 @@ module _ {M : Type 0} (name : M → ℕ) where
       ap (λ o. with_last (kept_in name s o) q) (none-in-hand x rests).2 ∙ ap (λ (ms : List (Message ℕ)). record q { messages = ms }) (append-nil q.messages)
 
   module _ (s t u : StoreValue) (x : Ldterm M) (line : List ℕ) (q1 q2 : Queue) (held : IsHeld name s x) (above : Changes s t x.read_queue q1) (below : Changes t u x.write_queue q2) where
-    line-held : IsHeld name s (record x { line = line })
-    line-held = record { read = held.read; write = held.write; apart = held.apart; work = held.work; gathers = held.gathers; echoes = held.echoes; once_each = held.once_each }
-
     between : IsHeld name t (record x { line = line; read_queue = q1 })
-    between = read-held name s t (record x { line = line }) q1 line-held above
+    between = read-held name s t (record x { line = line }) q1 (held-line name s x line held) above
 
     pub cleared-own : OnlyOwn s u (owns x) (owns (record x { line = line; read_queue = q1; write_queue = q2 }))
     cleared-own =
-        let first = read-own name s t (record x { line = line }) q1 line-held above in
+        let first = read-own name s t (record x { line = line }) q1 (held-line name s x line held) above in
         let second = write-own name t u (record x { line = line; read_queue = q1 }) q2 between below in
         record {
           lists = λ k none. second.lists k (first.owns_same k ∙ none) ∙ first.lists k none;
@@ -76,7 +74,7 @@ module _ {M : Type 0} (name : M → ℕ) where
           let y = record x { line = line; read_queue = q1 } in
           write-plain name t u y q2 between below
           ∙ ap (λ (q : plain.Queue ℕ). record (ldterm_in name t y) { write_queue = q }) (list-alone t x rests (queue_in u q2))
-          ∙ ap (λ (r : ldterms.Ldterm ℕ). record r { write_queue = queue_in u q2 }) (read-plain name s t (record x { line = line }) q1 line-held above)
+          ∙ ap (λ (r : ldterms.Ldterm ℕ). record r { write_queue = queue_in u q2 }) (read-plain name s t (record x { line = line }) q1 (held-line name s x line held) above)
           ∙ ap (λ (l : List ℕ). record p { line = l; read_queue = queue_in t q1; write_queue = queue_in u q2 }) none
           ∙ ap (λ (q : plain.Queue ℕ). record p { line = []; read_queue = q; write_queue = queue_in u q2 }) reads
           ∙ ap (λ (q : plain.Queue ℕ). record p { line = []; read_queue = queue_behind of_all p.read_queue; write_queue = q }) (writes ∙ ap (λ (q : plain.Queue ℕ). queue_behind of_all q) write-list)

@@ -1,5 +1,6 @@
 //! What is typed at a terminal, with lines and echoes worked out by hand from termio(7I).
 
+mod clearing;
 mod echoing;
 
 use crate::{Line, RUN_MAX, echo_of, restarts, stroke_of};
