@@ -27,7 +27,6 @@ pub mod Returning
 pub mod Proceeding
 pub mod Finished
 pub mod Passed
-pub mod Sends
 pub mod Skipped
 pub mod Begun
 pub mod Signals

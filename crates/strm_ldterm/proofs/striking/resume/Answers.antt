@@ -1,19 +1,8 @@
-use Rattle.std.proofs.Common.{ℕ, ◌≡◌, ◌≤◌, ◌+◌, [], length, sym, ap, subst, ◌∙◌, arith}
-use Rattle.strm_types.specs.declared.limits.TheConstants.{MODULES, STOP_BLOCKS}
-use Rattle.strm_types.specs.declared.spots.Spot as spots
-use Rattle.strm_types.specs.Cells.{plain}
-use Rattle.strm_types.specs.Input.{cells_left, next_stage}
-use Rattle.strm_types.specs.Queue.{is_none_left}
-use Rattle.strm_types.specs.Typing.{is_lnext, strikes, struck, stroke_at, wakes}
-use Rattle.strm_frame.specs.Hands.{AreIn, HasRoom}
+use Rattle.std.proofs.Common.{[], sym, subst, arith}
 use Rattle.strm_frame.specs.Outboxes.{sent_of}
-use Rattle.strm_ldterm.specs.Stands.{ldterm_in, keeps, stage_in, IsHeld}
+use Rattle.strm_ldterm.specs.Stands.{ldterm_in}
 use Rattle.strm_ldterm.specs.Does.{Proceeds}
-use Rattle.strm_ldterm.specs.Echoes.{echo_bytes}
-use Rattle.strm_ldterm.specs.Quiet.{is_quiet}
-use Rattle.strm_ldterm.specs.Turns.{ahead, leaves, needs, one_after, stages_left}
-use Rattle.strm_types.specs.Ldterms as ldterms
-use Rattle.strm_ldterm.specs.declared.ldterm.Stage.TheVariants as stages
+use Rattle.strm_ldterm.specs.Turns.{ahead, stages_left}
 use Rattle.strm_ldterm.proofs.striking.resume.Goals as goal
 use Rattle.strm_ldterm.proofs.Joining.{takes-more}
 use Rattle.strm_ldterm.proofs.Struck.{answered-ahead, begun-ahead}

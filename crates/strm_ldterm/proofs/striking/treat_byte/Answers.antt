@@ -1,22 +1,10 @@
-use Rattle.std.proofs.Common.{ℕ, ◌≡◌, ◌≤◌, ◌+◌, [], length, refl, sym, ap, subst, ◌∙◌, arith}
-use Rattle.strm_types.specs.declared.limits.TheConstants.{MODULES, STOP_BLOCKS}
-use Rattle.strm_types.specs.declared.spots.Spot as spots
-use Rattle.strm_types.specs.Cells.{plain}
-use Rattle.strm_types.specs.Input.{cells_left, next_stage}
-use Rattle.strm_types.specs.Queue.{is_none_left}
-use Rattle.strm_types.specs.Typing.{is_lnext, strikes, struck, stroke_at, wakes}
-use Rattle.strm_frame.specs.Hands.{AreIn, HasRoom}
+use Rattle.std.proofs.Common.{refl, sym, ap, subst, arith}
 use Rattle.strm_frame.specs.Outboxes.{sent_of}
-use Rattle.strm_ldterm.specs.Stands.{ldterm_in, keeps, stage_in, IsHeld}
+use Rattle.strm_ldterm.specs.Stands.{ldterm_in, stage_in}
 use Rattle.strm_ldterm.specs.Does.{Proceeds}
-use Rattle.strm_ldterm.specs.Echoes.{echo_bytes}
-use Rattle.strm_ldterm.specs.Quiet.{is_quiet}
-use Rattle.strm_ldterm.specs.Turns.{ahead, leaves, needs, one_after, stages_left}
-use Rattle.strm_types.specs.Ldterms as ldterms
-use Rattle.strm_ldterm.specs.declared.ldterm.Stage.TheVariants as stages
+use Rattle.strm_ldterm.specs.Turns.{ahead}
 use Rattle.strm_ldterm.proofs.striking.treat_byte.Goals as goal
 use Rattle.strm_frame.specs.Outboxes.{times_sent}
-use Rattle.strm_ldterm.proofs.Joining.{still-kept}
 use Rattle.strm_ldterm.proofs.Struck.{some-left}
 use Rattle.strm_ldterm.proofs.Treated.{begun-left, byte-goes-on, byte-starts, few-leaves, few-needs}
 
@@ -64,7 +52,7 @@ resume-requires-clause-room g c =
 pub resume-requires-clause-stage : goal.resume-requires-clause-stage
 resume-requires-clause-stage g c =
     let two = begun-left g.B.Blocks.name (g.B.Blocks.value c.args.store.now) (g.B.Blocks.value c.begin-sent.new.store) c.args.ldterm.now c.begin-sent.new.ldterm c.args.here (sent_of c.begin-sent.result) c.args.told.now
-        c.requires.stage (c.begin-sent.ensures c.args.told.now) c.requires.some in
+    c.requires.stage (c.begin-sent.ensures c.args.told.now) c.requires.some in
     omega arith
 
 pub returns-clause-does : goal.returns-clause-does
