@@ -6,7 +6,7 @@ use Rattle.strm_types.specs.declared.rules.Fates.{Fates}
 use Rattle.strm_types.specs.declared.spots.Spot.{Spot}
 use Rattle.strm_types.specs.Cells as cells
 use Rattle.strm_types.specs.Deliver.{toward}
-use Rattle.strm_types.specs.Input.{back_on}
+use Rattle.strm_types.specs.Input.{back_on, cells_left}
 use Rattle.strm_types.specs.Ldterms.{sends, onward}
 use Rattle.strm_types.specs.Message.{Message, cells_of, data_message}
 use Rattle.strm_types.specs.Queue as plain
@@ -69,6 +69,9 @@ module _ {M : Type 0} (name : M → ℕ) (s : StoreValue) (x : Ldterm M) (m : M)
 
     pub work-shown : kept_in name s x.in_work ≡ Some (message_in s (name m))
     work-shown = ap (kept_in name s) there
+
+    pub work-cells : cells_left (ldterm_in name s x) ≡ cells_of (message_in s (name m))
+    work-cells = ap (λ (o : Option (Message ℕ)). cells_left (record (ldterm_in name s x) { in_work = o })) work-shown
 
     pub work-is : IsHeld name s x → IsData s (name m)
     work-is held = subst (λ o. IfSome o (λ y. IsData s (name y))) there held.work

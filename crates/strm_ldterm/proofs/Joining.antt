@@ -8,10 +8,10 @@ use Rattle.strm_types.specs.Queue.{is_none_left}
 use Rattle.strm_blocks.specs.Blocks.{StoreValue, IsStore}
 use Rattle.strm_frame.specs.declared.parcels.Sent.{Sent}
 use Rattle.strm_frame.specs.Hands.{AreIn}
-use Rattle.strm_frame.specs.Outboxes.{parcels_in, times_sent}
+use Rattle.strm_frame.specs.Outboxes.{parcels_in, times_sent, AreChains}
 use Rattle.strm_ldterm.specs.declared.ldterm.Ldterm.{Ldterm}
 use Rattle.strm_ldterm.specs.declared.ldterm.Stage.{Stage}
-use Rattle.strm_ldterm.specs.Stands.{ldterm_in, keeps, stage_in}
+use Rattle.strm_ldterm.specs.Stands.{ldterm_in, keeps, stage_in, IsHeld}
 use Rattle.strm_ldterm.specs.Does.{Proceeds}
 use Rattle.strm_ldterm.specs.Turns.{one_after}
 use Rattle.strm_ldterm.proofs.Turning.{Acts}
@@ -21,7 +21,7 @@ tallied-joined [] b f = refl
 tallied-joined (x ∷ a) b f = tallied-joined a b (counted_with x f)
 
 module _ {M : Type 0} (name : M → ℕ) where
-  parcels-none : (s : StoreValue) (sent : List (Sent M)) → is_none_left (parcels_in name s sent) ≡ is_none_left sent
+  pub parcels-none : (s : StoreValue) (sent : List (Sent M)) → is_none_left (parcels_in name s sent) ≡ is_none_left sent
   unfolding parcels_in
   parcels-none s [] = refl
   parcels-none s (x ∷ more) = refl
@@ -136,3 +136,20 @@ module _ {M : Type 0} (name : M → ℕ) where
       dblks = a.dblks;
       pool = a.pool;
     }
+
+  -- nothing has happened
+  pub stays-so : (s : StoreValue) (x : Ldterm M) (t : Fates) → IsHeld name s x → Proceeds name s s x x 0 [] [] t t (ldterms.sends [] (ldterm_in name s x))
+  unfolding times_sent parcels_in AreChains
+  stays-so s x t held = record {
+    state = refl;
+    noted = refl;
+    parcels = refl;
+    told = refl;
+    held = held;
+    own = record { lists = λ k none. refl; owns_same = λ k. refl };
+    chains = tt;
+    hands = record { counts = λ i. refl; others = λ i gone kept some. refl };
+    mblks = omega arith;
+    dblks = omega arith;
+    pool = record { mblks = refl; dblks = refl };
+  }

@@ -33,3 +33,6 @@ pub mod Signals
 pub mod Cleared
 pub mod Struck
 pub mod Treated
+pub mod Calls
+pub mod Freeing
+pub mod Turned

@@ -13,3 +13,5 @@ pub mod Becoming
 pub mod SignalKeys
 pub mod Popped
 pub mod Blank
+pub mod Called
+pub mod Freeing

@@ -18,6 +18,7 @@ mod queues;
 mod reading;
 mod relieving;
 mod sending;
+mod serving;
 mod signalling;
 mod striking;
 mod strokes;
@@ -30,6 +31,7 @@ pub use ldterm::{Ldterm, Stage, name};
 pub use lines::Line;
 pub use putting::put;
 pub use queues::{asks, is_full, sizes};
+pub use serving::serve;
 pub use strokes::{restarts, stroke_of};
 
 #[cfg(test)]

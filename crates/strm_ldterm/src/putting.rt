@@ -9,12 +9,15 @@ ghost use Rattle.strm_types.specs.Flushing.{is_flush};
 ghost use Rattle.strm_types.specs.declared.spots.Note.TheVariants.{Room};
 ghost use Rattle.strm_types.specs.Message.{Message};
 ghost use Rattle.strm_types.specs.Ldterms.{waits_there};
-ghost use Rattle.strm_blocks.specs.Blocks.{in_hand, block_at};
-ghost use Rattle.strm_msg.specs.Messages.{IsChain};
+ghost use Rattle.strm_types.specs.Queue.{put_on};
+ghost use Rattle.strm_blocks.specs.Blocks.{IsInHand, in_hand, dropped, block_at};
+ghost use Rattle.strm_msg.specs.Messages.{message_of, IsChain};
+ghost use Rattle.strm_queue.specs.Stored.{queue_in, IsReady, Changes, FreesBlocks};
 ghost use Rattle.strm_frame.specs.Hands.{AreIn, CanPut};
 ghost use Rattle.strm_frame.specs.Outboxes.{message_in};
 ghost use Rattle.strm_ldterm.specs.Stands.{ldterm_in, keeps, IsHeld};
 ghost use Rattle.strm_ldterm.specs.Does.{Alters, Does};
+ghost use Rattle.strm_ldterm.specs.Freeing.{FreesNone};
 ghost use Rattle.std.specs.Prelude.{true};
 
 use crate::flushing::{flush_read, flush_write};
@@ -23,6 +26,7 @@ use crate::reading::asked_of;
 use arrayvec::ArrayVec;
 use strm_blocks::Blocks;
 use strm_frame::{Acts, Outbox, Sent};
+use strm_queue::Queue;
 use strm_queue::standing::enqueue;
 use strm_types::{Fates, MsgKind, Note, Spot, Way};
 
@@ -37,20 +41,37 @@ pub(crate) fn note_if(holds: bool, note: Note) -> ArrayVec<Note, 4>
     notes
 }
 
+// Puts a message in hand on a queue, behind all of its rank or a higher one: putq(9F). No block is taken or freed.
+fn stand<B: Blocks>(store: &mut B, queue: &mut Queue, message: B::Mp)
+    requires ready { IsReady (B.value store.old) queue.old }
+    requires in_hand { IsInHand (B.value store.old) (B.name message) }
+    requires chain { IsChain (in_hand (B.value store.old) (B.name message)) }
+    ensures queue { queue_in (B.value store.new) queue.new
+        ≡ put_on (message_of (in_hand (B.value store.old) (B.name message))) (queue_in (B.value store.old) queue.old) }
+    ensures changes { Changes (dropped (B.value store.old) (B.name message)) (B.value store.new) queue.old queue.new }
+    ensures frees { FreesBlocks (B.value store.old) (B.value store.new) }
+    ensures blocks { FreesNone (B.value store.old) (B.value store.new) }
+{
+    store.audit();
+    let _ = queue.putq(store, message);
+}
+
 /// Puts the turn's echo on the write queue, where it stays last. From then on it stands there as any other message, and a new
-/// echo begins.
+/// echo begins. No block is freed.
 pub(crate) fn settle_echo<B: Blocks>(ldterm: &mut Ldterm<B::Mp>, store: &mut B)
     requires held { IsHeld B.name (B.value store.old) ldterm.old }
     requires kept { AreIn (B.value store.old) (λ _. 0) (keeps B.name ldterm.old) }
     ensures state { ldterm_in B.name (B.value store.new) ldterm.new
         ≡ record (ldterm_in B.name (B.value store.old) ldterm.old) { echoing = false } }
     ensures alters { Alters B.name (B.value store.old) (B.value store.new) ldterm.old ldterm.new }
+    ensures blocks { FreesNone (B.value store.old) (B.value store.new) }
+    ensures gathered { ldterm.new.gathered ≡ ldterm.old.gathered }
 {
     let Some(echo) = ldterm.echo.take() else {
         return;
     };
     store.audit();
-    enqueue(store, &mut ldterm.write_queue, echo);
+    stand(store, &mut ldterm.write_queue, echo);
 }
 
 // A message waits to go up.

@@ -2,6 +2,7 @@
 use Rattle.std.proofs.Common.{◌<◌, length, arith}
 use Rattle.strm_blocks.specs.Blocks.{in_hand}
 use Rattle.strm_queue.proofs.Chains.{chain-low}
+use Rattle.strm_ldterm.proofs.Freeing.{back-none}
 use Rattle.strm_ldterm.proofs.Returning.{back-queue, back-changes, back-frees}
 use Rattle.strm_ldterm.proofs.finishing.put_back.Goals as goal
 
@@ -28,3 +29,10 @@ returns-clause-frees g c =
     let q = c.args.queue.now in
     let within : q.list < length s.lists = let low = q.on_list in omega (arith, low, c.audit.ensures.eight) in
     back-frees s (g.B.Blocks.value c.putbq.new.store) q c.putbq.new.self (g.B.Blocks.name c.args.message) within c.requires.in_hand c.putbq.ensures.placed
+
+pub returns-clause-blocks : goal.returns-clause-blocks
+returns-clause-blocks g c =
+    let s = g.B.Blocks.value c.args.store.now in
+    let q = c.args.queue.now in
+    let within : q.list < length s.lists = let low = q.on_list in omega (arith, low, c.audit.ensures.eight) in
+    back-none s q.list (g.B.Blocks.name c.args.message) within c.requires.in_hand (g.B.Blocks.value c.putbq.new.store) c.putbq.ensures.placed

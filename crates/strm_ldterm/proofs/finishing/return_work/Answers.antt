@@ -1,5 +1,5 @@
 -- The message in work leaves the hand: for its queue, or it is freed.
-use Rattle.std.proofs.Common.{ℕ, sym, ap, subst, ◌∙◌, ◌≡◌, refl}
+use Rattle.std.proofs.Common.{ℕ, sym, ap, subst, ◌∙◌, ◌≡◌, refl, length, arith}
 use Rattle.std.specs.Prelude.{None, Some}
 use Rattle.strm_types.specs.Queue as plain
 use Rattle.strm_blocks.specs.Blocks.{dropped}
@@ -8,7 +8,8 @@ use Rattle.strm_frame.specs.Outboxes.{message_in}
 use Rattle.strm_frame.proofs.Handing.{can-in_hand}
 use Rattle.strm_ldterm.specs.Stands.{ldterm_in}
 use Rattle.strm_ldterm.specs.Does.{Alters}
-use Rattle.strm_ldterm.proofs.Finished.{back-none, back-some, work-splits, work-shown, work-can, work-held}
+use Rattle.strm_ldterm.proofs.Finished.{back-none, back-some, work-splits, work-shown, work-cells, work-can, work-held}
+use Rattle.strm_ldterm.proofs.Freeing.{none-freed}
 use Rattle.strm_ldterm.proofs.Returning.{freed-plain, freed-alters, back-plain, back-alters}
 use Rattle.strm_ldterm.proofs.finishing.return_work.Goals as goal
 
@@ -81,3 +82,19 @@ returns-clause-alters g c =
     subst (λ o. Alters name s t x (record x { in_work = o; read_queue = c.put_back.new.queue })) (sym c.take.ensures.after)
     (back-alters name s x (record x { in_work = None }) (name m) c.audit.ensures (work-held name s x m there c.requires.held) (work-can name s x m there c.requires.kept) (work-splits name s x m there) (λ k. refl)
     t c.put_back.new.queue c.put_back.ensures.changes c.put_back.ensures.frees)
+
+pub returns-in_default-clause-blocks : goal.returns-in_default-clause-blocks
+returns-in_default-clause-blocks g c = λ left. none-freed (g.B.Blocks.value c.args.store.now)
+
+pub returns-then-booked_size-eq0-clause-blocks : goal.returns-then-booked_size-eq0-clause-blocks
+returns-then-booked_size-eq0-clause-blocks g c = λ left.
+    let s = g.B.Blocks.value c.args.store.now in
+    let m = c.in-Some.message in
+    let there : c.args.ldterm.now.in_work ≡ Some m = sym c.take.ensures.value ∙ c.in-Some.is in
+    let cells = work-cells g.B.Blocks.name s c.args.ldterm.now m there in
+    let none = c.booked_size.ensures in
+    let zero = c.if-booked_size-eq0.true in
+    absurd (omega (arith, left, ap length cells, none, zero))
+
+pub returns-clause-blocks : goal.returns-clause-blocks
+returns-clause-blocks g c = λ left. c.put_back.ensures.blocks

@@ -1,0 +1,443 @@
+-- Bytes of the message in work, one after the other, and calls of the service procedure of the read queue.
+use Rattle.std.proofs.Common.{ℕ, zero, suc, ◌≡◌, ◌≤◌, ◌<◌, ◌+◌, ◌-◌, ◌*◌, Bool, true, false, cond, List, [], ◌∷◌, ◌++◌, length, refl, sym, ap, subst, ◌∙◌, arith, append-nil}
+use Rattle.std.proofs.lemmas.Bool.{false≢true}
+use Rattle.std.specs.Prelude.{Option, None, Some, is_some, nat_lt, unwrap_or}
+use Rattle.strm_types.specs.declared.limits.TheConstants.{STOP_BLOCKS}
+use Rattle.strm_types.specs.declared.rules.Fates.{Fates}
+use Rattle.strm_types.specs.declared.spots.Note.{Note}
+use Rattle.strm_types.specs.declared.spots.Spot.{Spot}
+use Rattle.strm_types.specs.Cells.{plain}
+use Rattle.strm_types.specs.Input.{cells_left, finished, stages_done, to_treat, treats}
+use Rattle.strm_types.specs.Ldterms as ldterms
+use Rattle.strm_types.specs.Ldterms.{Between, Begun, Answered}
+use Rattle.strm_types.specs.Queue.{is_none_left}
+use Rattle.strm_types.specs.Service.{Serving}
+use Rattle.strm_blocks.specs.Blocks.{StoreValue, IsStore, free_m, free_d}
+use Rattle.std.proofs.lemmas.Bool.Decides.{nat_tests}
+use Rattle.arrayvec.specs.ArrayVec.{ArrayVec}
+use Rattle.strm_frame.specs.declared.modules.Acts as frame
+use Rattle.strm_frame.specs.declared.parcels.Outbox.{Outbox}
+use Rattle.strm_frame.specs.declared.parcels.Sent.{Sent}
+use Rattle.strm_frame.specs.declared.service.Served.{Served}
+use Rattle.strm_frame.specs.Hands.{HasRoom}
+use Rattle.strm_frame.specs.Outboxes.{parcels_in, sent_of}
+use Rattle.strm_frame.specs.Serves.{least_free, stop_at, stop_of}
+use Rattle.strm_ldterm.specs.declared.ldterm.Ldterm.{Ldterm}
+use Rattle.strm_ldterm.specs.Called.{RunsOut, RunsInto, TreatsAs, all_free, treated_by}
+use Rattle.strm_ldterm.specs.Does.{Proceeds}
+use Rattle.strm_ldterm.specs.Stands.{kept_in, ldterm_in, stage_in}
+use Rattle.strm_ldterm.specs.Turns.{ahead, leaves, notes_left, one_after, stages_left}
+use Rattle.strm_ldterm.proofs.Counting.{Reaches, ahead-reaches}
+use Rattle.strm_ldterm.proofs.Joining.{nothing-sent, parcels-none, proceeds-joined, sent-ends, takes-more}
+use Rattle.strm_ldterm.proofs.Treated.{none-under-way}
+use Rattle.strm_ldterm.proofs.Turning.{Acts, ahead-more, ends, ends-more}
+
+-- how far a byte is
+pub done-few : (stage : ldterms.Stage ℕ) → stages_done stage ≤ 2
+done-few Between = omega arith
+done-few (Begun started c) = omega arith
+done-few (Answered echo) = omega arith
+
+pub none-done : (stage : ldterms.Stage ℕ) → stages_left stage ≡ 0 → stages_done stage ≡ 0
+none-done Between e = refl
+none-done (Begun started c) e = absurd (omega arith)
+none-done (Answered echo) e = absurd (omega arith)
+
+pub some-done : (stage : ldterms.Stage ℕ) → 0 < stages_left stage → stages_done stage + stages_left stage ≡ 3
+some-done Between e = absurd (omega arith)
+some-done (Begun started c) e = refl
+some-done (Answered echo) e = refl
+
+pub left-few : (stage : ldterms.Stage ℕ) → stages_left stage ≤ 2
+left-few Between = omega arith
+left-few (Begun started c) = omega arith
+left-few (Answered echo) = omega arith
+
+pub leaves-one : (stage : ldterms.Stage ℕ) → stages_left stage ≡ 1 → leaves stage ≤ 25
+leaves-one Between e = omega arith
+leaves-one (Begun started c) e = absurd (omega arith)
+leaves-one (Answered echo) e = omega arith
+
+-- a test of numbers
+pub lower : (a b : ℕ) → nat_lt a b ≡ true → a < b
+lower a b is = grind (arith, nat_tests)
+
+pub kept-some : {M : Type 0} (name : M → ℕ) (s : StoreValue) (o : Option M) → is_some (kept_in name s o) ≡ is_some o
+kept-some name s None = refl
+kept-some name s (Some m) = refl
+
+pub left-none : (stage : ldterms.Stage ℕ) → stages_done stage ≡ 0 → stages_left stage ≡ 0
+left-none Between e = refl
+left-none (Begun started c) e = absurd (omega arith)
+left-none (Answered echo) e = absurd (omega arith)
+
+-- between two bytes all that is left of the message is to be treated
+pub all-left : (p : ldterms.Ldterm ℕ) → stages_left p.stage ≡ 0 → to_treat p ≡ length (cells_left p)
+all-left p none = (let z : to_treat (record p { stage = Between }) ≡ length (cells_left p) = omega arith in ap (λ (st : ldterms.Stage ℕ). to_treat (record p { stage = st })) (none-under-way p.stage none) ∙ z)
+
+pub one-more-left : (p : ldterms.Ldterm ℕ) → 0 < stages_left p.stage → to_treat p ≡ length (cells_left p) + 1
+one-more-left p some = at p.stage refl some
+  where
+    at : (st : ldterms.Stage ℕ) → p.stage ≡ st → 0 < stages_left st → to_treat p ≡ length (cells_left p) + 1
+    at Between is some = absurd (omega arith)
+    at (Begun started c) is some = ap (λ (st : ldterms.Stage ℕ). to_treat (record p { stage = st })) is
+    at (Answered echo) is some = ap (λ (st : ldterms.Stage ℕ). to_treat (record p { stage = st })) is
+
+notes-two : (p : ldterms.Ldterm ℕ) → notes_left p ≤ 2
+notes-two p = at p.stage p.echoing
+  where
+    at : (st : ldterms.Stage ℕ) (v : Bool) → notes_left (record p { stage = st; echoing = v }) ≤ 2
+    at Between true = omega arith
+    at Between false = omega arith
+    at (Begun true c) true = omega arith
+    at (Begun true c) false = omega arith
+    at (Begun false c) true = omega arith
+    at (Begun false c) false = omega arith
+    at (Answered echo) true = omega arith
+    at (Answered echo) false = omega arith
+
+module _ (here : Spot) where
+  -- no call notes more than twice
+  pub ahead-short : (n : ℕ) (p : ldterms.Ldterm ℕ) → n + stages_done p.stage ≤ 3 * to_treat p → length (ahead here n p).notes ≤ 2
+  ahead-short n p room = let r = (ahead-reaches here n p room).counts.few in let two = notes-two p in omega arith
+
+  module _ (p : ldterms.Ldterm ℕ) (n : ℕ) (between : stages_left p.stage ≡ 0) (within : n ≤ length (cells_left p)) where
+    fits : 3 * n + stages_done p.stage ≤ 3 * to_treat p
+    fits = let z = none-done p.stage between in let t = all-left p between in omega arith
+
+    -- behind so many bytes that have sent nothing
+    pub between-after : is_none_left (ahead here (3 * n) p).sent ≡ true → (stages_left (ahead here (3 * n) p).state.stage ≡ 0) × (length (cells_left (ahead here (3 * n) p).state) + n ≡ length (cells_left p))
+    between-after none =
+        let r = ahead-reaches here (3 * n) p fits in
+        let q = (ahead here (3 * n) p).state in
+        let all = r.all none in
+        let e = r.counts.left in
+        let z = none-done p.stage between in
+        let t = all-left p between in
+        let two = done-few q.stage in
+        let zero : stages_done q.stage ≡ 0 = omega arith in
+        let stage = left-none q.stage zero in
+        let u = all-left q stage in
+        (stage, omega arith)
+
+  -- a byte that has sent something is to be treated still
+  pub treat-after : (p : ldterms.Ldterm ℕ) → stages_left p.stage ≡ 0 → 0 < length (cells_left p) → is_none_left (ahead here 3 p).sent ≡ false → 0 < stages_left (ahead here 3 p).state.stage → to_treat (ahead here 3 p).state ≡ length (cells_left p)
+  treat-after p between some sent under =
+      let z = none-done p.stage between in
+      let t = all-left p between in
+      let r = ahead-reaches here 3 p (omega arith) in
+      let q = (ahead here 3 p).state in
+      let e = r.counts.left in
+      let w = r.within in
+      let o = r.some sent in
+      let d = some-done q.stage under in
+      let two = left-few q.stage in
+      omega arith
+
+  -- the message in work stays one
+  pub work-after : (n : ℕ) (p : ldterms.Ldterm ℕ) → n + stages_done p.stage ≤ 3 * to_treat p → is_some (ahead here n p).state.in_work ≡ is_some p.in_work
+  work-after n p room = (ahead-reaches here n p room).counts.work
+
+module _ {M : Type 0} (name : M → ℕ) where
+  -- all that is free may be said to be taken
+  pub takes-any : (s0 s : StoreValue) (x0 x : Ldterm M) (k : ℕ) (notes : List Note) (sent : List (Sent M)) (t0 t : Fates) (is : Acts) → Proceeds name s0 s x0 x k notes sent t0 t is → Proceeds name s0 s x0 x (all_free s0) notes sent t0 t is
+  takes-any s0 s x0 x k notes sent t0 t is a = record {
+    state = a.state;
+    noted = a.noted;
+    parcels = a.parcels;
+    told = a.told;
+    held = a.held;
+    own = a.own;
+    chains = a.chains;
+    hands = a.hands;
+    mblks = omega arith;
+    dblks = omega arith;
+    pool = a.pool;
+  }
+
+  -- Of so many bytes some were treated, and nothing was sent.
+  pub record Ran (s0 s : StoreValue) (here : Spot) (x0 x : Ldterm M) (bytes left : ℕ) (notes : List Note) (t0 t : Fates) : Type 0 where
+    pub fewer : left ≤ bytes
+    pub does : Proceeds name s0 s x0 x (all_free s0) notes [] t0 t (ahead here (3 * (bytes - left)) (ldterm_in name s0 x0))
+
+  -- none was treated yet
+  pub ran-none : (s0 : StoreValue) (here : Spot) (x0 : Ldterm M) (bytes : ℕ) (t0 : Fates) → Proceeds name s0 s0 x0 x0 0 [] [] t0 t0 (ldterms.sends [] (ldterm_in name s0 x0)) → Ran s0 s0 here x0 x0 bytes bytes [] t0 t0
+  ran-none s0 here x0 bytes t0 still = record {
+    fewer = omega arith;
+    does = (let zero : 0 ≡ 3 * (bytes - bytes) = omega arith in takes-any s0 s0 x0 x0 0 [] [] t0 t0 (ahead here (3 * (bytes - bytes)) (ldterm_in name s0 x0)) (subst (λ n. Proceeds name s0 s0 x0 x0 0 [] [] t0 t0 (ahead here n (ldterm_in name s0 x0))) zero still));
+  }
+
+  module _ (s0 s : StoreValue) (x0 x : Ldterm M) (here : Spot) (bytes left : ℕ) (notes : List Note) (t0 t : Fates) (stage : stages_left (stage_in x0.stage) ≡ 0)
+      (size : bytes ≡ length (cells_left (ldterm_in name s0 x0))) (r : Ran s0 s here x0 x bytes left notes t0 t) where
+    abbrev p0 : ldterms.Ldterm ℕ
+    p0 = ldterm_in name s0 x0
+
+    abbrev p : ldterms.Ldterm ℕ
+    p = ldterm_in name s x
+
+    abbrev n : ℕ
+    n = bytes - left
+
+    none : is_none_left (ahead here (3 * n) p0).sent ≡ true
+    none = sym (ap is_none_left r.does.parcels) ∙ parcels-none name s []
+
+    within : n ≤ length (cells_left p0)
+    within = let z = size in omega arith
+
+    pub ran-stage : stages_left (stage_in x.stage) ≡ 0
+    ran-stage = ap (λ (q : ldterms.Ldterm ℕ). stages_left q.stage) r.does.state ∙ (between-after here p0 n stage within none).0
+
+    pub ran-left : length (cells_left p) ≡ left
+    ran-left =
+        let same = ap (λ (q : ldterms.Ldterm ℕ). length (cells_left q)) r.does.state in
+        let after = (between-after here p0 n stage within none).1 in
+        let z = size in
+        let f = r.fewer in
+        omega arith
+
+    short : length notes ≤ 2
+    short = let f = fits here p0 n stage within in let a = ahead-short here (3 * n) p0 f in let e = ap length r.does.noted in omega arith
+
+    module _ (s' : StoreValue) (x' : Ldterm M) (notes' : List Note) (sent' : List (Sent M)) (t' : Fates) (some : 0 < left) (b : Proceeds name s s' x x' 27 notes' sent' t t' (ahead here 3 p)) where
+      three : 3 + stages_done p.stage ≤ 3 * to_treat p
+      three = let z = none-done p.stage ran-stage in let a = all-left p ran-stage in let l = ran-left in omega arith
+
+      pub notes-fit : length notes + length notes' ≤ 4
+      notes-fit = let a = short in let c = ahead-short here 3 p three in let e = ap length b.noted in omega arith
+
+      module _ (st : IsStore s) where
+        joined : Proceeds name s0 s' x0 x' (all_free s0) (notes ++ notes') sent' t0 t' (ahead here (3 * n + 3) p0)
+        joined =
+            takes-any s0 s' x0 x' (all_free s0 + 27) (notes ++ notes') sent' t0 t' (ahead here (3 * n + 3) p0)
+            (subst (Proceeds name s0 s' x0 x' (all_free s0 + 27) (notes ++ notes') sent' t0 t') (sym (ahead-more here (3 * n) 3 p0))
+            (proceeds-joined name s0 s x0 x (all_free s0) notes t0 t (ahead here (3 * n) p0) st r.does s' x' 27 notes' sent' t' (ahead here 3) b))
+
+        pub ran-next : sent' ≡ [] → Ran s0 s' here x0 x' bytes (left - 1) (notes ++ notes') t0 t'
+        ran-next quiet = record {
+          fewer = (let f = r.fewer in omega arith);
+          does =
+              (let f = r.fewer in let e : 3 * n + 3 ≡ 3 * (bytes - (left - 1)) = omega arith in
+              subst (λ k. Proceeds name s0 s' x0 x' (all_free s0) (notes ++ notes') [] t0 t' (ahead here k p0)) e
+              (subst (λ out. Proceeds name s0 s' x0 x' (all_free s0) (notes ++ notes') out t0 t' (ahead here (3 * n + 3) p0)) quiet joined));
+        }
+
+        pub runs-into : is_none_left sent' ≡ false → HasRoom s' (leaves (stage_in x'.stage)) × (0 < stages_left (stage_in x'.stage)) → RunsInto name s0 s' here x0 x' bytes left (notes ++ notes') sent' t0 t'
+        runs-into sent behind = record {
+          fewer = r.fewer;
+          some = some;
+          sends = sent;
+          does = joined;
+          under_way = behind.1;
+          room = behind.0;
+          treat =
+              (let q = (ahead here 3 p).state in
+              let out : is_none_left (ahead here 3 p).sent ≡ false = sym (ap is_none_left b.parcels) ∙ parcels-none name s' sent' ∙ sent in
+              let under : 0 < stages_left q.stage = (let e = ap (λ (v : ldterms.Ldterm ℕ). stages_left v.stage) b.state in let u = behind.1 in omega arith) in
+              let l = ran-left in
+              ap to_treat b.state ∙ treat-after here p ran-stage (omega arith) out under ∙ l);
+        }
+
+-- calls of the procedure
+module _ (here : Spot) (p : ldterms.Ldterm ℕ) where
+  abbrev served_with : ℕ → Acts → Serving ℕ (ldterms.Ldterm ℕ)
+  served_with bytes t = record { acted = t; bytes = cond (is_some t.state.in_work) (to_treat p - to_treat t.state) bytes; again = is_some t.state.in_work }
+
+  -- where something is sent
+  pub treats-sent : (n m bytes : ℕ) → 3 * bytes - stages_done p.stage ≡ n + m → is_none_left (ahead here n p).sent ≡ false → n + stages_done p.stage ≤ 3 * to_treat p → is_some p.in_work ≡ true
+      → treats plain here bytes 0 p ≡ record { acted = ahead here n p; bytes = to_treat p - to_treat (ahead here n p).state; again = true }
+  treats-sent n m bytes count sent room work =
+      let t = ahead here n p in
+      let all : ends here (3 * bytes - stages_done p.stage) p ≡ t =
+      ap (λ k. ends here k p) count ∙ ends-more here n m p
+      ∙ ap (λ v. cond {A = Acts} v (let u = ends here m t.state in record { state = u.state; notes = t.notes ++ u.notes; sent = u.sent; gone = t.gone ++ u.gone }) t) sent in
+      ap (served_with bytes) all ∙ ap (λ v. record { acted = t; bytes = cond v (to_treat p - to_treat t.state) bytes; again = v }) (work-after here n p room ∙ work)
+
+  -- where nothing is sent before the end
+  pub treats-ended : (n bytes : ℕ) → 3 * bytes - stages_done p.stage ≡ n → is_none_left (ahead here n p).sent ≡ true
+      → treats plain here bytes 0 p ≡ record { acted = one_after (ahead here n p) (finished plain here); bytes = bytes; again = false }
+  treats-ended n bytes count none =
+      let t = ahead here n p in
+      let e : 3 * bytes - stages_done p.stage ≡ n + 0 = omega arith in
+      let all : ends here (3 * bytes - stages_done p.stage) p ≡ one_after t (finished plain here) = ap (λ k. ends here k p) e ∙ ends-more here n 0 p in
+      ap (served_with bytes) all
+      ∙ ap (λ v. record { acted = one_after t (finished plain here); bytes = cond v (to_treat p - to_treat (one_after t (finished plain here)).state) bytes; again = v })
+      (ap (λ v. is_some (cond {A = Acts} v (let u = finished plain here t.state in record { state = u.state; notes = t.notes ++ u.notes; sent = u.sent; gone = t.gone ++ u.gone }) t).state.in_work) none)
+
+module _ {M : Type 0} (name : M → ℕ) (s s' : StoreValue) (here : Spot) (x x' : Ldterm M) (t t' : Fates) where
+  -- what a call did, where the definition comes to this
+  treats-as : (served : Served M) (v : Serving ℕ (ldterms.Ldterm ℕ)) → treated_by name s s' here x x' (stop_of served) ≡ v
+      → Proceeds name s s' x x' (all_free s) served.acts.notes.items (sent_of served.acts.sent) t t' v.acted → served.bytes ≡ v.bytes → served.again ≡ v.again → (served.stopped ≡ true → served.again ≡ false)
+      → to_treat (ldterm_in name s' x') ≤ to_treat (ldterm_in name s x) → HasRoom s' (leaves (stage_in x'.stage)) → TreatsAs name s s' here x x' served t t'
+  treats-as served v is does bytes again stops less room = record {
+    does = subst (λ (w : Serving ℕ (ldterms.Ldterm ℕ)). Proceeds name s s' x x' (all_free s) served.acts.notes.items (sent_of served.acts.sent) t t' w.acted) (sym is) does;
+    bytes = bytes ∙ sym (ap (λ (w : Serving ℕ (ldterms.Ldterm ℕ)). w.bytes) is);
+    again = again ∙ sym (ap (λ (w : Serving ℕ (ldterms.Ldterm ℕ)). w.again) is);
+    stops = stops;
+    less = less;
+    room = room;
+  }
+
+  abbrev from : ldterms.Ldterm ℕ
+  from = ldterm_in name s x
+
+  -- from between two bytes on, where one has sent something
+  pub into-treats : (bytes left : ℕ) (acts : frame.Acts M) → stages_left (stage_in x.stage) ≡ 0 → bytes ≡ length (cells_left from) → is_some from.in_work ≡ true
+      → RunsInto name s s' here x x' bytes left acts.notes.items (sent_of acts.sent) t t' → TreatsAs name s s' here x x' (record { acts = acts; bytes = bytes - left; stopped = false; again = true }) t t'
+  into-treats bytes left acts between size work r =
+      let n = 3 * (bytes - left) + 3 in
+      let z = none-done from.stage between in
+      let a = all-left from between in
+      let f = r.fewer in
+      let o = r.some in
+      let out : is_none_left (ahead here n from).sent ≡ false = sym (ap is_none_left r.does.parcels) ∙ parcels-none name s' (sent_of acts.sent) ∙ r.sends in
+      let after = r.treat in
+      let same = ap to_treat r.does.state in
+      treats-as (record { acts = acts; bytes = bytes - left; stopped = false; again = true }) _
+      (treats-sent here from n (3 * (left - 1)) (to_treat from) (omega arith) out (omega arith) work)
+      r.does (omega arith) refl (λ e. absurd (false≢true e)) (omega arith) r.room
+
+  -- and where nothing was sent, to the end of the call
+  pub out-treats : (bytes left : ℕ) (notes : ArrayVec Note) (sent : Outbox M) (s1 : StoreValue) (x1 : Ldterm M) (t1 : Fates) → IsStore s1 → stages_left (stage_in x.stage) ≡ 0 → bytes ≡ length (cells_left from)
+      → RunsOut name s s1 here x x1 bytes left notes.items t t1 → Proceeds name s1 s' x1 x' 0 [] (sent_of sent) t1 t' (finished plain here (ldterm_in name s1 x1))
+      → TreatsAs name s s' here x x' (record { acts = record { notes = notes; sent = sent }; bytes = bytes - left; stopped = nat_lt 0 left; again = false }) t t'
+  out-treats bytes left notes sent s1 x1 t1 st between size r e =
+      let n = 3 * (bytes - left) in
+      let z = none-done from.stage between in
+      let a = all-left from between in
+      let f = r.fewer in
+      let none = nothing-sent name s s1 x x1 (all_free s) notes.items t t1 (ahead here n from) st r.does in
+      let stop : unwrap_or (stop_at (nat_lt 0 left) (bytes - left)) (to_treat from) ≡ bytes - left = at (nat_lt 0 left) refl (r.fewer, (let z = none-done from.stage between in let a = all-left from between in omega arith)) in
+      let all = takes-any name s s' x x' (all_free s + 0) (notes.items ++ []) (sent_of sent) t t' _ (proceeds-joined name s s1 x x1 (all_free s) notes.items t t1 (ahead here n from) st r.does s' x' 0 [] (sent_of sent) t' (finished plain here) e) in
+      let over : to_treat (ldterm_in name s' x') ≡ 0 = ap to_treat e.state in
+      let stage : leaves (stage_in x'.stage) ≡ 0 = ap (λ (q : ldterms.Ldterm ℕ). leaves q.stage) e.state in
+      treats-as (record { acts = record { notes = notes; sent = sent }; bytes = bytes - left; stopped = nat_lt 0 left; again = false }) _
+      (ap (λ k. treats plain here k 0 from) stop ∙ treats-ended here from n (bytes - left) (omega arith) none)
+      (subst (λ ns. Proceeds name s s' x x' (all_free s) ns (sent_of sent) t t' (one_after (ahead here n from) (finished plain here))) (append-nil notes.items) all)
+      refl refl (λ v. refl) (omega arith) (record { mblks = omega arith; dblks = omega arith })
+    where
+      at : (v : Bool) → nat_lt 0 left ≡ v → left ≤ bytes × (to_treat from ≡ bytes) → unwrap_or (stop_at v (bytes - left)) (to_treat from) ≡ bytes - left
+      at true is both = refl
+      at false is both = let zero : left ≡ 0 = grind (arith, nat_tests) in let e = both.1 in omega arith
+
+  -- neither notes more than twice
+  pub into-short : (bytes left : ℕ) (notes : List Note) (sent : List (Sent M)) → stages_left (stage_in x.stage) ≡ 0 → bytes ≡ length (cells_left from) → RunsInto name s s' here x x' bytes left notes sent t t' → length notes ≤ 2
+  into-short bytes left notes sent between size r =
+      let z = none-done from.stage between in
+      let a = all-left from between in
+      let f = r.fewer in
+      let o = r.some in
+      let e = ap length r.does.noted in
+      let two = ahead-short here (3 * (bytes - left) + 3) from (omega arith) in
+      omega arith
+
+  pub out-short : (bytes left : ℕ) (notes : List Note) → stages_left (stage_in x.stage) ≡ 0 → bytes ≡ length (cells_left from) → RunsOut name s s' here x x' bytes left notes t t' → length notes ≤ 2
+  out-short bytes left notes between size r =
+      let z = none-done from.stage between in
+      let a = all-left from between in
+      let f = r.fewer in
+      let e = ap length r.does.noted in
+      let two = ahead-short here (3 * (bytes - left)) from (omega arith) in
+      omega arith
+
+  -- from within a byte on, up to its end or to what it has sent
+  module _ (under : 0 < stages_left (stage_in x.stage)) (notes : List Note) (sent : List (Sent M)) (a : Proceeds name s s' x x' 26 notes sent t t' (ahead here (stages_left (stage_in x.stage)) from)) where
+    enough : stages_left from.stage + stages_done from.stage ≤ 3 * to_treat from
+    enough = let d = some-done from.stage under in let much = one-more-left from under in omega arith
+
+    pub resumed-short : length notes ≤ 2
+    resumed-short = let e = ap length a.noted in let two = ahead-short here (stages_left from.stage) from enough in omega arith
+
+    pub resumed-work : is_some x.in_work ≡ true → is_some x'.in_work ≡ true
+    resumed-work work = sym (kept-some name s' x'.in_work) ∙ ap (λ (q : ldterms.Ldterm ℕ). is_some q.in_work) a.state ∙ work-after here (stages_left from.stage) from enough ∙ kept-some name s x.in_work ∙ work
+
+    pub resumed-between : sent ≡ [] → stages_left (stage_in x'.stage) ≡ 0
+    resumed-between quiet =
+        let q = (ahead here (stages_left from.stage) from).state in
+        let reach = ahead-reaches here (stages_left from.stage) from enough in
+        let none : is_none_left (ahead here (stages_left from.stage) from).sent ≡ true = sym (ap is_none_left a.parcels) ∙ parcels-none name s' sent ∙ ap is_none_left quiet in
+        let whole = reach.all none in
+        let e = reach.counts.left in
+        let d = some-done from.stage under in
+        let two = done-few q.stage in
+        let zero : stages_done q.stage ≡ 0 = omega arith in
+        ap (λ (v : ldterms.Ldterm ℕ). stages_left v.stage) a.state ∙ left-none q.stage zero
+
+  -- from within a byte on, which has sent something
+  pub resumed-sends : (acts : frame.Acts M) → 0 < stages_left (stage_in x.stage) → is_some from.in_work ≡ true → is_none_left (sent_of acts.sent) ≡ false
+      → Proceeds name s s' x x' 26 acts.notes.items (sent_of acts.sent) t t' (ahead here (stages_left from.stage) from) → HasRoom s' 25 × (stages_left (stage_in x'.stage) ≡ 1)
+      → TreatsAs name s s' here x x' (record { acts = acts; bytes = 0; stopped = false; again = true }) t t'
+  resumed-sends acts under work sent a behind =
+      let n = stages_left from.stage in
+      let d = some-done from.stage under in
+      let tt1 = one-more-left from under in
+      let room : n + stages_done from.stage ≤ 3 * to_treat from = omega arith in
+      let reach = ahead-reaches here n from room in
+      let q = (ahead here n from).state in
+      let out : is_none_left (ahead here n from).sent ≡ false = sym (ap is_none_left a.parcels) ∙ parcels-none name s' (sent_of acts.sent) ∙ sent in
+      let e = reach.counts.left in
+      let w = reach.within in
+      let o = reach.some out in
+      let stage : stages_left q.stage ≡ 1 = sym (ap (λ (v : ldterms.Ldterm ℕ). stages_left v.stage) a.state) ∙ behind.1 in
+      let k = some-done q.stage (omega arith) in
+      let few = left-few from.stage in
+      let same : to_treat q ≡ to_treat from = omega arith in
+      let there = ap to_treat a.state in
+      let low : leaves (stage_in x'.stage) ≤ 25 = leaves-one (stage_in x'.stage) behind.1 in
+      let rm = behind.0.mblks in
+      let rd = behind.0.dblks in
+      treats-as (record { acts = acts; bytes = 0; stopped = false; again = true }) _
+      (treats-sent here from n (3 * (to_treat from - 1)) (to_treat from) (omega arith) out room work)
+      (takes-any name s s' x x' 26 acts.notes.items (sent_of acts.sent) t t' (ahead here n from) a) (omega arith) refl (λ v. absurd (false≢true v)) (omega arith) (record { mblks = omega arith; dblks = omega arith })
+
+module _ {M : Type 0} (name : M → ℕ) (s s1 s' : StoreValue) (here : Spot) (x x1 x' : Ldterm M) (t t1 t' : Fates) where
+  -- from within a byte on that has sent nothing, and then on
+  pub resumed-goes-on : (notes : List Note) (served : Served M) (all : ArrayVec Note) → IsStore s1 → 0 < stages_left (stage_in x.stage) → all.items ≡ notes ++ served.acts.notes.items
+      → Proceeds name s s1 x x1 26 notes [] t t1 (ahead here (stages_left (stage_in x.stage)) (ldterm_in name s x)) → TreatsAs name s1 s' here x1 x' served t1 t'
+      → TreatsAs name s s' here x x' (record { acts = record { notes = all; sent = served.acts.sent }; bytes = served.bytes + 1; stopped = served.stopped; again = served.again }) t t'
+  resumed-goes-on notes served all st under noted a b =
+      let p = ldterm_in name s x in
+      let p1 = ldterm_in name s1 x1 in
+      let n = stages_left p.stage in
+      let d = some-done p.stage under in
+      let much = one-more-left p under in
+      let room : n + stages_done p.stage ≤ 3 * to_treat p = omega arith in
+      let reach = ahead-reaches here n p room in
+      let none = nothing-sent name s s1 x x1 26 notes t t1 (ahead here n p) st a in
+      let whole = reach.all none in
+      let e = reach.counts.left in
+      let two = done-few (ahead here n p).state.stage in
+      let same = ap to_treat a.state in
+      let rest = ap (λ (q : ldterms.Ldterm ℕ). stages_done q.stage) a.state in
+      let one : to_treat p ≡ to_treat p1 + 1 = omega arith in
+      let zero : stages_done p1.stage ≡ 0 = omega arith in
+      let k = unwrap_or (stop_of served) (to_treat p1) in
+      let more : unwrap_or (stop_at served.stopped (served.bytes + 1)) (to_treat p) ≡ k + 1 = at served.stopped served.bytes one in
+      let u = ends here (3 * k) p1 in
+      let rest-is : treated_by name s1 s' here x1 x' (stop_of served) ≡ served_with here p1 k u = ap (λ j. served_with here p1 k (ends here j p1)) (let h : 3 * k - stages_done p1.stage ≡ 3 * k = omega arith in h) in
+      let next : Acts → Acts = λ v. record { state = v.state; notes = (ahead here n p).notes ++ v.notes; sent = v.sent; gone = (ahead here n p).gone ++ v.gone } in
+      let going : ends here (3 * (k + 1) - stages_done p.stage) p ≡ next u =
+      ap (λ j. ends here j p) (let h : 3 * (k + 1) - stages_done p.stage ≡ n + 3 * k = omega arith in h)
+      ∙ ends-more here n (3 * k) p
+      ∙ ap (λ v. cond {A = Acts} v (next (ends here (3 * k) (ahead here n p).state)) (ahead here n p)) none
+      ∙ ap (λ (q : ldterms.Ldterm ℕ). next (ends here (3 * k) q)) (sym a.state) in
+      let does = subst (λ (v : Serving ℕ (ldterms.Ldterm ℕ)). Proceeds name s1 s' x1 x' (all_free s1) served.acts.notes.items (sent_of served.acts.sent) t1 t' v.acted) rest-is b.does in
+      let behind = ap to_treat does.state in
+      let less = b.less in
+      let count : served.bytes ≡ cond (is_some u.state.in_work) (to_treat p1 - to_treat u.state) k = b.bytes ∙ ap (λ (v : Serving ℕ (ldterms.Ldterm ℕ)). v.bytes) rest-is in
+      let again : served.again ≡ is_some u.state.in_work = b.again ∙ ap (λ (v : Serving ℕ (ldterms.Ldterm ℕ)). v.again) rest-is in
+      let joined = takes-any name s s' x x' (26 + all_free s1) (notes ++ served.acts.notes.items) (sent_of served.acts.sent) t t' _ (proceeds-joined name s s1 x x1 26 notes t t1 (ahead here n p) st a s' x' (all_free s1) served.acts.notes.items (sent_of served.acts.sent) t' (ends here (3 * k)) does) in
+      treats-as name s s' here x x' t t' (record { acts = record { notes = all; sent = served.acts.sent }; bytes = served.bytes + 1; stopped = served.stopped; again = served.again }) (served_with here p (k + 1) (next u))
+      (ap (λ j. treats plain here j 0 p) more ∙ ap (served_with here p (k + 1)) going)
+      (subst (λ ns. Proceeds name s s' x x' (all_free s) ns (sent_of served.acts.sent) t t' (next u)) (sym noted)
+      (subst (Proceeds name s s' x x' (all_free s) (notes ++ served.acts.notes.items) (sent_of served.acts.sent) t t')
+      (ap (λ v. cond {A = Acts} v (next (ends here (3 * k) (ahead here n p).state)) (ahead here n p)) none ∙ ap (λ (q : ldterms.Ldterm ℕ). next (ends here (3 * k) q)) (sym a.state)) joined))
+      (ap (λ j. j + 1) count ∙ plus (is_some u.state.in_work) (to_treat u.state) (to_treat p1) (to_treat p) k (omega arith) one)
+      again b.stops (omega arith) b.room
+    where
+      at : (v : Bool) (m : ℕ) → to_treat (ldterm_in name s x) ≡ to_treat (ldterm_in name s1 x1) + 1 → unwrap_or (stop_at v (m + 1)) (to_treat (ldterm_in name s x)) ≡ unwrap_or (stop_at v m) (to_treat (ldterm_in name s1 x1)) + 1
+      at true m one = refl
+      at false m one = one
+
+      plus : (v : Bool) (u a b k : ℕ) → u ≤ a → b ≡ a + 1 → cond {A = ℕ} v (a - u) k + 1 ≡ cond v (b - u) (k + 1)
+      plus true u a b k less one = omega arith
+      plus false u a b k less one = refl

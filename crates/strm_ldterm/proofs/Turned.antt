@@ -1,0 +1,104 @@
+-- Calls of the service procedure, by the way of their queue.
+use Rattle.std.proofs.Common.{ℕ, ◌≡◌, ◌≤◌, ◌<◌, ◌+◌, Bool, true, false, List, [], ◌∷◌, ◌++◌, length, refl, sym, ap, subst, ◌∙◌, arith}
+use Rattle.std.proofs.lemmas.Bool.{false≢true}
+use Rattle.std.specs.Prelude.{Option, None, Some, is_some, unwrap_or}
+use Rattle.strm_types.specs.declared.names.Way.{Way}
+use Rattle.strm_types.specs.declared.names.Way.TheVariants.{Up, Down}
+use Rattle.strm_types.specs.declared.rules.Fates.{Fates}
+use Rattle.strm_types.specs.declared.spots.Note.{Note}
+use Rattle.strm_types.specs.declared.spots.Spot.{Spot}
+use Rattle.strm_types.specs.Cells.{plain}
+use Rattle.strm_types.specs.Input.{cells_left, input_begins, ldterm_serves, output_passes, to_treat, treats}
+use Rattle.strm_types.specs.Ldterms as ldterms
+use Rattle.strm_types.specs.Service.{Serving}
+use Rattle.strm_blocks.specs.Blocks.{StoreValue, IsStore}
+use Rattle.strm_frame.specs.declared.parcels.Outbox.{Outbox}
+use Rattle.strm_frame.specs.declared.service.Served.{Served}
+use Rattle.strm_frame.specs.Outboxes.{sent_of}
+use Rattle.strm_frame.specs.Serves.{stop_at, stop_of}
+use Rattle.strm_ldterm.specs.declared.ldterm.Ldterm.{Ldterm}
+use Rattle.strm_ldterm.specs.Began.{BeganWhole, BeganWork}
+use Rattle.strm_ldterm.specs.Called.{ServesAs, TreatsAs, all_free}
+use Rattle.strm_ldterm.specs.Does.{Proceeds}
+use Rattle.strm_ldterm.specs.Stands.{kept_in, ldterm_in, stage_in}
+use Rattle.strm_ldterm.specs.Turns.{stages_left}
+use Rattle.strm_ldterm.proofs.Calls.{all-left, kept-some, takes-any}
+use Rattle.strm_ldterm.proofs.Joining.{proceeds-joined}
+
+module _ (here : Spot) (again : Bool) (stop : Option ℕ) (p : ldterms.Ldterm ℕ) where
+  abbrev at_way : Way → Spot
+  at_way way = record here { way = way }
+
+  -- by the way of the queue
+  pub down-serves : here.way ≡ Down → ldterm_serves plain here 0 again stop p ≡ output_passes plain here p.write_queue.messages p
+  down-serves is =
+      ap (λ w. ldterm_serves plain (at_way w) 0 again stop p) is
+      ∙ sym (ap (λ w. output_passes plain (at_way w) p.write_queue.messages p) is)
+
+  pub again-serves : here.way ≡ Up → again ≡ true → ldterm_serves plain here 0 again stop p ≡ treats plain here (unwrap_or stop (to_treat p)) 0 p
+  again-serves is more =
+      ap (λ v. ldterm_serves plain here 0 v stop p) more
+      ∙ ap (λ w. ldterm_serves plain (at_way w) 0 true stop p) is
+      ∙ sym (ap (λ w. treats plain (at_way w) (unwrap_or stop (to_treat p)) 0 p) is)
+
+  pub first-serves : here.way ≡ Up → again ≡ false → ldterm_serves plain here 0 again stop p ≡ input_begins plain here stop 0 p.read_queue.messages p
+  first-serves is more =
+      ap (λ v. ldterm_serves plain here 0 v stop p) more
+      ∙ ap (λ w. ldterm_serves plain (at_way w) 0 false stop p) is
+      ∙ sym (ap (λ w. input_begins plain (at_way w) stop 0 p.read_queue.messages p) is)
+
+module _ {M : Type 0} (name : M → ℕ) (s s' : StoreValue) (here : Spot) (x x' : Ldterm M) (again : Bool) (t : Fates) where
+  -- a message passed whole, or none
+  pub whole-serves : (served : Served M) (sent : Outbox M) (bytes : ℕ) (v : Serving ℕ (ldterms.Ldterm ℕ)) → served.acts.notes.items ≡ [] → served.acts.sent ≡ sent → served.bytes ≡ bytes → served.stopped ≡ false → served.again ≡ false
+      → ldterm_serves plain here 0 again None (ldterm_in name s x) ≡ v → Proceeds name s s' x x' 0 [] (sent_of sent) t t v.acted → bytes ≡ v.bytes → v.again ≡ false → ServesAs name s s' here x x' again served t t
+  whole-serves served sent bytes v no-notes same-sent same-bytes goes-on ends is a size over =
+      let p = ldterm_in name s x in
+      let whole : ldterm_serves plain here 0 again (stop_of served) p ≡ v = ap (λ b. ldterm_serves plain here 0 again (stop_at b served.bytes) p) goes-on ∙ is in
+      record {
+        does =
+            subst (λ (w : Serving ℕ (ldterms.Ldterm ℕ)). Proceeds name s s' x x' (all_free s) served.acts.notes.items (sent_of served.acts.sent) t t w.acted) (sym whole)
+            (subst (λ ns. Proceeds name s s' x x' (all_free s) ns (sent_of served.acts.sent) t t v.acted) (sym no-notes)
+              (subst (λ (o : Outbox M). Proceeds name s s' x x' (all_free s) [] (sent_of o) t t v.acted) (sym same-sent) (takes-any name s s' x x' 0 [] (sent_of sent) t t v.acted a)));
+        bytes = same-bytes ∙ size ∙ sym (ap (λ (w : Serving ℕ (ldterms.Ldterm ℕ)). w.bytes) whole);
+        again_is = ends ∙ sym over ∙ sym (ap (λ (w : Serving ℕ (ldterms.Ldterm ℕ)). w.again) whole);
+        stops = λ e. ends;
+        room = λ e. absurd (false≢true (sym ends ∙ e));
+      }
+
+module _ {M : Type 0} (name : M → ℕ) (s s' : StoreValue) (here : Spot) (x x' : Ldterm M) (served : Served M) (t t' : Fates) (way : here.way ≡ Up) where
+  -- one more call
+  pub again-treats : (again : Bool) → again ≡ true → TreatsAs name s s' here x x' served t t' → ServesAs name s s' here x x' again served t t'
+  again-treats again more b =
+      let whole = again-serves here again (stop_of served) (ldterm_in name s x) way more in
+      record {
+        does = subst (λ (w : Serving ℕ (ldterms.Ldterm ℕ)). Proceeds name s s' x x' (all_free s) served.acts.notes.items (sent_of served.acts.sent) t t' w.acted) (sym whole) b.does;
+        bytes = b.bytes ∙ sym (ap (λ (w : Serving ℕ (ldterms.Ldterm ℕ)). w.bytes) whole);
+        again_is = b.again ∙ sym (ap (λ (w : Serving ℕ (ldterms.Ldterm ℕ)). w.again) whole);
+        stops = b.stops;
+        room = λ e. b.room;
+      }
+
+  -- the first call of a turn, whose message has come into work
+  pub work-treats : (s1 : StoreValue) (x1 : Ldterm M) (bytes : ℕ) → IsStore s1 → stages_left (stage_in x.stage) ≡ 0 → BeganWork name s s1 here x x1 bytes → TreatsAs name s1 s' here x1 x' served t t' → ServesAs name s s' here x x' false served t t'
+  work-treats s1 x1 bytes st between w b =
+      let p = ldterm_in name s x in
+      let p1 = ldterm_in name s1 x1 in
+      let works = w.works t in
+      let stage : stages_left p1.stage ≡ 0 = ap stages_left w.stage ∙ between in
+      let left : length (cells_left p1) ≡ bytes = ap (λ (q : ldterms.Ldterm ℕ). length (cells_left q)) works.state ∙ sym w.size in
+      let size : bytes ≡ to_treat p1 = sym left ∙ sym (all-left p1 stage) in
+      let whole = first-serves here false (stop_of served) p way refl ∙ w.treated (stop_of served) ∙ ap (λ n. treats plain here (unwrap_or (stop_of served) n) 0 p1) size in
+      record {
+        does =
+            subst (λ (v : Serving ℕ (ldterms.Ldterm ℕ)). Proceeds name s s' x x' (all_free s) served.acts.notes.items (sent_of served.acts.sent) t t' v.acted) (sym whole)
+            (takes-any name s s' x x' (0 + all_free s1) served.acts.notes.items (sent_of served.acts.sent) t t' _
+              (proceeds-joined name s s1 x x1 0 [] t t _ st works s' x' (all_free s1) served.acts.notes.items (sent_of served.acts.sent) t' (λ q. (treats plain here (unwrap_or (stop_of served) (to_treat p1)) 0 p1).acted) b.does));
+        bytes = b.bytes ∙ sym (ap (λ (v : Serving ℕ (ldterms.Ldterm ℕ)). v.bytes) whole);
+        again_is = b.again ∙ sym (ap (λ (v : Serving ℕ (ldterms.Ldterm ℕ)). v.again) whole);
+        stops = b.stops;
+        room = λ e. b.room;
+      }
+
+-- there is a message in work then
+pub work-in : {M : Type 0} (name : M → ℕ) (s s1 : StoreValue) (here : Spot) (x x1 : Ldterm M) (bytes : ℕ) (t : Fates) → BeganWork name s s1 here x x1 bytes → is_some x1.in_work ≡ true
+work-in name s s1 here x x1 bytes t w = sym (kept-some name s1 x1.in_work) ∙ ap (λ (q : ldterms.Ldterm ℕ). is_some q.in_work) (w.works t).state

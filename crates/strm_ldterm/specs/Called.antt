@@ -1,0 +1,82 @@
+-- What a call of the service procedure of the read queue did.
+use Rattle.std.specs.Prelude.{ℕ, ◌≡◌, ◌<◌, ◌≤◌, ◌+◌, ◌-◌, ◌*◌, Bool, true, false, [], List, Option, unwrap_or, is_some}
+use Rattle.strm_types.specs.declared.limits.TheConstants.{STOP_BLOCKS}
+use Rattle.strm_types.specs.declared.names.Way.{Way}
+use Rattle.strm_types.specs.declared.names.Way.TheVariants.{Up}
+use Rattle.strm_types.specs.declared.rules.Fates.{Fates}
+use Rattle.strm_types.specs.declared.spots.Note.{Note}
+use Rattle.strm_types.specs.declared.spots.Spot.{Spot}
+use Rattle.strm_types.specs.Cells.{plain}
+use Rattle.strm_types.specs.Input.{ldterm_serves, to_treat, treats}
+use Rattle.strm_types.specs.Ldterms as ldterms
+use Rattle.strm_types.specs.Queue.{is_none_left}
+use Rattle.strm_types.specs.Service.{Serving}
+use Rattle.strm_blocks.specs.Blocks.{StoreValue, free_m, free_d}
+use Rattle.strm_frame.specs.declared.parcels.Sent.{Sent}
+use Rattle.strm_frame.specs.declared.service.Served.{Served}
+use Rattle.strm_frame.specs.Hands.{HasRoom}
+use Rattle.strm_frame.specs.Outboxes.{sent_of}
+use Rattle.strm_frame.specs.Serves.{least_free, stop_of}
+use Rattle.strm_ldterm.specs.declared.ldterm.Ldterm.{Ldterm}
+use Rattle.strm_ldterm.specs.declared.serving.Run.{Run}
+use Rattle.strm_ldterm.specs.declared.serving.Run.TheVariants as run
+use Rattle.strm_ldterm.specs.Does.{Proceeds}
+use Rattle.strm_ldterm.specs.Stands.{keeps, ldterm_in, stage_in}
+use Rattle.strm_ldterm.specs.Turns.{ahead, leaves, stages_left}
+
+-- all blocks of a store that are free
+abbrev pub all_free : StoreValue → ℕ
+all_free s = free_m s + free_d s
+
+module _ {M : Type 0} (name : M → ℕ) (old new : StoreValue) (here : Spot) (x x' : Ldterm M) where
+  -- Of so many bytes some were treated, and nothing was sent. Bytes are left only where blocks are few.
+  pub record RunsOut (bytes left : ℕ) (notes : List Note) (t t' : Fates) : Type 0 where
+    pub fewer : left ≤ bytes
+    pub does : Proceeds name old new x x' (all_free old) notes [] t t' (ahead here (3 * (bytes - left)) (ldterm_in name old x))
+    pub stops : 0 < left → least_free new < STOP_BLOCKS
+
+  -- and then one has sent something, which counts as left
+  pub record RunsInto (bytes left : ℕ) (notes : List Note) (sent : List (Sent M)) (t t' : Fates) : Type 0 where
+    pub fewer : left ≤ bytes
+    pub some : 0 < left
+    pub sends : is_none_left sent ≡ false
+    pub does : Proceeds name old new x x' (all_free old) notes sent t t' (ahead here (3 * (bytes - left) + 3) (ldterm_in name old x))
+    pub under_way : 0 < stages_left (stage_in x'.stage)
+    pub room : HasRoom new (leaves (stage_in x'.stage))
+    pub treat : to_treat (ldterm_in name new x') ≡ left
+
+  abbrev pub RunAs : ℕ → Fates → Fates → Run M → Type 0
+  RunAs bytes t t' (run.Out notes left) = RunsOut bytes left notes.items t t'
+  RunAs bytes t t' (run.Into acts left) = RunsInto bytes left acts.notes.items (sent_of acts.sent) t t'
+
+  -- what the definition says of a call that stopped, or went as far as it may
+  abbrev pub treated_by : Option ℕ → Serving ℕ (ldterms.Ldterm ℕ)
+  treated_by stop = let p = ldterm_in name old x in treats plain here (unwrap_or stop (to_treat p)) 0 p
+
+  -- A call did what the definition says, and a call that stopped isn't called again. What it leaves of a byte has blocks enough.
+  pub record TreatsAs (served : Served M) (t t' : Fates) : Type 0 where
+    pub does : Proceeds name old new x x' (all_free old) served.acts.notes.items (sent_of served.acts.sent) t t' (treated_by (stop_of served)).acted
+    pub bytes : served.bytes ≡ (treated_by (stop_of served)).bytes
+    pub again : served.again ≡ (treated_by (stop_of served)).again
+    pub stops : served.stopped ≡ true → served.again ≡ false
+    pub less : to_treat (ldterm_in name new x') ≤ to_treat (ldterm_in name old x)
+    pub room : HasRoom new (leaves (stage_in x'.stage))
+
+  -- what the definition says of a call, which stopped or went as far as it may
+  abbrev pub served_by : Bool → Option ℕ → Serving ℕ (ldterms.Ldterm ℕ)
+  served_by again stop = ldterm_serves plain here 0 again stop (ldterm_in name old x)
+
+  -- A call of the service procedure of a queue did what the definition says. One that stopped isn't called again, and one that is called again
+  -- leaves blocks enough for the rest of the byte, and for what it has sent.
+  pub record ServesAs (again : Bool) (served : Served M) (t t' : Fates) : Type 0 where
+    pub does : Proceeds name old new x x' (all_free old) served.acts.notes.items (sent_of served.acts.sent) t t' (served_by again (stop_of served)).acted
+    pub bytes : served.bytes ≡ (served_by again (stop_of served)).bytes
+    pub again_is : served.again ≡ (served_by again (stop_of served)).again
+    pub stops : served.stopped ≡ true → served.again ≡ false
+    pub room : served.again ≡ true → HasRoom new (leaves (stage_in x'.stage))
+
+module _ {M : Type 0} (name : M → ℕ) where
+  -- One more call in a turn of the read queue has a message in work. One that begins a turn has nothing in hand, and no byte has begun.
+  abbrev pub MayCall : Way → Bool → Ldterm M → Type 0
+  MayCall Up true x = is_some x.in_work ≡ true
+  MayCall way again x = ((i : ℕ) → keeps name x i ≡ 0) × (stages_left (stage_in x.stage) ≡ 0)
