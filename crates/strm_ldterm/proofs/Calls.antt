@@ -1,8 +1,7 @@
 -- Bytes of the message in work, one after the other, and calls of the service procedure of the read queue.
-use Rattle.std.proofs.Common.{ℕ, zero, suc, ◌≡◌, ◌≤◌, ◌<◌, ◌+◌, ◌-◌, ◌*◌, Bool, true, false, cond, List, [], ◌∷◌, ◌++◌, length, refl, sym, ap, subst, ◌∙◌, arith, append-nil}
+use Rattle.std.proofs.Common.{ℕ, ◌≡◌, ◌≤◌, ◌<◌, ◌+◌, ◌-◌, ◌*◌, Bool, true, false, cond, List, [], ◌++◌, length, refl, sym, ap, subst, ◌∙◌, arith, append-nil}
 use Rattle.std.proofs.lemmas.Bool.{false≢true}
 use Rattle.std.specs.Prelude.{Option, None, Some, is_some, nat_lt, unwrap_or}
-use Rattle.strm_types.specs.declared.limits.TheConstants.{STOP_BLOCKS}
 use Rattle.strm_types.specs.declared.rules.Fates.{Fates}
 use Rattle.strm_types.specs.declared.spots.Note.{Note}
 use Rattle.strm_types.specs.declared.spots.Spot.{Spot}
@@ -12,7 +11,7 @@ use Rattle.strm_types.specs.Ldterms as ldterms
 use Rattle.strm_types.specs.Ldterms.{Between, Begun, Answered}
 use Rattle.strm_types.specs.Queue.{is_none_left}
 use Rattle.strm_types.specs.Service.{Serving}
-use Rattle.strm_blocks.specs.Blocks.{StoreValue, IsStore, free_m, free_d}
+use Rattle.strm_blocks.specs.Blocks.{StoreValue, IsStore}
 use Rattle.std.proofs.lemmas.Bool.Decides.{nat_tests}
 use Rattle.arrayvec.specs.ArrayVec.{ArrayVec}
 use Rattle.strm_frame.specs.declared.modules.Acts as frame
@@ -20,15 +19,15 @@ use Rattle.strm_frame.specs.declared.parcels.Outbox.{Outbox}
 use Rattle.strm_frame.specs.declared.parcels.Sent.{Sent}
 use Rattle.strm_frame.specs.declared.service.Served.{Served}
 use Rattle.strm_frame.specs.Hands.{HasRoom}
-use Rattle.strm_frame.specs.Outboxes.{parcels_in, sent_of}
-use Rattle.strm_frame.specs.Serves.{least_free, stop_at, stop_of}
+use Rattle.strm_frame.specs.Outboxes.{sent_of}
+use Rattle.strm_frame.specs.Serves.{stop_at, stop_of}
 use Rattle.strm_ldterm.specs.declared.ldterm.Ldterm.{Ldterm}
 use Rattle.strm_ldterm.specs.Called.{RunsOut, RunsInto, TreatsAs, all_free, treated_by}
 use Rattle.strm_ldterm.specs.Does.{Proceeds}
 use Rattle.strm_ldterm.specs.Stands.{kept_in, ldterm_in, stage_in}
 use Rattle.strm_ldterm.specs.Turns.{ahead, leaves, notes_left, one_after, stages_left}
-use Rattle.strm_ldterm.proofs.Counting.{Reaches, ahead-reaches}
-use Rattle.strm_ldterm.proofs.Joining.{nothing-sent, parcels-none, proceeds-joined, sent-ends, takes-more}
+use Rattle.strm_ldterm.proofs.Counting.{ahead-reaches}
+use Rattle.strm_ldterm.proofs.Joining.{nothing-sent, parcels-none, proceeds-joined}
 use Rattle.strm_ldterm.proofs.Treated.{none-under-way}
 use Rattle.strm_ldterm.proofs.Turning.{Acts, ahead-more, ends, ends-more}
 

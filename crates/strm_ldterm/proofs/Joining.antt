@@ -1,8 +1,8 @@
 -- One stage of a turn after the other, on a store.
-use Rattle.std.proofs.Common.{ℕ, ◌≡◌, ◌<◌, ◌≤◌, ◌+◌, Bool, true, false, cond, List, [], ◌∷◌, ◌++◌, refl, sym, ap, subst, ◌∙◌, arith}
+use Rattle.std.proofs.Common.{ℕ, ◌≡◌, ◌≤◌, ◌+◌, Bool, true, false, cond, List, [], ◌∷◌, ◌++◌, refl, sym, ap, subst, ◌∙◌, arith}
 use Rattle.strm_types.specs.declared.rules.Fates.{Fates}
 use Rattle.strm_types.specs.declared.spots.Note.{Note}
-use Rattle.strm_types.specs.Deliver.{Fate, Parcel, counted_with, tallied}
+use Rattle.strm_types.specs.Deliver.{Fate, counted_with, tallied}
 use Rattle.strm_types.specs.Ldterms as ldterms
 use Rattle.strm_types.specs.Queue.{is_none_left}
 use Rattle.strm_blocks.specs.Blocks.{StoreValue, IsStore}

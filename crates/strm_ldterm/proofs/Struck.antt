@@ -1,5 +1,5 @@
 -- A key that has begun, and its echo.
-use Rattle.std.proofs.Common.{ℕ, ◌≡◌, ◌≤◌, ◌<◌, ◌+◌, Bool, true, false, cond, List, [], ◌∷◌, ◌++◌, length, refl, sym, ap, subst, ◌∙◌, arith}
+use Rattle.std.proofs.Common.{ℕ, ◌≡◌, ◌≤◌, ◌+◌, Bool, true, false, cond, List, [], ◌∷◌, ◌++◌, length, refl, sym, ap, subst, ◌∙◌, arith}
 use Rattle.strm_types.specs.declared.keys.Key.{Key}
 use Rattle.strm_types.specs.declared.keys.Key.TheVariants.{Stop, Start, Intr, Quit, Susp, Ignored, Eof, Erase, Kill, Werase, Reprint, Lnext, Delimiter, Ordinary}
 use Rattle.strm_types.specs.declared.keys.Stroke.{Stroke}
@@ -7,12 +7,11 @@ use Rattle.strm_types.specs.declared.rules.Fates.{Fates}
 use Rattle.std.proofs.lemmas.Bool.{false≢true}
 use Rattle.std.specs.Prelude.{not, ◌&&◌, IsTrue, ◌↔◌}
 use Rattle.arrayvec.specs.ArrayVec.{ArrayVec}
-use Rattle.strm_types.specs.declared.names.Way.TheVariants.{Up, Down}
+use Rattle.strm_types.specs.declared.names.Way.TheVariants.{Down}
 use Rattle.strm_types.specs.declared.spots.Note.{Note}
 use Rattle.strm_types.specs.declared.spots.Note.TheVariants.{Enable}
 use Rattle.strm_types.specs.declared.spots.Spot.{Spot}
 use Rattle.strm_types.specs.Cells.{plain, bytes_of, cells_made}
-use Rattle.strm_types.specs.Deliver.{Acted}
 use Rattle.strm_types.specs.Echo.{echo_of}
 use Rattle.strm_types.specs.Input.{next_stage, stage_at}
 use Rattle.strm_types.specs.Ldterms as ldterms
@@ -24,13 +23,12 @@ use Rattle.strm_types.specs.Write.{chunk_count}
 use Rattle.strm_types.proofs.PlainCells.{bytes-plain}
 use Rattle.strm_blocks.specs.Blocks.{StoreValue, IsStore}
 use Rattle.strm_frame.specs.declared.parcels.Sent.{Sent}
-use Rattle.strm_ldterm.specs.declared.echoes.Echo.{Echo}
 use Rattle.strm_ldterm.specs.declared.echoes.TheConstants.{ECHO_MAX}
 use Rattle.strm_ldterm.specs.declared.ldterm.Ldterm.{Ldterm}
 use Rattle.strm_ldterm.specs.declared.ldterm.Stage.{Stage}
 use Rattle.strm_ldterm.specs.declared.ldterm.Stage.TheVariants as stages
 use Rattle.strm_ldterm.specs.Does.{Proceeds}
-use Rattle.strm_ldterm.specs.Echoes.{echo_bytes, MayLeave}
+use Rattle.strm_ldterm.specs.Echoes.{MayLeave}
 use Rattle.strm_ldterm.specs.Quiet.{is_quiet}
 use Rattle.strm_ldterm.specs.Stands.{ldterm_in, stage_in}
 use Rattle.strm_ldterm.specs.Turns.{ahead, one_after, stages_left}

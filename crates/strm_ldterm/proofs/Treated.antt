@@ -1,8 +1,8 @@
 -- A byte of the message in work, from its beginning on.
-use Rattle.std.proofs.Common.{ℕ, suc, ◌≡◌, ◌≤◌, ◌<◌, ◌+◌, Bool, true, false, cond, List, [], ◌∷◌, ◌++◌, length, refl, sym, ap, subst, ◌∙◌, arith}
+use Rattle.std.proofs.Common.{ℕ, ◌≡◌, ◌≤◌, ◌<◌, Bool, true, false, cond, List, [], ◌∷◌, length, refl, sym, ap, subst, ◌∙◌, arith}
 use Rattle.std.specs.Prelude.{◌&&◌}
 use Rattle.strm_types.specs.declared.kinds.MsgKind.TheVariants as kinds
-use Rattle.strm_types.specs.declared.names.Way.TheVariants.{Up, Down}
+use Rattle.strm_types.specs.declared.names.Way.TheVariants.{Down}
 use Rattle.strm_types.specs.declared.rules.Fates.{Fates}
 use Rattle.strm_types.specs.declared.spots.Note.{Note}
 use Rattle.strm_types.specs.declared.spots.Spot.{Spot}
@@ -12,16 +12,14 @@ use Rattle.strm_types.specs.Keys.{restarts}
 use Rattle.strm_types.specs.Ldterms as ldterms
 use Rattle.strm_types.specs.Ldterms.{Between, Begun, Answered, onward, sends}
 use Rattle.strm_types.specs.Queue.{is_none_left}
-use Rattle.strm_types.specs.Typing.{bare, begins, stroke_at}
+use Rattle.strm_types.specs.Typing.{bare, stroke_at}
 use Rattle.strm_blocks.specs.Blocks.{StoreValue, IsStore}
 use Rattle.strm_frame.specs.declared.parcels.Sent.{Sent}
-use Rattle.strm_frame.specs.Hands.{HasRoom}
 use Rattle.strm_ldterm.specs.declared.ldterm.Ldterm.{Ldterm}
 use Rattle.strm_ldterm.specs.Does.{Proceeds}
 use Rattle.strm_ldterm.specs.Stands.{ldterm_in, stage_in}
-use Rattle.strm_ldterm.specs.Turns.{ahead, leaves, needs, one_after, stages_left}
+use Rattle.strm_ldterm.specs.Turns.{ahead, leaves, needs, stages_left}
 use Rattle.strm_ldterm.proofs.Joining.{proceeds-joined, sent-ends, takes-more}
-use Rattle.strm_ldterm.proofs.Turning.{Acts, ahead-one}
 
 pub none-under-way : (stage : ldterms.Stage ℕ) → stages_left stage ≡ 0 → stage ≡ Between
 none-under-way Between e = refl

@@ -1,13 +1,11 @@
 -- Stages of a turn on plain bytes, one after the other.
-use Rattle.std.proofs.Common.{ℕ, zero, suc, ◌≡◌, ◌≤◌, ◌+◌, ◌-◌, ◌*◌, ◌⊎◌, inl, inr, Bool, true, false, cond, List, [], ◌∷◌, ◌++◌, length, refl, sym, ap, ◌∙◌, arith, append-nil, append_assoc}
+use Rattle.std.proofs.Common.{ℕ, zero, suc, ◌≡◌, ◌+◌, Bool, true, false, cond, List, [], ◌∷◌, ◌++◌, refl, sym, ap, ◌∙◌, arith, append-nil, append_assoc}
 use Rattle.std.proofs.lemmas.Bool.{false≢true}
-use Rattle.std.specs.Prelude.{not, ◌&&◌, Option, None, Some, is_some, option_map}
 use Rattle.strm_types.specs.declared.names.Dir.{Dir}
-use Rattle.strm_types.specs.declared.spots.Note.{Note}
 use Rattle.strm_types.specs.declared.spots.Spot.{Spot}
 use Rattle.strm_types.specs.Cells.{plain, cells_made}
-use Rattle.strm_types.specs.Deliver.{Acted, Fate}
-use Rattle.strm_types.specs.Input.{begins_next, cells_left, finished, next_stage, stage_at, stages, then_on, to_treat, made_of}
+use Rattle.strm_types.specs.Deliver.{Acted}
+use Rattle.strm_types.specs.Input.{next_stage, stage_at, stages, then_on, made_of}
 use Rattle.strm_types.specs.Ldterms.{Ldterm, Stage, Between, Begun, Answered, sends}
 use Rattle.strm_types.specs.Queue.{is_none_left, is_full}
 use Rattle.strm_types.specs.Typing.{echoed, echo_dir, echo_grows, echo_lost, echo_stands}

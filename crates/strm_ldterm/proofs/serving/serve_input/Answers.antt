@@ -1,9 +1,6 @@
-use Rattle.std.proofs.Common.{◌≡◌, [], false, refl, sym, ap, subst, ◌∙◌}
+use Rattle.std.proofs.Common.{[], false, refl, sym, subst}
 use Rattle.std.specs.Prelude.{None}
-use Rattle.strm_types.specs.Deliver.{Acted}
-use Rattle.strm_types.specs.Ldterms as ldterms
-use Rattle.strm_frame.specs.Outboxes.{sent_of}
-use Rattle.strm_ldterm.specs.Began.{BeganWhole, input_of}
+use Rattle.strm_ldterm.specs.Began.{input_of}
 use Rattle.strm_ldterm.specs.Does.{Proceeds}
 use Rattle.strm_ldterm.specs.Stands.{ldterm_in}
 use Rattle.strm_ldterm.proofs.Joining.{still-kept}

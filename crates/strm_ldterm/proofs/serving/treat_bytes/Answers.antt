@@ -1,9 +1,8 @@
-use Rattle.std.proofs.Common.{ℕ, ◌≡◌, ◌≤◌, ◌<◌, ◌-◌, true, false, [], refl, sym, ap, subst, ◌∙◌, arith}
-use Rattle.strm_frame.specs.Outboxes.{parcels_in, sent_of, times_sent, AreChains}
+use Rattle.std.proofs.Common.{◌-◌, refl, sym, subst, ◌∙◌, arith}
+use Rattle.strm_frame.specs.Outboxes.{sent_of}
 use Rattle.strm_types.specs.declared.limits.TheConstants.{STOP_BLOCKS}
 use Rattle.strm_frame.specs.Serves.{least_free}
 use Rattle.strm_ldterm.specs.Called.{RunsInto}
-use Rattle.strm_ldterm.specs.Stands.{ldterm_in}
 use Rattle.strm_ldterm.proofs.Calls.{Ran, lower, notes-fit, ran-left, ran-next, ran-none, ran-stage, runs-into}
 use Rattle.strm_ldterm.proofs.Joining.{still-kept, stays-so}
 use Rattle.strm_ldterm.proofs.Struck.{some-left}

@@ -1,4 +1,4 @@
-use Rattle.std.proofs.Common.{◌≡◌, ◌∙◌}
+use Rattle.std.proofs.Common.{◌∙◌}
 use Rattle.strm_frame.specs.Outboxes.{sent_of}
 use Rattle.strm_ldterm.proofs.Calls.{into-short, into-treats, kept-some, out-short, out-treats}
 use Rattle.strm_ldterm.proofs.serving.treat_on.Goals as goal

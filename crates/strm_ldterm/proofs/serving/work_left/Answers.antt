@@ -1,7 +1,7 @@
-use Rattle.std.proofs.Common.{ℕ, ◌≡◌, ◌≤◌, length, subst, arith}
+use Rattle.std.proofs.Common.{ℕ, ◌≤◌, subst, arith}
 use Rattle.std.specs.Prelude.{IfSome, if◌then◌else◌, true, false, Bool}
 use Rattle.strm_blocks.specs.Blocks.{in_hand}
-use Rattle.strm_queue.specs.Kept.{bytes_of, data_bytes_of, is_data}
+use Rattle.strm_queue.specs.Kept.{bytes_of, is_data}
 use Rattle.strm_queue.proofs.Bounds.{few-bytes}
 use Rattle.strm_queue.proofs.Going.{cells-long}
 use Rattle.strm_ldterm.specs.Stands.{IsData}
