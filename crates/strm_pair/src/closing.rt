@@ -3,7 +3,8 @@
 ghost use Rattle.std.specs.Prelude.{◌≡◌};
 ghost use Rattle.strm_types.specs.declared.answers.Answer.TheVariants.{Done};
 ghost use Rattle.strm_types.specs.declared.rules.Rule.TheVariants.{EndClosed};
-ghost use Rattle.strm_types.specs.Emptied.{of_all, head_emptied, driver_emptied, ended, hung_up_at, closed_at};
+ghost use Rattle.strm_types.specs.Closes.{head_emptied, driver_emptied, ended, hung_up_at, closed_at};
+ghost use Rattle.strm_types.specs.Emptied.{of_all};
 ghost use Rattle.strm_types.specs.Deliver.{tallied};
 ghost use Rattle.strm_types.specs.Puts.{flushed_on};
 ghost use Rattle.strm_frame.specs.Hands.{HasRoom};

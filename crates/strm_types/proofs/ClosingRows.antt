@@ -20,7 +20,8 @@ use Rattle.strm_types.specs.Books.{new_book}
 use Rattle.strm_types.specs.Calls.{called}
 use Rattle.strm_types.specs.Cells.{plain}
 use Rattle.strm_types.specs.Deliver.{Fate, Goes, Carried, carried}
-use Rattle.strm_types.specs.Emptied.{of_data, of_all, stayed, cells_gone, emptied, queue_behind, writer_goes, head_emptied, driver_emptied, closed_at, hung_up_at, ended}
+use Rattle.strm_types.specs.Closes.{head_emptied, driver_emptied, closed_at, hung_up_at, ended}
+use Rattle.strm_types.specs.Emptied.{of_data, of_all, stayed, cells_gone, emptied, queue_behind, writer_goes}
 use Rattle.strm_types.specs.Flush.{is_data_kind}
 use Rattle.strm_types.specs.Puts.{flushed_on}
 use Rattle.strm_types.specs.Message.{Message, is_high_priority, band_of, size_of, cells_of}

@@ -9,7 +9,8 @@ use Rattle.strm_types.specs.declared.names.Side.TheVariants.{Master, Slave}
 use Rattle.strm_types.specs.declared.rules.Rule.{Rule}
 use Rattle.strm_types.specs.declared.rules.Rule.TheVariants.{EndClosed}
 use Rattle.strm_types.specs.Deliver.{Fate, Goes, Carried}
-use Rattle.strm_types.specs.Emptied.{Choice, of_all, stayed, cells_gone, emptied, none_goes, queue_behind, writer_goes, head_emptied, driver_emptied, and_then, ended, hung_up_at, closed_at}
+use Rattle.strm_types.specs.Closes.{head_emptied, driver_emptied, and_then, ended, hung_up_at, closed_at}
+use Rattle.strm_types.specs.Emptied.{Choice, of_all, stayed, cells_gone, emptied, none_goes, queue_behind, writer_goes}
 use Rattle.strm_types.specs.Message.{Message, cells_of, size_of, map_message}
 use Rattle.strm_types.specs.Names.{driver_of, head_of, direction_of, before, is_open, enable_some}
 use Rattle.strm_types.specs.Origins.{map_fate, map_carried}

@@ -6,7 +6,8 @@ use Rattle.strm_types.specs.declared.names.Side.TheVariants.{Master, Slave}
 use Rattle.strm_types.specs.declared.rules.Rule.{Rule}
 use Rattle.strm_types.specs.declared.rules.Rule.TheVariants.{EndClosed}
 use Rattle.strm_types.specs.Deliver.{Carried}
-use Rattle.strm_types.specs.Emptied.{Choice, of_all, stayed, cells_gone, emptied, none_goes, queue_behind, head_emptied, driver_emptied, and_then, ended, hung_up_at, closed_at}
+use Rattle.strm_types.specs.Closes.{head_emptied, driver_emptied, and_then, ended, hung_up_at, closed_at}
+use Rattle.strm_types.specs.Emptied.{Choice, of_all, stayed, cells_gone, emptied, none_goes, queue_behind}
 use Rattle.strm_types.specs.Kept.{state_weight, NothingUnread}
 use Rattle.strm_types.specs.Message.{Message, cells_of}
 use Rattle.strm_types.specs.Names.{is_open}

@@ -16,7 +16,8 @@ use Rattle.strm_types.specs.declared.spots.Note.TheVariants.{Room}
 use Rattle.strm_types.specs.declared.spots.Spot.{Spot}
 use Rattle.strm_types.specs.Deliver.{Acted, Carried, Fate, Goes, Parcel, Took, carried, in_turn}
 use Rattle.strm_types.specs.Drivers.{flush_across, flush_down, freed, own_flushed, reader_flush}
-use Rattle.strm_types.specs.Emptied.{Choice, of_data, and_then, driver_behind, driver_emptied, head_behind, head_emptied, queue_behind, writer_goes}
+use Rattle.strm_types.specs.Closes.{and_then, driver_behind, driver_emptied, head_behind, head_emptied}
+use Rattle.strm_types.specs.Emptied.{Choice, of_data, queue_behind, writer_goes}
 use Rattle.strm_types.specs.FlushEffect.{none_gone, reached, write_flushed, read_flushed, flush_effect}
 use Rattle.strm_types.specs.Flushing.{asked_by, asked_of, flush_bytes, flush_message, nothing_asked, read_flush}
 use Rattle.strm_types.specs.Heads.{flush_up}

@@ -21,7 +21,8 @@ use Rattle.strm_types.specs.declared.rules.Rule.TheVariants.{EndClosed}
 use Rattle.strm_types.specs.declared.spots.Spot.{Spot}
 use Rattle.strm_types.specs.Calls.{Request, called, get_at, ioctl_begun, ioctl_sent, ioctl_told, message_put, mode_set, put_at, read_at, signals_told, wrote}
 use Rattle.strm_types.specs.Cells.{Cells}
-use Rattle.strm_types.specs.Emptied.{of_all, head_emptied, driver_emptied, ended, hung_up_at, closed_at}
+use Rattle.strm_types.specs.Closes.{head_emptied, driver_emptied, ended, hung_up_at, closed_at}
+use Rattle.strm_types.specs.Emptied.{of_all}
 use Rattle.strm_types.specs.Flushing.{asked_of, flush_bytes, flush_message}
 use Rattle.strm_types.specs.Ioctls.{asking, ioctl_message}
 use Rattle.strm_types.specs.Journal.{PlainEntry}

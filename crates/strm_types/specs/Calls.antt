@@ -23,7 +23,7 @@ use Rattle.strm_types.specs.Books.{with_written}
 use Rattle.strm_types.specs.Reads.{head_draw, read_queue, read_lets_go}
 use Rattle.strm_types.specs.Write.{written}
 use Rattle.strm_types.specs.Queue.{is_none_left}
-use Rattle.strm_types.specs.Emptied.{closed_at}
+use Rattle.strm_types.specs.Closes.{closed_at}
 use Rattle.strm_types.specs.Deliver.{Carried}
 use Rattle.strm_types.specs.GetQueues.{get_queue, get_lets_go}
 use Rattle.strm_types.specs.Gets.{head_get, prio_got, first_data}

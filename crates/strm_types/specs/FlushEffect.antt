@@ -6,7 +6,8 @@ use Rattle.strm_types.specs.declared.events.FlushQueues.TheVariants.{Read, Write
 use Rattle.strm_types.specs.declared.names.Side.{Side}
 use Rattle.strm_types.specs.declared.rules.Rule.TheVariants.{Flushed}
 use Rattle.strm_types.specs.Deliver.{Carried}
-use Rattle.strm_types.specs.Emptied.{Choice, head_emptied, driver_emptied, and_then}
+use Rattle.strm_types.specs.Closes.{head_emptied, driver_emptied, and_then}
+use Rattle.strm_types.specs.Emptied.{Choice}
 use Rattle.strm_types.specs.Names.{other, is_open}
 use Rattle.strm_types.specs.State.{State, stream}
 

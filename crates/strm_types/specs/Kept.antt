@@ -16,7 +16,7 @@ use Rattle.strm_types.specs.Reads.{read_gone}
 use Rattle.strm_types.specs.Deliver.{Fate, tallied}
 use Rattle.strm_types.specs.Step.{after}
 use Rattle.strm_types.specs.declared.rules.Fates.{Fates}
-use Rattle.strm_types.specs.Emptied.{closed_at}
+use Rattle.strm_types.specs.Closes.{closed_at}
 use Rattle.strm_types.specs.Puts.{flushed_on}
 use Rattle.strm_types.specs.Turns.{turned}
 use Rattle.strm_types.specs.Write.{written}

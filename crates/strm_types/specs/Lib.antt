@@ -21,6 +21,7 @@ pub mod Places
 pub mod Origins
 pub mod Turns
 pub mod Emptied
+pub mod Closes
 pub mod Service
 pub mod Flushing
 pub mod Ioctls

@@ -2,7 +2,8 @@
 use Rattle.std.proofs.Common.{ℕ, sym, ap, ◌∙◌, rules}
 use Rattle.strm_types.specs.declared.names.Side.TheVariants.{Master, Slave}
 use Rattle.strm_types.specs.declared.rules.Rule.TheVariants.{EndClosed}
-use Rattle.strm_types.specs.Emptied.{of_all, head_emptied, driver_emptied, ended, hung_up_at, closed_at}
+use Rattle.strm_types.specs.Closes.{head_emptied, driver_emptied, ended, hung_up_at, closed_at}
+use Rattle.strm_types.specs.Emptied.{of_all}
 use Rattle.strm_types.specs.State.{State}
 use Rattle.strm_pair.specs.Pairs.{state_in}
 use Rattle.strm_pair.proofs.streams.Streams.shut.Goals as goal
