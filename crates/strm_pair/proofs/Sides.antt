@@ -69,6 +69,7 @@ abbrev stream_of : End → state.Queue ℕ → state.Queue ℕ → streams.Strea
 stream_of e h d = record {
   opened = e.opened;
   head = record { queue = h; read_mode = e.head.read_mode; control_mode = e.head.control_mode; hung_up = e.head.hung_up; signals = e.head.signals; ioctl = plain_slot e.head.ioctl };
+  modules = [];
   driver = record { queue = d };
 }
 
@@ -132,7 +133,7 @@ module _ (s t : StoreValue) (first : ℕ) (e : End) (is : IsSide s first e) wher
     }
 
     head-stream : stream_in t (record e { head = h }) ≡ record (stream_in s e) { head = head_in t h }
-    head-stream = ap (λ d. record { opened = e.opened; head = head_in t h; driver = record { queue = d } }) (queue-same s t e.driver driver-beside)
+    head-stream = ap (λ d. record { opened = e.opened; head = head_in t h; modules = []; driver = record { queue = d } }) (queue-same s t e.driver driver-beside)
 
 -- a stream that was closed has the same driver
 as-side : (t : StoreValue) (first : ℕ) (e e' : End) → e'.driver ≡ e.driver → IsSide t first (record e { head = e'.head }) → IsSide t first e'

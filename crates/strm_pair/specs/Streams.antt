@@ -6,11 +6,12 @@ use Rattle.strm_pair.specs.declared.ends.End.{End}
 use Rattle.strm_head.specs.Heads.{head_in}
 use Rattle.strm_queue.specs.Stored.{queue_in, IsReady, IsHeadQueue}
 
--- the plain stream of a side
+-- the plain stream of a side: no module can be pushed yet
 abbrev pub stream_in : StoreValue → End → Stream ℕ
 stream_in s e = record {
   opened = e.opened;
   head = head_in s e.head;
+  modules = [];
   driver = record { queue = queue_in s e.driver };
 }
 

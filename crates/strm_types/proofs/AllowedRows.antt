@@ -89,7 +89,7 @@ books-are-full-from-the-limit-on = refl
 -- states
 
 abbrev end : Openness → Bool → List (Message ℕ) → List (Message ℕ) → Stream ℕ
-end opened hung_up head driver = record { opened = opened; head = head_with (queue head []) hung_up; driver = record { queue = queue driver (flow 9 2 false ∷ []) } }
+end opened hung_up head driver = record { opened = opened; head = head_with (queue head []) hung_up; modules = []; driver = record { queue = queue driver (flow 9 2 false ∷ []) } }
 
 abbrev pair : Stream ℕ → Stream ℕ → Book → Book → State ℕ
 pair master slave from_master from_slave = record {

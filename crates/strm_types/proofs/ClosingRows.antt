@@ -100,7 +100,7 @@ abbrev caller : Side → Caller
 caller side = record { side = side }
 
 abbrev end : Openness → Queue ℕ → Queue ℕ → Stream ℕ
-end opened head driver = record { opened = opened; head = head_with head false; driver = record { queue = driver } }
+end opened head driver = record { opened = opened; head = head_with head false; modules = []; driver = record { queue = driver } }
 
 abbrev pair : Stream ℕ → Stream ℕ → State ℕ
 pair master slave = record {

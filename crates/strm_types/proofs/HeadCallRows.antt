@@ -50,7 +50,7 @@ abbrev head : Queue ℕ → ReadMode → ControlMode → Bool → Head ℕ
 head q read control hung_up = record { queue = q; read_mode = read; control_mode = control; hung_up = hung_up; signals = []; ioctl = Free }
 
 abbrev end : Head ℕ → Stream ℕ
-end h = record { opened = Open; head = h; driver = record { queue = queue [] [] } }
+end h = record { opened = Open; head = h; modules = []; driver = record { queue = queue [] [] } }
 
 -- a pair whose slave has this head
 abbrev pair : Head ℕ → List QueueName → State ℕ

@@ -37,7 +37,7 @@ use Rattle.strm_types.proofs.Samples.{head_with, header, ordinary, queue, withou
 -- In a pair, whose sides have these ioctls under way, and whose drivers these messages.
 
 abbrev end : Openness → PlainSlot → List (Message ℕ) → Stream ℕ
-end opened slot driver = record { opened = opened; head = record (head_with (queue [] []) false) { ioctl = slot }; driver = record { queue = queue driver [] } }
+end opened slot driver = record { opened = opened; head = record (head_with (queue [] []) false) { ioctl = slot }; modules = []; driver = record { queue = queue driver [] } }
 
 abbrev pair : Stream ℕ → Stream ℕ → List QueueName → ℕ → State ℕ
 pair master slave enabled next = record {

@@ -82,7 +82,7 @@ puts-ask-for-32-more = refl
 -- A pair whose master's driver has two bytes in band 0, the high mark of each of its two bands. The books have these bytes.
 
 abbrev end : Openness → Bool → Queue ℕ → Stream ℕ
-end opened hung_up driver = record { opened = opened; head = head_with (queue [] []) hung_up; driver = record { queue = driver } }
+end opened hung_up driver = record { opened = opened; head = head_with (queue [] []) hung_up; modules = []; driver = record { queue = driver } }
 
 abbrev pair : Stream ℕ → Stream ℕ → Book → List QueueName → State ℕ
 pair master slave book enabled = record {

@@ -141,7 +141,7 @@ pair master slave enabled = record {
 }
 
 abbrev end : Openness → List (Message ℕ) → List (Message ℕ) → Stream ℕ
-end opened head driver = record { opened = opened; head = head_of head; driver = record { queue = queue driver [] } }
+end opened head driver = record { opened = opened; head = head_of head; modules = []; driver = record { queue = queue driver [] } }
 
 abbrev one : ℕ → List (Message ℕ)
 one byte = ordinary (byte ∷ []) ∷ []

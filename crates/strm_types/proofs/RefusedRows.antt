@@ -118,11 +118,13 @@ state master slave locked = record {
   master = record {
     opened = master;
     head = new_head;
+    modules = [];
     driver = record { queue = record (new_queue 512 128) { messages = ordinary (replicate 512 97) ∷ [] } };
   };
   slave = record {
     opened = slave;
     head = head_with (record (new_queue 5120 1024) { messages = ordinary [] ∷ [] }) false;
+    modules = [];
     driver = new_driver;
   };
   locked = locked;

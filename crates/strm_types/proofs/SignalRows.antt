@@ -144,7 +144,7 @@ options-come-up = refl
 -- In a pair, both of whose heads have signals.
 
 abbrev end : Openness → List ℕ → Stream ℕ
-end opened signals = record { opened = opened; head = head signals; driver = record { queue = queue (ordinary (7 ∷ []) ∷ []) [] } }
+end opened signals = record { opened = opened; head = head signals; modules = []; driver = record { queue = queue (ordinary (7 ∷ []) ∷ []) [] } }
 
 abbrev pair : Stream ℕ → Stream ℕ → State ℕ
 pair master slave = record {

@@ -33,7 +33,7 @@ abbrev busy : List (Message ℕ) → List Flow → Queue ℕ
 busy messages flows = record { messages = messages; flows = flows; want_read = false; no_enable = false }
 
 abbrev end : Openness → Queue ℕ → Queue ℕ → Stream ℕ
-end opened head driver = record { opened = opened; head = head_with head false; driver = record { queue = driver } }
+end opened head driver = record { opened = opened; head = head_with head false; modules = []; driver = record { queue = driver } }
 
 -- a pair of these two streams, of which these queues are enabled
 abbrev pair : Stream ℕ → Stream ℕ → List QueueName → State ℕ

@@ -11,6 +11,7 @@ use Rattle.strm_types.specs.GetQueues.{get_gone}
 use Rattle.strm_types.specs.Message.{cells_of}
 use Rattle.strm_types.specs.Names.{direction_from, direction_of, head_of, is_open}
 use Rattle.strm_types.specs.Queue.{weight}
+use Rattle.strm_types.specs.Stacked.{modules_weight}
 use Rattle.strm_types.specs.State.{State, Stream, stream, book}
 use Rattle.strm_types.specs.Reads.{read_gone}
 use Rattle.strm_types.specs.Deliver.{Fate, tallied}
@@ -23,9 +24,9 @@ use Rattle.strm_types.specs.Write.{written}
 use Rattle.strm_types.specs.Journal.{PlainEntry}
 
 module _ {C : Type 0} where
-  -- how many cells on the queues of a stream, and on those of a pair, pass a test
+  -- how many cells of a stream pass a test, on its queues and in what else its modules hold, and how many of a pair
   abbrev pub stream_weight : (C → Bool) → Stream C → ℕ
-  stream_weight p t = weight p t.head.queue.messages + weight p t.driver.queue.messages
+  stream_weight p t = weight p t.head.queue.messages + (modules_weight p t.modules + weight p t.driver.queue.messages)
 
   abbrev pub state_weight : (C → Bool) → State C → ℕ
   state_weight p s = stream_weight p s.master + stream_weight p s.slave

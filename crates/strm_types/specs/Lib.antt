@@ -52,3 +52,4 @@ pub mod Input
 pub mod LdtermWeights
 pub mod LdtermOrigins
 pub mod LdtermTurns
+pub mod Stacked

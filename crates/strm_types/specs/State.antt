@@ -1,5 +1,5 @@
 -- The plain state of a pair: what every call acts on.
-use Rattle.std.specs.Prelude.{ℕ, ◌+◌, Bool, true, false, List, [], ◌∷◌, length}
+use Rattle.std.specs.Prelude.{ℕ, Bool, true, false, List, [], ◌∷◌, ◌++◌, length, map, sum_by}
 use Rattle.std.specs.List.{AllByRecursion}
 use Rattle.strm_types.specs.declared.names.Side.{Side}
 use Rattle.strm_types.specs.declared.names.Side.TheVariants.{Master, Slave}
@@ -19,6 +19,7 @@ use Rattle.strm_types.specs.declared.slots.Slot.TheVariants.{Free}
 use Rattle.strm_types.specs.Books.{new_book}
 use Rattle.strm_types.specs.Slots.{PlainSlot}
 use Rattle.strm_types.specs.Queue.{Queue, IsOrdered, new_queue, map_queue}
+use Rattle.strm_types.specs.Stacked.{Module, map_module, queues_of_modules}
 
 -- a stream head: what it has for its readers, how they read it, whether an M_HANGUP came up, as the other end is gone, the
 -- signals that came up, and the ioctl that is under way
@@ -34,10 +35,11 @@ pub record Head (C : Type 0) : Type 0 where
 pub record Driver (C : Type 0) : Type 0 where
   pub queue : Queue C
 
--- the stream of one side
+-- the stream of one side; its modules, the one on top first
 pub record Stream (C : Type 0) : Type 0 where
   pub opened : Openness
   pub head : Head C
+  pub modules : List (Module C)
   pub driver : Driver C
 
 -- A pair: its two streams, whether the slave is locked, the enabled queues in order of enabling, the number that the next
@@ -62,7 +64,7 @@ module _ {C : Type 0} where
 
   -- a stream that nobody opened yet
   abbrev pub new_stream : Stream C
-  new_stream = record { opened = Never; head = new_head; driver = new_driver }
+  new_stream = record { opened = Never; head = new_head; modules = []; driver = new_driver }
 
   -- a pair as it is made
   abbrev pub opening : State C
@@ -114,9 +116,12 @@ module _ {C : Type 0} where
   abbrev pub with_driver_queue : Queue C → Stream C → Stream C
   with_driver_queue q t = record t { driver = record { queue = q } }
 
--- all queues of a pair
+-- all queues of a stream, and all of a pair
+abbrev pub stream_queues : {C : Type 0} → Stream C → List (Queue C)
+stream_queues t = t.head.queue ∷ queues_of_modules t.modules ++ t.driver.queue ∷ []
+
 abbrev pub queues_of : {C : Type 0} → State C → List (Queue C)
-queues_of s = s.master.head.queue ∷ s.master.driver.queue ∷ s.slave.head.queue ∷ s.slave.driver.queue ∷ []
+queues_of s = stream_queues s.master ++ stream_queues s.slave
 
 -- each queue has its messages in order of rank
 abbrev pub AreOrdered : {C : Type 0} → State C → Type 0
@@ -124,7 +129,7 @@ AreOrdered s = AllByRecursion (λ q. IsOrdered q.messages) (queues_of s)
 
 -- how many messages stand on the queues
 abbrev pub messages_in : {C : Type 0} → State C → ℕ
-messages_in s = length s.master.head.queue.messages + length s.master.driver.queue.messages + (length s.slave.head.queue.messages + length s.slave.driver.queue.messages)
+messages_in s = sum_by (λ q. length q.messages) (queues_of s)
 
 -- the same state of other cells, as where their origins are forgotten
 abbrev pub map_head : {C D : Type 0} → (C → D) → Head C → Head D
@@ -141,6 +146,7 @@ abbrev pub map_stream : {C D : Type 0} → (C → D) → Stream C → Stream D
 map_stream f t = record {
   opened = t.opened;
   head = map_head f t.head;
+  modules = map (map_module f) t.modules;
   driver = record { queue = map_queue f t.driver.queue };
 }
 

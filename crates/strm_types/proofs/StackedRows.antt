@@ -1,0 +1,68 @@
+-- What a pair's state tells of the modules on its streams, on small stacks.
+use Rattle.std.proofs.Common.{ℕ, ◌≡◌, false, List, [], ◌∷◌, map, refl}
+use Rattle.std.specs.Prelude.{◌==◌, Some}
+use Rattle.strm_types.specs.declared.names.Openness.TheVariants.{Open}
+use Rattle.strm_types.specs.declared.names.Way.TheVariants.{Up, Down}
+use Rattle.strm_types.specs.Books.{new_book}
+use Rattle.strm_types.specs.Kept.{stream_weight}
+use Rattle.strm_types.specs.Ldterms.{new_ldterm}
+use Rattle.strm_types.specs.Message.{Message, cells_of, map_message, weight_of}
+use Rattle.strm_types.specs.Queue.{Queue}
+use Rattle.strm_types.specs.Stacked.{Module, module_queue, with_module_queue}
+use Rattle.strm_types.specs.State.{State, Stream, map_stream, messages_in, new_stream, stream_queues}
+use Rattle.strm_types.proofs.Samples.{head_with, ordinary, queue}
+
+-- a module with these messages on its read queue and on its write queue, and this unfinished line
+abbrev with_these : List (Message ℕ) → List (Message ℕ) → List ℕ → Module ℕ
+with_these above below line = record new_ldterm { read_queue = queue above []; write_queue = queue below []; line = line }
+
+-- a stream of a head, two modules and a driver
+abbrev stacked : Stream ℕ
+stacked = record {
+  opened = Open;
+  head = head_with (queue (ordinary (7 ∷ []) ∷ []) []) false;
+  modules = with_these (ordinary (7 ∷ 1 ∷ []) ∷ []) (ordinary (2 ∷ []) ∷ ordinary (7 ∷ []) ∷ []) (7 ∷ 7 ∷ []) ∷ with_these [] (ordinary (3 ∷ []) ∷ []) [] ∷ [];
+  driver = record { queue = queue (ordinary (4 ∷ 7 ∷ []) ∷ []) [] };
+}
+
+abbrev pair : State ℕ
+pair = record {
+  master = new_stream;
+  slave = stacked;
+  locked = false;
+  enabled = [];
+  next_ioctl = 1;
+  from_master = new_book;
+  from_slave = new_book;
+}
+
+-- the queues from the top down, of each module the read queue first
+pub queues-from-the-top : map (λ (q : Queue ℕ). map cells_of q.messages) (stream_queues stacked)
+    ≡ ((7 ∷ []) ∷ []) ∷ ((7 ∷ 1 ∷ []) ∷ []) ∷ ((2 ∷ []) ∷ (7 ∷ []) ∷ []) ∷ [] ∷ ((3 ∷ []) ∷ []) ∷ ((4 ∷ 7 ∷ []) ∷ []) ∷ []
+unfolding cells_of
+queues-from-the-top = refl
+
+-- the messages on modules' queues count with the others
+pub messages-on-modules-count : messages_in pair ≡ 6
+messages-on-modules-count = refl
+
+-- so do their cells, and those of an unfinished line
+pub cells-of-modules-weigh : stream_weight (λ c. c == 7) stacked ≡ 6
+unfolding cells_of weight_of
+cells-of-modules-weigh = refl
+
+-- other cells stand there in the same places
+pub modules-are-mapped : map_stream (λ (c : ℕ). c) stacked ≡ stacked
+unfolding map_message
+modules-are-mapped = refl
+
+-- a module has a queue each way
+pub queues-of-a-module : map (λ way. module_queue way (with_these [] (ordinary (2 ∷ []) ∷ []) [])) (Up ∷ Down ∷ []) ≡ Some (queue [] []) ∷ Some (queue (ordinary (2 ∷ []) ∷ []) []) ∷ []
+queues-of-a-module = refl
+
+pub queue-of-a-way-changes : with_module_queue Up (queue (ordinary (9 ∷ []) ∷ []) []) (with_these [] [] []) ≡ with_these (ordinary (9 ∷ []) ∷ []) [] []
+queue-of-a-way-changes = refl
+
+-- no module stands on a stream as it is made
+pub none-as-made : (new_stream {C = ℕ}).modules ≡ []
+none-as-made = refl
