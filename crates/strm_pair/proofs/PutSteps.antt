@@ -48,7 +48,7 @@ use Rattle.strm_frame.proofs.Shifting.{shifts-both, shifts-as}
 use Rattle.strm_pty.specs.Does.{Makes, Swaps}
 use Rattle.strm_pty.proofs.Doing.{times-one}
 use Rattle.strm_pair.specs.declared.streams.Streams.{Streams}
-use Rattle.strm_pair.specs.Costs.{head_takes, below_takes}
+use Rattle.strm_types.specs.Costs.{head_takes, below_takes}
 use Rattle.strm_pair.specs.Pairs.{state_in, AreBeside}
 use Rattle.strm_pair.specs.Framing.{same-state, same-beside}
 use Rattle.strm_pair.specs.PutBy.{PutBy, CameBy}

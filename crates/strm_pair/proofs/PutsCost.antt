@@ -24,30 +24,32 @@ use Rattle.strm_types.specs.Queue.{Queue}
 use Rattle.strm_types.specs.State.{Head, State, stream}
 use Rattle.strm_types.proofs.PutsFall.{reads-alone}
 use Rattle.strm_frame.specs.Outboxes.{cost_of}
-use Rattle.strm_pair.specs.Costs.{below_cost, below_takes, cost, cost_at, takes}
+use Rattle.strm_types.specs.Costs.{below_cost, below_takes, cost, cost_at, takes}
 
 -- what goes down from the head costs what a driver makes of it
-below-head : (here : Spot) (turned : Bool) → cost_at (toward Down here) turned ≡ 3
-below-head here turned = ap (λ top. cond top (cond turned 4 0) 3) (let below : (here.at + 1 == 0) ≡ false = grind (arith, nat_tests) in below)
+below-head : (here : Spot) (flush turned : Bool) → cost_at (toward Down here) flush turned ≡ 3
+below-head here flush turned = ap (λ top. cond top (cond turned 4 0) 3) (let below : (here.at + 1 == 0) ≡ false = grind (arith, nat_tests) in below)
 
-below-few : (way : Way) (turned : Bool) → below_cost way turned ≤ 4
-below-few Down turned = omega arith
-below-few Up true = omega arith
-below-few Up false = omega arith
+below-few : (way : Way) (flush turned : Bool) → below_cost way flush turned ≤ 4
+below-few Down flush turned = omega arith
+below-few Up flush true = omega arith
+below-few Up true false = omega arith
+below-few Up false false = omega arith
 
+-- what was sent across takes one
 up-some : (turned : Bool) → 1 ≤ cond turned 4 1
 up-some true = omega arith
 up-some false = omega arith
 
 -- what goes on to the head costs no more there
-up-more : (turned : Bool) → cond turned 4 0 ≤ cond turned 4 1
-up-more true = omega arith
-up-more false = omega arith
+up-more : (flush turned : Bool) → cond turned 4 0 ≤ cond turned 4 (cond flush 1 0)
+up-more flush true = omega arith
+up-more flush false = omega arith
 
-few-at : (way : Way) (turned top : Bool) → cond top (cond turned 4 0) (below_cost way turned) ≤ 4
-few-at way true true = omega arith
-few-at way false true = omega arith
-few-at way turned false = below-few way turned
+few-at : (way : Way) (flush turned top : Bool) → cond top (cond turned 4 0) (below_cost way flush turned) ≤ 4
+few-at way flush true true = omega arith
+few-at way flush false true = omega arith
+few-at way flush turned false = below-few way flush turned
 
 module _ (C : Type 0) where
   abbrev Few : ℕ → List (Parcel C) → Type 0
@@ -70,15 +72,15 @@ module _ (C : Type 0) where
   both-few few more ps qs first second = let e = both-cost ps qs in omega (arith, e, first, second)
 
   -- an M_FLUSH for readers isn't turned round
-  reads-few : (asked : FlushAsked) (goes : Bool) (to : Spot) → Few (cost_at to false) (reader_flush goes asked to)
-  reads-few asked false to = none-few (cost_at to false)
+  reads-few : (asked : FlushAsked) (goes : Bool) (to : Spot) → Few (cost_at to true false) (reader_flush goes asked to)
+  reads-few asked false to = none-few (cost_at to true false)
   reads-few asked true to =
-      one-few (cost_at to false) to (flush_message (read_flush asked.band)) (let same = ap (cost_at to) (reads-alone asked.band) in omega (arith, same))
+      one-few (cost_at to true false) to (flush_message (read_flush asked.band)) (let same = ap (cost_at to true) (reads-alone asked.band) in omega (arith, same))
 
   -- at a driver, where no module stands on the stream across
   across-few : (side : Side) (across : Across) → across.bottom ≡ 0 → (asked : FlushAsked) (goes : Bool) → Few 0 (reader_flush goes asked (bottom_across side across))
   across-few side across bottom asked goes =
-      let none = ap (λ at. cost_at (record (bottom_across side across) { at = at }) false) bottom in
+      let none = ap (λ at. cost_at (record (bottom_across side across) { at = at }) true false) bottom in
       let few = reads-few asked goes (bottom_across side across) in
       omega (arith, none, few)
 
@@ -100,7 +102,7 @@ module _ (C : Type 0) where
     where
       at : (crosses : Bool) → Few 1 (cond crosses (taken_in side across m q) (answered here ioc q)).sent
       at true = taken_in-few 1 side across m q
-      at false = one-few 1 (toward Up here) (nak_message ioc) (let same = ap (λ n. cost_at (toward Up (record here { at = n })) false) first in omega (arith, same))
+      at false = one-few 1 (toward Up here) (nak_message ioc) (let same = ap (λ n. cost_at (toward Up (record here { at = n })) false false) first in omega (arith, same))
 
   put_down-few : (side : Side) (across : Across) (here : Spot) (kind : MsgKind) (m : Message C) (q : Queue C) → across.bottom ≡ 0 → here.at ≡ 1 → Few 1 (put_down side across here kind m q).sent
   put_down-few side across here Flush m q bottom first =
@@ -147,7 +149,7 @@ module _ (C : Type 0) where
   head-stays false sent few = few-fits 0 0 0 sent few (omega arith)
 
   head-turns : (here : Spot) (m : Message C) → FitsHead true (record { to = toward Down here; message = m } ∷ [])
-  head-turns here m = let down = below-head here (is_turned m) in few-fits 1 3 4 _ (one-few 3 (toward Down here) m (omega (arith, down))) (omega arith)
+  head-turns here m = let down = below-head here (is_flush m.kind) (is_turned m) in few-fits 1 3 4 _ (one-few 3 (toward Down here) m (omega (arith, down))) (omega arith)
 
   round-fits : (here : Spot) (asked : FlushAsked) → FitsHead asked.for_write (turned_round here asked)
   round-fits here asked = at asked.for_write
@@ -188,25 +190,29 @@ module _ (C : Type 0) where
   reached-fits side here m s =
       either-fits (cond (is_turned m) 1 0) (cond (is_turned m) 4 0) (is_open (stream side s).opened) _ _ (head-fits here m (stream side s).head) (head-stays (is_turned m) [] (none-few 0))
 
-  up-fits : (here : Spot) (m : Message C) (s : State C) (across : Bool) →
-      Fits (cond across 1 0) (cond across (put_at_driver here.side (record here { way = Up }) m s) (passed_up (record here { way = Up }) m s)).sent (cond (is_turned m) 4 1)
-  up-fits here m s true =
+  going-up-fits : (here : Spot) (m : Message C) (s : State C) (flush : Bool) → Fits 0 (passed_up (record here { way = Up }) m s).sent (cond (is_turned m) 4 (cond flush 1 0))
+  going-up-fits here m s flush =
+      let more = up-more flush (is_turned m) in
+      few-fits 0 (cond (is_turned m) 4 0) (cond (is_turned m) 4 (cond flush 1 0)) _ (one-few (cond (is_turned m) 4 0) (record here { at = 0; way = Up }) m (omega arith)) (omega (arith, more))
+
+  up-fits : (here : Spot) (m : Message C) (s : State C) (flush last : Bool) →
+      Fits (cond (flush && last) 1 0) (cond (flush && last) (put_at_driver here.side (record here { way = Up }) m s) (passed_up (record here { way = Up }) m s)).sent (cond (is_turned m) 4 (cond flush 1 0))
+  up-fits here m s true true =
       let some = up-some (is_turned m) in
       few-fits 1 0 (cond (is_turned m) 4 1) _ (came-up-few here.side (across_of here.side s) (record here { at = 1 }) m (stream here.side s).driver.queue refl) (omega (arith, some))
-  up-fits here m s false =
-      let more = up-more (is_turned m) in
-      few-fits 0 (cond (is_turned m) 4 0) (cond (is_turned m) 4 1) _ (one-few (cond (is_turned m) 4 0) (record here { at = 0; way = Up }) m (omega arith)) (omega (arith, more))
+  up-fits here m s true false = going-up-fits here m s true
+  up-fits here m s false last = going-up-fits here m s false
 
   below-fits : (way : Way) (here : Spot) (m : Message C) (s : State C) → let to : Spot = record here { way = way } in
-      Fits (below_takes way (is_flush m.kind && here.at == suc MODULES)) (put_below way to m s).sent (below_cost way (is_turned m))
+      Fits (below_takes way (is_flush m.kind && here.at == suc MODULES)) (put_below way to m s).sent (below_cost way (is_flush m.kind) (is_turned m))
   below-fits Down here m s =
       few-fits 2 1 3 _ (came-down-few here.side (across_of here.side s) (record here { at = 1 }) m (stream here.side s).driver.queue refl refl) (omega arith)
-  below-fits Up here m s = up-fits here m s (is_flush m.kind && here.at == suc MODULES)
+  below-fits Up here m s = up-fits here m s (is_flush m.kind) (here.at == suc MODULES)
 
   put-fits : (way : Way) (here : Spot) (m : Message C) (s : State C) (top : Bool) → let to : Spot = record here { way = way } in
       Fits (cond top (cond (is_turned m) 1 0) (below_takes way (is_flush m.kind && here.at == suc MODULES)))
       (cond top (put_at_head here.side to m s) (put_below way to m s)).sent
-      (cond top (cond (is_turned m) 4 0) (below_cost way (is_turned m)))
+      (cond top (cond (is_turned m) 4 0) (below_cost way (is_flush m.kind) (is_turned m)))
   put-fits way here m s true = reached-fits here.side (record here { way = way }) m s
   put-fits way here m s false = below-fits way here m s
 
@@ -216,4 +222,4 @@ puts-cost to m s = put-fits _ to.way to m s (to.at == 0)
 
 -- a delivery takes four blocks of each kind at most
 pub cost-few : {C : Type 0} (to : Spot) (m : Message C) → cost to m ≤ 4
-cost-few to m = few-at to.way (is_turned m) (to.at == 0)
+cost-few to m = few-at to.way (is_flush m.kind) (is_turned m) (to.at == 0)

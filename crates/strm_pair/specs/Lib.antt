@@ -1,4 +1,3 @@
-pub mod Costs
 pub mod PutBy
 pub mod Took
 pub mod Framing

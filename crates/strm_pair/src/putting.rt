@@ -15,7 +15,7 @@ ghost use Rattle.strm_frame.specs.Outboxes.{message_in, sent_of, times_sent, par
 ghost use Rattle.strm_types.specs.Reads.{is_there};
 ghost use Rattle.strm_head.specs.Heads.{down_message, sent_down};
 ghost use Rattle.strm_pty.specs.Does.{Makes, MadeOne};
-ghost use Rattle.strm_pair.specs.Costs.{head_takes, is_across, below_takes, cost, takes};
+ghost use Rattle.strm_types.specs.Costs.{head_takes, is_across, below_takes, cost, takes};
 ghost use Rattle.strm_pair.specs.PutBy.{PutBy, CameBy};
 
 use crate::streams::Streams;

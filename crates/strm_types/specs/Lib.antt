@@ -29,6 +29,7 @@ pub mod Termios
 pub mod Drivers
 pub mod Heads
 pub mod Puts
+pub mod Costs
 pub mod FlushEffect
 pub mod PutEffect
 pub mod Calls

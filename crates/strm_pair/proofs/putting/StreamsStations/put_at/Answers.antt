@@ -4,7 +4,7 @@ use Rattle.strm_types.specs.Deliver.{AreLower}
 use Rattle.strm_types.specs.Puts.{far}
 use Rattle.strm_types.proofs.PutsFall.{puts-fall}
 use Rattle.strm_frame.specs.Outboxes.{message_in, cost_of}
-use Rattle.strm_pair.specs.Costs.{cost}
+use Rattle.strm_types.specs.Costs.{cost}
 use Rattle.strm_pair.specs.Pairs.{state_in}
 use Rattle.strm_pair.proofs.PutsCost.{puts-cost}
 use Rattle.strm_pair.proofs.putting.StreamsStations.put_at.Goals as goal

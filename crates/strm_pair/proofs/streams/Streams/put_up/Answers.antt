@@ -10,7 +10,7 @@ use Rattle.strm_msg.proofs.Chains.{kind-is}
 use Rattle.strm_frame.specs.Hands.{HasRoom}
 use Rattle.strm_frame.specs.Outboxes.{message_in, sent_of}
 use Rattle.strm_frame.proofs.Handing.{can-in_hand}
-use Rattle.strm_pair.specs.Costs.{below_takes, is_across}
+use Rattle.strm_types.specs.Costs.{below_takes, is_across}
 use Rattle.strm_pair.specs.Pairs.{state_in}
 use Rattle.strm_pair.specs.PutBy.{PutBy}
 use Rattle.strm_pair.proofs.streams.Streams.put_up.Goals as goal

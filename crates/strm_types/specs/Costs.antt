@@ -10,16 +10,16 @@ use Rattle.strm_types.specs.Message.{Message}
 use Rattle.strm_types.specs.Puts.{is_turned}
 
 -- with all that a message gives rise to, behind the head: what comes up may be turned round at the head, and then reaches a
--- driver on its way down
-abbrev pub below_cost : Way → Bool → ℕ
-below_cost Down turned = 3
-below_cost Up turned = if turned then 4 else 1
+-- driver on its way down; an M_FLUSH may have been sent across, to the driver
+abbrev pub below_cost : Way → Bool → Bool → ℕ
+below_cost Down flush turned = 3
+below_cost Up flush turned = if turned then 4 else (if flush then 1 else 0)
 
-abbrev pub cost_at : Spot → Bool → ℕ
-cost_at here turned = if here.at == 0 then (if turned then 4 else 0) else below_cost here.way turned
+abbrev pub cost_at : Spot → Bool → Bool → ℕ
+cost_at here flush turned = if here.at == 0 then (if turned then 4 else 0) else below_cost here.way flush turned
 
 abbrev pub cost : {C : Type 0} → Spot → Message C → ℕ
-cost here m = cost_at here (is_turned m)
+cost here m = cost_at here (is_flush m.kind) (is_turned m)
 
 -- whether a message on its way up was sent across, to the driver's place
 abbrev pub is_across : {C : Type 0} → Spot → Message C → Bool
