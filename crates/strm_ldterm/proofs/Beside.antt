@@ -15,9 +15,9 @@ use Rattle.strm_frame.proofs.Handing.{once-self, once-apart}
 use Rattle.strm_frame.proofs.Shifting.{shifts-joined}
 use Rattle.strm_ldterm.specs.declared.ldterm.Ldterm.{Ldterm}
 use Rattle.strm_types.specs.Message.{rank_of}
-use Rattle.strm_ldterm.specs.Stands.{ldterm_in, owns, times_kept, kept_in, keeps, IsHeld, IsData, IsOrdinary, with_last}
+use Rattle.strm_ldterm.specs.Stands.{ldterm_in, owns, times_kept, kept_in, keeps, IsHeld, IsData, IsOrdinary, IsGathered, with_last}
 use Rattle.strm_ldterm.specs.Does.{Alters}
-use Rattle.strm_ldterm.specs.Frames.{kept-same, form-same, list-ready, each-same, data-same, ordinary-same, ldterm-frame}
+use Rattle.strm_ldterm.specs.Frames.{kept-same, form-same, list-ready, each-same, data-same, ordinary-same, gathered-same, ldterm-frame}
 use Rattle.strm_ldterm.proofs.Last.{last-rank, zero-last}
 
 -- a chain with a block is in hand
@@ -52,7 +52,7 @@ module _ {M : Type 0} (name : M → ℕ) where
       write = list-ready s t x.write_queue writes-stay held.write;
       apart = λ e. held.apart (sym changes.list ∙ e);
       work = each-same name s t IsData (data-same s t) x.in_work (λ i some. chains-up i) held.work;
-      gathers = each-same name s t IsOrdinary (ordinary-same s t) x.gathered (λ i some. chains-up i) held.gathers;
+      gathers = each-same name s t IsGathered (gathered-same s t) x.gathered (λ i some. chains-up i) held.gathers;
       echoes = each-same name s t IsOrdinary (ordinary-same s t) x.echo (λ i some. chains-up i) held.echoes;
       once_each = held.once_each;
     }
@@ -92,7 +92,7 @@ module _ {M : Type 0} (name : M → ℕ) where
       write = changes.ready;
       apart = λ e. held.apart (e ∙ changes.list);
       work = each-same name s t IsData (data-same s t) x.in_work (λ i some. chains-down i) held.work;
-      gathers = each-same name s t IsOrdinary (ordinary-same s t) x.gathered (λ i some. chains-down i) held.gathers;
+      gathers = each-same name s t IsGathered (gathered-same s t) x.gathered (λ i some. chains-down i) held.gathers;
       echoes = each-same name s t IsOrdinary (ordinary-same s t) x.echo (λ i some. chains-down i) held.echoes;
       once_each = held.once_each;
     }

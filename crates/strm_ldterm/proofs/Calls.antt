@@ -2,6 +2,7 @@
 use Rattle.std.proofs.Common.{ℕ, ◌≡◌, ◌≤◌, ◌<◌, ◌+◌, ◌-◌, ◌*◌, Bool, true, false, cond, List, [], ◌++◌, length, refl, sym, ap, subst, ◌∙◌, arith, append-nil}
 use Rattle.std.proofs.lemmas.Bool.{false≢true}
 use Rattle.std.specs.Prelude.{Option, None, Some, is_some, nat_lt, unwrap_or}
+use Rattle.strm_types.specs.declared.limits.TheConstants.{STOP_BLOCKS}
 use Rattle.strm_types.specs.declared.rules.Fates.{Fates}
 use Rattle.strm_types.specs.declared.spots.Note.{Note}
 use Rattle.strm_types.specs.declared.spots.Spot.{Spot}
@@ -20,13 +21,15 @@ use Rattle.strm_frame.specs.declared.parcels.Sent.{Sent}
 use Rattle.strm_frame.specs.declared.service.Served.{Served}
 use Rattle.strm_frame.specs.Hands.{HasRoom}
 use Rattle.strm_frame.specs.Outboxes.{sent_of}
-use Rattle.strm_frame.specs.Serves.{stop_at, stop_of}
+use Rattle.strm_frame.specs.Serves.{least_free, stop_at, stop_of}
 use Rattle.strm_ldterm.specs.declared.ldterm.Ldterm.{Ldterm}
 use Rattle.strm_ldterm.specs.Called.{RunsOut, RunsInto, TreatsAs, all_free, treated_by}
 use Rattle.strm_ldterm.specs.Does.{Proceeds}
+use Rattle.strm_ldterm.specs.Freeing.{FreesNone}
 use Rattle.strm_ldterm.specs.Stands.{kept_in, ldterm_in, stage_in}
 use Rattle.strm_ldterm.specs.Turns.{ahead, leaves, notes_left, one_after, stages_left}
 use Rattle.strm_ldterm.proofs.Counting.{ahead-reaches}
+use Rattle.strm_ldterm.proofs.Freeing.{stays-few}
 use Rattle.strm_ldterm.proofs.Joining.{nothing-sent, parcels-none, proceeds-joined}
 use Rattle.strm_ldterm.proofs.Treated.{none-under-way}
 use Rattle.strm_ldterm.proofs.Turning.{Acts, ahead-more, ends, ends-more}
@@ -265,7 +268,7 @@ module _ (here : Spot) (p : ldterms.Ldterm ℕ) where
 module _ {M : Type 0} (name : M → ℕ) (s s' : StoreValue) (here : Spot) (x x' : Ldterm M) (t t' : Fates) where
   -- what a call did, where the definition comes to this
   treats-as : (served : Served M) (v : Serving ℕ (ldterms.Ldterm ℕ)) → treated_by name s s' here x x' (stop_of served) ≡ v
-      → Proceeds name s s' x x' (all_free s) served.acts.notes.items (sent_of served.acts.sent) t t' v.acted → served.bytes ≡ v.bytes → served.again ≡ v.again → (served.stopped ≡ true → served.again ≡ false)
+      → Proceeds name s s' x x' (all_free s) served.acts.notes.items (sent_of served.acts.sent) t t' v.acted → served.bytes ≡ v.bytes → served.again ≡ v.again → (served.stopped ≡ true → (least_free s' < STOP_BLOCKS) × (served.again ≡ false))
       → to_treat (ldterm_in name s' x') ≤ to_treat (ldterm_in name s x) → HasRoom s' (leaves (stage_in x'.stage)) → TreatsAs name s s' here x x' served t t'
   treats-as served v is does bytes again stops less room = record {
     does = subst (λ (w : Serving ℕ (ldterms.Ldterm ℕ)). Proceeds name s s' x x' (all_free s) served.acts.notes.items (sent_of served.acts.sent) t t' w.acted) (sym is) does;
@@ -298,8 +301,9 @@ module _ {M : Type 0} (name : M → ℕ) (s s' : StoreValue) (here : Spot) (x x'
   -- and where nothing was sent, to the end of the call
   pub out-treats : (bytes left : ℕ) (notes : ArrayVec Note) (sent : Outbox M) (s1 : StoreValue) (x1 : Ldterm M) (t1 : Fates) → IsStore s1 → stages_left (stage_in x.stage) ≡ 0 → bytes ≡ length (cells_left from)
       → RunsOut name s s1 here x x1 bytes left notes.items t t1 → Proceeds name s1 s' x1 x' 0 [] (sent_of sent) t1 t' (finished plain here (ldterm_in name s1 x1))
+      → (0 < length (cells_left (ldterm_in name s1 x1)) → FreesNone s1 s')
       → TreatsAs name s s' here x x' (record { acts = record { notes = notes; sent = sent }; bytes = bytes - left; stopped = nat_lt 0 left; again = false }) t t'
-  out-treats bytes left notes sent s1 x1 t1 st between size r e =
+  out-treats bytes left notes sent s1 x1 t1 st between size r e frees =
       let n = 3 * (bytes - left) in
       let z = none-done from.stage between in
       let a = all-left from between in
@@ -309,10 +313,13 @@ module _ {M : Type 0} (name : M → ℕ) (s s' : StoreValue) (here : Spot) (x x'
       let all = takes-any name s s' x x' (all_free s + 0) (notes.items ++ []) (sent_of sent) t t' _ (proceeds-joined name s s1 x x1 (all_free s) notes.items t t1 (ahead here n from) st r.does s' x' 0 [] (sent_of sent) t' (finished plain here) e) in
       let over : to_treat (ldterm_in name s' x') ≡ 0 = ap to_treat e.state in
       let stage : leaves (stage_in x'.stage) ≡ 0 = ap (λ (q : ldterms.Ldterm ℕ). leaves q.stage) e.state in
+      let after = (between-after here from (bytes - left) between (omega arith) none).1 in
+      let same = ap (λ (q : ldterms.Ldterm ℕ). length (cells_left q)) r.does.state in
+      let few : 0 < left → least_free s' < STOP_BLOCKS = λ some. stays-few s1 s' STOP_BLOCKS (frees (omega arith)) (r.stops some) in
       treats-as (record { acts = record { notes = notes; sent = sent }; bytes = bytes - left; stopped = nat_lt 0 left; again = false }) _
       (ap (λ k. treats plain here k 0 from) stop ∙ treats-ended here from n (bytes - left) (omega arith) none)
       (subst (λ ns. Proceeds name s s' x x' (all_free s) ns (sent_of sent) t t' (one_after (ahead here n from) (finished plain here))) (append-nil notes.items) all)
-      refl refl (λ v. refl) (omega arith) (record { mblks = omega arith; dblks = omega arith })
+      refl refl (λ v. (few (lower 0 left v), refl)) (omega arith) (record { mblks = omega arith; dblks = omega arith })
     where
       at : (v : Bool) → nat_lt 0 left ≡ v → left ≤ bytes × (to_treat from ≡ bytes) → unwrap_or (stop_at v (bytes - left)) (to_treat from) ≡ bytes - left
       at true is both = refl

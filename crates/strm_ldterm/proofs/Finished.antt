@@ -20,7 +20,7 @@ use Rattle.strm_frame.specs.Hands.{once, AreIn, CanPut}
 use Rattle.strm_frame.specs.Outboxes.{message_in, times_sent}
 use Rattle.strm_frame.proofs.Handing.{one-parts, one-chains}
 use Rattle.strm_ldterm.specs.declared.ldterm.Ldterm.{Ldterm}
-use Rattle.strm_ldterm.specs.Stands.{ldterm_in, kept_in, cells_kept, times_kept, keeps, IsHeld, IsData, IsOrdinary}
+use Rattle.strm_ldterm.specs.Stands.{ldterm_in, kept_in, cells_kept, times_kept, keeps, IsHeld, IsData, IsOrdinary, IsGathered}
 use Rattle.strm_ldterm.specs.Does.{Alters, Proceeds}
 use Rattle.strm_ldterm.proofs.Flushed.{alters-none}
 use Rattle.strm_ldterm.proofs.Proceeding.{proceeds-alters}
@@ -99,11 +99,8 @@ module _ {M : Type 0} (name : M → ℕ) (s : StoreValue) (x : Ldterm M) (m : M)
     pub gathered-shown : cells_kept (kept_in name s x.gathered) ≡ cells_of (message_in s (name m))
     gathered-shown = ap (λ o. cells_kept (kept_in name s o)) there
 
-    pub gathered-is : IsHeld name s x → IsOrdinary s (name m)
-    gathered-is held = subst (λ o. IfSome o (λ y. IsOrdinary s (name y))) there held.gathers
-
-    pub gathered-can : AreIn s (λ _. 0) (keeps name x) → CanPut s (name m) (keeps name (record x { gathered = None }))
-    gathered-can kept = record { apart = λ j. let a = kept.apart j in let e = gathered-splits j in omega arith }
+    pub gathered-is : IsHeld name s x → IsGathered s (name m)
+    gathered-is held = subst (λ o. IfSome o (λ y. IsGathered s (name y))) there held.gathers
 
     pub gathered-held : IsHeld name s x → IsHeld name s (record x { gathered = None })
     gathered-held held = record {
@@ -117,12 +114,13 @@ module _ {M : Type 0} (name : M → ℕ) (s : StoreValue) (x : Ldterm M) (m : M)
     }
 
     -- it goes up
-    pub gathered-sent : (here to : Spot) (f : Fates) → IsHeld name s x → (length (cells_of (message_in s (name m))) ≡ 0 → ⊥) → to ≡ toward Up here
+    pub gathered-sent : (here to : Spot) (f : Fates) → IsHeld name s x → to ≡ toward Up here
         → Proceeds name s s x (record x { gathered = None }) 0 [] (record { to = to; message = m } ∷ []) f f (sends (gathered_up cells.plain here (cells_kept (kept_in name s x.gathered))) (record (ldterm_in name s x) { gathered = [] }))
     unfolding times_sent
-    gathered-sent here to f held some place =
+    gathered-sent here to f held place =
         let z : Sent M = record { to = to; message = m } in
-        let is = gathered-is held in
+        let is = (gathered-is held).are in
+        let some = (gathered-is held).some in
         record {
           state = refl;
           noted = refl;
@@ -130,7 +128,7 @@ module _ {M : Type 0} (name : M → ℕ) (s : StoreValue) (x : Ldterm M) (m : M)
               one-parts name s z (z ∷ []) refl
               ∙ ap (λ (spot : Spot). record { to = spot; message = message_in s (name m) } ∷ []) place
               ∙ ap (λ (w : Message ℕ). onward Up here w ∷ []) (ordinary-shown s (name m) is)
-              ∙ sym (ap (gathered_up cells.plain here) gathered-shown ∙ up-some here (cells_of (message_in s (name m))) some);
+              ∙ sym (ap (gathered_up cells.plain here) gathered-shown ∙ up-some here (cells_of (message_in s (name m))) (λ none. omega arith));
           told = refl;
           held = gathered-held held;
           own = record { lists = λ k none. refl; owns_same = λ k. refl };
@@ -154,14 +152,3 @@ module _ {M : Type 0} (name : M → ℕ) (s : StoreValue) (x : Ldterm M) (here :
   gathered-none there held =
       quiet s (record x { gathered = None }) (subst (λ o. Alters name s s x (record x { gathered = o })) there (alters-none name s x held)) refl
       (ap (λ o. length (cells_kept (kept_in name s o))) there)
-
-  -- or no bytes were
-  pub gathered-freed : (m : M) → x.gathered ≡ Some m → IsStore s → IsHeld name s x → AreIn s (λ _. 0) (keeps name x) → length (cells_of (message_in s (name m))) ≡ 0
-      → Proceeds name s (dropped s (name m)) x (record x { gathered = None }) 0 [] [] f f (sends (gathered_up cells.plain here (cells_kept (kept_in name s x.gathered))) (record (ldterm_in name s x) { gathered = [] }))
-  gathered-freed m there st held kept none =
-      let y = record x { gathered = None } in
-      let h = gathered-held name s x m there held in
-      let can = gathered-can name s x m there kept in
-      let splits = gathered-splits name s x m there in
-      quiet (dropped s (name m)) y (freed-alters name s x y (name m) st h can splits (λ k. refl)) (freed-plain name s x y (name m) st h can splits (λ k. refl))
-      (ap length (gathered-shown name s x m there) ∙ none)

@@ -1,12 +1,11 @@
--- A message in hand that is put on a queue, or back on it, frees no block. What is kept in hand has its bytes beside it still.
-use Rattle.std.proofs.Common.{ℕ, ◌≡◌, ◌<◌, ◌+◌, List, length, refl, sym, ap, subst, arith}
-use Rattle.std.specs.Prelude.{Option, None, Some, IfSome, sum_by}
-use Rattle.strm_types.specs.Message.{cells_of}
+-- A message in hand that is put on a queue, or back on it, frees no block.
+use Rattle.std.proofs.Common.{ℕ, ◌≡◌, ◌≤◌, ◌<◌, ◌+◌, List, length, refl, sym, subst, arith}
+use Rattle.std.proofs.Math.Nat.{le-min, min-le_left, min-le_right}
+use Rattle.std.specs.Prelude.{sum_by}
 use Rattle.strm_types.proofs.Ranked.{sum-put, sum-put_back}
-use Rattle.strm_blocks.specs.Blocks.{Block, StoreValue, IsInHand, list_at, in_hand, placed, dropped, put, put_back, rank_of, names_of, total}
+use Rattle.strm_blocks.specs.Blocks.{Block, StoreValue, IsInHand, list_at, in_hand, placed, dropped, put, put_back, rank_of, names_of, total, free_m, free_d}
 use Rattle.strm_blocks.proofs.Laws.{total-placed, total-dropped, used-is, references-is, free_m-is, free_d-more}
-use Rattle.strm_frame.specs.Outboxes.{message_in}
-use Rattle.strm_ldterm.specs.Stands.{kept_in, cells_kept}
+use Rattle.strm_frame.specs.Serves.{least_free}
 use Rattle.strm_ldterm.specs.Freeing.{FreesNone}
 
 pub none-freed : (s : StoreValue) → FreesNone s s
@@ -38,15 +37,12 @@ module _ (s : StoreValue) (k i : ℕ) (within : k < length s.lists) (is_in : IsI
   pub back-none : (new : StoreValue) → new ≡ placed (dropped s i) k (put_back (in_hand s i) (list_at s k)) → FreesNone s new
   back-none new is = subst (FreesNone s) (sym is) (gained (put_back (in_hand s i) (list_at s k)) (λ f. sum-put_back rank_of f (in_hand s i) (list_at s k)))
 
-module _ {M : Type 0} (name : M → ℕ) (s t : StoreValue) where
-  still : (o : Option M) → cells_kept (kept_in name t o) ≡ cells_kept (kept_in name s o)
-      → IfSome o (λ m. 0 < length (cells_of (message_in s (name m)))) → IfSome o (λ m. 0 < length (cells_of (message_in t (name m))))
-  still None same some = tt
-  still (Some m) same some = let e = ap length same in omega (arith, e, some)
-
-  -- a message that is kept in both has bytes beside the later store where it had some
-  pub bytes-stay : (o o' : Option M) → o' ≡ o → cells_kept (kept_in name t o') ≡ cells_kept (kept_in name s o)
-      → IfSome o (λ m. 0 < length (cells_of (message_in s (name m)))) → IfSome o' (λ m. 0 < length (cells_of (message_in t (name m))))
-  bytes-stay o o' there same some =
-      still o' (subst (λ p. cells_kept (kept_in name t o') ≡ cells_kept (kept_in name s p)) (sym there) same)
-      (subst (λ p. IfSome p (λ m. 0 < length (cells_of (message_in s (name m))))) (sym there) some)
+-- blocks that are few stay few
+pub stays-few : (s t : StoreValue) (n : ℕ) → FreesNone s t → least_free s < n → least_free t < n
+stays-few s t n none few =
+    let m = none.0 in
+    let d = none.1 in
+    let one = min-le_left (free_m t) (free_d t) in
+    let other = min-le_right (free_m t) (free_d t) in
+    let low : least_free t ≤ least_free s = le-min (omega arith) (omega arith) in
+    omega arith

@@ -1,5 +1,5 @@
 -- Bytes that are gathered, in a message that is kept in hand: a new one, or one that grows.
-use Rattle.std.proofs.Common.{ℕ, ◌≡◌, ◌≢◌, ◌<◌, ◌+◌, eqb, cond, List, [], ◌++◌, refl, sym, ap, subst, ◌∙◌, arith}
+use Rattle.std.proofs.Common.{ℕ, ◌≡◌, ◌≢◌, ◌<◌, ◌+◌, eqb, cond, List, [], ◌++◌, length, length-append, refl, sym, ap, subst, ◌∙◌, arith}
 use Rattle.std.specs.Prelude.{None, Some}
 use Rattle.std.proofs.lemmas.List.Sums.{sum_by-cons}
 use Rattle.strm_types.specs.declared.rules.Fates.{Fates}
@@ -13,7 +13,7 @@ use Rattle.strm_frame.specs.Hands.{once, AreIn}
 use Rattle.strm_frame.specs.Outboxes.{message_in, times_sent, parcels_in, AreChains}
 use Rattle.strm_frame.proofs.Handing.{once-self}
 use Rattle.strm_ldterm.specs.declared.ldterm.Ldterm.{Ldterm}
-use Rattle.strm_ldterm.specs.Stands.{ldterm_in, times_kept, keeps, IsHeld, IsOrdinary}
+use Rattle.strm_ldterm.specs.Stands.{ldterm_in, times_kept, keeps, IsHeld, IsGathered}
 use Rattle.strm_ldterm.specs.Does.{Proceeds}
 use Rattle.strm_ldterm.specs.Frames.{ldterm-frame}
 use Rattle.strm_ldterm.specs.Grown.{Grown, Begins}
@@ -30,7 +30,7 @@ data-cells m bytes is = ap cells_of is
 module _ {M : Type 0} (name : M → ℕ) where
   -- a new message
   module _ (s t : StoreValue) (x : Ldterm M) (m : M) (bytes : List ℕ) (f : Fates) (st : IsStore t) (held : IsHeld name s (record x { gathered = None })) (can : AreIn s (λ _. 0) (keeps name (record x { gathered = None })))
-      (is : Begins s t (name m) bytes 1) where
+      (some : 0 < length bytes) (is : Begins s t (name m) bytes 1) where
     fresh-apart : (j : ℕ) → 0 < times_in j s.hand → name m ≢ j
     fresh-apart j some e = let w = ap (λ k. times_in k s.hand) e in let z = is.fresh in absurd (omega arith)
 
@@ -64,7 +64,7 @@ module _ {M : Type 0} (name : M → ℕ) where
             write = h.write;
             apart = h.apart;
             work = h.work;
-            gathers = is.are;
+            gathers = record { are = is.are; some = (let e = ap length (data-cells (message_in t (name m)) bytes is.shows) in omega arith) };
             echoes = h.echoes;
             once_each = λ i. let a = can.apart i in let c = new-comes i in let few = st.apart i in omega arith;
           });
@@ -111,8 +111,11 @@ module _ {M : Type 0} (name : M → ℕ) where
       kept = λ j some. other-stays j (kept-apart j some);
     }) without-held
 
-    grown-ordinary : IsOrdinary t (name e)
-    grown-ordinary = record { are = is.are; band = is.band ∙ held.gathers.band }
+    grown-is : IsGathered t (name e)
+    grown-is = record {
+      are = record { are = is.are; band = is.band ∙ held.gathers.are.band };
+      some = (let more = ap length is.cells in let both = length-append (cells_of (message_in s (name e))) bytes in let some = held.gathers.some in omega arith);
+    }
 
     kept-none : (j : ℕ) → keeps name (record x { gathered = Some e }) j ≡ 0 → name e ≢ j
     unfolding times_kept
@@ -135,7 +138,7 @@ module _ {M : Type 0} (name : M → ℕ) where
             write = h.write;
             apart = h.apart;
             work = h.work;
-            gathers = subst (IsOrdinary t) (sym same) grown-ordinary;
+            gathers = subst (IsGathered t) (sym same) grown-is;
             echoes = h.echoes;
             once_each = λ i. let few = held.once_each i in let w = ap (λ k. once k i) same in omega arith;
           });

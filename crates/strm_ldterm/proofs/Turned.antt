@@ -60,7 +60,7 @@ module _ {M : Type 0} (name : M → ℕ) (s s' : StoreValue) (here : Spot) (x x'
             (subst (λ (o : Outbox M). Proceeds name s s' x x' (all_free s) [] (sent_of o) t t v.acted) (sym same-sent) (takes-any name s s' x x' 0 [] (sent_of sent) t t v.acted a)));
         bytes = same-bytes ∙ size ∙ sym (ap (λ (w : Serving ℕ (ldterms.Ldterm ℕ)). w.bytes) whole);
         again_is = ends ∙ sym over ∙ sym (ap (λ (w : Serving ℕ (ldterms.Ldterm ℕ)). w.again) whole);
-        stops = λ e. ends;
+        stops = λ e. absurd (false≢true (sym goes-on ∙ e));
         room = λ e. absurd (false≢true (sym ends ∙ e));
       }
 

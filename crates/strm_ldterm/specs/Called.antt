@@ -53,12 +53,13 @@ module _ {M : Type 0} (name : M → ℕ) (old new : StoreValue) (here : Spot) (x
   abbrev pub treated_by : Option ℕ → Serving ℕ (ldterms.Ldterm ℕ)
   treated_by stop = let p = ldterm_in name old x in treats plain here (unwrap_or stop (to_treat p)) 0 p
 
-  -- A call did what the definition says, and a call that stopped isn't called again. What it leaves of a byte has blocks enough.
+  -- A call did what the definition says. Behind one that stopped fewer blocks of some kind are free than a byte may take, and it isn't called
+  -- again. What it leaves of a byte has blocks enough.
   pub record TreatsAs (served : Served M) (t t' : Fates) : Type 0 where
     pub does : Proceeds name old new x x' (all_free old) served.acts.notes.items (sent_of served.acts.sent) t t' (treated_by (stop_of served)).acted
     pub bytes : served.bytes ≡ (treated_by (stop_of served)).bytes
     pub again : served.again ≡ (treated_by (stop_of served)).again
-    pub stops : served.stopped ≡ true → served.again ≡ false
+    pub stops : served.stopped ≡ true → (least_free new < STOP_BLOCKS) × (served.again ≡ false)
     pub less : to_treat (ldterm_in name new x') ≤ to_treat (ldterm_in name old x)
     pub room : HasRoom new (leaves (stage_in x'.stage))
 
@@ -66,13 +67,13 @@ module _ {M : Type 0} (name : M → ℕ) (old new : StoreValue) (here : Spot) (x
   abbrev pub served_by : Bool → Option ℕ → Serving ℕ (ldterms.Ldterm ℕ)
   served_by again stop = ldterm_serves plain here 0 again stop (ldterm_in name old x)
 
-  -- A call of the service procedure of a queue did what the definition says. One that stopped isn't called again, and one that is called again
-  -- leaves blocks enough for the rest of the byte, and for what it has sent.
+  -- A call of the service procedure of a queue did what the definition says. Behind one that stopped fewer blocks of some kind are free than a
+  -- byte may take, and it isn't called again. One that is called again leaves blocks enough for the rest of the byte, and for what it has sent.
   pub record ServesAs (again : Bool) (served : Served M) (t t' : Fates) : Type 0 where
     pub does : Proceeds name old new x x' (all_free old) served.acts.notes.items (sent_of served.acts.sent) t t' (served_by again (stop_of served)).acted
     pub bytes : served.bytes ≡ (served_by again (stop_of served)).bytes
     pub again_is : served.again ≡ (served_by again (stop_of served)).again
-    pub stops : served.stopped ≡ true → served.again ≡ false
+    pub stops : served.stopped ≡ true → (least_free new < STOP_BLOCKS) × (served.again ≡ false)
     pub room : served.again ≡ true → HasRoom new (leaves (stage_in x'.stage))
 
 module _ {M : Type 0} (name : M → ℕ) where

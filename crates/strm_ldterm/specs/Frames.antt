@@ -1,10 +1,10 @@
 -- The module stands for the same where its own lists are the same, and so are the messages that it keeps in hand.
-use Rattle.std.specs.Prelude.{ℕ, ◌≡◌, ◌<◌, ◌++◌, List, map, Option, None, Some, IfSome, is_some}
+use Rattle.std.specs.Prelude.{ℕ, ◌≡◌, ◌<◌, ◌++◌, List, length, map, Option, None, Some, IfSome, is_some}
 use Rattle.std.specs.Option.{option_to_list}
 use Rattle.std.proofs.Common.{eqb, cond, true, refl, sym, ap, subst, ◌∙◌, arith}
 use Rattle.std.proofs.lemmas.Bool.Decides.{nat_tests}
 use Rattle.strm_types.specs.Ldterms as plain
-use Rattle.strm_types.specs.Message.{Message}
+use Rattle.strm_types.specs.Message.{Message, cells_of}
 use Rattle.strm_blocks.specs.Blocks.{Block, StoreValue, in_hand, list_at, block_at}
 use Rattle.strm_msg.specs.Messages.{message_of, AreMessages, IsChain}
 use Rattle.strm_queue.specs.declared.queue.Queue.{Queue}
@@ -13,7 +13,7 @@ use Rattle.strm_queue.specs.Kept.{AreCounted}
 use Rattle.strm_queue.specs.Stored.{IsReady}
 use Rattle.strm_frame.specs.Hands.{once, SameOwn}
 use Rattle.strm_ldterm.specs.declared.ldterm.Ldterm.{Ldterm}
-use Rattle.strm_ldterm.specs.Stands.{stage_in, cells_kept, IsData, IsOrdinary, owns, times_kept, kept_in, keeps, ldterm_in, IsHeld}
+use Rattle.strm_ldterm.specs.Stands.{stage_in, cells_kept, IsData, IsOrdinary, IsGathered, owns, times_kept, kept_in, keeps, ldterm_in, IsHeld}
 
 name-once : (i : ℕ) → once i i ≡ 1
 unfolding once
@@ -25,6 +25,9 @@ data-same s t i same is = record { chain = subst IsChain (sym same) is.chain; ki
 
 pub ordinary-same : (s t : StoreValue) (i : ℕ) → in_hand t i ≡ in_hand s i → IsOrdinary s i → IsOrdinary t i
 ordinary-same s t i same is = record { are = data-same s t i same is.are; band = ap (λ c. (block_at 0 c).band) same ∙ is.band }
+
+pub gathered-same : (s t : StoreValue) (i : ℕ) → in_hand t i ≡ in_hand s i → IsGathered s i → IsGathered t i
+gathered-same s t i same is = record { are = ordinary-same s t i same is.are; some = subst (λ c. 0 < length (cells_of (message_of c))) (sym same) is.some }
 
 pub list-ready : (s t : StoreValue) (q : Queue) → list_at t q.list ≡ list_at s q.list → IsReady s q → IsReady t q
 list-ready s t q same ready = record { messages = subst AreMessages (sym same) ready.messages; counted = subst (AreCounted q.flows) (sym same) ready.counted }
@@ -82,7 +85,7 @@ module _ {M : Type 0} (name : M → ℕ) where
           write = list-ready s t x.write_queue writes held.write;
           apart = held.apart;
           work = each-same s t IsData (data-same s t) x.in_work work held.work;
-          gathers = each-same s t IsOrdinary (ordinary-same s t) x.gathered gathers held.gathers;
+          gathers = each-same s t IsGathered (gathered-same s t) x.gathered gathers held.gathers;
           echoes = each-same s t IsOrdinary (ordinary-same s t) x.echo echo held.echoes;
           once_each = held.once_each;
         },

@@ -3,6 +3,7 @@ pub mod Stands
 pub mod Calls
 pub mod Does
 pub mod Frames
+pub mod Resting
 pub mod Relieved
 pub mod Turns
 pub mod Sending

@@ -1,5 +1,5 @@
 -- What the module ldterm stands for beside a store, and what holds of both.
-use Rattle.std.specs.Prelude.{ℕ, ◌≡◌, ◌≢◌, ◌≤◌, ◌+◌, List, [], ◌++◌, Option, None, Some, is_some, IfSome}
+use Rattle.std.specs.Prelude.{ℕ, ◌≡◌, ◌≢◌, ◌≤◌, ◌<◌, ◌+◌, List, [], ◌++◌, length, Option, None, Some, is_some, IfSome}
 use Rattle.std.specs.Option.{option_to_list}
 use Rattle.strm_types.specs.declared.kinds.MsgKind.TheVariants as kinds
 use Rattle.strm_types.specs.Ldterms as plain
@@ -39,6 +39,11 @@ pub record IsOrdinary (s : StoreValue) (i : ℕ) : Type 0 where
   pub are : IsData s i
   pub band : (block_at 0 (in_hand s i)).band ≡ 0
 
+-- and of a byte at least
+pub record IsGathered (s : StoreValue) (i : ℕ) : Type 0 where
+  pub are : IsOrdinary s i
+  pub some : 0 < length (cells_of (message_in s i))
+
 -- 1 for each list that is its own
 abbrev pub owns : {M : Type 0} → Ldterm M → ℕ → ℕ
 owns x k = once x.read_queue.list k + once x.write_queue.list k
@@ -75,12 +80,12 @@ module _ {M : Type 0} (name : M → ℕ) where
   }
 
   -- Its queues are ready, each on a list of its own. The message in work is M_DATA, what is gathered and the turn's echo are M_DATA
-  -- of band 0, and each of them is another message.
+  -- of band 0, what is gathered has bytes, and each of them is another message.
   pub record IsHeld (s : StoreValue) (x : Ldterm M) : Type 0 where
     pub read : IsReady s x.read_queue
     pub write : IsReady s x.write_queue
     pub apart : x.read_queue.list ≢ x.write_queue.list
     pub work : IfSome x.in_work (λ m. IsData s (name m))
-    pub gathers : IfSome x.gathered (λ m. IsOrdinary s (name m))
+    pub gathers : IfSome x.gathered (λ m. IsGathered s (name m))
     pub echoes : IfSome x.echo (λ m. IsOrdinary s (name m))
     pub once_each : (i : ℕ) → keeps x i ≤ 1

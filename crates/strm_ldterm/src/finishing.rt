@@ -1,20 +1,19 @@
 //! The end of a call of the read queue's service procedure (ldterm(7M); srv(9E); putbq(9F)).
 
-ghost use Rattle.std.specs.Prelude.{◌≡◌, ◌≤◌, ◌<◌, length, IfSome, None, []};
+ghost use Rattle.std.specs.Prelude.{◌≡◌, ◌≤◌, ◌<◌, length, None, []};
 ghost use Rattle.std.specs.Option.{option_to_list};
 ghost use Rattle.strm_types.specs.declared.rules.Fates.{Fates};
 ghost use Rattle.strm_types.specs.declared.limits.TheConstants.{MODULES};
 ghost use Rattle.strm_types.specs.Cells.{plain};
 ghost use Rattle.strm_types.specs.Input.{back_on, cells_left, finished};
 ghost use Rattle.strm_types.specs.Ldterms.{sends};
-ghost use Rattle.strm_types.specs.Message.{cells_of};
 ghost use Rattle.strm_types.specs.Queue.{put_back};
 ghost use Rattle.strm_types.specs.Typing.{gathered_up};
-ghost use Rattle.strm_blocks.specs.Blocks.{IsInHand, in_hand, dropped, free_m, free_d};
+ghost use Rattle.strm_blocks.specs.Blocks.{IsInHand, in_hand, dropped};
 ghost use Rattle.strm_msg.specs.Messages.{message_of, IsChain};
 ghost use Rattle.strm_queue.specs.Stored.{queue_in, IsReady, Changes, FreesBlocks};
 ghost use Rattle.strm_frame.specs.Hands.{AreIn};
-ghost use Rattle.strm_frame.specs.Outboxes.{message_in, sent_of};
+ghost use Rattle.strm_frame.specs.Outboxes.{sent_of};
 ghost use Rattle.strm_ldterm.specs.Stands.{ldterm_in, keeps, IsHeld};
 ghost use Rattle.strm_ldterm.specs.Does.{Alters, Proceeds};
 ghost use Rattle.strm_ldterm.specs.Freeing.{FreesNone};
@@ -51,7 +50,6 @@ fn return_work<B: Blocks>(ldterm: &mut Ldterm<B::Mp>, store: &mut B)
     ensures alters { Alters B.name (B.value store.old) (B.value store.new) ldterm.old ldterm.new }
     ensures blocks { 0 < length (cells_left (ldterm_in B.name (B.value store.old) ldterm.old)) →
         FreesNone (B.value store.old) (B.value store.new) }
-    ensures gathered { ldterm.new.gathered ≡ ldterm.old.gathered }
 {
     let Some(message) = ldterm.in_work.take() else {
         return;
@@ -64,30 +62,23 @@ fn return_work<B: Blocks>(ldterm: &mut Ldterm<B::Mp>, store: &mut B)
     put_back(store, &mut ldterm.read_queue, message);
 }
 
-/// What was gathered goes up as one message, where there is any. A message without a byte is freed; one with bytes frees no block.
+/// What was gathered goes up as one message, where there is any.
 pub(crate) fn send_gathered<B: Blocks>(
     ldterm: &mut Ldterm<B::Mp>,
-    store: &mut B,
+    store: &B,
     here: Spot,
 ) -> Option<Sent<B::Mp>>
-    requires held { IsHeld B.name (B.value store.old) ldterm.old }
-    requires kept { AreIn (B.value store.old) (λ _. 0) (keeps B.name ldterm.old) }
+    requires held { IsHeld B.name (B.value store.now) ldterm.old }
     requires inside { 0 < here.at }
     requires small { here.at ≤ MODULES }
-    ensures did { (f : Fates) → let s = B.value store.old in let p = ldterm_in B.name s ldterm.old in
-        Proceeds B.name s (B.value store.new) ldterm.old ldterm.new 0 [] (option_to_list result) f f
+    ensures { (f : Fates) → let s = B.value store.now in let p = ldterm_in B.name s ldterm.old in
+        Proceeds B.name s s ldterm.old ldterm.new 0 [] (option_to_list result) f f
         (sends (gathered_up plain here p.gathered) (record p { gathered = [] })) }
-    ensures blocks { IfSome ldterm.old.gathered (λ m. 0 < length (cells_of (message_in (B.value store.old) (B.name m)))) →
-        FreesNone (B.value store.old) (B.value store.new) }
 {
+    let _ = store;
     let Some(message) = ldterm.gathered.take() else {
         return None;
     };
-    store.audit();
-    if booked_size(store, &message) == 0 {
-        store.free(message);
-        return None;
-    }
     Some(Sent {
         to: here.toward(Way::Up),
         message,
@@ -96,8 +87,8 @@ pub(crate) fn send_gathered<B: Blocks>(
 
 /// Ends a call of the service procedure of the read queue. The turn's echo stands on the write queue as any other message from then
 /// on, what is left of the message in work goes back to the front of its queue, and what was gathered goes up as one M_DATA. It takes no
-/// block, and frees none where bytes of the message in work are left and a message that was gathered has bytes. The cost is a step for
-/// each block of these messages, and for each message of a higher rank on the read queue.
+/// block, and frees none where bytes of the message in work are left. The cost is a step for each block of these messages, and for each
+/// message of a higher rank on the read queue.
 pub(crate) fn finish<B: Blocks>(
     ldterm: &mut Ldterm<B::Mp>,
     store: &mut B,
@@ -111,8 +102,7 @@ pub(crate) fn finish<B: Blocks>(
         Proceeds B.name s (B.value store.new) ldterm.old ldterm.new 0 [] (sent_of result) f f
         (finished plain here (ldterm_in B.name s ldterm.old)) }
     ensures blocks { 0 < length (cells_left (ldterm_in B.name (B.value store.old) ldterm.old)) →
-        IfSome ldterm.old.gathered (λ m. 0 < length (cells_of (message_in (B.value store.old) (B.name m)))) →
-        (free_m (B.value store.new) ≤ free_m (B.value store.old)) × (free_d (B.value store.new) ≤ free_d (B.value store.old)) }
+        FreesNone (B.value store.old) (B.value store.new) }
 {
     settle_echo(ldterm, store);
     return_work(ldterm, store);

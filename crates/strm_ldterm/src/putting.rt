@@ -65,7 +65,6 @@ pub(crate) fn settle_echo<B: Blocks>(ldterm: &mut Ldterm<B::Mp>, store: &mut B)
         ≡ record (ldterm_in B.name (B.value store.old) ldterm.old) { echoing = false } }
     ensures alters { Alters B.name (B.value store.old) (B.value store.new) ldterm.old ldterm.new }
     ensures blocks { FreesNone (B.value store.old) (B.value store.new) }
-    ensures gathered { ldterm.new.gathered ≡ ldterm.old.gathered }
 {
     let Some(echo) = ldterm.echo.take() else {
         return;

@@ -1,7 +1,7 @@
 //! Keys that send nothing: what they do to the unfinished line, and bytes that are gathered where no lines are made (termio(7I):
 //! "Canonical Mode Input Processing", "Non-Canonical Mode Input Processing", "Special Characters").
 
-ghost use Rattle.std.specs.Prelude.{ℕ, ◌≡◌, ◌≤◌, ◌∷◌, ◌++◌, List, [], true, length};
+ghost use Rattle.std.specs.Prelude.{ℕ, ◌≡◌, ◌≤◌, ◌<◌, ◌∷◌, ◌++◌, List, [], true, length};
 ghost use Rattle.strm_types.specs.declared.rules.Rule.TheVariants.{EraseKey, Erased, Killed};
 ghost use Rattle.strm_types.specs.Cells.{plain};
 ghost use Rattle.strm_types.specs.Deliver.{tallied};
@@ -116,11 +116,12 @@ fn add_to_line<Mp: Drop>(ldterm: &mut Ldterm<Mp>, here: Spot, byte: u8, told: &m
     ldterm.line.clear();
 }
 
-/// Bytes that are typed where no lines are made wait to go up together, behind those that wait already. At most 256 come at a time, and
-/// they take one block of each kind at most.
+/// Bytes that are typed where no lines are made wait to go up together, behind those that wait already. At least one comes at a time and at
+/// most 256, and they take one block of each kind at most.
 pub(crate) fn gather<B: Blocks>(ldterm: &mut Ldterm<B::Mp>, store: &mut B, bytes: &[u8])
     requires held { IsHeld B.name (B.value store.old) ldterm.old }
     requires kept { AreIn (B.value store.old) (λ _. 0) (keeps B.name ldterm.old) }
+    requires some { 0 < length bytes.now }
     requires few { length bytes.now ≤ 256 }
     requires room { HasRoom (B.value store.old) 1 }
     ensures { (f : Fates) → let s = B.value store.old in let p = ldterm_in B.name s ldterm.old in

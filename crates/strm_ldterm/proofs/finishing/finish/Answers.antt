@@ -8,10 +8,10 @@ use Rattle.strm_types.specs.Ldterms as ldterms
 use Rattle.strm_types.specs.Ldterms.{sends}
 use Rattle.strm_types.specs.Typing.{gathered_up}
 use Rattle.strm_ldterm.specs.declared.ldterm.Stage.TheVariants.{Between}
-use Rattle.strm_ldterm.specs.Stands.{ldterm_in, kept_in, cells_kept}
+use Rattle.strm_ldterm.specs.Stands.{ldterm_in}
 use Rattle.strm_ldterm.specs.Does.{Proceeds}
 use Rattle.strm_ldterm.proofs.Flushed.{alters-both, kept-still}
-use Rattle.strm_ldterm.proofs.Freeing.{none-freed-both, bytes-stay}
+use Rattle.strm_ldterm.proofs.Freeing.{none-freed-both}
 use Rattle.strm_ldterm.proofs.Proceeding.{proceeds-alters, proceeds-both, proceeds-staged}
 use Rattle.strm_ldterm.proofs.finishing.finish.Goals as goal
 
@@ -19,24 +19,12 @@ pub return_work-requires-clause-kept : goal.return_work-requires-clause-kept
 return_work-requires-clause-kept g c =
     kept-still g.B.Blocks.name (g.B.Blocks.value c.args.store.now) (g.B.Blocks.value c.settle_echo.new.store) c.args.ldterm.now c.settle_echo.new.ldterm c.settle_echo.ensures.alters c.requires.kept
 
-pub send_gathered-first-requires-clause-kept : goal.send_gathered-first-requires-clause-kept
-send_gathered-first-requires-clause-kept g c =
-    let name = g.B.Blocks.name in
-    let s = g.B.Blocks.value c.args.store.now in
-    let t = g.B.Blocks.value c.settle_echo.new.store in
-    let u = g.B.Blocks.value c.return_work.new.store in
-    let x = c.args.ldterm.now in
-    let y = c.settle_echo.new.ldterm in
-    let z = c.return_work.new.ldterm in
-    kept-still name s u x z (alters-both name s t u x y z c.settle_echo.ensures.alters c.return_work.ensures.alters) c.requires.kept
-
 pub returns-clause-did : goal.returns-clause-did
 returns-clause-did g c = λ f.
     let name = g.B.Blocks.name in
     let s = g.B.Blocks.value c.args.store.now in
     let t = g.B.Blocks.value c.settle_echo.new.store in
     let u = g.B.Blocks.value c.return_work.new.store in
-    let v = g.B.Blocks.value c.send_gathered-first.new.store in
     let x = c.args.ldterm.now in
     let y = c.settle_echo.new.ldterm in
     let z = c.return_work.new.ldterm in
@@ -46,25 +34,15 @@ returns-clause-did g c = λ f.
     let q : ldterms.Ldterm ℕ = record p { echoing = false; in_work = None; read_queue = back_on p.in_work p.read_queue } in
     let alters = alters-both name s t u x y z c.settle_echo.ensures.alters c.return_work.ensures.alters in
     let is = c.return_work.ensures.state ∙ ap (λ (r : ldterms.Ldterm ℕ). record r { in_work = None; read_queue = back_on r.in_work r.read_queue }) c.settle_echo.ensures.state in
-    subst (λ l. Proceeds name s v x (record w { stage = Between }) 0 [] l f f (finished plain c.args.here p)) (sym (append-nil sent))
-    (proceeds-staged name s v x w 0 sent f f _ Between
-    (proceeds-both name s u v x z w 0 0 [] sent f f f (sends [] q) (λ r. sends (gathered_up plain c.args.here r.gathered) (record r { gathered = [] })) c.audit.ensures c.requires.kept
-    (proceeds-alters name s u x z f q alters is) (c.send_gathered-first.ensures.did f)))
+    subst (λ l. Proceeds name s u x (record w { stage = Between }) 0 [] l f f (finished plain c.args.here p)) (sym (append-nil sent))
+    (proceeds-staged name s u x w 0 sent f f _ Between
+    (proceeds-both name s u u x z w 0 0 [] sent f f f (sends [] q) (λ r. sends (gathered_up plain c.args.here r.gathered) (record r { gathered = [] })) c.audit.ensures c.requires.kept
+    (proceeds-alters name s u x z f q alters is) (c.send_gathered-first.ensures f)))
 
 pub returns-clause-blocks : goal.returns-clause-blocks
-returns-clause-blocks g c = λ left some.
-    let name = g.B.Blocks.name in
+returns-clause-blocks g c = λ left.
     let s = g.B.Blocks.value c.args.store.now in
     let t = g.B.Blocks.value c.settle_echo.new.store in
     let u = g.B.Blocks.value c.return_work.new.store in
-    let v = g.B.Blocks.value c.send_gathered-first.new.store in
-    let x = c.args.ldterm.now in
-    let z = c.return_work.new.ldterm in
-    let echo = c.settle_echo.ensures.state in
-    let work = c.return_work.ensures.blocks (subst (λ (r : ldterms.Ldterm ℕ). 0 < length (cells_left r)) (sym echo) left) in
-    let there : z.gathered ≡ x.gathered = c.return_work.ensures.gathered ∙ c.settle_echo.ensures.gathered in
-    let bytes : cells_kept (kept_in name u z.gathered) ≡ cells_kept (kept_in name s x.gathered) =
-    ap (λ (r : ldterms.Ldterm ℕ). r.gathered) c.return_work.ensures.state ∙ ap (λ (r : ldterms.Ldterm ℕ). r.gathered) echo
-    in
-    none-freed-both s u v (none-freed-both s t u c.settle_echo.ensures.blocks work)
-    (c.send_gathered-first.ensures.blocks (bytes-stay name s u x.gathered z.gathered there bytes some))
+    none-freed-both s t u c.settle_echo.ensures.blocks
+    (c.return_work.ensures.blocks (subst (λ (r : ldterms.Ldterm ℕ). 0 < length (cells_left r)) (sym c.settle_echo.ensures.state) left))

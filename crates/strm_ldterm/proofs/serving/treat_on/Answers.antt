@@ -14,7 +14,7 @@ pub returns-in-Out-clause-does : goal.returns-in-Out-clause-does
 returns-in-Out-clause-does g c =
     out-treats g.B.Blocks.name (g.B.Blocks.value c.args.store.now) (g.B.Blocks.value c.finish-sent.new.store) c.args.here c.args.ldterm.now c.finish-sent.new.ldterm c.args.told.now c.treat_bytes.new.told c.work_left-bytes.result c.in-Out.left
     c.in-Out.notes c.finish-sent.result (g.B.Blocks.value c.treat_bytes.new.store) c.treat_bytes.new.ldterm c.treat_bytes.new.told c.audit.ensures c.requires.stage c.work_left-bytes.ensures.bytes c.in-Out.ensures
-    (c.finish-sent.ensures.did c.treat_bytes.new.told)
+    (c.finish-sent.ensures.did c.treat_bytes.new.told) c.finish-sent.ensures.blocks
 
 pub returns-in-Into-clause-noted : goal.returns-in-Into-clause-noted
 returns-in-Into-clause-noted g c =

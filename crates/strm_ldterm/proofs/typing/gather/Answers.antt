@@ -20,7 +20,7 @@ returns-in-None g c = λ f.
     let held = subst (λ o. IsHeld name s (record x { gathered = o })) none c.requires.held in
     let can = subst (λ o. AreIn s (λ _. 0) (keeps name (record x { gathered = o }))) none c.requires.kept in
     subst (λ o. Proceeds name s t (record x { gathered = o }) (record x { gathered = Some m }) 1 [] [] f f (sends [] (record (ldterm_in name s (record x { gathered = o })) { gathered = cells_kept (kept_in name s o) ++ bytes }))) (sym none)
-    (new-gathered name s t x m bytes f c.audit.ensures held can c.begin-first.ensures)
+    (new-gathered name s t x m bytes f c.audit.ensures held can c.requires.some c.begin-first.ensures)
 
 pub returns-in-Some : goal.returns-in-Some
 returns-in-Some g c = λ f.
