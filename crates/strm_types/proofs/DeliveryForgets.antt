@@ -5,7 +5,7 @@ use Rattle.strm_types.specs.declared.spots.Spot.{Spot}
 use Rattle.strm_types.specs.Deliver.{Parcel, Took, Carried, in_turn, carried}
 use Rattle.strm_types.specs.Origins.{map_parcel, map_fate, map_carried, PutsAgree, CarriesAgree}
 
-map-join : {A B : Type 0} (h : A → B) (xs ys : List A) → map h (xs ++ ys) ≡ map h xs ++ map h ys
+pub map-join : {A B : Type 0} (h : A → B) (xs ys : List A) → map h (xs ++ ys) ≡ map h xs ++ map h ys
 map-join h [] ys = refl
 map-join h (x ∷ xs) ys = ap (λ zs. h x ∷ zs) (map-join h xs ys)
 

@@ -42,7 +42,7 @@ module _ {C D : Type 0} (f : C → D) where
   unfolding size_of
   size-forgets m = omega (arith, ap length (cells-forget m), length-map (cells_of m) f, plain-forgets m)
 
-  data-forgets : (cells : List C) → map_message f (data_message cells) ≡ data_message (map f cells)
+  pub data-forgets : (cells : List C) → map_message f (data_message cells) ≡ data_message (map f cells)
   unfolding map_message data_message
   data-forgets cells = refl
 

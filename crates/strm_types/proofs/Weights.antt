@@ -29,7 +29,7 @@ module _ {C : Type 0} (p : C → Bool) where
   count-join = sum_by-append (λ x. cond (p x) 1 0)
 
   -- the cells that a chunk and the chunks behind it take are the first ones
-  first-cells : (cells : List C) (more : ℕ) → count_by p (take (length (take 256 cells) + more) cells) ≡ count_by p (take 256 cells) + count_by p (take more (drop 256 cells))
+  pub first-cells : (cells : List C) (more : ℕ) → count_by p (take (length (take 256 cells) + more) cells) ≡ count_by p (take 256 cells) + count_by p (take more (drop 256 cells))
   first-cells cells more =
       ap (λ xs. count_by p (take (length (take 256 cells) + more) xs)) (sym (take-append-drop 256 cells))
       ∙ ap (λ xs. count_by p xs) (take-append-add (take 256 cells) (drop 256 cells) more)

@@ -9,6 +9,7 @@ pub mod State
 pub mod Flush
 pub mod Head
 pub mod Write
+pub mod Writes
 pub mod Rules
 pub mod Deliver
 pub mod Reads

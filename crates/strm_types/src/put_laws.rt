@@ -2,7 +2,7 @@
 //! drivers, and at places where nothing stands. Each law is the contract of a function that does nothing, and holds of bytes and
 //! of bytes with their origin alike.
 
-ghost use Rattle.std.specs.Prelude.{◌≡◌, ◌<◌, ◌≤◌, Bool, true, false};
+ghost use Rattle.std.specs.Prelude.{◌≡◌, ◌<◌, ◌≤◌, ◌+◌, Bool, List, count_by, map, take, true, false};
 ghost use Rattle.strm_types.specs.declared.limits.TheConstants.{HOPS};
 ghost use Rattle.strm_types.specs.declared.names.Side.{Side};
 ghost use Rattle.strm_types.specs.declared.names.Way.TheVariants.{Down};
@@ -15,11 +15,12 @@ ghost use Rattle.strm_types.specs.Kept.{NothingUnread, state_weight};
 ghost use Rattle.strm_types.specs.Message.{Message, has_parts};
 ghost use Rattle.strm_types.specs.Names.{is_closed};
 ghost use Rattle.strm_types.specs.Origins.{PutsAgree};
-ghost use Rattle.strm_types.specs.Places.{PutKeeps, weight_made};
-ghost use Rattle.strm_types.specs.PutEffect.{put_effect};
+ghost use Rattle.strm_types.specs.Places.{PutKeeps, weight_gone, weight_made};
+ghost use Rattle.strm_types.specs.PutEffect.{put_effect, write_effect};
 ghost use Rattle.strm_types.specs.Puts.{SameEnds, delivered, far, put_in};
 ghost use Rattle.strm_types.specs.Queue.{Queue};
 ghost use Rattle.strm_types.specs.State.{Head, State, map_state};
+ghost use Rattle.strm_types.specs.Writes.{cells_sent, chunks_sent, map_wrote};
 
 /// What a put sends on has less before it than what was put, wherever that was; and from the places of a stream, of which the
 /// driver's is the fourth below the head, no message has more before it than a delivery hands on.
@@ -59,4 +60,25 @@ pub fn deliveries_leave_the_ends<C>()
 pub fn puts_stand_at_the_driver<C>()
     ensures { (side : Side) (m : Message C) (s : State C) → has_parts m ≡ true → is_closed s.master.opened ≡ false →
         delivered (record { side = side; at = 1; way = Down }) m s ≡ put_effect side m s }
+{}
+
+/// Chunks of a write that are delivered one after the other lose no cell, and make none but what is told: of any cells, those stand
+/// on the queues or have gone by a rule that stood there before, were taken, or were made.
+pub fn writes_keep_cells<C>()
+    ensures { (p : C → Bool) (side : Side) (cells : List C) (s : State C) → let t = cells_sent side cells s in
+        state_weight p t.state + weight_gone p t.gone ≡
+        state_weight p s + (count_by p (take t.taken cells) + weight_made p t.gone) }
+{}
+
+/// They do the same to cells and to what these are mapped to.
+pub fn writes_forget_origins<C, D>()
+    ensures { (f : C → D) (side : Side) (cells : List C) (s : State C) →
+        cells_sent side (map f cells) (map_state f s) ≡ map_wrote f (cells_sent side cells s) }
+{}
+
+/// Where no module stands on a stream, the chunks of a write are put on the driver's queue one after the other, while its band 0 isn't
+/// full, and enable it as putq(9F) has it. Its premise is that the master isn't closed.
+pub fn writes_stand_at_the_driver<C>()
+    ensures { (side : Side) (chunks : List (List C)) (s : State C) → is_closed s.master.opened ≡ false →
+        chunks_sent side chunks s ≡ write_effect side chunks s }
 {}

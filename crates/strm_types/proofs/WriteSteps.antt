@@ -1,0 +1,107 @@
+-- What a write sends down a stream, chunk by chunk: it loses no cell, keeps what each delivery keeps, and is the same where the origins of
+-- cells are forgotten.
+use Rattle.std.proofs.Common.{ℕ, zero, suc, ◌≡◌, ◌+◌, Bool, true, false, cond, List, [], ◌∷◌, ◌++◌, length, map, take, drop, refl, sym, ap, ◌∙◌, arith}
+use Rattle.std.specs.Prelude.{count_by}
+use Rattle.std.proofs.lemmas.List.{drop-map, length-map, take-map}
+use Rattle.strm_types.specs.declared.names.Side.{Side}
+use Rattle.strm_types.specs.declared.names.Side.TheVariants.{Master, Slave}
+use Rattle.strm_types.specs.declared.spots.Spot.{Spot}
+use Rattle.strm_types.specs.Deliver.{Carried}
+use Rattle.strm_types.specs.Kept.{state_weight}
+use Rattle.strm_types.specs.Message.{Message, data_message}
+use Rattle.strm_types.specs.Origins.{map_carried, map_fate}
+use Rattle.strm_types.specs.Places.{weight_gone, weight_made}
+use Rattle.strm_types.specs.Puts.{delivered}
+use Rattle.strm_types.specs.Queue.{is_full, map_queue}
+use Rattle.strm_types.specs.State.{State, map_state}
+use Rattle.strm_types.specs.Write.{chunk_count, chunks_of}
+use Rattle.strm_types.specs.Writes.{Wrote, below_head, cells_sent, chunks_sent, map_wrote, queue_below}
+use Rattle.strm_types.proofs.Deliveries.{delivered-keeps}
+use Rattle.strm_types.proofs.DeliveryForgets.{map-join}
+use Rattle.strm_types.proofs.DeliveryKeeps.{gone-append, made-append}
+use Rattle.strm_types.proofs.Forgetting.{data-forgets, full-forgets}
+use Rattle.strm_types.proofs.PutsForget.{delivered-forgets}
+use Rattle.strm_types.proofs.Weights.{first-cells, weight-data}
+
+module _ {C : Type 0} where
+  -- a write by whether the first queue below is full, and what a chunk's delivery and the chunks behind it lead to
+  abbrev pub went : Bool → ℕ → State C → Carried C (State C) → Wrote C → Wrote C
+  went full size s t more = cond full (record { taken = 0; state = s; gone = [] }) (record { taken = size + more.taken; state = more.state; gone = t.gone ++ more.gone })
+
+  abbrev pub chunk_goes : Side → List C → State C → Carried C (State C)
+  chunk_goes side chunk s = delivered (below_head side) (data_message chunk) s
+
+  -- what each delivery keeps, a write keeps
+  module _ (Holds : State C → Type 0) (each : (to : Spot) (m : Message C) (s : State C) → Holds s → Holds (delivered to m s).state) where
+    went-holds : (full : Bool) (size : ℕ) (s : State C) (t : Carried C (State C)) (more : Wrote C) → Holds s → Holds more.state → Holds (went full size s t more).state
+    went-holds true size s t more one two = one
+    went-holds false size s t more one two = two
+
+    chunks-hold : (side : Side) (chunks : List (List C)) (s : State C) → Holds s → Holds (chunks_sent side chunks s).state
+    chunks-hold side [] s holds = holds
+    chunks-hold side (chunk ∷ chunks) s holds =
+        let t = chunk_goes side chunk s in
+        went-holds (is_full 0 (queue_below side s)) (length chunk) s t (chunks_sent side chunks t.state) holds
+        (chunks-hold side chunks t.state (each (below_head side) (data_message chunk) s holds))
+
+    pub cells_sent-holds : (side : Side) (cells : List C) (s : State C) → Holds s → Holds (cells_sent side cells s).state
+    cells_sent-holds side cells s = chunks-hold side (chunks_of (chunk_count (length cells)) cells) s
+
+  module _ (p : C → Bool) where
+    -- a write of cells on a state: those that it took are there, but for what went on the way
+    abbrev WroteKeeps : Wrote C → List C → State C → Type 0
+    WroteKeeps t cells s = state_weight p t.state + weight_gone p t.gone ≡ state_weight p s + (count_by p (take t.taken cells) + weight_made p t.gone)
+
+    went-keeps : (full : Bool) (cells : List C) (s : State C) (t : Carried C (State C)) (more : Wrote C) →
+        state_weight p t.state + weight_gone p t.gone ≡ state_weight p s + (count_by p (take 256 cells) + weight_made p t.gone) → WroteKeeps more (drop 256 cells) t.state →
+        WroteKeeps (went full (length (take 256 cells)) s t more) cells s
+    went-keeps true cells s t more one two = omega arith
+    went-keeps false cells s t more one two = omega (arith, first-cells p cells more.taken, gone-append p t.gone more.gone, made-append p t.gone more.gone)
+
+    chunks-keep : (side : Side) (count : ℕ) (cells : List C) (s : State C) → WroteKeeps (chunks_sent side (chunks_of count cells) s) cells s
+    chunks-keep side zero cells s = omega arith
+    chunks-keep side (suc count) cells s =
+        let t = chunk_goes side (take 256 cells) s in
+        went-keeps (is_full 0 (queue_below side s)) cells s t (chunks_sent side (chunks_of count (drop 256 cells)) t.state)
+        (let here = delivered-keeps p (below_head side) (data_message (take 256 cells)) s (omega arith) in omega (arith, weight-data p (take 256 cells)))
+        (chunks-keep side count (drop 256 cells) t.state)
+
+    pub cells_sent-keeps : (side : Side) (cells : List C) (s : State C) → WroteKeeps (cells_sent side cells s) cells s
+    cells_sent-keeps side cells s = chunks-keep side (chunk_count (length cells)) cells s
+
+module _ {C D : Type 0} (f : C → D) where
+  went-forgets : (full : Bool) (size : ℕ) (s : State C) (t : Carried C (State C)) (more : Wrote C) →
+      went full size (map_state f s) (map_carried f (map_state f) t) (map_wrote f more) ≡ map_wrote f (went full size s t more)
+  went-forgets true size s t more = refl
+  went-forgets false size s t more = ap (λ fates. record { taken = size + more.taken; state = map_state f more.state; gone = fates }) (sym (map-join (map_fate f) t.gone more.gone))
+
+  below-forgets : (side : Side) (s : State C) → queue_below side (map_state f s) ≡ map_queue f (queue_below side s)
+  below-forgets Master s = refl
+  below-forgets Slave s = refl
+
+  goes-forgets : (side : Side) (chunk : List C) (s : State C) → chunk_goes side (map f chunk) (map_state f s) ≡ map_carried f (map_state f) (chunk_goes side chunk s)
+  goes-forgets side chunk s =
+      ap (λ (m : Message D). delivered (below_head side) m (map_state f s)) (sym (data-forgets f chunk))
+      ∙ delivered-forgets f (below_head side) (data_message chunk) s
+
+  chunks-forget : (side : Side) (count : ℕ) (cells : List C) (s : State C) → chunks_sent side (chunks_of count (map f cells)) (map_state f s) ≡ map_wrote f (chunks_sent side (chunks_of count cells) s)
+  chunks-forget side zero cells s = refl
+  chunks-forget side (suc count) cells s =
+      let q = queue_below side s in
+      let chunk = take 256 cells in
+      let rest = drop 256 cells in
+      let t = chunk_goes side chunk s in
+      let next : List D → Carried D (State D) → Wrote D = λ cells' t'. chunks_sent side (chunks_of count cells') t'.state in
+      ap (λ full. went full (length (take 256 (map f cells))) (map_state f s) (chunk_goes side (take 256 (map f cells)) (map_state f s)) (next (drop 256 (map f cells)) (chunk_goes side (take 256 (map f cells)) (map_state f s))))
+      (ap (λ q'. is_full 0 q') (below-forgets side s) ∙ full-forgets f 0 q)
+      ∙ ap (λ (chunk' : List D). went (is_full 0 q) (length chunk') (map_state f s) (chunk_goes side chunk' (map_state f s)) (next (drop 256 (map f cells)) (chunk_goes side chunk' (map_state f s)))) (take-map f 256 cells)
+      ∙ ap (λ (rest' : List D). went (is_full 0 q) (length (map f chunk)) (map_state f s) (chunk_goes side (map f chunk) (map_state f s)) (next rest' (chunk_goes side (map f chunk) (map_state f s)))) (drop-map f 256 cells)
+      ∙ ap (λ n. went (is_full 0 q) n (map_state f s) (chunk_goes side (map f chunk) (map_state f s)) (next (map f rest) (chunk_goes side (map f chunk) (map_state f s)))) (length-map chunk f)
+      ∙ ap (λ (t' : Carried D (State D)). went (is_full 0 q) (length chunk) (map_state f s) t' (next (map f rest) t')) (goes-forgets side chunk s)
+      ∙ ap (λ more. went (is_full 0 q) (length chunk) (map_state f s) (map_carried f (map_state f) t) more) (chunks-forget side count rest t.state)
+      ∙ went-forgets (is_full 0 q) (length chunk) s t (chunks_sent side (chunks_of count rest) t.state)
+
+  pub cells_sent-forgets : (side : Side) (cells : List C) (s : State C) → cells_sent side (map f cells) (map_state f s) ≡ map_wrote f (cells_sent side cells s)
+  cells_sent-forgets side cells s =
+      ap (λ n. chunks_sent side (chunks_of (chunk_count n) (map f cells)) (map_state f s)) (length-map cells f)
+      ∙ chunks-forget side (chunk_count (length cells)) cells s

@@ -1,0 +1,5 @@
+use Rattle.strm_types.proofs.WritesStand.{chunks-stand}
+use Rattle.strm_types.proofs.put_laws.writes_stand_at_the_driver.Goals as goal
+
+pub returns : goal.returns
+returns g c = λ side chunks s stays. chunks-stand side chunks s stays
