@@ -36,3 +36,4 @@ pub mod Treated
 pub mod Calls
 pub mod Freeing
 pub mod Turned
+pub mod Served

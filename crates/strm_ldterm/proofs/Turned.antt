@@ -19,10 +19,13 @@ use Rattle.strm_ldterm.specs.declared.ldterm.Ldterm.{Ldterm}
 use Rattle.strm_ldterm.specs.Began.{BeganWork}
 use Rattle.strm_ldterm.specs.Called.{ServesAs, TreatsAs, all_free}
 use Rattle.strm_ldterm.specs.Does.{Proceeds}
-use Rattle.strm_ldterm.specs.Stands.{ldterm_in, stage_in}
+use Rattle.strm_ldterm.specs.Resting.{ldterm-rests}
+use Rattle.strm_ldterm.specs.Served.{IsServed}
+use Rattle.strm_ldterm.specs.Stands.{keeps, ldterm_in, stage_in, IsHeld}
 use Rattle.strm_ldterm.specs.Turns.{stages_left}
 use Rattle.strm_ldterm.proofs.Calls.{all-left, kept-some, takes-any}
 use Rattle.strm_ldterm.proofs.Joining.{proceeds-joined}
+use Rattle.strm_ldterm.proofs.Served.{again-works, first-idle, serves-served}
 
 module _ (here : Spot) (again : Bool) (stop : Option ℕ) (p : ldterms.Ldterm ℕ) where
   abbrev at_way : Way → Spot
@@ -97,6 +100,25 @@ module _ {M : Type 0} (name : M → ℕ) (s s' : StoreValue) (here : Spot) (x x'
         stops = b.stops;
         room = λ e. b.room;
       }
+
+-- Behind a call that isn't called again nothing of a turn is under way. Behind one that is, a message is in work.
+pub served-behind : {M : Type 0} (name : M → ℕ) (s s' : StoreValue) (here : Spot) (x x' : Ldterm M) (again : Bool) (served : Served M) (t t' : Fates) → ServesAs name s s' here x x' again served t t'
+    → IsServed here.way again (ldterm_in name s x) → IsServed here.way served.again (ldterm_in name s' x')
+served-behind name s s' here x x' again served t t' did is =
+    let by = ldterm_serves plain here 0 again (stop_of served) (ldterm_in name s x) in
+    subst (λ v. IsServed here.way v (ldterm_in name s' x')) (sym did.again_is)
+    (subst (λ (p : ldterms.Ldterm ℕ). IsServed here.way by.again p) (sym did.does.state) (serves-served plain here 0 again (stop_of served) (ldterm_in name s x) is))
+
+-- What a call needs, of the state before it: a message in work where it is one more in its turn, and else nothing in hand and no byte begun.
+module _ {M : Type 0} (name : M → ℕ) (s : StoreValue) (x : Ldterm M) (way : Way) (again : Bool) (is : IsServed way again (ldterm_in name s x)) where
+  pub more-works : way ≡ Up → again ≡ true → is_some x.in_work ≡ true
+  more-works up more = sym (kept-some name s x.in_work) ∙ again-works way again (ldterm_in name s x) up more is
+
+  pub first-rests : again ≡ false → IsHeld name s x → (i : ℕ) → keeps name x i ≡ 0
+  first-rests first held = let idle = first-idle way again (ldterm_in name s x) first is in ldterm-rests name s x held idle.0 idle.1 idle.2
+
+  pub first-between : again ≡ false → stages_left (stage_in x.stage) ≡ 0
+  first-between first = ap stages_left (first-idle way again (ldterm_in name s x) first is).3
 
 -- there is a message in work then
 pub work-in : {M : Type 0} (name : M → ℕ) (s s1 : StoreValue) (here : Spot) (x x1 : Ldterm M) (bytes : ℕ) (t : Fates) → BeganWork name s s1 here x x1 bytes → is_some x1.in_work ≡ true

@@ -75,9 +75,3 @@ module _ {M : Type 0} (name : M → ℕ) (old new : StoreValue) (here : Spot) (x
     pub again_is : served.again ≡ (served_by again (stop_of served)).again
     pub stops : served.stopped ≡ true → (least_free new < STOP_BLOCKS) × (served.again ≡ false)
     pub room : served.again ≡ true → HasRoom new (leaves (stage_in x'.stage))
-
-module _ {M : Type 0} (name : M → ℕ) where
-  -- One more call in a turn of the read queue has a message in work. One that begins a turn has nothing in hand, and no byte has begun.
-  abbrev pub MayCall : Way → Bool → Ldterm M → Type 0
-  MayCall Up true x = is_some x.in_work ≡ true
-  MayCall way again x = ((i : ℕ) → keeps name x i ≡ 0) × (stages_left (stage_in x.stage) ≡ 0)

@@ -15,4 +15,5 @@ pub mod SignalKeys
 pub mod Popped
 pub mod Blank
 pub mod Called
+pub mod Served
 pub mod Freeing

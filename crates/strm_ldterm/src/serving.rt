@@ -8,7 +8,8 @@ ghost use Rattle.strm_types.specs.Input.{cells_left};
 ghost use Rattle.strm_frame.specs.Hands.{AreIn, HasRoom};
 ghost use Rattle.strm_frame.specs.Serves.{least_free};
 ghost use Rattle.strm_ldterm.specs.Stands.{ldterm_in, keeps, stage_in, IsHeld};
-ghost use Rattle.strm_ldterm.specs.Called.{MayCall, RunAs, ServesAs, TreatsAs};
+ghost use Rattle.strm_ldterm.specs.Called.{RunAs, ServesAs, TreatsAs};
+ghost use Rattle.strm_ldterm.specs.Served.{IsServed};
 ghost use Rattle.strm_ldterm.specs.Turns.{needs, stages_left};
 
 use crate::finishing::finish;
@@ -244,7 +245,7 @@ pub fn serve<B: Blocks>(
     requires kept { AreIn (B.value store.old) (λ _. 0) (keeps B.name ldterm.old) }
     requires inside { 0 < here.at }
     requires small { here.at ≤ MODULES }
-    requires turn { MayCall B.name here.way again ldterm.old }
+    requires turn { IsServed here.way again (ldterm_in B.name (B.value store.old) ldterm.old) }
     requires room { HasRoom (B.value store.old) (needs (stage_in ldterm.old.stage)) }
     ensures { ServesAs B.name (B.value store.old) (B.value store.new) here ldterm.old ldterm.new again result told.old told.new }
 {

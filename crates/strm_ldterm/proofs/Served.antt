@@ -1,0 +1,198 @@
+-- Behind a call of a service procedure nothing of a turn is under way, or it is called again; and a put, another queue or a line that is
+-- gone leave it so.
+use Rattle.std.proofs.Common.{ℕ, zero, suc, ◌≡◌, ◌+◌, ◌-◌, ◌*◌, Bool, true, false, cond, List, [], ◌∷◌, ◌++◌, length, refl, sym, ap, subst, ◌∙◌}
+use Rattle.std.proofs.lemmas.Bool.{and_left, false≢true}
+use Rattle.std.specs.Prelude.{Option, None, Some, is_some, nat_lt, not, ◌&&◌, option_map, unwrap_or}
+use Rattle.strm_types.specs.declared.flushing.FlushAsked.{FlushAsked}
+use Rattle.strm_types.specs.declared.kinds.Band.{Band}
+use Rattle.strm_types.specs.declared.kinds.MsgKind.TheVariants as kinds
+use Rattle.strm_types.specs.declared.names.Way.{Way}
+use Rattle.strm_types.specs.declared.names.Way.TheVariants.{Up, Down}
+use Rattle.strm_types.specs.declared.rules.Fates.{Fates}
+use Rattle.strm_types.specs.declared.rules.Rule.TheVariants.{Flushed}
+use Rattle.strm_types.specs.declared.spots.Spot.{Spot}
+use Rattle.strm_types.specs.Cells.{Cells, cells_made, plain}
+use Rattle.strm_types.specs.Deliver.{Acted}
+use Rattle.strm_types.specs.Flushing.{is_flush, asked_by}
+use Rattle.strm_types.specs.Input.{begins_next, cells_left, input_begins, is_data, ldterm_serves, left_of, made_of, next_stage, output_passes, passes, stage_at, stages, stages_done, then_on, to_treat, treats, with_left}
+use Rattle.strm_types.specs.Keys.{restarts}
+use Rattle.strm_types.specs.Ldterms.{Ldterm, Stage, Between, Begun, Answered, both, flush_passes, ldterm_puts, line_flushed, onward, queue_flushed, queued_at, read_flushed, sends, takes_band_0, waits_there, with_queue_at, without_line, write_flushed}
+use Rattle.strm_types.specs.Message.{Message, cells_of}
+use Rattle.strm_types.specs.Queue.{Queue, is_full, is_none_left, left_with}
+use Rattle.strm_types.specs.Service.{line_gone}
+use Rattle.strm_types.specs.Typing.{bare, begins, echo_dir, echo_grows, echo_lost, echo_stands, echoed, is_lnext, stroke_at, struck}
+use Rattle.strm_types.proofs.LdtermStages.{strikes-stay}
+use Rattle.strm_ldterm.specs.Served.{IsIdle, IsServed}
+
+module _ {C : Type 0} where
+  -- Nothing of a turn changed, but that its echo may have come to an end.
+  record Stays (p q : Ldterm C) : Type 0 where
+    work : q.in_work ≡ p.in_work
+    gathered : q.gathered ≡ p.gathered
+    echoing : p.echoing ≡ false → q.echoing ≡ false
+    stage : q.stage ≡ p.stage
+
+  idle-stays : (p q : Ldterm C) → Stays p q → IsIdle p → IsIdle q
+  idle-stays p q same idle = (same.work ∙ idle.0, same.gathered ∙ idle.1, same.echoing idle.2, same.stage ∙ idle.3)
+
+  served-stays : (way : Way) (again : Bool) (p q : Ldterm C) → Stays p q → IsServed way again p → IsServed way again q
+  served-stays Up true p q same is = ap is_some same.work ∙ is
+  served-stays Up false p q same is = idle-stays p q same is
+  served-stays Down true p q same is = idle-stays p q same is
+  served-stays Down false p q same is = idle-stays p q same is
+
+  stays-so : (p : Ldterm C) → Stays p p
+  stays-so p = record { work = refl; gathered = refl; echoing = λ e. e; stage = refl }
+
+  stays-both : (p q r : Ldterm C) → Stays p q → Stays q r → Stays p r
+  stays-both p q r first second = record {
+    work = second.work ∙ first.work;
+    gathered = second.gathered ∙ first.gathered;
+    echoing = λ e. second.echoing (first.echoing e);
+    stage = second.stage ∙ first.stage;
+  }
+
+  either-stays : (b : Bool) (one another : Acted C (Ldterm C)) (p : Ldterm C) → Stays p one.state → Stays p another.state → Stays p (cond b one another).state
+  either-stays true one another p first second = first
+  either-stays false one another p first second = second
+
+  queue-stays : (way : Way) (q : Queue C) (p : Ldterm C) → Stays p (with_queue_at way q p)
+  queue-stays Up q p = record { work = refl; gathered = refl; echoing = λ e. e; stage = refl }
+  queue-stays Down q p = record { work = refl; gathered = refl; echoing = λ e. e; stage = refl }
+
+  queued-stays : (way : Way) (m : Message C) (p : Ldterm C) → Stays p (queued_at way m p).state
+  queued-stays Up m p = record { work = refl; gathered = refl; echoing = λ e. e; stage = refl }
+  queued-stays Down m p = record { work = refl; gathered = refl; echoing = λ e. and_left p.echoing (nat_lt 0 m.band) e; stage = refl }
+
+  line-stays : (p : Ldterm C) → Stays p (without_line p)
+  line-stays p = record { work = refl; gathered = refl; echoing = λ e. e; stage = refl }
+
+  flushed-stays : (here : Spot) (band : Option Band) (p : Ldterm C) → Stays p (line_flushed here band p).state
+  flushed-stays here band p =
+      either-stays (takes_band_0 band) (record (sends [] (without_line p)) { gone = line_gone here.side Flushed p.line }) (sends [] p) p (line-stays p) (stays-so p)
+
+  read-stays : (here : Spot) (asked : FlushAsked) (p : Ldterm C) → Stays p (read_flushed here asked p).state
+  read-stays here asked p =
+      let q = (queue_flushed Up here asked.band p).state in
+      either-stays asked.for_read (both (queue_flushed Up here asked.band p) (line_flushed here asked.band)) (sends [] p) p
+      (stays-both p q (line_flushed here asked.band q).state (queue-stays Up q.read_queue p) (flushed-stays here asked.band q)) (stays-so p)
+
+  write-stays : (here : Spot) (asked : FlushAsked) (p : Ldterm C) → Stays p (write_flushed here asked p).state
+  write-stays here asked p =
+      let ended : Ldterm C = record p { echoing = p.echoing && not (takes_band_0 asked.band) } in
+      let q = (queue_flushed Down here asked.band ended).state in
+      either-stays asked.for_write (queue_flushed Down here asked.band ended) (sends [] p) p
+      (stays-both p ended q (record { work = refl; gathered = refl; echoing = λ e. and_left p.echoing (not (takes_band_0 asked.band)) e; stage = refl }) (queue-stays Down q.write_queue ended)) (stays-so p)
+
+  puts-stay : (here : Spot) (m : Message C) (p : Ldterm C) → Stays p (ldterm_puts here m p).state
+  puts-stay here m p =
+      let asked = asked_by m.plain in
+      let q = (read_flushed here asked p).state in
+      let passed = sends (onward here.way here m ∷ []) p in
+      either-stays (waits_there m.kind) (queued_at here.way m p) (cond (is_flush m.kind) (flush_passes here m p) passed) p (queued-stays here.way m p)
+      (either-stays (is_flush m.kind) (flush_passes here m p) passed p (stays-both p q (write_flushed here asked q).state (read-stays here asked p) (write-stays here asked q)) (stays-so p))
+
+  -- a put
+  pub puts-served : (here : Spot) (m : Message C) (way : Way) (again : Bool) (p : Ldterm C) → IsServed way again p → IsServed way again (ldterm_puts here m p).state
+  puts-served here m way again p is = served-stays way again p (ldterm_puts here m p).state (puts-stay here m p) is
+
+  -- another queue
+  pub queue-served : (at : Way) (q : Queue C) (way : Way) (again : Bool) (p : Ldterm C) → IsServed way again p → IsServed way again (with_queue_at at q p)
+  queue-served at q way again p is = served-stays way again p (with_queue_at at q p) (queue-stays at q p) is
+
+  -- and a line that is gone
+  pub line-served : (way : Way) (again : Bool) (p : Ldterm C) → IsServed way again p → IsServed way again (without_line p)
+  line-served way again p is = served-stays way again p (without_line p) (line-stays p) is
+
+  -- what it says of a call that is one more in its turn, and of another one
+  pub again-works : (way : Way) (again : Bool) (p : Ldterm C) → way ≡ Up → again ≡ true → IsServed way again p → is_some p.in_work ≡ true
+  again-works Up true p up more is = is
+  again-works Up false p up more is = absurd (false≢true more)
+  again-works Down again p up more is = absurd (cc up)
+
+  pub first-idle : (way : Way) (again : Bool) (p : Ldterm C) → again ≡ false → IsServed way again p → IsIdle p
+  first-idle Up false p first is = is
+  first-idle Up true p first is = absurd (false≢true (sym first))
+  first-idle Down false p first is = is
+  first-idle Down true p first is = absurd (false≢true (sym first))
+
+module _ {C : Type 0} (cells : Cells C) (here : Spot) where
+  -- a message in work stays one through each stage of a byte
+  begins-work : (c : C) (l : Ldterm C) → is_some (begins cells here c l).state.in_work ≡ is_some l.in_work
+  begins-work c l = at (l.stopped && restarts l.termios (stroke_at cells here c l))
+    where
+      at : (starts : Bool) → is_some (cond starts (sends (onward Down here (bare kinds.Start []) ∷ []) (record l { stopped = false; stage = Begun true c })) (sends [] (record l { stage = Begun false c }))).state.in_work ≡ is_some l.in_work
+      at true = refl
+      at false = refl
+
+  left-work : (rest : List C) (o : Option (Message C)) → is_some (option_map (left_of rest) o) ≡ is_some o
+  left-work rest None = refl
+  left-work rest (Some m) = refl
+
+  between-work : (xs : List C) (l : Ldterm C) → is_some (begins_next cells here xs l).state.in_work ≡ is_some l.in_work
+  between-work [] l = refl
+  between-work (c ∷ rest) l = begins-work c (with_left rest l) ∙ left-work rest l.in_work
+
+  struck-work : (started : Bool) (c : C) (l : Ldterm C) → is_some (struck cells here started c l).state.in_work ≡ is_some l.in_work
+  struck-work started c l =
+      let stroke = stroke_at cells here c l in
+      ap is_some (strikes-stay cells here (λ p. p.in_work ≡ l.in_work) (λ p stopped line gathered holds. holds) stroke.key (cells.mapped stroke.byte c) (record l { after_lnext = is_lnext stroke.key }) refl)
+
+  echoed-work : (made : ℕ) (echo : List ℕ) (l : Ldterm C) → is_some (echoed cells here made echo l).state.in_work ≡ is_some l.in_work
+  echoed-work made [] l = refl
+  echoed-work made (b ∷ bytes) l = at (is_full 0 l.write_queue) l.echoing
+    where
+      at : (full echoing : Bool) → (let new = cells_made cells (echo_dir cells here) made (b ∷ bytes) in
+          is_some (cond full (echo_lost cells here new l) (cond echoing (echo_grows cells here new l) (echo_stands cells here new l))).state.in_work ≡ is_some l.in_work)
+      at true echoing = refl
+      at false true = refl
+      at false false = refl
+
+  next-work : (made : ℕ) (l : Ldterm C) → is_some (next_stage cells here made l).state.in_work ≡ is_some l.in_work
+  next-work made l = at l.stage
+    where
+      at : (stage : Stage C) → is_some (stage_at cells here stage made l).state.in_work ≡ is_some l.in_work
+      at Between = between-work (cells_left l) l
+      at (Begun started c) = struck-work started c l
+      at (Answered echo) = echoed-work made echo (record l { stage = Between })
+
+  -- up to the end of the turn, or to what is sent before
+  then-served : (made : ℕ) (t : Acted C (Ldterm C)) (next : ℕ → Ldterm C → Acted C (Ldterm C)) → is_some t.state.in_work ≡ true → (let u = next (made + made_of t.gone) t.state in IsServed Up (is_some u.state.in_work) u.state)
+      → (let u = then_on made t next in IsServed Up (is_some u.state.in_work) u.state)
+  then-served made t next work rest = at (is_none_left t.sent)
+    where
+      at : (none : Bool) → (let u = next (made + made_of t.gone) t.state in
+          let v = cond {A = Acted C (Ldterm C)} none (record { state = u.state; notes = t.notes ++ u.notes; sent = u.sent; gone = t.gone ++ u.gone }) t in IsServed Up (is_some v.state.in_work) v.state)
+      at true = rest
+      at false = subst (λ b. IsServed Up b t.state) (sym work) work
+
+  stages-served : (n made : ℕ) (l : Ldterm C) → is_some l.in_work ≡ true → (let u = stages cells here n made l in IsServed Up (is_some u.state.in_work) u.state)
+  stages-served zero made l work = (refl, refl, refl, refl)
+  stages-served (suc more) made l work =
+      let t = next_stage cells here made l in
+      let still = next-work made l ∙ work in
+      then-served made t (stages cells here more) still (stages-served more (made + made_of t.gone) t.state still)
+
+  output-served : (ms : List (Message C)) (l : Ldterm C) → IsIdle l → (let t = output_passes cells here ms l in IsServed Down t.again t.acted.state)
+  output-served [] l idle = idle
+  output-served (m ∷ rest) l idle = idle
+
+  input-served : (made : ℕ) (stop : Option ℕ) (ms : List (Message C)) (l : Ldterm C) → IsIdle l → (let t = input_begins cells here stop made ms l in IsServed Up t.again t.acted.state)
+  input-served made stop [] l idle = idle
+  input-served made stop (m ∷ rest) l idle = at (is_data m.kind)
+    where
+      at : (treated : Bool) → (let t = cond treated (treats cells here (unwrap_or stop (length (cells_of m))) made (record l { read_queue = left_with rest l.read_queue; in_work = Some m })) (passes cells here Up m rest l) in
+          IsServed Up t.again t.acted.state)
+      at true = stages-served (3 * unwrap_or stop (length (cells_of m)) - stages_done l.stage) made (record l { read_queue = left_with rest l.read_queue; in_work = Some m }) refl
+      at false = idle
+
+module _ {C : Type 0} (cells : Cells C) where
+  serves-at : (way : Way) (here : Spot) (made : ℕ) (again : Bool) (stop : Option ℕ) (l : Ldterm C) → IsServed way again l → (let t = ldterm_serves cells (record here { way = way }) made again stop l in IsServed way t.again t.acted.state)
+  serves-at Down here made true stop l is = output-served cells (record here { way = Down }) l.write_queue.messages l is
+  serves-at Down here made false stop l is = output-served cells (record here { way = Down }) l.write_queue.messages l is
+  serves-at Up here made false stop l is = input-served cells (record here { way = Up }) made stop l.read_queue.messages l is
+  serves-at Up here made true stop l is = stages-served cells (record here { way = Up }) (3 * unwrap_or stop (to_treat l) - stages_done l.stage) made l is
+
+  -- a call, wherever it stops
+  pub serves-served : (here : Spot) (made : ℕ) (again : Bool) (stop : Option ℕ) (l : Ldterm C) → IsServed here.way again l → (let t = ldterm_serves cells here made again stop l in IsServed here.way t.again t.acted.state)
+  serves-served here made again stop l is = serves-at here.way here made again stop l is
