@@ -1,8 +1,10 @@
--- A module with a queue stands for the same where the queue's list is the same.
-use Rattle.std.specs.Prelude.{ℕ, ◌≡◌, map}
-use Rattle.std.proofs.Common.{true, eqb, cond, sym, ap, subst, arith}
+-- What holds of the toys: a module with a queue stands for the same where the queue's list is the same, and a turn of it is one call.
+use Rattle.std.specs.Prelude.{ℕ, ◌≡◌, false, List, [], ◌∷◌, map}
+use Rattle.std.proofs.Common.{true, eqb, cond, refl, sym, ap, subst, arith}
 use Rattle.std.proofs.lemmas.Bool.Decides.{nat_tests}
 use Rattle.strm_types.specs.declared.names.ModuleName.{ModuleName}
+use Rattle.strm_types.specs.declared.spots.Spot.{Spot}
+use Rattle.strm_types.specs.Message.{Message}
 use Rattle.strm_blocks.specs.Blocks.{StoreValue, list_at}
 use Rattle.strm_msg.specs.Messages.{message_of, AreMessages}
 use Rattle.strm_queue.specs.declared.queue.Queue.{Queue}
@@ -10,7 +12,7 @@ use Rattle.strm_queue.specs.Flows.{plain_flows}
 use Rattle.strm_queue.specs.Kept.{AreCounted}
 use Rattle.strm_queue.specs.Stored.{queue_in, IsReady}
 use Rattle.strm_frame.specs.Hands.{once, SameOwn}
-use Rattle.strm_frame.specs.Toys.{Stock}
+use Rattle.strm_frame.specs.Toys.{Stock, serves_of}
 
 abbrev pub stock_in : StoreValue → ModuleName → Queue → Stock
 stock_in s name q = record { name = name; queue = queue_in s q }
@@ -28,3 +30,8 @@ stock-frame s t name q keeps same ready =
       ap (λ l. record { name = name; queue = record { messages = map message_of l; flows = plain_flows q.flows; want_read = q.want_read; no_enable = q.no_enable } }) e,
       record { messages = subst AreMessages (sym e) ready.messages; counted = subst (AreCounted q.flows) (sym e) ready.counted },
     )
+
+-- a turn of its queue is one call
+pub one-call : (here : Spot) (p : Stock) (messages : List (Message ℕ)) → (serves_of here p messages).again ≡ false
+one-call here p [] = refl
+one-call here p (m ∷ rest) = refl

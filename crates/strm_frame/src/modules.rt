@@ -74,6 +74,10 @@ pub trait Module<B: Blocks>: Drop {
     /// it stops for want of blocks, `Some` says at how many bytes. With `None` it goes as far as it may.
     ghost serves: { Spot → Bool → Option ℕ → Plain → Serving ℕ Plain };
 
+    /// Whether its service procedure may be called for its queue of a way: the first time in a turn (false), when nothing of a
+    /// turn is under way there, or once more in it (true).
+    ghost MayServe: { Way → Bool → Plain → Type 0 };
+
     /// How often a message can be handed on at most that is put here, with all that it gives rise to.
     ghost height: { Spot → Message ℕ → ℕ };
 
@@ -152,10 +156,12 @@ pub trait Module<B: Blocks>: Drop {
         ensures band { IsBand result };
 
     /// Treats the first message of its queue of a way: `srv(9E)`. `again` is for one more call in the same turn, once all
-    /// is delivered that the last one sent. It may stop within the message only where fewer than `STOP_BLOCKS` blocks of some
-    /// kind are left.
+    /// is delivered that the last one sent. It is called so only where the last call asked for that, and for the first time in a
+    /// turn only where nothing of a turn is under way. It may stop within the message only where fewer than `STOP_BLOCKS` blocks of
+    /// some kind are left.
     fn serve(&mut self, store: &mut B, here: Spot, again: bool, told: &mut Fates) -> Served<B::Mp>
         requires held { IsHeld (B.value store.old) self.old }
+        requires turn { MayServe here.way again (plain (B.value store.old) self.old) }
         requires kept { AreIn (B.value store.old) (λ _. 0) (keeps self.old) }
         requires room { HasRoom (B.value store.old) (turn_cost here again (plain (B.value store.old) self.old)) }
         requires inside { 0 < here.at }
@@ -226,4 +232,27 @@ pub trait Module<B: Blocks>: Drop {
     /// It stands for the same, and fits, wherever its own lists are the same and what it keeps in hand is.
     ghost frame: { (s t : StoreValue) (x : Self) → SameOwn s t (owns x) (keeps x) → IsHeld s x →
         (plain t x ≡ plain s x) × IsHeld t x };
+
+    /// Where a turn may begin, it keeps nothing in hand.
+    ghost rests: { (s : StoreValue) (x : Self) (way : Way) (i : ℕ) → IsHeld s x → MayServe way false (plain s x) →
+        keeps x i ≡ 0 };
+
+    /// Where a turn of one of its queues may begin, one of the other may.
+    ghost either_way: { (way way' : Way) (p : Plain) → MayServe way false p → MayServe way' false p };
+
+    /// Behind a call it may be called once more where it asks for that, and else a turn may begin.
+    ghost turn_goes: { (here : Spot) (again : Bool) (stop : Option ℕ) (p : Plain) → MayServe here.way again p →
+        let t = serves here again stop p in MayServe here.way t.again t.acted.state };
+
+    /// It may be served as before behind a put, as where a message comes back to it between two calls.
+    ghost put_stays: { (here : Spot) (m : Message ℕ) (p : Plain) (way : Way) (again : Bool) → MayServe way again p →
+        MayServe way again (puts here m p).state };
+
+    /// So it may with another queue, as where a writer waits there or a turn ends.
+    ghost queue_stays: { (at : Way) (q : Queue ℕ) (p : Plain) (way : Way) (again : Bool) → MayServe way again p →
+        MayServe way again (with_queue at q p) };
+
+    /// So it may without its unfinished line.
+    ghost line_stays: { (p : Plain) (way : Way) (again : Bool) → MayServe way again p →
+        MayServe way again (without_line p) };
 }

@@ -2,7 +2,7 @@
 //! what the first message asks, and whether there is room past the place; it serves, delivers what was sent, and ends the
 //! turn.
 
-ghost use Rattle.std.specs.Prelude.{ℕ, ◌≡◌, ◌<◌, ◌≤◌, ◌-◌, true, false, length, map, slice_index_or};
+ghost use Rattle.std.specs.Prelude.{ℕ, ◌≡◌, ◌<◌, ◌≤◌, ◌-◌, true, false, length, map, slice_index_or, HoldsAt};
 ghost use Rattle.std.specs.Bool.{OnTrue};
 ghost use Rattle.strm_types.specs.declared.limits.TheConstants.{MODULES, STOP_BLOCKS};
 ghost use Rattle.strm_types.specs.Deliver.{AreLower, tallied};
@@ -65,6 +65,7 @@ fn serve_among<B: Blocks, M: Module<B>>(
 ) -> Served<B::Mp>
     requires within { at < length modules.old }
     requires held { AreHeld M.IsHeld M.owns (B.value store.old) modules.old }
+    requires turn { HoldsAt (M.MayServe here.way again) (map (M.plain (B.value store.old)) modules.old) at }
     requires kept { AreIn (B.value store.old) (λ _. 0) (all_of M.keeps modules.old) }
     requires room { HasRoom (B.value store.old) (slice_index_or (map (M.turn_cost here again)
         (map (M.plain (B.value store.old)) modules.old)) at 0) }
@@ -117,8 +118,9 @@ impl<M: Default + Drop> Stream<M> {
     }
 
     /// Calls the service procedure of a module's queue, at a place: `srv(9E)`. `again` is for one more call in the same turn,
-    /// once all is delivered that the last one sent. It may stop within its message only where fewer than `STOP_BLOCKS` blocks of
-    /// some kind are left.
+    /// once all is delivered that the last one sent. It is called so only where the last call asked for that, and for the first
+    /// time in a turn only where nothing of a turn is under way in the module. It may stop within its message only where fewer
+    /// than `STOP_BLOCKS` blocks of some kind are left.
     pub fn serve<B: Blocks>(
         &mut self,
         store: &mut B,
@@ -131,6 +133,8 @@ impl<M: Default + Drop> Stream<M> {
         requires inside { 0 < here.at }
         requires within { here.at ≤ length self.old.modules.items }
         requires held { AreHeld M.IsHeld M.owns (B.value store.old) self.old.modules.items }
+        requires turn { HoldsAt (M.MayServe here.way again)
+            (map (M.plain (B.value store.old)) self.old.modules.items) (here.at - 1) }
         requires kept { AreIn (B.value store.old) (λ _. 0) (all_of M.keeps self.old.modules.items) }
         requires room { HasRoom (B.value store.old) (at_place (M.turn_cost here again) 0 here.at
             (map (M.plain (B.value store.old)) self.old.modules.items)) }

@@ -48,10 +48,11 @@ fn stays(kind: MsgKind, way: Way) -> bool
 }
 
 impl<B: Blocks> Module<B> for Stock {
+    ghost use Rattle.std.specs.Prelude.{refl, false};
     ghost use Rattle.strm_queue.specs.Stored.{IsReady};
     ghost use Rattle.strm_frame.specs.Hands.{once};
     ghost use Rattle.strm_frame.specs.Toys.{stocks, far, nothing, stock_queue, with_stock, stock_asks, stock_serves, stock_far};
-    ghost use Rattle.strm_frame.specs.ToyLaws.{stock_in, stock-frame};
+    ghost use Rattle.strm_frame.specs.ToyLaws.{stock_in, stock-frame, one-call};
 
     ghost Plain = { Rattle.strm_frame.specs.Toys.Stock };
 
@@ -78,6 +79,8 @@ impl<B: Blocks> Module<B> for Stock {
     ghost asks = { stock_asks };
 
     ghost serves = { stock_serves };
+
+    ghost MayServe = { λ way again p. again ≡ false };
 
     ghost turn_height = { stock_far };
 
@@ -204,4 +207,16 @@ impl<B: Blocks> Module<B> for Stock {
     }
 
     ghost frame = { λ s t x same held. stock-frame s t x.name x.queue (λ _. 0) same held };
+
+    ghost rests = { λ s x way i held may. refl };
+
+    ghost either_way = { λ way way' p may. may };
+
+    ghost turn_goes = { λ here again stop p may. one-call here p p.queue.messages };
+
+    ghost put_stays = { λ here m p way again may. may };
+
+    ghost queue_stays = { λ at q p way again may. may };
+
+    ghost line_stays = { λ p way again may. may };
 }

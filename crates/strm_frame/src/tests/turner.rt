@@ -40,7 +40,7 @@ pub fn onward(kind: MsgKind, way: Way) -> Way
 }
 
 impl<B: Blocks> Module<B> for Turner {
-    ghost use Rattle.std.specs.Prelude.{refl, None, []};
+    ghost use Rattle.std.specs.Prelude.{refl, None, [], false};
     ghost use Rattle.strm_types.specs.declared.names.ModuleName.{ModuleName};
     ghost use Rattle.strm_frame.specs.Toys.{turns, far, nothing, idle};
     ghost use Rattle.strm_frame.specs.declared.service.Asks.TheVariants.{Empty};
@@ -70,6 +70,8 @@ impl<B: Blocks> Module<B> for Turner {
     ghost asks = { λ way p. Empty };
 
     ghost serves = { λ here again stop p. idle p };
+
+    ghost MayServe = { λ way again p. again ≡ false };
 
     ghost turn_height = { λ here. 0 };
 
@@ -149,4 +151,16 @@ impl<B: Blocks> Module<B> for Turner {
     }
 
     ghost frame = { λ s t x same held. (refl, held) };
+
+    ghost rests = { λ s x way i held may. refl };
+
+    ghost either_way = { λ way way' p may. may };
+
+    ghost turn_goes = { λ here again stop p may. refl };
+
+    ghost put_stays = { λ here m p way again may. may };
+
+    ghost queue_stays = { λ at q p way again may. may };
+
+    ghost line_stays = { λ p way again may. may };
 }

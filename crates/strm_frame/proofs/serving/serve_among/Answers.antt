@@ -1,6 +1,7 @@
 -- One module acts, and the others stand for the same.
 use Rattle.std.proofs.Common.{true, get_or, map, refl, sym, ap, subst, ◌∙◌}
 use Rattle.std.proofs.Math.ListN.{set}
+use Rattle.std.proofs.lemmas.List.{get_or-map}
 use Rattle.strm_types.specs.Deliver.{tallied}
 use Rattle.strm_frame.specs.Hands.{HasRoom}
 use Rattle.strm_frame.specs.Outboxes.{sent_of, times_sent, parcels_in}
@@ -88,6 +89,13 @@ returns-clause-hands g c =
     let y = c.serve.new.self in
     let e = c.serve.ensures in
     row-hands w.plain w.IsHeld w.owns w.keeps g.met.M.Module.frame s t (λ _. 0) x d y (λ j. times_sent g.B.Blocks.name j (sent_of c.serve.result.acts.sent)) c.audit.ensures e.own e.hands e.pool xs i c.requires.within refl c.requires.held c.requires.kept e.held
+
+pub serve-requires-clause-turn : goal.serve-requires-clause-turn
+serve-requires-clause-turn g c =
+    let w = g.M.Module in
+    let f = w.plain (g.B.Blocks.value c.args.store.now) in
+    let d = c.index-modules-at.result in
+    subst (w.MayServe c.args.here.way c.args.again) (get_or-map f c.args.modules.now c.args.at d (f d) c.requires.within) (c.requires.turn (f d))
 
 pub serve-requires-clause-kept : goal.serve-requires-clause-kept
 serve-requires-clause-kept g c =

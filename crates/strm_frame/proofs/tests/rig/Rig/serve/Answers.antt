@@ -1,5 +1,5 @@
 -- What was sent is delivered, and nothing is left in hand.
-use Rattle.std.proofs.Common.{◌∙◌, ◌-◌, map, false, subst, arith}
+use Rattle.std.proofs.Common.{◌∙◌, ◌-◌, map, false, refl, subst, arith}
 use Rattle.strm_types.specs.declared.names.Side.TheVariants.{Slave}
 use Rattle.strm_types.specs.declared.names.Way.TheVariants.{Down}
 use Rattle.strm_types.specs.declared.spots.Spot.{Spot}
@@ -20,7 +20,7 @@ serve-served-requires g c =
     let within = c.requires.within in
     let s = g.B.Blocks.value c.args.store.now in
     let none = none-taken (map (λ y. stock_in s y.name y.queue) xs) (c.args.at - 1) in
-    (omega arith, (c.requires.inside, (omega arith, (c.requires.rest.are.held, (rest-in s (all_of (λ y i. 0) xs) (kept-none xs), record { mblks = omega arith; dblks = omega arith })))))
+    (omega arith, (c.requires.inside, (omega arith, (c.requires.rest.are.held, ((λ d. refl), (rest-in s (all_of (λ y i. 0) xs) (kept-none xs), record { mblks = omega arith; dblks = omega arith }))))))
 
 pub deliver-requires-clause-held : goal.deliver-requires-clause-held
 deliver-requires-clause-held g c = rw c.note_all.ensures (record { held = c.serve-served.ensures.held; two = c.serve-served.ensures.length ∙ c.requires.rest.are.two })
