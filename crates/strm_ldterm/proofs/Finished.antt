@@ -12,7 +12,7 @@ use Rattle.strm_types.specs.Message.{Message, cells_of, data_message}
 use Rattle.strm_types.specs.Queue as plain
 use Rattle.strm_types.specs.Queue.{is_none_left}
 use Rattle.strm_types.specs.Typing.{gathered_up}
-use Rattle.strm_blocks.specs.Blocks.{StoreValue, IsStore, in_hand, dropped}
+use Rattle.strm_blocks.specs.Blocks.{StoreValue, in_hand}
 use Rattle.strm_msg.specs.Bytes.{data_bytes}
 use Rattle.strm_msg.proofs.Chains.{data_in, data-shown, data_in-cells}
 use Rattle.strm_frame.specs.declared.parcels.Sent.{Sent}
@@ -24,7 +24,6 @@ use Rattle.strm_ldterm.specs.Stands.{ldterm_in, kept_in, cells_kept, times_kept,
 use Rattle.strm_ldterm.specs.Does.{Alters, Proceeds}
 use Rattle.strm_ldterm.proofs.Flushed.{alters-none}
 use Rattle.strm_ldterm.proofs.Proceeding.{proceeds-alters}
-use Rattle.strm_ldterm.proofs.Returning.{freed-plain, freed-alters}
 
 none-is-left : {A : Type 0} (l : List A) → length l ≡ 0 → is_none_left l ≡ true
 none-is-left [] is = refl

@@ -36,4 +36,7 @@ pub mod Treated
 pub mod Calls
 pub mod Freeing
 pub mod Turned
-pub mod Served
+pub mod Onward
+pub mod Falls
+pub mod Spending
+pub mod Spared

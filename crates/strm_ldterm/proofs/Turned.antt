@@ -1,13 +1,13 @@
 -- Calls of the service procedure, by the way of their queue.
-use Rattle.std.proofs.Common.{ℕ, ◌≡◌, ◌+◌, Bool, true, false, [], length, refl, sym, ap, subst, ◌∙◌}
+use Rattle.std.proofs.Common.{ℕ, ◌≡◌, ◌+◌, Bool, true, false, [], length, refl, sym, ap, subst, ◌∙◌, arith}
 use Rattle.std.proofs.lemmas.Bool.{false≢true}
-use Rattle.std.specs.Prelude.{Option, None, is_some, unwrap_or}
+use Rattle.std.specs.Prelude.{Option, None, is_some, not, unwrap_or}
 use Rattle.strm_types.specs.declared.names.Way.{Way}
 use Rattle.strm_types.specs.declared.names.Way.TheVariants.{Up, Down}
 use Rattle.strm_types.specs.declared.rules.Fates.{Fates}
 use Rattle.strm_types.specs.declared.spots.Spot.{Spot}
 use Rattle.strm_types.specs.Cells.{plain}
-use Rattle.strm_types.specs.Input.{cells_left, input_begins, ldterm_serves, output_passes, to_treat, treats}
+use Rattle.strm_types.specs.Input.{cells_left, input_begins, is_data, ldterm_serves, output_passes, to_treat, treats}
 use Rattle.strm_types.specs.Ldterms as ldterms
 use Rattle.strm_types.specs.Service.{Serving}
 use Rattle.strm_blocks.specs.Blocks.{StoreValue, IsStore}
@@ -17,6 +17,7 @@ use Rattle.strm_frame.specs.Outboxes.{sent_of}
 use Rattle.strm_frame.specs.Serves.{stop_at, stop_of}
 use Rattle.strm_ldterm.specs.declared.ldterm.Ldterm.{Ldterm}
 use Rattle.strm_ldterm.specs.Began.{BeganWork}
+use Rattle.strm_ldterm.specs.Bounds.{passes_whole}
 use Rattle.strm_ldterm.specs.Called.{ServesAs, TreatsAs, all_free}
 use Rattle.strm_ldterm.specs.Does.{Proceeds}
 use Rattle.strm_ldterm.specs.Resting.{ldterm-rests}
@@ -25,7 +26,7 @@ use Rattle.strm_ldterm.specs.Stands.{keeps, ldterm_in, stage_in, IsHeld}
 use Rattle.strm_ldterm.specs.Turns.{stages_left}
 use Rattle.strm_ldterm.proofs.Calls.{all-left, kept-some, takes-any}
 use Rattle.strm_ldterm.proofs.Joining.{proceeds-joined}
-use Rattle.strm_ldterm.proofs.Served.{again-works, first-idle, serves-served}
+use Rattle.strm_ldterm.specs.ServedLaws.{again-works, first-idle, serves-served}
 
 module _ (here : Spot) (again : Bool) (stop : Option ℕ) (p : ldterms.Ldterm ℕ) where
   abbrev at_way : Way → Spot
@@ -65,6 +66,7 @@ module _ {M : Type 0} (name : M → ℕ) (s s' : StoreValue) (here : Spot) (x x'
         again_is = ends ∙ sym over ∙ sym (ap (λ (w : Serving ℕ (ldterms.Ldterm ℕ)). w.again) whole);
         stops = λ e. absurd (false≢true (sym goes-on ∙ e));
         room = λ e. absurd (false≢true (sym ends ∙ e));
+        whole = λ e. record { mblks = (let f = a.mblks in omega arith); dblks = (let f = a.dblks in omega arith) };
       }
 
 module _ {M : Type 0} (name : M → ℕ) (s s' : StoreValue) (here : Spot) (x x' : Ldterm M) (served : Served M) (t t' : Fates) (way : here.way ≡ Up) where
@@ -78,6 +80,7 @@ module _ {M : Type 0} (name : M → ℕ) (s s' : StoreValue) (here : Spot) (x x'
         again_is = b.again ∙ sym (ap (λ (w : Serving ℕ (ldterms.Ldterm ℕ)). w.again) whole);
         stops = b.stops;
         room = λ e. b.room;
+        whole = λ e. absurd (false≢true (sym (ap (λ w. passes_whole w again (ldterm_in name s x)) way ∙ ap (λ v. passes_whole Up v (ldterm_in name s x)) more) ∙ e));
       }
 
   -- the first call of a turn, whose message has come into work
@@ -99,6 +102,10 @@ module _ {M : Type 0} (name : M → ℕ) (s s' : StoreValue) (here : Spot) (x x'
         again_is = b.again ∙ sym (ap (λ (v : Serving ℕ (ldterms.Ldterm ℕ)). v.again) whole);
         stops = b.stops;
         room = λ e. b.room;
+        whole = λ e.
+            let begun : passes_whole Up false p ≡ false =
+            ap (λ ms. passes_whole Up false (record p { read_queue = record p.read_queue { messages = ms } })) w.first ∙ ap (λ k. not (is_data k)) w.kind in
+            absurd (false≢true (sym (ap (λ v. passes_whole v false p) way ∙ begun) ∙ e));
       }
 
 -- Behind a call that isn't called again nothing of a turn is under way. Behind one that is, a message is in work.

@@ -1,8 +1,6 @@
 -- What a call of the service procedure of the read queue did.
-use Rattle.std.specs.Prelude.{ℕ, ◌≡◌, ◌<◌, ◌≤◌, ◌+◌, ◌-◌, ◌*◌, Bool, true, false, [], List, Option, unwrap_or, is_some}
+use Rattle.std.specs.Prelude.{ℕ, ◌≡◌, ◌<◌, ◌≤◌, ◌+◌, ◌-◌, ◌*◌, Bool, true, false, [], List, Option, unwrap_or}
 use Rattle.strm_types.specs.declared.limits.TheConstants.{STOP_BLOCKS}
-use Rattle.strm_types.specs.declared.names.Way.{Way}
-use Rattle.strm_types.specs.declared.names.Way.TheVariants.{Up}
 use Rattle.strm_types.specs.declared.rules.Fates.{Fates}
 use Rattle.strm_types.specs.declared.spots.Note.{Note}
 use Rattle.strm_types.specs.declared.spots.Spot.{Spot}
@@ -12,6 +10,7 @@ use Rattle.strm_types.specs.Ldterms as ldterms
 use Rattle.strm_types.specs.Queue.{is_none_left}
 use Rattle.strm_types.specs.Service.{Serving}
 use Rattle.strm_blocks.specs.Blocks.{StoreValue, free_m, free_d}
+use Rattle.strm_queue.specs.Stored.{FreesBlocks}
 use Rattle.strm_frame.specs.declared.parcels.Sent.{Sent}
 use Rattle.strm_frame.specs.declared.service.Served.{Served}
 use Rattle.strm_frame.specs.Hands.{HasRoom}
@@ -20,8 +19,9 @@ use Rattle.strm_frame.specs.Serves.{least_free, stop_of}
 use Rattle.strm_ldterm.specs.declared.ldterm.Ldterm.{Ldterm}
 use Rattle.strm_ldterm.specs.declared.serving.Run.{Run}
 use Rattle.strm_ldterm.specs.declared.serving.Run.TheVariants as run
+use Rattle.strm_ldterm.specs.Bounds.{passes_whole}
 use Rattle.strm_ldterm.specs.Does.{Proceeds}
-use Rattle.strm_ldterm.specs.Stands.{keeps, ldterm_in, stage_in}
+use Rattle.strm_ldterm.specs.Stands.{ldterm_in, stage_in}
 use Rattle.strm_ldterm.specs.Turns.{ahead, leaves, stages_left}
 
 -- all blocks of a store that are free
@@ -69,9 +69,11 @@ module _ {M : Type 0} (name : M → ℕ) (old new : StoreValue) (here : Spot) (x
 
   -- A call of the service procedure of a queue did what the definition says. Behind one that stopped fewer blocks of some kind are free than a
   -- byte may take, and it isn't called again. One that is called again leaves blocks enough for the rest of the byte, and for what it has sent.
+  -- A message that passes whole takes none.
   pub record ServesAs (again : Bool) (served : Served M) (t t' : Fates) : Type 0 where
     pub does : Proceeds name old new x x' (all_free old) served.acts.notes.items (sent_of served.acts.sent) t t' (served_by again (stop_of served)).acted
     pub bytes : served.bytes ≡ (served_by again (stop_of served)).bytes
     pub again_is : served.again ≡ (served_by again (stop_of served)).again
     pub stops : served.stopped ≡ true → (least_free new < STOP_BLOCKS) × (served.again ≡ false)
     pub room : served.again ≡ true → HasRoom new (leaves (stage_in x'.stage))
+    pub whole : passes_whole here.way again (ldterm_in name old x) ≡ true → FreesBlocks old new

@@ -16,4 +16,6 @@ pub mod Popped
 pub mod Blank
 pub mod Called
 pub mod Served
+pub mod ServedLaws
 pub mod Freeing
+pub mod Bounds

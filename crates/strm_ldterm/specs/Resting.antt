@@ -1,11 +1,12 @@
 -- The module keeps nothing in hand where what it stands for has nothing under way.
-use Rattle.std.specs.Prelude.{ℕ, ◌≡◌, ◌<◌, ◌+◌, false, List, [], length, Option, None, Some, IfSome, is_some}
-use Rattle.std.proofs.Common.{refl, sym, ap, ◌∙◌, arith}
+use Rattle.std.specs.Prelude.{ℕ, ◌≡◌, false, [], length, Option, None, Some, IfSome, is_some}
+use Rattle.std.proofs.Common.{refl, sym, ap, arith}
 use Rattle.std.proofs.lemmas.Bool.{false≢true}
-use Rattle.strm_types.specs.Message.{Message, cells_of}
+use Rattle.strm_types.specs.declared.names.Way.{Way}
+use Rattle.strm_types.specs.declared.names.Way.TheVariants.{Up, Down}
 use Rattle.strm_blocks.specs.Blocks.{StoreValue}
-use Rattle.strm_frame.specs.Outboxes.{message_in}
 use Rattle.strm_ldterm.specs.declared.ldterm.Ldterm.{Ldterm}
+use Rattle.strm_ldterm.specs.Served.{IsServed}
 use Rattle.strm_ldterm.specs.Stands.{cells_kept, times_kept, kept_in, keeps, ldterm_in, IsGathered, IsHeld}
 
 module _ {M : Type 0} (name : M → ℕ) where
@@ -40,3 +41,8 @@ module _ {M : Type 0} (name : M → ℕ) where
       let two = none-kept x.gathered i (gathered-none s x held gathered) in
       let three = none-kept x.echo i (none-there x.echo echoing) in
       omega arith
+
+  -- so it is where a turn may begin
+  pub served-rests : (s : StoreValue) (x : Ldterm M) (way : Way) (i : ℕ) → IsHeld name s x → IsServed way false (ldterm_in name s x) → keeps name x i ≡ 0
+  served-rests s x Up i held idle = ldterm-rests s x held idle.0 idle.1 idle.2 i
+  served-rests s x Down i held idle = ldterm-rests s x held idle.0 idle.1 idle.2 i

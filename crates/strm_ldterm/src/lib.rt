@@ -12,6 +12,7 @@ mod flushing;
 mod growing;
 mod ldterm;
 mod lines;
+mod module;
 mod opening;
 mod putting;
 mod queues;

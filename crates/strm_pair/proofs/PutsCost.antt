@@ -30,12 +30,6 @@ use Rattle.strm_types.specs.Costs.{below_cost, below_takes, cost, cost_at, takes
 below-head : (here : Spot) (flush turned : Bool) → cost_at (toward Down here) flush turned ≡ 3
 below-head here flush turned = ap (λ top. cond top (cond turned 4 0) 3) (let below : (here.at + 1 == 0) ≡ false = grind (arith, nat_tests) in below)
 
-below-few : (way : Way) (flush turned : Bool) → below_cost way flush turned ≤ 4
-below-few Down flush turned = omega arith
-below-few Up flush true = omega arith
-below-few Up true false = omega arith
-below-few Up false false = omega arith
-
 -- what was sent across takes one
 up-some : (turned : Bool) → 1 ≤ cond turned 4 1
 up-some true = omega arith
@@ -45,11 +39,6 @@ up-some false = omega arith
 up-more : (flush turned : Bool) → cond turned 4 0 ≤ cond turned 4 (cond flush 1 0)
 up-more flush true = omega arith
 up-more flush false = omega arith
-
-few-at : (way : Way) (flush turned top : Bool) → cond top (cond turned 4 0) (below_cost way flush turned) ≤ 4
-few-at way flush true true = omega arith
-few-at way flush false true = omega arith
-few-at way flush turned false = below-few way flush turned
 
 module _ (C : Type 0) where
   abbrev Few : ℕ → List (Parcel C) → Type 0
@@ -219,7 +208,3 @@ module _ (C : Type 0) where
 -- what a put takes itself, and what its messages take after it, is within what a delivery from there takes
 pub puts-cost : {C : Type 0} (to : Spot) (m : Message C) (s : State C) → takes to m + cost_of cost (put_in to m s).sent ≤ cost to m
 puts-cost to m s = put-fits _ to.way to m s (to.at == 0)
-
--- a delivery takes four blocks of each kind at most
-pub cost-few : {C : Type 0} (to : Spot) (m : Message C) → cost to m ≤ 4
-cost-few to m = few-at to.way (is_flush m.kind) (is_turned m) (to.at == 0)

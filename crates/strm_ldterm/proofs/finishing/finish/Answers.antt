@@ -1,5 +1,5 @@
 -- The echo stands, the message in work goes back, and what was gathered goes up.
-use Rattle.std.proofs.Common.{ℕ, ◌≡◌, ◌<◌, length, false, [], sym, ap, subst, ◌∙◌, append-nil}
+use Rattle.std.proofs.Common.{ℕ, ◌<◌, length, false, [], sym, ap, subst, ◌∙◌, append-nil}
 use Rattle.std.specs.Prelude.{None}
 use Rattle.std.specs.Option.{option_to_list}
 use Rattle.strm_types.specs.Cells.{plain}

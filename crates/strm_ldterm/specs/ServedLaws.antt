@@ -8,10 +8,9 @@ use Rattle.strm_types.specs.declared.kinds.Band.{Band}
 use Rattle.strm_types.specs.declared.kinds.MsgKind.TheVariants as kinds
 use Rattle.strm_types.specs.declared.names.Way.{Way}
 use Rattle.strm_types.specs.declared.names.Way.TheVariants.{Up, Down}
-use Rattle.strm_types.specs.declared.rules.Fates.{Fates}
 use Rattle.strm_types.specs.declared.rules.Rule.TheVariants.{Flushed}
 use Rattle.strm_types.specs.declared.spots.Spot.{Spot}
-use Rattle.strm_types.specs.Cells.{Cells, cells_made, plain}
+use Rattle.strm_types.specs.Cells.{Cells, cells_made}
 use Rattle.strm_types.specs.Deliver.{Acted}
 use Rattle.strm_types.specs.Flushing.{is_flush, asked_by}
 use Rattle.strm_types.specs.Input.{begins_next, cells_left, input_begins, is_data, ldterm_serves, left_of, made_of, next_stage, output_passes, passes, stage_at, stages, stages_done, then_on, to_treat, treats, with_left}
@@ -109,6 +108,13 @@ module _ {C : Type 0} where
   again-works Up true p up more is = is
   again-works Up false p up more is = absurd (false≢true more)
   again-works Down again p up more is = absurd (cc up)
+
+  -- a turn of either queue may begin where none is under way
+  pub either-served : (way at : Way) (p : Ldterm C) → IsServed way false p → IsServed at false p
+  either-served Up Up p is = is
+  either-served Up Down p is = is
+  either-served Down Up p is = is
+  either-served Down Down p is = is
 
   pub first-idle : (way : Way) (again : Bool) (p : Ldterm C) → again ≡ false → IsServed way again p → IsIdle p
   first-idle Up false p first is = is

@@ -1,0 +1,194 @@
+-- What ldterm sends takes no more blocks than may be taken: what a put sends no more than what was put, and what a call of its service
+-- procedure sends no more than is left beside the rest of the byte.
+use Rattle.std.proofs.Common.{ℕ, zero, suc, ◌≡◌, ◌<◌, ◌≤◌, ◌+◌, ◌-◌, ◌*◌, Bool, true, false, cond, List, [], ◌∷◌, ◌++◌, refl, sym, ap, ◌∙◌, arith}
+use Rattle.std.proofs.lemmas.Bool.{false≢true}
+use Rattle.std.proofs.lemmas.Bool.Decides.{nat_tests}
+use Rattle.std.specs.Prelude.{◌==◌, ◌&&◌, Option, None, Some, is_some, option_map}
+use Rattle.strm_types.specs.declared.kinds.MsgKind.TheVariants as kinds
+use Rattle.strm_types.specs.declared.names.Way.{Way}
+use Rattle.strm_types.specs.declared.names.Way.TheVariants.{Up, Down}
+use Rattle.strm_types.specs.declared.spots.Spot.{Spot}
+use Rattle.strm_types.specs.Cells.{cells_made, plain}
+use Rattle.strm_types.specs.Costs.{below_cost, cost, cost_at}
+use Rattle.strm_types.specs.Deliver.{Acted, Parcel, toward}
+use Rattle.strm_types.specs.Flushing.{is_flush}
+use Rattle.strm_types.specs.Input.{begins_next, cells_left, left_of, made_of, next_stage, stage_at, stages, with_left}
+use Rattle.strm_types.specs.Keys.{restarts}
+use Rattle.strm_types.specs.Ldterms.{Ldterm, Stage, Between, Begun, Answered, ldterm_puts, onward, sends}
+use Rattle.strm_types.specs.Message.{Message, data_message}
+use Rattle.strm_types.specs.Puts.{is_turned}
+use Rattle.strm_types.specs.Queue.{is_full, is_none_left}
+use Rattle.strm_types.specs.Typing.{bare, echo_dir, echoed, echo_grows, echo_lost, echo_stands, gathered_up, is_lnext, stroke_at, struck}
+use Rattle.strm_types.proofs.CostsBounded.{cost-few}
+use Rattle.strm_types.proofs.LdtermStages.{strikes-stay}
+use Rattle.strm_frame.specs.Outboxes.{cost_of}
+use Rattle.strm_ldterm.specs.Turns.{leaves, needs}
+use Rattle.strm_ldterm.proofs.Onward.{puts-send, struck-sends}
+
+-- no more at the next place the same way
+up-cost : (flush turned top : Bool) → cond top (cond turned 4 0) (below_cost Up flush turned) ≤ below_cost Up flush turned
+up-cost flush true true = omega arith
+up-cost true false true = omega arith
+up-cost false false true = omega arith
+up-cost flush turned false = omega arith
+
+next-below : (way : Way) (flush turned : Bool) (here : Spot) → cost_at (toward way here) flush turned ≤ below_cost way flush turned
+next-below Up flush turned here = up-cost flush turned (here.at - 1 == 0)
+next-below Down flush turned here =
+    let below : (here.at + 1 == 0) ≡ false = grind (arith, nat_tests) in
+    let three : cost_at (toward Down here) flush turned ≡ 3 = ap (λ top. cond top (cond turned 4 0) 3) below in
+    omega (arith, three)
+
+next-cost : (flush turned : Bool) (here : Spot) → 0 < here.at → cost_at (toward here.way here) flush turned ≤ cost_at here flush turned
+next-cost flush turned here inside =
+    let behind : (here.at == 0) ≡ false = grind (arith, nat_tests) in
+    let same : cost_at here flush turned ≡ below_cost here.way flush turned = ap (λ top. cond top (cond turned 4 0) (below_cost here.way flush turned)) behind in
+    let low = next-below here.way flush turned here in
+    omega (arith, same, low)
+
+pub none-cost : (C : Type 0) → cost_of (cost {C = C}) [] ≡ 0
+unfolding cost_of
+none-cost C = refl
+
+none-few : (C : Type 0) (n : ℕ) → cost_of (cost {C = C}) [] ≤ 4 * n
+none-few C n = let e = none-cost C in omega arith
+
+module _ {C : Type 0} where
+
+  pub one-cost : (to : Spot) (m : Message C) → cost_of cost (record { to = to; message = m } ∷ []) ≡ cost to m
+  unfolding cost_of
+  one-cost to m = omega arith
+
+  more-cost : (way : Way) (here : Spot) (m : Message C) (n : ℕ) (ps : List (Parcel C)) → cost_of cost ps ≤ 4 * n → cost_of cost (onward way here m ∷ ps) ≤ 4 * suc n
+  unfolding cost_of
+  more-cost way here m n ps few = let one = cost-few (toward way here) m in omega arith
+
+  pub puts-cost : (here : Spot) (m : Message C) (p : Ldterm C) → 0 < here.at → cost_of cost (ldterm_puts here m p).sent ≤ cost here m
+  puts-cost here m p inside =
+      let one = one-cost (toward here.way here) m in
+      let none = none-cost C in
+      let low = next-cost (is_flush m.kind) (is_turned m) here inside in
+      puts-send here (λ ps. cost_of cost ps ≤ cost here m) m p (omega (arith, none)) (omega (arith, one, low))
+
+module _ (here : Spot) where
+  abbrev pub Acts : Type 0
+  Acts = Acted ℕ (Ldterm ℕ)
+
+  abbrev Costs : ℕ → List (Parcel ℕ) → Type 0
+  Costs n ps = cost_of cost ps ≤ 4 * n
+
+  few-more : (way : Way) (m : Message ℕ) (n : ℕ) (ps : List (Parcel ℕ)) → Costs n ps → Costs (suc n) (onward way here m ∷ ps)
+  few-more way m n ps few = more-cost way here m n ps few
+
+  -- the message in work stays one
+  next-works : (made : ℕ) (p : Ldterm ℕ) → is_some (next_stage plain here made p).state.in_work ≡ is_some p.in_work
+  next-works made p = at p.stage
+    where
+      less : (rest : List ℕ) (work : Option (Message ℕ)) → is_some (option_map (left_of rest) work) ≡ is_some work
+      less rest None = refl
+      less rest (Some m) = refl
+
+      starts : (c : ℕ) (rest : List ℕ) (begins : Bool) → is_some (cond {A = Acts} begins
+          (sends (onward Down here (bare kinds.Start []) ∷ []) (record (with_left rest p) { stopped = false; stage = Begun true c }))
+          (sends [] (record (with_left rest p) { stage = Begun false c }))).state.in_work ≡ is_some p.in_work
+      starts c rest true = less rest p.in_work
+      starts c rest false = less rest p.in_work
+
+      left : (cs : List ℕ) → is_some (begins_next plain here cs p).state.in_work ≡ is_some p.in_work
+      left [] = refl
+      left (c ∷ rest) = starts c rest (p.stopped && restarts p.termios (stroke_at plain here c (with_left rest p)))
+
+      echo : (bytes : List ℕ) → is_some (echoed plain here made bytes (record p { stage = Between })).state.in_work ≡ is_some p.in_work
+      echo [] = refl
+      echo (b ∷ bytes) = by (is_full 0 p.write_queue) p.echoing
+        where
+          new : List ℕ
+          new = cells_made plain (echo_dir plain here) made (b ∷ bytes)
+
+          q : Ldterm ℕ
+          q = record p { stage = Between }
+
+          by : (full echoing : Bool) → is_some (cond full (echo_lost plain here new q) (cond echoing (echo_grows plain here new q) (echo_stands plain here new q))).state.in_work ≡ is_some p.in_work
+          by true echoing = refl
+          by false true = refl
+          by false false = refl
+
+      at : (stage : Stage ℕ) → is_some (stage_at plain here stage made p).state.in_work ≡ is_some p.in_work
+      at Between = left (cells_left p)
+      at (Begun started c) =
+          let stroke = stroke_at plain here c p in
+          ap is_some (strikes-stay plain here (λ (l : Ldterm ℕ). l.in_work ≡ p.in_work) (λ l stopped line gathered same. same) stroke.key (plain.mapped stroke.byte c) (record p { after_lnext = is_lnext stroke.key }) refl)
+      at (Answered bytes) = echo bytes
+
+  -- a stage that has sent something leaves enough for the rest of its byte, beside what is sent
+  abbrev pub Leaves : Acts → Type 0
+  Leaves t = cost_of cost t.sent + needs t.state.stage ≤ leaves t.state.stage
+
+  next-leaves : (made : ℕ) (p : Ldterm ℕ) → is_none_left (next_stage plain here made p).sent ≡ false → Leaves (next_stage plain here made p)
+  next-leaves made p = at p.stage
+    where
+      starts : (c : ℕ) (q : Ldterm ℕ) (begins : Bool) →
+          (let t = cond {A = Acts} begins (sends (onward Down here (bare kinds.Start []) ∷ []) (record q { stopped = false; stage = Begun true c })) (sends [] (record q { stage = Begun false c })) in
+          is_none_left t.sent ≡ false → Leaves t)
+      starts c q true sent = let few = few-more Down (bare kinds.Start []) 0 [] (none-few ℕ 0) in omega (arith, few)
+      starts c q false sent = absurd (false≢true (sym sent))
+
+      left : (cs : List ℕ) → is_none_left (begins_next plain here cs p).sent ≡ false → Leaves (begins_next plain here cs p)
+      left [] sent = absurd (false≢true (sym sent))
+      left (c ∷ rest) sent = starts c (with_left rest p) (p.stopped && restarts p.termios (stroke_at plain here c (with_left rest p))) sent
+
+      echo : (bytes : List ℕ) → is_none_left (echoed plain here made bytes (record p { stage = Between })).sent ≡ false → Leaves (echoed plain here made bytes (record p { stage = Between }))
+      echo [] sent = absurd (false≢true (sym sent))
+      echo (b ∷ bytes) sent = by (is_full 0 p.write_queue) p.echoing sent
+        where
+          new : List ℕ
+          new = cells_made plain (echo_dir plain here) made (b ∷ bytes)
+
+          q : Ldterm ℕ
+          q = record p { stage = Between }
+
+          by : (full echoing : Bool) → (let t = cond full (echo_lost plain here new q) (cond echoing (echo_grows plain here new q) (echo_stands plain here new q)) in is_none_left t.sent ≡ false → Leaves t)
+          by true echoing sent = absurd (false≢true (sym sent))
+          by false true sent = absurd (false≢true (sym sent))
+          by false false sent = absurd (false≢true (sym sent))
+
+      at : (stage : Stage ℕ) → is_none_left (stage_at plain here stage made p).sent ≡ false → Leaves (stage_at plain here stage made p)
+      at Between sent = left (cells_left p) sent
+      at (Begun started c) sent = let few : Costs 3 (struck plain here started c p).sent = struck-sends plain here Costs (none-few ℕ) few-more started c p in omega (arith, few)
+      at (Answered bytes) sent = echo bytes sent
+
+  -- What a call sends that is called again leaves enough for the rest of the byte. At the end of a turn it takes nothing: it is M_DATA on
+  -- its way up.
+  pub record Spares (t : Acts) : Type 0 where
+    pub more : is_some t.state.in_work ≡ true → Leaves t
+    pub over : is_some t.state.in_work ≡ false → cost_of cost t.sent ≡ 0
+
+  gathered-free : (gathered : List ℕ) → cost_of cost (gathered_up plain here gathered) ≡ 0
+  unfolding data_message
+  gathered-free [] = none-cost ℕ
+  gathered-free (c ∷ rest) = one-cost (toward Up here) (data_message (c ∷ rest)) ∙ at (here.at - 1 == 0)
+    where
+      at : (top : Bool) → cond {A = ℕ} top 0 0 ≡ 0
+      at true = refl
+      at false = refl
+
+  step-spares : (n made : ℕ) (p : Ldterm ℕ) → (let t = next_stage plain here made p in
+      is_some t.state.in_work ≡ true → Spares (stages plain here n (made + made_of t.gone) t.state) → Spares (stages plain here (suc n) made p))
+  step-spares n made p still spares = by (is_none_left t.sent) refl
+    where
+      t : Acts
+      t = next_stage plain here made p
+
+      rest : Acts
+      rest = stages plain here n (made + made_of t.gone) t.state
+
+      by : (quiet : Bool) → is_none_left t.sent ≡ quiet → Spares (cond {A = Acts} quiet (record { state = rest.state; notes = t.notes ++ rest.notes; sent = rest.sent; gone = t.gone ++ rest.gone }) t)
+      by true quiet = record { more = spares.more; over = spares.over }
+      by false sent = record { more = λ e. next-leaves made p sent; over = λ e. absurd (false≢true (sym e ∙ still)) }
+
+  pub stages-spare : (n made : ℕ) (p : Ldterm ℕ) → is_some p.in_work ≡ true → Spares (stages plain here n made p)
+  stages-spare zero made p work = record { more = λ e. absurd (false≢true e); over = λ e. gathered-free p.gathered }
+  stages-spare (suc n) made p work =
+      let t = next_stage plain here made p in
+      let still = next-works made p ∙ work in
+      step-spares n made p still (stages-spare n (made + made_of t.gone) t.state still)

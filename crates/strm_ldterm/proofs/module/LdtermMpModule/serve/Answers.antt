@@ -1,0 +1,29 @@
+use Rattle.std.proofs.Common.{ℕ, List, sym, subst}
+use Rattle.strm_types.specs.Deliver.{AreLower, Parcel}
+use Rattle.strm_types.specs.Puts.{far}
+use Rattle.strm_frame.specs.Outboxes.{parcels_in, sent_of}
+use Rattle.strm_frame.specs.Serves.{stop_of}
+use Rattle.strm_ldterm.specs.Bounds.{turn_height}
+use Rattle.strm_ldterm.specs.ServedLaws.{again-works}
+use Rattle.strm_ldterm.specs.Stands.{ldterm_in}
+use Rattle.strm_ldterm.proofs.Falls.{serves-lower}
+use Rattle.strm_ldterm.proofs.Spared.{call-room}
+use Rattle.strm_ldterm.proofs.module.LdtermMpModule.serve.Goals as goal
+
+pub returns-clause-falls : goal.returns-clause-falls
+returns-clause-falls g c =
+    let p = ldterm_in g.B.Blocks.name (g.B.Blocks.value c.args.store.now) c.args.self.now in
+    subst (λ (ps : List (Parcel ℕ)). AreLower far (turn_height c.args.here) ps) (sym c.serve.ensures.does.parcels)
+    (serves-lower c.args.here c.args.again (stop_of c.serve.result) p c.requires.inside)
+
+pub returns-clause-room : goal.returns-clause-room
+returns-clause-room g c =
+    let name = g.B.Blocks.name in
+    let s = g.B.Blocks.value c.args.store.now in
+    let t = g.B.Blocks.value c.serve.new.store in
+    let p = ldterm_in name s c.args.self.now in
+    let q = ldterm_in name t c.serve.new.ldterm in
+    call-room c.args.here c.args.again (stop_of c.serve.result) p s t q c.serve.result.again (parcels_in name t (sent_of c.serve.result.acts.sent))
+    c.serve.ensures.does.state c.serve.ensures.does.parcels c.serve.ensures.again_is
+    (λ up more. again-works c.args.here.way c.args.again p up more c.requires.turn)
+    c.requires.room c.serve.ensures.whole c.serve.ensures.room

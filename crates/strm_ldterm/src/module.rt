@@ -1,0 +1,135 @@
+//! The module, as a stream's stack of modules has it (STREAMS Programming Guide, "Modules").
+
+ghost use Rattle.std.specs.Prelude.{ℕ};
+ghost use Rattle.strm_types.specs.declared.names.ModuleName.TheVariants as names;
+
+use crate::ldterm::Ldterm;
+use crate::{clearing, ending, ldterm, putting, queues, serving};
+use arrayvec::ArrayVec;
+use strm_blocks::Blocks;
+use strm_frame::{Acts, Asks, Module, Served, TurnEnd};
+use strm_types::{Band, Fates, ModuleName, Note, Rule, Side, Spot, Way};
+
+impl<B: Blocks> Module<B> for Ldterm<B::Mp> {
+    ghost use Rattle.strm_types.specs.Cells as cells;
+    ghost use Rattle.strm_types.specs.Costs as costs;
+    ghost use Rattle.strm_types.specs.Input.{ldterm_serves};
+    ghost use Rattle.strm_types.specs.Ldterms as plain;
+    ghost use Rattle.strm_types.specs.Puts.{far};
+    ghost use Rattle.strm_ldterm.specs.Bounds as bounds;
+    ghost use Rattle.strm_ldterm.specs.Calls as calls;
+    ghost use Rattle.strm_ldterm.specs.Frames.{ldterm-frame};
+    ghost use Rattle.strm_ldterm.specs.Popped as popped;
+    ghost use Rattle.strm_ldterm.specs.Resting.{served-rests};
+    ghost use Rattle.strm_ldterm.specs.Served as served;
+    ghost use Rattle.strm_ldterm.specs.ServedLaws.{either-served, line-served, puts-served, queue-served, serves-served};
+    ghost use Rattle.strm_ldterm.specs.Stands as stands;
+
+    ghost Plain = { plain.Ldterm ℕ };
+
+    ghost plain = { λ s x. stands.ldterm_in B.name s x };
+
+    ghost name_of = { λ p. names.Ldterm };
+
+    ghost IsHeld = { λ s x. stands.IsHeld B.name s x };
+
+    ghost owns = { λ x. stands.owns x };
+
+    ghost keeps = { λ x. stands.keeps B.name x };
+
+    ghost puts = { plain.ldterm_puts };
+
+    ghost queue_of = { calls.queue_of };
+
+    ghost with_queue = { calls.with_queue };
+
+    ghost line_of = { popped.line_of };
+
+    ghost without_line = { plain.without_line };
+
+    ghost asks = { calls.ldterm_asks };
+
+    ghost serves = { λ here again stop p. ldterm_serves cells.plain here 0 again stop p };
+
+    ghost MayServe = { λ way again p. served.IsServed way again p };
+
+    ghost height = { far };
+
+    ghost cost = { costs.cost };
+
+    ghost turn_height = { bounds.turn_height };
+
+    ghost turn_cost = { bounds.turn_cost };
+
+    fn name(&self) -> ModuleName {
+        ldterm::name()
+    }
+
+    fn put(&mut self, store: &mut B, here: Spot, message: B::Mp, told: &mut Fates) -> Acts<B::Mp> {
+        store.audit();
+        putting::put(self, store, here, message, told)
+    }
+
+    fn has_queue(&self, way: Way) -> bool {
+        let _ = way;
+        true
+    }
+
+    fn is_full(&self, store: &B, way: Way, band: Band) -> bool {
+        queues::is_full(self, store, way, band)
+    }
+
+    fn sizes(&self, store: &B, way: Way) -> (usize, usize) {
+        queues::sizes(self, store, way)
+    }
+
+    fn let_wait(&mut self, way: Way, band: Band) {
+        match way {
+            Way::Up => self.read_queue.let_wait(band),
+            Way::Down => self.write_queue.let_wait(band),
+        }
+    }
+
+    fn asks(&self, store: &B, way: Way) -> Asks {
+        queues::asks(self, store, way)
+    }
+
+    fn serve(
+        &mut self,
+        store: &mut B,
+        here: Spot,
+        again: bool,
+        told: &mut Fates,
+    ) -> Served<B::Mp> {
+        store.audit();
+        serving::serve(self, store, here, again, told)
+    }
+
+    fn end_turn(&mut self, store: &B, way: Way, took: bool) -> TurnEnd {
+        ending::end_turn(self, store, way, took)
+    }
+
+    fn clear(
+        &mut self,
+        store: &mut B,
+        side: Side,
+        rule: Rule,
+        told: &mut Fates,
+    ) -> ArrayVec<Note, 4> {
+        clearing::clear(self, store, side, rule, told)
+    }
+
+    ghost frame = { λ s t x same held. ldterm-frame B.name s t x same held };
+
+    ghost rests = { λ s x way i held may. served-rests B.name s x way i held may };
+
+    ghost either_way = { λ way other p may. either-served way other p may };
+
+    ghost turn_goes = { λ here again stop p may. serves-served cells.plain here 0 again stop p may };
+
+    ghost put_stays = { λ here m p way again may. puts-served here m way again p may };
+
+    ghost queue_stays = { λ at q p way again may. queue-served at q way again p may };
+
+    ghost line_stays = { λ p way again may. line-served way again p may };
+}
