@@ -1,16 +1,15 @@
-//! The queues of the module: what stands there, whether they are full, writers that wait, and what the first message asks.
+//! The queues of the module: what stands there, whether they are full, and what the first message asks.
 
 ghost use Rattle.std.specs.Prelude.{ℕ, ◌≡◌, ◌<◌, ◌≤◌, ◌+◌, ◌++◌, nat_le, length, [], ◌∷◌, IfSome, OnSome, MatchOption};
 ghost use Rattle.std.specs.Option.{option_to_list};
 ghost use Rattle.strm_types.specs.declared.limits.TheConstants.{BANDS};
 ghost use Rattle.strm_types.specs.Queue.{bytes_of, flow_of, count_of};
-ghost use Rattle.strm_types.specs.ModuleQueues.{has_queue, messages_at, full_at, waits};
-ghost use Rattle.strm_blocks.specs.Blocks.{StoreValue};
+ghost use Rattle.strm_types.specs.ModuleQueues.{messages_at, full_at};
 ghost use Rattle.strm_types.specs.Message.{Message};
 ghost use Rattle.strm_queue.specs.Stored.{queue_in, messages_on, IsReady};
 ghost use Rattle.strm_frame.specs.Serves.{IsBand};
-ghost use Rattle.strm_ldterm.specs.Stands.{ldterm_in, owns, keeps, kept_in, IsHeld, IsOrdinary};
-ghost use Rattle.strm_ldterm.specs.Calls.{queue_of, with_queue, asked_by, asked_first, ldterm_asks};
+ghost use Rattle.strm_ldterm.specs.Stands.{ldterm_in, kept_in, IsHeld, IsOrdinary};
+ghost use Rattle.strm_ldterm.specs.Calls.{queue_of, asked_by, asked_first, ldterm_asks};
 
 use crate::ldterm::Ldterm;
 use strm_blocks::Blocks;
@@ -18,31 +17,6 @@ use strm_frame::Asks;
 use strm_msg::message_size;
 use strm_queue::{Queue, standing};
 use strm_types::{Band, MsgKind, Way};
-
-impl<Mp: Drop> Ldterm<Mp> {
-    /// Whether it has a queue of a way, with a service procedure: it has both.
-    pub fn has_queue(&self, way: Way) -> bool
-        ensures { (name : Mp → ℕ) (s : StoreValue) → result ≡ has_queue queue_of way (ldterm_in name s self.now) }
-    {
-        let _ = way;
-        true
-    }
-
-    /// Has a writer of a band wait at its queue of a way, until there is room again: want-write is set there.
-    pub fn let_wait(&mut self, way: Way, band: Band)
-        requires band { band.0 < BANDS }
-        ensures state { (name : Mp → ℕ) (s : StoreValue) → ldterm_in name s self.new ≡
-            waits queue_of with_queue way band.0 (ldterm_in name s self.old) }
-        ensures held { (name : Mp → ℕ) (s : StoreValue) → IsHeld name s self.old → IsHeld name s self.new }
-        ensures owns { (k : ℕ) → owns self.new k ≡ owns self.old k }
-        ensures keeps { (name : Mp → ℕ) (i : ℕ) → keeps name self.new i ≡ keeps name self.old i }
-    {
-        match way {
-            Way::Up => self.read_queue.let_wait(band),
-            Way::Down => self.write_queue.let_wait(band),
-        }
-    }
-}
 
 /// How many bytes the turn's echo has, where there is one.
 pub(crate) fn echo_size<B: Blocks>(store: &B, echo: &Option<B::Mp>) -> usize
