@@ -7,6 +7,7 @@ use crate::{Ldterm, Line, clear};
 use std::process::Abort;
 use std::test::Fail;
 use strm_blocks::{Blocks, TableStore};
+use strm_frame::Module;
 use strm_types::{Band, Fates, Rule, Side, Way};
 
 // A line of three bytes.
@@ -27,8 +28,8 @@ fn line_goes<B: Blocks>(rt: &impl Abort, store: &mut B, side: Side, told: &mut F
 {
     let mut ldterm = Ldterm::new(0, 1);
     ldterm.line = typed(rt);
-    ldterm.let_wait(Way::Up, Band(0));
-    ldterm.let_wait(Way::Down, Band(0));
+    Module::<B>::let_wait(&mut ldterm, Way::Up, Band(0));
+    Module::<B>::let_wait(&mut ldterm, Way::Down, Band(0));
     let notes = clear(&mut ldterm, store, side, Rule::ModulePopped, told);
     assert!(rt; notes.is_empty());
     assert_eq!(rt; ldterm.line.len(), 0);

@@ -6,4 +6,4 @@ pub clear-notes-requires-clause-held : goal.clear-notes-requires-clause-held
 clear-notes-requires-clause-held g c =
     let name = g.B.Blocks.name in
     let s = g.B.Blocks.value c.args.store.now in
-    c.let_wait-2.ensures.held name s (c.let_wait.ensures.held name s (held-line name s c.new-ldterm.result c.typed-ldterm.result (c.new-ldterm.ensures.held name s c.requires.read c.requires.write)))
+    c.let_wait-2.ensures.held s (c.let_wait.ensures.held s (held-line name s c.new-ldterm.result c.typed-ldterm.result (c.new-ldterm.ensures.held name s c.requires.read c.requires.write)))
