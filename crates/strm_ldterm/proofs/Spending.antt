@@ -54,7 +54,6 @@ none-few : (C : Type 0) (n : ℕ) → cost_of (cost {C = C}) [] ≤ 4 * n
 none-few C n = let e = none-cost C in omega arith
 
 module _ {C : Type 0} where
-
   pub one-cost : (to : Spot) (m : Message C) → cost_of cost (record { to = to; message = m } ∷ []) ≡ cost to m
   unfolding cost_of
   one-cost to m = omega arith

@@ -94,13 +94,7 @@ impl<B: Blocks> Module<B> for Ldterm<B::Mp> {
         queues::asks(self, store, way)
     }
 
-    fn serve(
-        &mut self,
-        store: &mut B,
-        here: Spot,
-        again: bool,
-        told: &mut Fates,
-    ) -> Served<B::Mp> {
+    fn serve(&mut self, store: &mut B, here: Spot, again: bool, told: &mut Fates) -> Served<B::Mp> {
         store.audit();
         serving::serve(self, store, here, again, told)
     }
