@@ -30,7 +30,8 @@ use Rattle.strm_types.specs.Kept.{came, gone}
 use Rattle.strm_types.specs.Deliver.{Fate, Goes, carried}
 use Rattle.strm_types.specs.declared.modes.ControlMode.TheVariants.{Discard}
 use Rattle.strm_types.specs.declared.modes.ReadMode.TheVariants.{MessageDiscard}
-use Rattle.strm_types.specs.Message.{Message, cells_of, size_of, is_held, is_high_priority, rank_of, band_of}
+use Rattle.strm_types.specs.Write.{chunk_count}
+use Rattle.strm_types.specs.Message.{Message, cells_of, size_of, is_held, is_high_priority, rank_of, band_of, data_message}
 use Rattle.strm_types.specs.Names.{driver_of, is_closed}
 use Rattle.strm_types.specs.Refused.{blocks_asked, blocks_taken, is_known, is_a_band, has_no_data, at_end, in_range, refused, turn_refused}
 use Rattle.strm_types.specs.State.{State, Stream}
@@ -266,7 +267,7 @@ unfolding size_of cells_of is_high_priority band_of
 close-takes-away = refl
 
 pub other-entries-take-nothing-away : map (λ e. gone plain held e) (Called (caller Slave) OpenSlave Done ∷ Called (caller Slave) Pop Done ∷ Called (caller Slave) (Write (97 ∷ [])) Done ∷ Turned (driver_of Master) Idle ∷ []) ≡ [] ∷ [] ∷ [] ∷ [] ∷ []
-unfolding carried is_held size_of cells_of rank_of is_high_priority band_of
+unfolding carried chunk_count data_message is_held size_of cells_of rank_of is_high_priority band_of
 other-entries-take-nothing-away = refl
 
 pub other-entries-bring-nothing : map (λ e. came plain held e) (Called (caller Slave) Shut Done ∷ Called (caller Slave) (Flush flushes.Both None) Done ∷ Called (caller Slave) (Read 1) Done ∷ Turned (driver_of Master) Idle ∷ []) ≡ [] ∷ [] ∷ [] ∷ [] ∷ []

@@ -7,15 +7,17 @@ use Rattle.strm_types.specs.declared.events.Event.TheVariants.{OpenMaster, Unloc
 use Rattle.strm_types.specs.declared.answers.Answer.TheVariants.{Done, Bytes}
 use Rattle.strm_types.specs.declared.limits.TheConstants.{READ_MAX, CONTENT_MAX, IOCTL_MAX}
 use Rattle.strm_types.specs.declared.modes.Wanted.{Wanted}
+use Rattle.strm_types.specs.declared.names.ModuleName.{ModuleName}
 use Rattle.strm_types.specs.declared.names.Side.{Side}
 use Rattle.strm_types.specs.declared.names.Way.TheVariants.{Down}
 use Rattle.strm_types.specs.declared.slots.Slot.TheVariants.{Free, Waiting, Acked, Nacked}
-use Rattle.strm_types.specs.Calls.{Request, called, content_of, get_at, ioctl_begun, ioctl_sent, read_at}
+use Rattle.strm_types.specs.Calls.{Request, called, content_of, get_at, ioctl_begun, ioctl_sent, name_told, read_at}
 use Rattle.strm_types.specs.Cells.{Cells, bytes_of}
 use Rattle.strm_types.specs.Gets.{head_get}
 use Rattle.strm_types.specs.Ioctls.{asking, ioctl_message}
 use Rattle.strm_types.specs.Journal.{content_max}
 use Rattle.strm_types.specs.Message.{part}
+use Rattle.strm_types.specs.Pushes.{top_on}
 use Rattle.strm_types.specs.Reads.{head_draw}
 use Rattle.strm_types.specs.Slots.{PlainSlot, answer_bytes, gives_nothing, told_of}
 use Rattle.strm_types.specs.State.{State, stream}
@@ -61,6 +63,10 @@ module _ {C : Type 0} (cells : Cells C) where
       at true = omega arith
       at false = fits
 
+  name-fits : (name : Option ModuleName) → length (content_of (name_told name)) ≤ 0
+  name-fits None = omega arith
+  name-fits (Some name) = omega arith
+
   pub content-fits : (caller : Caller) (asked : Request) (s : State C) → AreWithin s → length (content_of (called cells caller asked s).answer) ≤ content_max asked
   content-fits caller OpenMaster s within = omega arith
   content-fits caller Unlock s within = omega arith
@@ -68,7 +74,7 @@ module _ {C : Type 0} (cells : Cells C) where
   content-fits caller Shut s within = omega arith
   content-fits caller (Push name) s within = omega arith
   content-fits caller Pop s within = omega arith
-  content-fits caller Look s within = omega arith
+  content-fits caller Look s within = name-fits (top_on caller.side s)
   content-fits caller (Flush what band) s within = omega arith
   content-fits caller (Write bytes) s within = omega arith
   content-fits caller (Read n) s within = read-fits caller.side n s

@@ -1,5 +1,5 @@
 -- A delivery takes few blocks.
-use Rattle.std.proofs.Common.{ℕ, ◌≤◌, Bool, true, false, cond, arith}
+use Rattle.std.proofs.Common.{◌≤◌, Bool, true, false, cond, arith}
 use Rattle.std.specs.Prelude.{◌==◌}
 use Rattle.strm_types.specs.declared.names.Way.{Way}
 use Rattle.strm_types.specs.declared.names.Way.TheVariants.{Up, Down}

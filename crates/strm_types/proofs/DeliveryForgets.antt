@@ -10,7 +10,7 @@ map-join h [] ys = refl
 map-join h (x ∷ xs) ys = ap (λ zs. h x ∷ zs) (map-join h xs ys)
 
 module _ {C D S T : Type 0} (f : C → D) (g : S → T) where
-  in_turn-agrees : (carry : Parcel C → S → Carried C S) (carry' : Parcel D → T → Carried D T) → CarriesAgree f g carry carry' → (ps : List (Parcel C)) (s : S) →
+  pub in_turn-agrees : (carry : Parcel C → S → Carried C S) (carry' : Parcel D → T → Carried D T) → CarriesAgree f g carry carry' → (ps : List (Parcel C)) (s : S) →
       in_turn carry' (map (map_parcel f) ps) (g s) ≡ map_carried f g (in_turn carry ps s)
   in_turn-agrees carry carry' agree [] s = refl
   in_turn-agrees carry carry' agree (q ∷ qs) s =

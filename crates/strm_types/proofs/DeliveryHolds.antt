@@ -12,7 +12,7 @@ module _ {C S : Type 0} (Holds : S → Type 0) where
   abbrev pub CarryHolds : (Parcel C → S → Carried C S) → Type 0
   CarryHolds carry = (q : Parcel C) (s : S) → Holds s → Holds (carry q s).state
 
-  in_turn-holds : (carry : Parcel C → S → Carried C S) → CarryHolds carry → (ps : List (Parcel C)) (s : S) → Holds s → Holds (in_turn carry ps s).state
+  pub in_turn-holds : (carry : Parcel C → S → Carried C S) → CarryHolds carry → (ps : List (Parcel C)) (s : S) → Holds s → Holds (in_turn carry ps s).state
   in_turn-holds carry keeps [] s holds = holds
   in_turn-holds carry keeps (q ∷ qs) s holds = in_turn-holds carry keeps qs (carry q s).state (keeps q s holds)
 

@@ -1,34 +1,36 @@
 -- Forgetting the origins of cells commutes with flushes and closes.
 use Rattle.std.proofs.Common.{ℕ, ◌≡◌, Bool, true, false, cond, List, [], ◌∷◌, ◌++◌, map, refl, sym, ap, ◌∙◌, arith}
-use Rattle.std.specs.Prelude.{◌==◌, ◌||◌, not}
+use Rattle.std.specs.Prelude.{◌==◌, ◌||◌, not, Option}
 use Rattle.std.proofs.lemmas.List.{map-append}
 use Rattle.std.proofs.lemmas.List.Sums.{sum_by-cons}
 use Rattle.strm_types.specs.declared.kinds.MsgKind.{MsgKind}
+use Rattle.strm_types.specs.declared.names.QueueName.{QueueName}
 use Rattle.strm_types.specs.declared.names.Side.{Side}
 use Rattle.strm_types.specs.declared.names.Side.TheVariants.{Master, Slave}
 use Rattle.strm_types.specs.declared.rules.Rule.{Rule}
-use Rattle.strm_types.specs.declared.rules.Rule.TheVariants.{EndClosed}
-use Rattle.strm_types.specs.Deliver.{Fate, Goes, Carried}
-use Rattle.strm_types.specs.Closes.{head_emptied, driver_emptied, and_then, ended, hung_up_at, closed_at}
-use Rattle.strm_types.specs.Emptied.{Choice, of_all, stayed, cells_gone, emptied, none_goes, queue_behind, writer_goes}
+use Rattle.strm_types.specs.Deliver.{Goes, Carried}
+use Rattle.strm_types.specs.Closes.{head_emptied, driver_emptied}
+use Rattle.strm_types.specs.Emptied.{Choice, stayed, cells_gone, emptied, none_goes, queue_behind, writer_goes}
 use Rattle.strm_types.specs.Message.{Message, cells_of, size_of, map_message}
-use Rattle.strm_types.specs.Names.{driver_of, head_of, direction_of, before, is_open, enable_some}
-use Rattle.strm_types.specs.Origins.{map_fate, map_carried}
+use Rattle.strm_types.specs.Earlier.{before_driver, before_head}
+use Rattle.strm_types.specs.Names.{driver_of, head_of, direction_of, enable_some}
+use Rattle.strm_types.specs.Origins.{map_carried}
 use Rattle.strm_types.specs.Queue.{Queue, bytes_of, relieved, relieves, map_messages, map_queue}
 use Rattle.strm_types.specs.State.{State, Stream, stream, with_stream, with_head_queue, with_driver_queue, map_stream, map_state}
 use Rattle.strm_types.specs.Queue.{is_none_left}
+use Rattle.strm_types.proofs.Earlier.{before_driver-forgets, before_head-forgets}
 use Rattle.strm_types.proofs.Forgetting.{kind-forgets, named_band-forgets, cells-forget, size-forgets, none-forgets, relieved-forgets, relieves_from-forgets}
 
 -- what becomes of a state whose head's or driver's queue on a side is emptied
-abbrev head_made : {E : Type 0} → Rule → Side → State E → Queue E → Bool → List E → Carried E (State E)
-head_made rule side s q goes cells = record {
-  state = record (with_stream side (with_head_queue q (stream side s)) s) { enabled = enable_some goes (before (head_of side)) s.enabled };
+abbrev head_made : {E : Type 0} → Rule → Side → State E → Option QueueName → Queue E → Bool → List E → Carried E (State E)
+head_made rule side s earlier q goes cells = record {
+  state = record (with_stream side (with_head_queue q (stream side s)) s) { enabled = enable_some goes earlier s.enabled };
   gone = Goes (direction_of (head_of side)) rule cells ∷ [];
 }
 
-abbrev driver_made : {E : Type 0} → Rule → Side → State E → Queue E → Bool → List E → Carried E (State E)
-driver_made rule side s q goes cells = record {
-  state = record (with_stream side (with_driver_queue q (stream side s)) s) { enabled = enable_some goes (before (driver_of side)) s.enabled };
+abbrev driver_made : {E : Type 0} → Rule → Side → State E → Option QueueName → Queue E → Bool → List E → Carried E (State E)
+driver_made rule side s earlier q goes cells = record {
+  state = record (with_stream side (with_driver_queue q (stream side s)) s) { enabled = enable_some goes earlier s.enabled };
   gone = Goes (direction_of (driver_of side)) rule cells ∷ [];
 }
 
@@ -93,67 +95,40 @@ module _ {C D : Type 0} (f : C → D) where
       ∙ ap (λ (lets : Bool). cond (none_goes chosen q) false lets) (relieves_from-forgets f 0 (stayed chosen q.messages) q.flows)
 
   -- over a side's head and its driver
-  head_made-forgets : (rule : Rule) (side : Side) (s : State C) (q : Queue C) (goes : Bool) (cells : List C) → head_made rule side (map_state f s) (map_queue f q) goes (map f cells) ≡ map_carried f (map_state f) (head_made rule side s q goes cells)
-  head_made-forgets rule Master s q goes cells = refl
-  head_made-forgets rule Slave s q goes cells = refl
+  head_made-forgets : (rule : Rule) (side : Side) (s : State C) (earlier : Option QueueName) (q : Queue C) (goes : Bool) (cells : List C)
+      → head_made rule side (map_state f s) earlier (map_queue f q) goes (map f cells) ≡ map_carried f (map_state f) (head_made rule side s earlier q goes cells)
+  head_made-forgets rule Master s earlier q goes cells = refl
+  head_made-forgets rule Slave s earlier q goes cells = refl
 
-  driver_made-forgets : (rule : Rule) (side : Side) (s : State C) (q : Queue C) (goes : Bool) (cells : List C) → driver_made rule side (map_state f s) (map_queue f q) goes (map f cells) ≡ map_carried f (map_state f) (driver_made rule side s q goes cells)
-  driver_made-forgets rule Master s q goes cells = refl
-  driver_made-forgets rule Slave s q goes cells = refl
+  driver_made-forgets : (rule : Rule) (side : Side) (s : State C) (earlier : Option QueueName) (q : Queue C) (goes : Bool) (cells : List C)
+      → driver_made rule side (map_state f s) earlier (map_queue f q) goes (map f cells) ≡ map_carried f (map_state f) (driver_made rule side s earlier q goes cells)
+  driver_made-forgets rule Master s earlier q goes cells = refl
+  driver_made-forgets rule Slave s earlier q goes cells = refl
 
   pub stream-forgets : (side : Side) (s : State C) → stream side (map_state f s) ≡ map_stream f (stream side s)
   stream-forgets Master s = refl
   stream-forgets Slave s = refl
 
-  head_emptied-forgets : (rule : Rule) (chosen : Choice) (side : Side) (s : State C) → head_emptied rule chosen side (map_state f s) ≡ map_carried f (map_state f) (head_emptied rule chosen side s)
+  pub head_emptied-forgets : (rule : Rule) (chosen : Choice) (side : Side) (s : State C) → head_emptied rule chosen side (map_state f s) ≡ map_carried f (map_state f) (head_emptied rule chosen side s)
   head_emptied-forgets rule chosen side s =
       let q = (stream side s).head.queue in
       let image = map_state f s in
-      ap (λ (t : Stream D). head_made rule side image (queue_behind chosen t.head.queue) (writer_goes chosen t.head.queue) (cells_gone chosen t.head.queue.messages)) (stream-forgets side s)
-      ∙ ap (λ (rest : Queue D). head_made rule side image rest (writer_goes chosen (map_queue f q)) (cells_gone chosen (map_messages f q.messages))) (queue_behind-forgets chosen q)
-      ∙ ap (λ (goes : Bool). head_made rule side image (map_queue f (queue_behind chosen q)) goes (cells_gone chosen (map_messages f q.messages))) (writer_goes-forgets chosen q)
-      ∙ ap (λ (cells : List D). head_made rule side image (map_queue f (queue_behind chosen q)) (writer_goes chosen q) cells) (gone-forgets chosen q.messages)
-      ∙ head_made-forgets rule side s (queue_behind chosen q) (writer_goes chosen q) (cells_gone chosen q.messages)
+      let earlier = before_head side s in
+      ap (λ (e : Option QueueName). head_made rule side image e (queue_behind chosen (stream side image).head.queue) (writer_goes chosen (stream side image).head.queue) (cells_gone chosen (stream side image).head.queue.messages)) (before_head-forgets f side s)
+      ∙ ap (λ (t : Stream D). head_made rule side image earlier (queue_behind chosen t.head.queue) (writer_goes chosen t.head.queue) (cells_gone chosen t.head.queue.messages)) (stream-forgets side s)
+      ∙ ap (λ (rest : Queue D). head_made rule side image earlier rest (writer_goes chosen (map_queue f q)) (cells_gone chosen (map_messages f q.messages))) (queue_behind-forgets chosen q)
+      ∙ ap (λ (goes : Bool). head_made rule side image earlier (map_queue f (queue_behind chosen q)) goes (cells_gone chosen (map_messages f q.messages))) (writer_goes-forgets chosen q)
+      ∙ ap (λ (cells : List D). head_made rule side image earlier (map_queue f (queue_behind chosen q)) (writer_goes chosen q) cells) (gone-forgets chosen q.messages)
+      ∙ head_made-forgets rule side s earlier (queue_behind chosen q) (writer_goes chosen q) (cells_gone chosen q.messages)
 
-  driver_emptied-forgets : (rule : Rule) (chosen : Choice) (side : Side) (s : State C) → driver_emptied rule chosen side (map_state f s) ≡ map_carried f (map_state f) (driver_emptied rule chosen side s)
+  pub driver_emptied-forgets : (rule : Rule) (chosen : Choice) (side : Side) (s : State C) → driver_emptied rule chosen side (map_state f s) ≡ map_carried f (map_state f) (driver_emptied rule chosen side s)
   driver_emptied-forgets rule chosen side s =
       let q = (stream side s).driver.queue in
       let image = map_state f s in
-      ap (λ (t : Stream D). driver_made rule side image (queue_behind chosen t.driver.queue) (writer_goes chosen t.driver.queue) (cells_gone chosen t.driver.queue.messages)) (stream-forgets side s)
-      ∙ ap (λ (rest : Queue D). driver_made rule side image rest (writer_goes chosen (map_queue f q)) (cells_gone chosen (map_messages f q.messages))) (queue_behind-forgets chosen q)
-      ∙ ap (λ (goes : Bool). driver_made rule side image (map_queue f (queue_behind chosen q)) goes (cells_gone chosen (map_messages f q.messages))) (writer_goes-forgets chosen q)
-      ∙ ap (λ (cells : List D). driver_made rule side image (map_queue f (queue_behind chosen q)) (writer_goes chosen q) cells) (gone-forgets chosen q.messages)
-      ∙ driver_made-forgets rule side s (queue_behind chosen q) (writer_goes chosen q) (cells_gone chosen q.messages)
-
-  -- one after the other
-  and_then-forgets : (t : Carried C (State C)) (image : Carried D (State D)) (next : State C → Carried C (State C)) (next' : State D → Carried D (State D))
-      → image ≡ map_carried f (map_state f) t → ((s : State C) → next' (map_state f s) ≡ map_carried f (map_state f) (next s))
-      → and_then image next' ≡ map_carried f (map_state f) (and_then t next)
-  and_then-forgets t image next next' is agree =
-      ap (λ (u : Carried D (State D)). and_then u next') is
-      ∙ ap (λ (u : Carried D (State D)). record { state = u.state; gone = map (map_fate f) t.gone ++ u.gone }) (agree t.state)
-      ∙ ap (λ (gone : List (Fate D)). record { state = map_state f (next t.state).state; gone = gone }) (sym (map-append (map_fate f) t.gone (next t.state).gone))
-
-  -- a close
-  hung_up-forgets : (s : State C) → hung_up_at Slave (map_state f s) ≡ map_state f (hung_up_at Slave s)
-  hung_up-forgets s = at (is_open s.slave.opened)
-    where
-      hung : {E : Type 0} → State E → State E
-      hung s = record s { slave = record s.slave { head = record s.slave.head { hung_up = true } } }
-
-      at : (opened : Bool) → cond opened (hung (map_state f s)) (map_state f s) ≡ map_state f (cond opened (hung s) s)
-      at true = refl
-      at false = refl
-
-  abbrev both_emptied : State C → Carried C (State C)
-  both_emptied s = and_then (and_then (head_emptied EndClosed of_all Master s) (driver_emptied EndClosed of_all Master)) (driver_emptied EndClosed of_all Slave)
-
-  pub closed_at-forgets : (side : Side) (s : State C) → closed_at side (map_state f s) ≡ map_carried f (map_state f) (closed_at side s)
-  closed_at-forgets Slave s = ap (λ (t : Carried D (State D)). record { state = ended Slave t.state; gone = t.gone }) (head_emptied-forgets EndClosed of_all Slave s)
-  closed_at-forgets Master s =
-      let image = map_state f s in
-      let heads = head_emptied-forgets EndClosed of_all Master s in
-      let drivers = and_then-forgets (head_emptied EndClosed of_all Master s) (head_emptied EndClosed of_all Master image) (driver_emptied EndClosed of_all Master) (driver_emptied EndClosed of_all Master) heads (driver_emptied-forgets EndClosed of_all Master) in
-      let all = and_then-forgets (and_then (head_emptied EndClosed of_all Master s) (driver_emptied EndClosed of_all Master)) (and_then (head_emptied EndClosed of_all Master image) (driver_emptied EndClosed of_all Master)) (driver_emptied EndClosed of_all Slave) (driver_emptied EndClosed of_all Slave) drivers (driver_emptied-forgets EndClosed of_all Slave) in
-      ap (λ (t : Carried D (State D)). record { state = hung_up_at Slave (ended Master t.state); gone = t.gone }) all
-      ∙ ap (λ (t : State D). record { state = t; gone = map (map_fate f) (both_emptied s).gone }) (hung_up-forgets (ended Master (both_emptied s).state))
+      let earlier = before_driver side s in
+      ap (λ (e : Option QueueName). driver_made rule side image e (queue_behind chosen (stream side image).driver.queue) (writer_goes chosen (stream side image).driver.queue) (cells_gone chosen (stream side image).driver.queue.messages)) (before_driver-forgets f side s)
+      ∙ ap (λ (t : Stream D). driver_made rule side image earlier (queue_behind chosen t.driver.queue) (writer_goes chosen t.driver.queue) (cells_gone chosen t.driver.queue.messages)) (stream-forgets side s)
+      ∙ ap (λ (rest : Queue D). driver_made rule side image earlier rest (writer_goes chosen (map_queue f q)) (cells_gone chosen (map_messages f q.messages))) (queue_behind-forgets chosen q)
+      ∙ ap (λ (goes : Bool). driver_made rule side image earlier (map_queue f (queue_behind chosen q)) goes (cells_gone chosen (map_messages f q.messages))) (writer_goes-forgets chosen q)
+      ∙ ap (λ (cells : List D). driver_made rule side image earlier (map_queue f (queue_behind chosen q)) (writer_goes chosen q) cells) (gone-forgets chosen q.messages)
+      ∙ driver_made-forgets rule side s earlier (queue_behind chosen q) (writer_goes chosen q) (cells_gone chosen q.messages)

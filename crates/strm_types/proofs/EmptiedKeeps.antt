@@ -4,13 +4,11 @@ use Rattle.std.specs.Prelude.{not, count_by}
 use Rattle.strm_types.specs.declared.names.Side.{Side}
 use Rattle.strm_types.specs.declared.names.Side.TheVariants.{Master, Slave}
 use Rattle.strm_types.specs.declared.rules.Rule.{Rule}
-use Rattle.strm_types.specs.declared.rules.Rule.TheVariants.{EndClosed}
 use Rattle.strm_types.specs.Deliver.{Carried}
-use Rattle.strm_types.specs.Closes.{head_emptied, driver_emptied, and_then, ended, hung_up_at, closed_at}
+use Rattle.strm_types.specs.Closes.{head_emptied, driver_emptied, and_then}
 use Rattle.strm_types.specs.Emptied.{Choice, of_all, stayed, cells_gone, emptied, none_goes, queue_behind}
 use Rattle.strm_types.specs.Kept.{state_weight, NothingUnread}
 use Rattle.strm_types.specs.Message.{Message, cells_of}
-use Rattle.strm_types.specs.Names.{is_open}
 use Rattle.strm_types.specs.Places.{weight_gone, weight_made}
 use Rattle.strm_types.specs.Queue.{Queue, weight, relieved}
 use Rattle.strm_types.specs.State.{State}
@@ -47,74 +45,30 @@ module _ {C : Type 0} where
     Keeps t n = state_weight p t.state + weight_gone p t.gone ≡ n + weight_made p t.gone
 
     -- over a side's head and its driver
-    head_emptied-keeps : (rule : Rule) (chosen : Choice) (side : Side) (s : State C) → Keeps (head_emptied rule chosen side s) (state_weight p s)
+    pub head_emptied-keeps : (rule : Rule) (chosen : Choice) (side : Side) (s : State C) → Keeps (head_emptied rule chosen side s) (state_weight p s)
     head_emptied-keeps rule chosen Master s = omega (arith, behind-keeps chosen s.master.head.queue)
     head_emptied-keeps rule chosen Slave s = omega (arith, behind-keeps chosen s.slave.head.queue)
 
-    driver_emptied-keeps : (rule : Rule) (chosen : Choice) (side : Side) (s : State C) → Keeps (driver_emptied rule chosen side s) (state_weight p s)
+    pub driver_emptied-keeps : (rule : Rule) (chosen : Choice) (side : Side) (s : State C) → Keeps (driver_emptied rule chosen side s) (state_weight p s)
     driver_emptied-keeps rule chosen Master s = omega (arith, behind-keeps chosen s.master.driver.queue)
     driver_emptied-keeps rule chosen Slave s = omega (arith, behind-keeps chosen s.slave.driver.queue)
 
     -- one after the other
-    and_then-keeps : (n : ℕ) (t : Carried C (State C)) (next : State C → Carried C (State C)) → Keeps t n → ((s : State C) → Keeps (next s) (state_weight p s)) → Keeps (and_then t next) n
+    pub and_then-keeps : (n : ℕ) (t : Carried C (State C)) (next : State C → Carried C (State C)) → Keeps t n → ((s : State C) → Keeps (next s) (state_weight p s)) → Keeps (and_then t next) n
     and_then-keeps n t next is keeps = omega (arith, is, keeps t.state, gone-append p t.gone (next t.state).gone, made-append p t.gone (next t.state).gone)
 
-    -- a close: what stands on the head has gone before that is as new
-    behind-all : (q : Queue C) → weight p (queue_behind of_all q).messages ≡ 0
+    -- all messages go
+    pub behind-all : (q : Queue C) → weight p (queue_behind of_all q).messages ≡ 0
     behind-all q = ap (λ (ms : List (Message C)). weight p ms) (behind-is of_all q ∙ none-stays q.messages)
-
-    hung_up-keeps : (side : Side) (s : State C) → state_weight p (hung_up_at side s) ≡ state_weight p s
-    hung_up-keeps Master s = at (is_open s.master.opened)
-      where
-        at : (opened : Bool) → state_weight p (cond opened (record s { master = record s.master { head = record s.master.head { hung_up = true } } }) s) ≡ state_weight p s
-        at true = refl
-        at false = refl
-    hung_up-keeps Slave s = at (is_open s.slave.opened)
-      where
-        at : (opened : Bool) → state_weight p (cond opened (record s { slave = record s.slave { head = record s.slave.head { hung_up = true } } }) s) ≡ state_weight p s
-        at true = refl
-        at false = refl
-
-    pub closed_at-keeps : (side : Side) (s : State C) → Keeps (closed_at side s) (state_weight p s)
-    closed_at-keeps Slave s = omega (arith, head_emptied-keeps EndClosed of_all Slave s, behind-all s.slave.head.queue)
-    closed_at-keeps Master s =
-        let heads = head_emptied EndClosed of_all Master s in
-        let one = and_then heads (driver_emptied EndClosed of_all Master) in
-        let all = and_then one (driver_emptied EndClosed of_all Slave) in
-        let one_keeps = and_then-keeps (state_weight p s) heads (driver_emptied EndClosed of_all Master) (head_emptied-keeps EndClosed of_all Master s) (driver_emptied-keeps EndClosed of_all Master) in
-        let all_keep = and_then-keeps (state_weight p s) one (driver_emptied EndClosed of_all Slave) one_keeps (driver_emptied-keeps EndClosed of_all Slave) in
-        let hung = hung_up-keeps Slave (ended Master all.state) in
-        omega (arith, hung, all_keep, behind-all s.master.head.queue)
 
   -- a side that isn't open has nothing for its readers: so it stays
   behind-none : (chosen : Choice) (q : Queue C) → q.messages ≡ [] → (queue_behind chosen q).messages ≡ []
   behind-none chosen q none = behind-is chosen q ∙ ap (λ (ms : List (Message C)). stayed chosen ms) none
 
-  head_emptied-unread : (rule : Rule) (chosen : Choice) (side : Side) (s : State C) → NothingUnread s → NothingUnread (head_emptied rule chosen side s).state
+  pub head_emptied-unread : (rule : Rule) (chosen : Choice) (side : Side) (s : State C) → NothingUnread s → NothingUnread (head_emptied rule chosen side s).state
   head_emptied-unread rule chosen Master s unread = record { master = λ closed. behind-none chosen s.master.head.queue (unread.master closed); slave = unread.slave }
   head_emptied-unread rule chosen Slave s unread = record { master = unread.master; slave = λ closed. behind-none chosen s.slave.head.queue (unread.slave closed) }
 
-  driver_emptied-unread : (rule : Rule) (chosen : Choice) (side : Side) (s : State C) → NothingUnread s → NothingUnread (driver_emptied rule chosen side s).state
+  pub driver_emptied-unread : (rule : Rule) (chosen : Choice) (side : Side) (s : State C) → NothingUnread s → NothingUnread (driver_emptied rule chosen side s).state
   driver_emptied-unread rule chosen Master s unread = record { master = unread.master; slave = unread.slave }
   driver_emptied-unread rule chosen Slave s unread = record { master = unread.master; slave = unread.slave }
-
-  hung_up-unread : (s : State C) → NothingUnread s → NothingUnread (hung_up_at Slave s)
-  hung_up-unread s unread = at (is_open s.slave.opened)
-    where
-      at : (opened : Bool) → NothingUnread (cond opened (record s { slave = record s.slave { head = record s.slave.head { hung_up = true } } }) s)
-      at true = record { master = unread.master; slave = unread.slave }
-      at false = unread
-
-  ended-unread : (side : Side) (s : State C) → NothingUnread s → NothingUnread (ended side s)
-  ended-unread Master s unread = record { master = λ closed. refl; slave = unread.slave }
-  ended-unread Slave s unread = record { master = unread.master; slave = λ closed. refl }
-
-  pub closed_at-unread : (side : Side) (s : State C) → NothingUnread s → NothingUnread (closed_at side s).state
-  closed_at-unread Slave s unread = ended-unread Slave (head_emptied EndClosed of_all Slave s).state (head_emptied-unread EndClosed of_all Slave s unread)
-  closed_at-unread Master s unread =
-      let heads = (head_emptied EndClosed of_all Master s).state in
-      let one = (driver_emptied EndClosed of_all Master heads).state in
-      let all = (driver_emptied EndClosed of_all Slave one).state in
-      let heads_unread = head_emptied-unread EndClosed of_all Master s unread in
-      let one_unread = driver_emptied-unread EndClosed of_all Master heads heads_unread in
-      hung_up-unread (ended Master all) (ended-unread Master all (driver_emptied-unread EndClosed of_all Slave one one_unread))

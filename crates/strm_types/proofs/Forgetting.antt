@@ -1,12 +1,11 @@
 -- Forgetting the origins of cells commutes with what is done to them.
-use Rattle.std.proofs.Common.{ℕ, zero, suc, ◌≡◌, ◌+◌, Bool, true, false, cond, List, [], ◌∷◌, length, map, take, drop, refl, sym, ap, ◌∙◌, arith}
+use Rattle.std.proofs.Common.{ℕ, suc, ◌≡◌, Bool, false, List, [], ◌∷◌, length, map, refl, sym, ap, ◌∙◌, arith}
 use Rattle.std.specs.Prelude.{if◌then◌else◌, ◌==◌, ◌&&◌, ◌||◌, nat_le, Option, None, Some, option_map}
-use Rattle.std.proofs.lemmas.List.{take-map, drop-map, length-map, map-append}
+use Rattle.std.proofs.lemmas.List.{length-map, map-append}
 use Rattle.std.proofs.lemmas.List.Sums.{sum_by-cons}
 use Rattle.strm_types.specs.Message.{Message, part, rank_of, band_of, cells_of, size_of, data_message, map_message}
 use Rattle.strm_types.specs.Queue.{Queue, Flow, put, put_back, put_on, put_enables, count_of, is_full, flow_of, relieved, relieved_from, relieves_from, map_messages, map_queue}
 use Rattle.strm_types.specs.Queue.{is_none_left}
-use Rattle.strm_types.specs.Write.{Sent, sent, written, chunks_of, chunk_count}
 use Rattle.strm_types.proofs.Ranked.{put-map, put_back-map}
 
 module _ {C D : Type 0} (f : C → D) where
@@ -82,37 +81,9 @@ module _ {C D : Type 0} (f : C → D) where
       ap (λ (flows : List Flow). record { messages = map_messages f q.messages; flows = flows; want_read = q.want_read; no_enable = q.no_enable }) (sym (relieved_from-forgets 0 q.messages q.flows))
 
   -- what a write sends, of other cells
-  abbrev pub map_sent : Sent C → Sent D
-  map_sent s = record { taken = s.taken; queue = map_queue f s.queue; enables = s.enables }
-
   pub put_on-forgets : (m : Message C) (q : Queue C) → put_on (map_message f m) (map_queue f q) ≡ map_queue f (put_on m q)
   put_on-forgets m q = ap (λ ms. record { messages = ms; flows = q.flows; want_read = q.want_read; no_enable = q.no_enable }) (sym (put-forgets m q.messages))
 
   pub put_enables-forgets : (m : Message C) (q : Queue C) → put_enables (map_message f m) (map_queue f q) ≡ put_enables m q
   unfolding map_message band_of
   put_enables-forgets m q = refl
-
-  data-on-forgets : (cells : List C) (q : Queue C) → map_queue f (put_on (data_message cells) q) ≡ put_on (data_message (map f cells)) (map_queue f q)
-  data-on-forgets cells q = sym (put_on-forgets (data_message cells) q) ∙ ap (λ m. put_on m (map_queue f q)) (data-forgets cells)
-
-  enables-forgets : (cells : List C) (q : Queue C) → put_enables (data_message (map f cells)) (map_queue f q) ≡ put_enables (data_message cells) q
-  unfolding data_message band_of
-  enables-forgets cells q = refl
-
-  sent-forgets : (count : ℕ) (cells : List C) (q : Queue C) → map_sent (sent (chunks_of count cells) q) ≡ sent (chunks_of count (map f cells)) (map_queue f q)
-  sent-forgets zero cells q = refl
-  sent-forgets (suc count) cells q =
-      sent-at (is_full 0 q) (sent-forgets count (drop 256 cells) (put_on (data_message (take 256 cells)) q))
-      ∙ rw (full-forgets 0 q, take-map f 256 cells, drop-map f 256 cells) refl
-    where
-      sent-at : (b : Bool) → map_sent (sent (chunks_of count (drop 256 cells)) (put_on (data_message (take 256 cells)) q)) ≡ sent (chunks_of count (map f (drop 256 cells))) (map_queue f (put_on (data_message (take 256 cells)) q))
-          → map_sent (cond b (record { taken = 0; queue = q; enables = false }) (let more = sent (chunks_of count (drop 256 cells)) (put_on (data_message (take 256 cells)) q) in record { taken = length (take 256 cells) + more.taken; queue = more.queue; enables = put_enables (data_message (take 256 cells)) q || more.enables }))
-          ≡ cond b (record { taken = 0; queue = map_queue f q; enables = false }) (let more = sent (chunks_of count (map f (drop 256 cells))) (put_on (data_message (map f (take 256 cells))) (map_queue f q)) in record { taken = length (map f (take 256 cells)) + more.taken; queue = more.queue; enables = put_enables (data_message (map f (take 256 cells))) (map_queue f q) || more.enables })
-      sent-at true ih = refl
-      sent-at false ih =
-          let whole = ih ∙ ap (λ r. sent (chunks_of count (map f (drop 256 cells))) r) (data-on-forgets (take 256 cells) q) in
-          ap (λ (s : Sent D). record { taken = length (take 256 cells) + s.taken; queue = s.queue; enables = put_enables (data_message (take 256 cells)) q || s.enables }) whole
-          ∙ rw (length-map (take 256 cells) f, enables-forgets (take 256 cells) q) refl
-
-  pub written-forgets : (cells : List C) (q : Queue C) → map_sent (written cells q) ≡ written (map f cells) (map_queue f q)
-  written-forgets cells q = sent-forgets (chunk_count (length cells)) cells q ∙ ap (λ n. sent (chunks_of (chunk_count n) (map f cells)) (map_queue f q)) (sym (length-map cells f))

@@ -1,5 +1,5 @@
 -- Forgetting the origins of cells commutes with whole calls, whole turns and the replay of a journal.
-use Rattle.std.proofs.Common.{ℕ, ◌≡◌, Bool, true, false, List, [], ◌∷◌, length, map, refl, sym, ap, ◌∙◌}
+use Rattle.std.proofs.Common.{ℕ, ◌≡◌, Bool, List, [], ◌∷◌, length, map, refl, sym, ap, ◌∙◌}
 use Rattle.std.specs.Prelude.{min, not, Option, None, Some, option_map}
 use Rattle.std.proofs.lemmas.List.{length-map}
 use Rattle.strm_types.specs.declared.limits.TheConstants.{READ_MAX}
@@ -13,32 +13,36 @@ use Rattle.strm_types.specs.declared.modes.Mode as modes
 use Rattle.strm_types.specs.declared.modes.Mode.TheVariants as chosen
 use Rattle.strm_types.specs.declared.modes.Prio.{Prio}
 use Rattle.strm_types.specs.declared.modes.Wanted.{Wanted}
+use Rattle.strm_types.specs.declared.names.ModuleName.{ModuleName}
 use Rattle.strm_types.specs.declared.names.Side.{Side}
 use Rattle.strm_types.specs.declared.names.Side.TheVariants.{Master, Slave}
-use Rattle.strm_types.specs.declared.names.Dir.{Dir}
 use Rattle.strm_types.specs.declared.names.Openness.TheVariants.{Open}
 use Rattle.strm_types.specs.declared.names.Place.{Place}
 use Rattle.strm_types.specs.declared.names.Place.TheVariants as places
 use Rattle.strm_types.specs.declared.names.QueueName.{QueueName}
 use Rattle.strm_types.specs.Cells.{Cells, AreCells, plain, cells_written, bytes_of}
-use Rattle.strm_types.specs.Names.{driver_of, head_of, direction_from, before, without, enable_if, enable_some}
+use Rattle.strm_types.specs.Earlier.{before_head}
+use Rattle.strm_types.specs.Names.{driver_of, direction_from, without, enable_if, enable_some}
 use Rattle.strm_types.specs.Gets.{Got, prio_got, first_data, head_get, map_got}
 use Rattle.strm_types.specs.GetQueues.{get_queue, get_lets_go}
 use Rattle.strm_types.specs.Message.{Message, part, map_message}
 use Rattle.strm_types.specs.Queue.{Queue, map_messages, map_queue}
-use Rattle.strm_types.specs.State.{Head, State, stream, with_stream, with_driver_queue, with_head_queue, book, with_book, new_head, map_head, map_state}
+use Rattle.strm_types.specs.State.{Head, State, stream, with_stream, with_head_queue, book, with_book, new_head, map_head, map_state}
 use Rattle.strm_types.specs.Books.{with_written}
-use Rattle.strm_types.specs.Write.{Sent, written}
+use Rattle.strm_types.specs.Writes.{Wrote, cells_sent, map_wrote}
 use Rattle.strm_types.specs.Reads.{Drawn, head_draw, read_queue, read_lets_go}
 use Rattle.strm_types.specs.Turns.{TurnOutcome, map_turn_outcome, turned_at, turned}
-use Rattle.strm_types.specs.Calls.{Outcome, Request, Reply, map_outcome, done, read_at, wrote, get_at, mode_set, sizes_at, ioctl_sent, ioctl_told, called}
+use Rattle.strm_types.specs.Calls.{Outcome, Request, Reply, map_outcome, done, read_at, wrote, get_at, mode_set, name_told, sizes_at, ioctl_sent, ioctl_told, called}
 use Rattle.strm_types.specs.Journal.{PlainEntry}
 use Rattle.strm_types.specs.Step.{after, replay}
 use Rattle.strm_types.specs.Deliver.{Carried}
-use Rattle.strm_types.proofs.Forgetting.{map_sent, none-forgets, written-forgets}
-use Rattle.strm_types.proofs.EmptiedForgets.{closed_at-forgets}
+use Rattle.strm_types.proofs.Earlier.{before_head-forgets}
+use Rattle.strm_types.proofs.Forgetting.{none-forgets}
+use Rattle.strm_types.proofs.ClosesForget.{closed_at-forgets}
+use Rattle.strm_types.proofs.WriteSteps.{cells_sent-forgets}
 use Rattle.strm_types.proofs.PlainCells.{written-plain, bytes-plain, written-bytes}
 use Rattle.strm_types.proofs.IoctlCalls.{ioctl_told-forgets, sent-forgets, signals-forget}
+use Rattle.strm_types.proofs.PushForgets.{pop-forgets, push-forgets, top-forgets}
 use Rattle.strm_types.proofs.PutsForget.{flushed_on-forgets}
 use Rattle.strm_types.proofs.GetKeeps.{get-forgets}
 use Rattle.strm_types.proofs.GotQueues.{get_queue-forgets, get_lets_go-forgets}
@@ -47,25 +51,20 @@ use Rattle.strm_types.proofs.ReadForgets.{body-forgets, head_draw-forgets, read_
 use Rattle.strm_types.proofs.TurnForgets.{driver_turned-forgets}
 
 -- what a write makes of what was sent
-abbrev sent_on : {C : Type 0} → Side → State C → Sent C → Outcome C
-sent_on side s down =
-    let dir = direction_from side in
-    let state = with_stream side (with_driver_queue down.queue (stream side s)) s in
-    record {
-      answer = Count down.taken;
-      state = record (with_book dir (with_written down.taken (book dir s)) state) {
-        enabled = enable_if down.enables (driver_of side) s.enabled;
-      };
-    }
+abbrev sent_on : {C : Type 0} → Side → State C → Wrote C → Outcome C
+sent_on side s t = let dir = direction_from side in record { answer = Count t.taken; state = with_book dir (with_written t.taken (book dir s)) t.state }
 
 -- what a read makes of what was taken, with this answer
-abbrev pub taken_from : {C : Type 0} → Side → State C → Reply → Queue C → Bool → Outcome C
-taken_from side s answer q lets = record {
+abbrev taken_with : {C : Type 0} → Side → State C → Reply → Queue C → Bool → Option QueueName → Outcome C
+taken_with side s answer q lets earlier = record {
   answer = answer;
   state = record (with_stream side (with_head_queue q (stream side s)) s) {
-    enabled = enable_some lets (before (head_of side)) s.enabled;
+    enabled = enable_some lets earlier s.enabled;
   };
 }
+
+abbrev pub taken_from : {C : Type 0} → Side → State C → Reply → Queue C → Bool → Outcome C
+taken_from side s answer q lets = taken_with side s answer q lets (before_head side s)
 
 -- what a get answers
 abbrev msg_of : Prio → Option (List ℕ) → Option (List ℕ) → Bool → Bool → Reply
@@ -77,6 +76,10 @@ got_answer cells g = msg_of (prio_got g) (option_map (bytes_of cells) g.control)
 -- what is told of the messages at a head
 abbrev told_of : {C : Type 0} → State C → ℕ → ℕ → Outcome C
 told_of s first messages = record { answer = Sizes first messages; state = s }
+
+-- what a look answers
+abbrev name_answered : {C : Type 0} → Option ModuleName → State C → Outcome C
+name_answered name s = record { answer = name_told name; state = s }
 
 module _ {C D : Type 0} (f : C → D) where
   -- modes that are set, and what is told of a head
@@ -98,36 +101,32 @@ module _ {C D : Type 0} (f : C → D) where
   sizes-forgets Slave s = told-forgets s.slave.head.queue.messages (map_state f s)
 
   -- a write
-  sent_on-forgets : (side : Side) (s : State C) (down : Sent C) → sent_on side (map_state f s) (map_sent f down) ≡ map_outcome f (sent_on side s down)
-  sent_on-forgets Master s down = refl
-  sent_on-forgets Slave s down = refl
+  sent_on-forgets : (side : Side) (s : State C) (t : Wrote C) → sent_on side (map_state f s) (map_wrote f t) ≡ map_outcome f (sent_on side s t)
+  sent_on-forgets Master s t = refl
+  sent_on-forgets Slave s t = refl
 
   -- a read
+  taken_with-forgets : (side : Side) (s : State C) (answer : Reply) (q : Queue C) (lets : Bool) (earlier : Option QueueName)
+      → taken_with side (map_state f s) answer (map_queue f q) lets earlier ≡ map_outcome f (taken_with side s answer q lets earlier)
+  taken_with-forgets Master s answer q lets earlier = refl
+  taken_with-forgets Slave s answer q lets earlier = refl
+
   taken_from-forgets : (side : Side) (s : State C) (answer : Reply) (q : Queue C) (lets : Bool) → taken_from side (map_state f s) answer (map_queue f q) lets ≡ map_outcome f (taken_from side s answer q lets)
-  taken_from-forgets Master s answer q true = refl
-  taken_from-forgets Master s answer q false = refl
-  taken_from-forgets Slave s answer q true = refl
-  taken_from-forgets Slave s answer q false = refl
+  taken_from-forgets side s answer q lets =
+      ap (λ e. taken_with side (map_state f s) answer (map_queue f q) lets e) (before_head-forgets f side s)
+      ∙ taken_with-forgets side s answer q lets (before_head side s)
 
 module _ {C : Type 0} (cells : Cells C) (are : AreCells cells) where
   -- where origins are forgotten, what is written are the bytes
   write-forgets : (side : Side) (bytes : List ℕ) (s : State C) → wrote plain side bytes (map_state cells.byte s) ≡ map_outcome cells.byte (wrote cells side bytes s)
   write-forgets side bytes s =
       let dir = direction_from side in
-      let old = (stream side s).driver.queue in
       let n = (book dir s).written in
-      ap (λ (down : Sent ℕ). sent_on side (map_state cells.byte s) down) (sent-is dir bytes n (book dir (map_state cells.byte s)).written (stream side (map_state cells.byte s)).driver.queue old (queue-is side s))
-      ∙ sent_on-forgets cells.byte side s (written (cells_written cells dir n bytes) old)
-    where
-      queue-is : (side : Side) (s : State C) → (stream side (map_state cells.byte s)).driver.queue ≡ map_queue cells.byte (stream side s).driver.queue
-      queue-is Master s = refl
-      queue-is Slave s = refl
-
-      sent-is : (dir : Dir) (bytes : List ℕ) (n k : ℕ) (q : Queue ℕ) (old : Queue C) → q ≡ map_queue cells.byte old → written (cells_written plain dir k bytes) q ≡ map_sent cells.byte (written (cells_written cells dir n bytes) old)
-      sent-is dir bytes n k q old is =
-          ap (λ (xs : List ℕ). written xs q) (written-plain dir k bytes ∙ sym (written-bytes cells are dir n bytes))
-          ∙ ap (λ (below : Queue ℕ). written (bytes_of cells (cells_written cells dir n bytes)) below) is
-          ∙ sym (written-forgets cells.byte (cells_written cells dir n bytes) old)
+      let base = map_state cells.byte s in
+      let written = cells_written cells dir n bytes in
+      ap (λ (xs : List ℕ). sent_on side base (cells_sent side xs base)) (written-plain dir (book dir base).written bytes ∙ sym (written-bytes cells are dir n bytes))
+      ∙ ap (λ (t : Wrote ℕ). sent_on side base t) (cells_sent-forgets cells.byte side written s)
+      ∙ sent_on-forgets cells.byte side s (cells_sent side written s)
 
   -- a read, which gives the bytes of its cells
   read_at-forgets : (side : Side) (n : ℕ) (s : State C) → read_at plain side n (map_state cells.byte s) ≡ map_outcome cells.byte (read_at cells side n s)
@@ -196,9 +195,9 @@ module _ {C : Type 0} (cells : Cells C) (are : AreCells cells) where
       opened-with : Bool → Outcome ℕ
       opened-with none = record { answer = Done; state = map_state cells.byte (record s { slave = record s.slave { opened = Open; head = new_head }; enabled = enable_if (not none) (driver_of Master) s.enabled }) }
   call-forgets caller Shut s = ap (λ (t : Carried ℕ (State ℕ)). done t.state) (closed_at-forgets cells.byte caller.side s)
-  call-forgets caller (Push name) s = refl
-  call-forgets caller Pop s = refl
-  call-forgets caller Look s = refl
+  call-forgets caller (Push name) s = ap (λ (t : Carried ℕ (State ℕ)). done t.state) (push-forgets cells.byte caller.side name s)
+  call-forgets caller Pop s = ap (λ (t : Carried ℕ (State ℕ)). done t.state) (pop-forgets cells.byte caller.side s)
+  call-forgets caller Look s = ap (λ (name : Option ModuleName). name_answered name (map_state cells.byte s)) (top-forgets cells.byte caller.side s)
   call-forgets caller (Flush what band) s = ap (λ (t : Carried ℕ (State ℕ)). done t.state) (flushed_on-forgets cells.byte band caller.side what s)
   call-forgets caller (Write bytes) s = write-forgets caller.side bytes s
   call-forgets caller (Read n) s = read_at-forgets caller.side n s

@@ -1,6 +1,7 @@
 -- No step of a pair loses a byte, or makes one that it doesn't tell.
 use Rattle.std.proofs.Common.{ℕ, ◌≡◌, ◌+◌, Bool, true, false, cond, List, [], refl, sym, ap, subst, ◌∙◌, arith}
 use Rattle.std.specs.Prelude.{min, not, None, count_by}
+use Rattle.std.specs.List.{AllByRecursion}
 use Rattle.strm_types.specs.declared.limits.TheConstants.{READ_MAX}
 use Rattle.strm_types.specs.declared.answers.Answer.TheVariants.{Bytes}
 use Rattle.strm_types.specs.declared.entries.Entry.TheVariants.{Called, Turned}
@@ -11,27 +12,33 @@ use Rattle.strm_types.specs.declared.modes.Mode.TheVariants as chosen
 use Rattle.strm_types.specs.declared.modes.Wanted.{Wanted}
 use Rattle.strm_types.specs.declared.modes.ControlMode.{ControlMode}
 use Rattle.strm_types.specs.declared.modes.ReadMode.{ReadMode}
+use Rattle.strm_types.specs.declared.books.Book.{Book}
 use Rattle.strm_types.specs.declared.names.Dir.{Dir}
+use Rattle.strm_types.specs.declared.names.Dir.TheVariants.{MasterToSlave, SlaveToMaster}
 use Rattle.strm_types.specs.declared.names.Side.{Side}
 use Rattle.strm_types.specs.declared.names.Side.TheVariants.{Master, Slave}
 use Rattle.strm_types.specs.declared.refusals.Refusal.TheVariants.{Einval, Enxio}
 use Rattle.strm_types.specs.Cells.{Cells, cells_written, bytes_of}
 use Rattle.strm_types.specs.Names.{direction_from, direction_of, head_of, is_open}
+use Rattle.strm_types.specs.Ldterms.{IsIdle}
 use Rattle.strm_types.specs.Message.{Message}
+use Rattle.strm_types.specs.Pushes.{named_by}
 use Rattle.strm_types.specs.Queue.{Queue, weight, left_with, relieved}
-use Rattle.strm_types.specs.State.{State, stream, book, opening}
+use Rattle.strm_types.specs.Books.{with_written}
+use Rattle.strm_types.specs.State.{State, stream, book, opening, with_book}
 use Rattle.strm_types.specs.Reads.{Drawn, head_draw, none_went, queue_drawn, read_fates, read_gone, read_lets_go, read_queue, takes_none}
-use Rattle.strm_types.specs.Calls.{Request, Reply, read_at, wrote, get_at, mode_set, ioctl_sent, called}
+use Rattle.strm_types.specs.Calls.{Request, Reply, read_at, write_sent, wrote, get_at, mode_set, ioctl_sent, called}
 use Rattle.strm_types.specs.GetQueues.{get_queue, get_lets_go, get_gone}
 use Rattle.strm_types.specs.Journal.{PlainEntry}
 use Rattle.strm_types.specs.Refused.{or_else, unless, asks_a_band, refused_at_once, refused_by_state}
 use Rattle.strm_types.specs.Step.{Step}
 use Rattle.strm_types.specs.Turns.{turned}
 use Rattle.strm_types.specs.Places.{weight_gone, weight_made}
-use Rattle.strm_types.specs.Kept.{state_weight, NothingUnread, cells_taken, came, gone}
-use Rattle.strm_types.proofs.Weights.{weight-written}
-use Rattle.strm_types.proofs.EmptiedKeeps.{closed_at-keeps, closed_at-unread}
-use Rattle.strm_types.proofs.Deliveries.{flushed_on-keeps, flushed_on-unread}
+use Rattle.strm_types.specs.Kept.{state_weight, NothingUnread, AreIdle, cells_taken, came, gone}
+use Rattle.strm_types.proofs.ClosesKeep.{closed_at-keeps, closed_at-unread, pop-unread, push-unread}
+use Rattle.strm_types.proofs.PushKeeps.{pop-keeps, push-keeps}
+use Rattle.strm_types.proofs.Deliveries.{flushed_on-keeps, flushed_on-unread, delivered-unread}
+use Rattle.strm_types.proofs.WriteSteps.{cells_sent-holds, cells_sent-keeps}
 use Rattle.strm_types.proofs.GotQueues.{get_queue-keeps}
 use Rattle.strm_types.proofs.IoctlCalls.{sent-keeps, sent-unread, signals-keep, signals-unread, told-keeps, told-unread}
 use Rattle.strm_types.proofs.PutMessages.{put_at-keeps, put_at-unread}
@@ -53,13 +60,16 @@ module _ {C : Type 0} where
       at false = refl
 
   module _ (p : C → Bool) where
-    write-keeps : (cells : Cells C) (side : Side) (bytes : List ℕ) (s : State C) → state_weight p (wrote cells side bytes s).state ≡ state_weight p s + count_by p (cells_taken cells side bytes s)
-    write-keeps cells Master bytes s =
-        let all = cells_written cells (direction_from Master) (book (direction_from Master) s).written bytes in
-        omega (arith, weight-written p all s.master.driver.queue)
-    write-keeps cells Slave bytes s =
-        let all = cells_written cells (direction_from Slave) (book (direction_from Slave) s).written bytes in
-        omega (arith, weight-written p all s.slave.driver.queue)
+    book-weight : (dir : Dir) (b : Book) (s : State C) → state_weight p (with_book dir b s) ≡ state_weight p s
+    book-weight MasterToSlave b s = refl
+    book-weight SlaveToMaster b s = refl
+
+    write-keeps : (cells : Cells C) (side : Side) (bytes : List ℕ) (s : State C) → let t = write_sent cells side bytes s in
+        state_weight p (wrote cells side bytes s).state + weight_gone p t.gone ≡ state_weight p s + (count_by p (cells_taken cells side bytes s) + weight_made p t.gone)
+    write-keeps cells side bytes s =
+        let dir = direction_from side in
+        let t = write_sent cells side bytes s in
+        omega (arith, book-weight dir (with_written t.taken (book dir s)) t.state, cells_sent-keeps p side (cells_written cells dir (book dir s).written bytes) s)
 
     -- what a read leaves on the queue, and what goes by its rules
     drawn-keeps : (dir : Dir) (read : ReadMode) (control : ControlMode) (n : ℕ) (q : Queue C) → weight p (read_queue read control n q).messages + weight_gone p (read_gone dir read control n q.messages) ≡ weight p q.messages + weight_made p (read_gone dir read control n q.messages)
@@ -89,47 +99,57 @@ module _ {C : Type 0} where
     mode-keeps Slave (chosen.Read mode) s = refl
     mode-keeps Slave (chosen.Control mode) s = refl
 
-    call-keeps : (cells : Cells C) (caller : Caller) (asked : Request) (answer : Reply) (s : State C) → NothingUnread s → or_else (refused_at_once s caller asked) (refused_by_state s caller asked) ≡ None
+    idle-at : (side : Side) (s : State C) → AreIdle s → AllByRecursion (λ l. IsIdle l) (stream side s).modules
+    idle-at Master s idle = idle.master
+    idle-at Slave s idle = idle.slave
+
+    call-keeps : (cells : Cells C) (caller : Caller) (asked : Request) (answer : Reply) (s : State C) → NothingUnread s → AreIdle s → or_else (refused_at_once s caller asked) (refused_by_state s caller asked) ≡ None
         → let entry = Called caller asked answer in
         state_weight p (called cells caller asked s).state + weight_gone p (gone cells s entry) ≡ state_weight p s + (count_by p (came cells s entry) + weight_made p (gone cells s entry))
-    call-keeps cells caller OpenMaster answer s unread allowed = refl
-    call-keeps cells caller Unlock answer s unread allowed = refl
-    call-keeps cells caller Shut answer s unread allowed = omega (arith, closed_at-keeps p caller.side s)
-    call-keeps cells caller (Push name) answer s unread allowed = refl
-    call-keeps cells caller Pop answer s unread allowed = refl
-    call-keeps cells caller Look answer s unread allowed = refl
-    call-keeps cells caller (Flush what band) answer s unread allowed = omega (arith, flushed_on-keeps p band caller.side what s)
-    call-keeps cells caller OpenSlave answer s unread allowed =
+    call-keeps cells caller OpenMaster answer s unread idle allowed = refl
+    call-keeps cells caller Unlock answer s unread idle allowed = refl
+    call-keeps cells caller Shut answer s unread idle allowed = omega (arith, closed_at-keeps p caller.side s (idle-at caller.side s idle))
+    call-keeps cells caller (Push name) answer s unread idle allowed = omega (arith, push-keeps p caller.side name s)
+    call-keeps cells caller Pop answer s unread idle allowed = omega (arith, pop-keeps p caller.side s (idle-at caller.side s idle))
+    call-keeps cells caller Look answer s unread idle allowed = refl
+    call-keeps cells caller (Flush what band) answer s unread idle allowed = omega (arith, flushed_on-keeps p band caller.side what s)
+    call-keeps cells caller OpenSlave answer s unread idle allowed =
         let by_state = or_else-none _ _ (or_else-none (unless (is_open s.master.opened) Enxio) _ allowed).1 in
         let closed = closed-of (is_open s.slave.opened) (unless-none (not (is_open s.slave.opened)) Einval by_state.0) in
         let nothing = ap (λ (q : List (Message C)). weight p q) (unread.slave closed) in
         omega (arith, nothing)
-    call-keeps cells caller (Write bytes) answer s unread allowed = omega (arith, write-keeps cells caller.side bytes s)
-    call-keeps cells caller (Read n) answer s unread allowed = omega (arith, read-keeps cells caller.side n answer s)
-    call-keeps cells caller (Put prio control body) answer s unread allowed = put_at-keeps p cells caller.side prio control body s
-    call-keeps cells caller (Get wanted cmax dmax) answer s unread allowed = omega (arith, get-keeps cells caller.side wanted cmax dmax s)
-    call-keeps cells caller (Mode mode) answer s unread allowed = omega (arith, mode-keeps caller.side mode s)
-    call-keeps cells caller Nread answer s unread allowed = refl
-    call-keeps cells caller (Ioctl command body) answer s unread allowed = omega (arith, sent-keeps p caller.side command body s)
-    call-keeps cells caller (IoctlResult number) answer s unread allowed = omega (arith, told-keeps p caller.side s)
-    call-keeps cells caller Signals answer s unread allowed = omega (arith, signals-keep p caller.side [] s)
+    call-keeps cells caller (Write bytes) answer s unread idle allowed = write-keeps cells caller.side bytes s
+    call-keeps cells caller (Read n) answer s unread idle allowed = omega (arith, read-keeps cells caller.side n answer s)
+    call-keeps cells caller (Put prio control body) answer s unread idle allowed = put_at-keeps p cells caller.side prio control body s
+    call-keeps cells caller (Get wanted cmax dmax) answer s unread idle allowed = omega (arith, get-keeps cells caller.side wanted cmax dmax s)
+    call-keeps cells caller (Mode mode) answer s unread idle allowed = omega (arith, mode-keeps caller.side mode s)
+    call-keeps cells caller Nread answer s unread idle allowed = refl
+    call-keeps cells caller (Ioctl command body) answer s unread idle allowed = omega (arith, sent-keeps p caller.side command body s)
+    call-keeps cells caller (IoctlResult number) answer s unread idle allowed = omega (arith, told-keeps p caller.side s)
+    call-keeps cells caller Signals answer s unread idle allowed = omega (arith, signals-keep p caller.side [] s)
 
     -- what stands on the queues after a step, and what it took away, is what stood there before, what it brought, and what was
     -- made on the way
-    pub step-keeps : (cells : Cells C) (old new : State C) (entry : PlainEntry) → NothingUnread old → Step cells old entry new
+    pub step-keeps : (cells : Cells C) (old new : State C) (entry : PlainEntry) → NothingUnread old → AreIdle old → Step cells old entry new
         → state_weight p new + weight_gone p (gone cells old entry) ≡ state_weight p old + (count_by p (came cells old entry) + weight_made p (gone cells old entry))
-    step-keeps cells old new (Called caller asked answer) unread step =
-        ap (λ (s : State C). state_weight p s + weight_gone p (gone cells old (Called caller asked answer))) (sym step.leads) ∙ call-keeps cells caller asked answer old unread step.allowed
-    step-keeps cells old new (Turned name turn) unread step =
+    step-keeps cells old new (Called caller asked answer) unread idle step =
+        ap (λ (s : State C). state_weight p s + weight_gone p (gone cells old (Called caller asked answer))) (sym step.leads) ∙ call-keeps cells caller asked answer old unread idle step.allowed
+    step-keeps cells old new (Turned name turn) unread idle step =
         ap (λ (s : State C). state_weight p s + weight_gone p (gone cells old (Turned name turn))) (sym step.leads) ∙ turn-keeps p cells name turn old ∙ (let same : state_weight p old + weight_made p (turned cells name turn old).gone ≡ state_weight p old + (0 + weight_made p (turned cells name turn old).gone) = omega arith in same)
 
   -- a side that isn't open has nothing for its readers, from the opening on
   pub opening-unread : NothingUnread {C = C} opening
   opening-unread = record { master = λ closed. refl; slave = λ closed. refl }
 
+  book-unread : (dir : Dir) (b : Book) (s : State C) → NothingUnread s → NothingUnread (with_book dir b s)
+  book-unread MasterToSlave b s unread = record { master = unread.master; slave = unread.slave }
+  book-unread SlaveToMaster b s unread = record { master = unread.master; slave = unread.slave }
+
   write-unread : (cells : Cells C) (side : Side) (bytes : List ℕ) (s : State C) → NothingUnread s → NothingUnread (wrote cells side bytes s).state
-  write-unread cells Master bytes s unread = record { master = unread.master; slave = unread.slave }
-  write-unread cells Slave bytes s unread = record { master = unread.master; slave = unread.slave }
+  write-unread cells side bytes s unread =
+      let dir = direction_from side in
+      let t = write_sent cells side bytes s in
+      book-unread dir (with_written t.taken (book dir s)) t.state (cells_sent-holds NothingUnread delivered-unread side (cells_written cells dir (book dir s).written bytes) s unread)
 
   taken-unread : (side : Side) (s : State C) (answer : Reply) (q : Queue C) (lets : Bool) → NothingUnread s → is_open (stream side s).opened ≡ true → NothingUnread (taken_from side s answer q lets).state
   taken-unread Master s answer q lets unread is = record { master = λ closed. absurd (cc); slave = unread.slave }
@@ -146,8 +166,8 @@ module _ {C : Type 0} where
   call-unread cells caller Unlock s unread allowed = record { master = unread.master; slave = unread.slave }
   call-unread cells caller OpenSlave s unread allowed = record { master = unread.master; slave = λ closed. refl }
   call-unread cells caller Shut s unread allowed = closed_at-unread caller.side s unread
-  call-unread cells caller (Push name) s unread allowed = unread
-  call-unread cells caller Pop s unread allowed = unread
+  call-unread cells caller (Push name) s unread allowed = push-unread caller.side (named_by name) s unread
+  call-unread cells caller Pop s unread allowed = pop-unread caller.side s unread
   call-unread cells caller Look s unread allowed = unread
   call-unread cells caller (Flush what band) s unread allowed = flushed_on-unread band caller.side what s unread
   call-unread cells caller (Write bytes) s unread allowed = write-unread cells caller.side bytes s unread

@@ -39,17 +39,17 @@ unfolding weight_of cells_of
 weight-bare p kind bytes = refl
 
 -- what holds of both holds of the one that is chosen
-either : {A : Type 0} (P : A → Type 0) (b : Bool) (one another : A) → P one → P another → P (cond b one another)
+pub either : {A : Type 0} (P : A → Type 0) (b : Bool) (one another : A) → P one → P another → P (cond b one another)
 either P true one another first second = first
 either P false one another first second = second
 
 module _ {C : Type 0} (p : C → Bool) where
   -- cells that are told as gone
-  lost-gone : (side : Side) (rule : Rule) (cells : List C) → weight_gone p (line_gone side rule cells) ≡ count_by p cells
+  pub lost-gone : (side : Side) (rule : Rule) (cells : List C) → weight_gone p (line_gone side rule cells) ≡ count_by p cells
   lost-gone side rule [] = refl
   lost-gone side rule (c ∷ cells) = omega arith
 
-  lost-made : (side : Side) (rule : Rule) (cells : List C) → weight_made p (line_gone side rule cells) ≡ 0
+  pub lost-made : (side : Side) (rule : Rule) (cells : List C) → weight_made p (line_gone side rule cells) ≡ 0
   lost-made side rule [] = refl
   lost-made side rule (c ∷ cells) = refl
 

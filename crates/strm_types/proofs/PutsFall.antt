@@ -1,6 +1,6 @@
 -- What a put in a pair sends on has less before it than what was put, so that deliveries end.
-use Rattle.std.proofs.Common.{ℕ, suc, ◌≡◌, ◌<◌, ◌≤◌, ◌+◌, ◌-◌, Bool, true, false, cond, List, [], ◌∷◌, ◌++◌, refl, sym, ap, subst, ◌∙◌, arith}
-use Rattle.std.specs.Prelude.{◌==◌, ◌&&◌, ◌||◌, nat_lt, Option, None, Some}
+use Rattle.std.proofs.Common.{ℕ, suc, ◌≡◌, ◌<◌, ◌≤◌, ◌+◌, ◌-◌, Bool, true, false, cond, List, [], ◌∷◌, ◌++◌, length, refl, sym, ap, subst, ◌∙◌, arith}
+use Rattle.std.specs.Prelude.{◌==◌, ◌&&◌, ◌||◌, min, nat_le, nat_lt, Option, None, Some}
 use Rattle.std.proofs.lemmas.Bool.Decides.{nat_tests}
 use Rattle.strm_types.specs.declared.flushing.FlushAsked.{FlushAsked}
 use Rattle.strm_types.specs.declared.ioctls.Ioc.{Ioc}
@@ -15,14 +15,17 @@ use Rattle.strm_types.specs.declared.spots.Across.{Across}
 use Rattle.strm_types.specs.declared.spots.Spot.{Spot}
 use Rattle.strm_types.specs.Deliver.{Acted, AreLower, Falls, Parcel, Took, toward}
 use Rattle.strm_types.specs.Drivers.{answered, bottom_across, crosses, driver_across, driver_put, freed, ioctl_put, own_flushed, put_across, put_down, reader_flush, taken_in}
+use Rattle.strm_types.specs.Earlier.{driver_place, modules_on}
 use Rattle.strm_types.specs.Flushing.{is_flush, asked_by, flush_bytes, flush_message, nothing_asked, read_flush}
 use Rattle.strm_types.specs.Ioctls.{nak_message, read_ioc}
 use Rattle.strm_types.specs.Heads.{head_put, is_doubled, nak_down, obeyed, turned_round, waits_for_readers}
 use Rattle.strm_types.specs.Message.{Message, has_parts}
-use Rattle.strm_types.specs.Names.{is_master, is_open}
-use Rattle.strm_types.specs.Puts.{across_of, far, far_at, is_turned, passed_up, put_at_driver, put_at_head, put_below, put_in, turns_round}
+use Rattle.strm_types.specs.Names.{is_master, is_open, other}
+use Rattle.strm_types.specs.Puts.{across_of, far, far_at, is_turned, passed_up, put_at_driver, put_at_head, put_at_module, put_behind, put_below, put_in, turns_round}
 use Rattle.strm_types.specs.Queue.{Queue}
 use Rattle.strm_types.specs.State.{Head, State, stream}
+use Rattle.strm_types.proofs.ModulePuts.{among-lower}
+use Rattle.strm_types.proofs.PutsKeep.{stands-among}
 
 -- an M_FLUSH for readers isn't turned round
 named-reads : (b : Bool) (asked : FlushAsked) → asked.for_write ≡ false → (cond b asked nothing_asked).for_write ≡ false
@@ -38,15 +41,31 @@ far-less Up true at low = omega (arith, low)
 far-less Up false at low = omega (arith, low)
 far-less Down turnable at low = omega (arith, low)
 
--- going up from any place to the head
-up-less : (turnable : Bool) (at : ℕ) → 0 < at → far_at Up turnable 0 < far_at Up turnable at
-up-less true at some = omega (arith, some)
-up-less false at some = omega (arith, some)
+-- going up from any place to one above
+up-less : (turnable : Bool) (above at : ℕ) → above < at → far_at Up turnable above < far_at Up turnable at
+up-less true above at less = omega (arith, less)
+up-less false above at less = omega (arith, less)
 
 -- what a driver sends up is above all that comes to it
-up-some : (turnable : Bool) (at : ℕ) → 0 < at → 1 < far_at Up turnable at
-up-some true at some = omega (arith, some)
-up-some false at some = omega (arith, some)
+up-some : (turnable : Bool) (bottom at : ℕ) → bottom ≤ MODULES → at ≡ suc MODULES → bottom + 1 < far_at Up turnable at
+up-some true bottom at few is = omega (arith, few, is)
+up-some false bottom at few is = omega (arith, few, is)
+
+down-some : (turnable : Bool) (bottom at : ℕ) → bottom ≤ MODULES → bottom + 1 < far_at Down turnable at
+down-some turnable bottom at few = omega (arith, few)
+
+pub few-stand : (count : ℕ) → min MODULES count ≤ MODULES
+few-stand count = omega arith
+
+second : (a b : Bool) → (a && b) ≡ true → b ≡ true
+second true b is = is
+second false b is = absurd (cc)
+
+across-place : (flush : Bool) (at : ℕ) → (flush && at == suc MODULES) ≡ true → at ≡ suc MODULES
+across-place flush at is = let here = second flush (at == suc MODULES) is in let same : at ≡ suc MODULES = grind (arith, nat_tests) in same
+
+stands-past : (at count : ℕ) → nat_le at (min MODULES count) ≡ false → min MODULES count < at
+stands-past at count is = let past : min MODULES count < at = grind (arith, nat_tests) in past
 
 -- what is turned round goes down from the head
 turned-less : (way : Way) (turnable : Bool) (at : ℕ) → at ≡ 0 → far_at Down turnable (at + 1) < far_at way true at
@@ -156,15 +175,30 @@ module _ (C : Type 0) where
   reached-lower : (side : Side) (here : Spot) (m : Message C) (s : State C) → here.at ≡ 0 → Lower (far here m) (put_at_head side here m s).sent
   reached-lower side here m s top = either-lower (far here m) (is_open (stream side s).opened) _ _ (head-lower here m (stream side s).head top) tt
 
-  below-lower : (way : Way) (here : Spot) (m : Message C) (s : State C) → 0 < here.at → let to : Spot = record here { way = way } in Lower (far to m) (put_below way to m s).sent
-  below-lower Down here m s some =
-      came-down-lower (far_at Down (is_turned m) here.at) here.side (across_of here.side s) (record here { at = 1 }) m (stream here.side s).driver.queue (omega arith) (omega arith) (omega arith)
-  below-lower Up here m s some =
+  either-known : (top : ℕ) (b : Bool) (one another : Took C (State C)) → (b ≡ true → Lower top one.sent) → (b ≡ false → Lower top another.sent) → Lower top (cond b one another).sent
+  either-known top true one another first second = first refl
+  either-known top false one another first second = second refl
+
+  behind-lower : (way : Way) (here : Spot) (m : Message C) (s : State C) → modules_on here.side s < here.at → let to : Spot = record here { way = way } in Lower (far to m) (put_behind way to m s).sent
+  behind-lower Down here m s past =
+      let few = few-stand (length (stream here.side s).modules) in
+      let across = down-some (is_turned m) (modules_on (other here.side) s) here.at (few-stand (length (stream (other here.side) s).modules)) in
+      came-down-lower (far_at Down (is_turned m) here.at) here.side (across_of here.side s) (record here { at = driver_place here.side s }) m (stream here.side s).driver.queue across (omega arith) (omega (arith, few))
+  behind-lower Up here m s past =
       let top = far_at Up (is_turned m) here.at in
       let up : Spot = record here { way = Up } in
-      either-lower top (is_flush m.kind && here.at == suc MODULES) (put_at_driver here.side up m s) (passed_up up m s)
-      (came-up-lower top here.side (across_of here.side s) (record here { at = 1 }) m (stream here.side s).driver.queue (up-some (is_turned m) here.at some))
-      (up-less (is_turned m) here.at some, tt)
+      let few = few-stand (length (stream (other here.side) s).modules) in
+      either-known top (is_flush m.kind && here.at == suc MODULES) (put_at_driver here.side up m s) (passed_up up m s)
+      (λ is. came-up-lower top here.side (across_of here.side s) (record here { at = driver_place here.side s }) m (stream here.side s).driver.queue (up-some (is_turned m) (modules_on (other here.side) s) here.at few (across-place (is_flush m.kind) here.at is)))
+      (λ is. (up-less (is_turned m) (modules_on here.side s) here.at past, tt))
+
+  below-lower : (way : Way) (here : Spot) (m : Message C) (s : State C) → 0 < here.at → let to : Spot = record here { way = way } in Lower (far to m) (put_below way to m s).sent
+  below-lower way here m s some =
+      let to : Spot = record here { way = way } in
+      let count = length (stream here.side s).modules in
+      either-known (far to m) (nat_le here.at (modules_on here.side s)) (put_at_module here.side to m s) (put_behind way to m s)
+      (λ is. among-lower to m some (omega (arith, stands-among here.at count is)) (here.at - 1) (stream here.side s).modules)
+      (λ is. behind-lower way here m s (stands-past here.at count is))
 
   put-lower : (way : Way) (here : Spot) (m : Message C) (s : State C) (top : Bool) → (here.at == 0) ≡ top → let to : Spot = record here { way = way } in
       Lower (far to m) (cond top (put_at_head here.side to m s) (put_below way to m s)).sent

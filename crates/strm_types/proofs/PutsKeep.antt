@@ -1,6 +1,7 @@
 -- A put in a pair loses no cell, makes none that it doesn't tell, and leaves a side that isn't open nothing to be read.
-use Rattle.std.proofs.Common.{ℕ, suc, ◌≡◌, ◌+◌, Bool, true, false, cond, refl, arith}
-use Rattle.std.specs.Prelude.{◌==◌, ◌&&◌}
+use Rattle.std.proofs.Common.{ℕ, suc, ◌≡◌, ◌<◌, ◌≤◌, ◌+◌, ◌-◌, Bool, true, false, cond, length, refl, arith}
+use Rattle.std.specs.Prelude.{◌==◌, ◌&&◌, min, nat_le}
+use Rattle.std.proofs.lemmas.Bool.Decides.{nat_tests}
 use Rattle.strm_types.specs.declared.limits.TheConstants.{MODULES}
 use Rattle.strm_types.specs.declared.names.Side.{Side}
 use Rattle.strm_types.specs.declared.names.Side.TheVariants.{Master, Slave}
@@ -8,16 +9,28 @@ use Rattle.strm_types.specs.declared.names.Way.{Way}
 use Rattle.strm_types.specs.declared.names.Way.TheVariants.{Up, Down}
 use Rattle.strm_types.specs.declared.spots.Spot.{Spot}
 use Rattle.strm_types.specs.Deliver.{Took}
+use Rattle.strm_types.specs.Earlier.{driver_place, modules_on}
 use Rattle.strm_types.specs.Flushing.{is_flush}
 use Rattle.strm_types.specs.Kept.{NothingUnread, state_weight}
 use Rattle.strm_types.specs.Message.{Message, weight_of}
 use Rattle.strm_types.specs.Names.{is_open}
 use Rattle.strm_types.specs.Places.{PutKeeps, weight_sent, weight_gone, weight_made}
-use Rattle.strm_types.specs.Puts.{SameEnds, across_of, put_at_driver, put_at_head, put_below, put_in}
-use Rattle.strm_types.specs.State.{State}
+use Rattle.strm_types.specs.Puts.{SameEnds, across_of, put_at_driver, put_at_head, put_at_module, put_behind, put_below, put_in}
+use Rattle.strm_types.specs.State.{State, stream}
 use Rattle.strm_types.proofs.DeliveryHolds.{PutHolds}
+use Rattle.strm_types.proofs.ModulePuts.{among-keeps}
 use Rattle.strm_types.proofs.PutWeights.{driver_put-keeps, head_put-keeps}
 use Rattle.strm_types.proofs.Weights.{weight-whole}
+
+-- a place below the head, and one at which a module stands
+pub not-head : (at : ℕ) → (at == 0) ≡ false → 0 < at
+not-head at is = let some : 0 < at = grind (arith, nat_tests) in some
+
+pub stands-among : (at count : ℕ) → nat_le at (min MODULES count) ≡ true → at ≤ min MODULES count
+stands-among at count is = let among : at ≤ min MODULES count = grind (arith, nat_tests) in among
+
+stands-within : (at count : ℕ) → 0 < at → nat_le at (min MODULES count) ≡ true → at - 1 < count
+stands-within at count some is = omega (arith, stands-among at count is, some)
 
 module _ {C : Type 0} (p : C → Bool) where
   -- a put in a pair that had so many cells with those of the message
@@ -33,21 +46,31 @@ module _ {C : Type 0} (p : C → Bool) where
   head-keeps Slave here m s = either-keeps _ (is_open s.slave.opened) _ _ (λ _. omega (arith, head_put-keeps p here m s.slave.head)) (λ _. omega (arith, weight-whole p m))
 
   driver-keeps : (side : Side) (here : Spot) (m : Message C) (s : State C) → Keeps (put_at_driver side here m s) (state_weight p s + weight_of p m)
-  driver-keeps Master here m s = omega (arith, driver_put-keeps p Master (across_of Master s) (record here { at = 1 }) m s.master.driver.queue)
-  driver-keeps Slave here m s = omega (arith, driver_put-keeps p Slave (across_of Slave s) (record here { at = 1 }) m s.slave.driver.queue)
+  driver-keeps Master here m s = omega (arith, driver_put-keeps p Master (across_of Master s) (record here { at = driver_place Master s }) m s.master.driver.queue)
+  driver-keeps Slave here m s = omega (arith, driver_put-keeps p Slave (across_of Slave s) (record here { at = driver_place Slave s }) m s.slave.driver.queue)
 
-  below-keeps : (way : Way) (here : Spot) (m : Message C) (s : State C) → Keeps (put_below way here m s) (state_weight p s + weight_of p m)
-  below-keeps Down here m s = driver-keeps here.side here m s
-  below-keeps Up here m s = either-keeps _ (is_flush m.kind && here.at == suc MODULES) _ _ (λ _. driver-keeps here.side here m s) (λ _. omega arith)
+  module-keeps : (side : Side) (here : Spot) (m : Message C) (s : State C) → here.at - 1 < length (stream side s).modules → Keeps (put_at_module side here m s) (state_weight p s + weight_of p m)
+  module-keeps Master here m s within = omega (arith, among-keeps p (here.at - 1) here m s.master.modules within)
+  module-keeps Slave here m s within = omega (arith, among-keeps p (here.at - 1) here m s.slave.modules within)
+
+  behind-keeps : (way : Way) (here : Spot) (m : Message C) (s : State C) → Keeps (put_behind way here m s) (state_weight p s + weight_of p m)
+  behind-keeps Down here m s = driver-keeps here.side here m s
+  behind-keeps Up here m s = either-keeps _ (is_flush m.kind && here.at == suc MODULES) _ _ (λ _. driver-keeps here.side here m s) (λ _. omega arith)
+
+  below-keeps : (way : Way) (here : Spot) (m : Message C) (s : State C) → 0 < here.at → Keeps (put_below way here m s) (state_weight p s + weight_of p m)
+  below-keeps way here m s some =
+      either-keeps _ (nat_le here.at (modules_on here.side s)) _ _
+      (λ is. module-keeps here.side here m s (stands-within here.at (length (stream here.side s).modules) some is))
+      (λ _. behind-keeps way here m s)
 
   in-keeps : (to : Spot) (m : Message C) (s : State C) → Keeps (put_in to m s) (state_weight p s + weight_of p m)
-  in-keeps to m s = either-keeps _ (to.at == 0) _ _ (λ _. head-keeps to.side to m s) (λ _. below-keeps to.way to m s)
+  in-keeps to m s = either-keeps _ (to.at == 0) _ _ (λ _. head-keeps to.side to m s) (λ is. below-keeps to.way to m s (not-head to.at is))
 
   pub puts-keep : PutKeeps p (state_weight p) put_in
   puts-keep to m s = let all = in-keeps to m s in omega arith
 
 module _ {C : Type 0} where
-  either-holds : (Holds : State C → Type 0) (b : Bool) (one another : Took C (State C)) → (b ≡ true → Holds one.state) → Holds another.state → Holds (cond b one another).state
+  pub either-holds : (Holds : State C → Type 0) (b : Bool) (one another : Took C (State C)) → (b ≡ true → Holds one.state) → Holds another.state → Holds (cond b one another).state
   either-holds Holds true one another first second = first refl
   either-holds Holds false one another first second = second
 
@@ -59,9 +82,16 @@ module _ {C : Type 0} where
   driver-unread Master here m s unread = record { master = unread.master; slave = unread.slave }
   driver-unread Slave here m s unread = record { master = unread.master; slave = unread.slave }
 
+  module-unread : (side : Side) (here : Spot) (m : Message C) (s : State C) → NothingUnread s → NothingUnread (put_at_module side here m s).state
+  module-unread Master here m s unread = record { master = unread.master; slave = unread.slave }
+  module-unread Slave here m s unread = record { master = unread.master; slave = unread.slave }
+
+  behind-unread : (way : Way) (here : Spot) (m : Message C) (s : State C) → NothingUnread s → NothingUnread (put_behind way here m s).state
+  behind-unread Down here m s unread = driver-unread here.side here m s unread
+  behind-unread Up here m s unread = either-holds NothingUnread (is_flush m.kind && here.at == suc MODULES) _ _ (λ _. driver-unread here.side here m s unread) unread
+
   below-unread : (way : Way) (here : Spot) (m : Message C) (s : State C) → NothingUnread s → NothingUnread (put_below way here m s).state
-  below-unread Down here m s unread = driver-unread here.side here m s unread
-  below-unread Up here m s unread = either-holds NothingUnread (is_flush m.kind && here.at == suc MODULES) _ _ (λ _. driver-unread here.side here m s unread) unread
+  below-unread way here m s unread = either-holds NothingUnread (nat_le here.at (modules_on here.side s)) _ _ (λ _. module-unread here.side here m s unread) (behind-unread way here m s unread)
 
   pub puts-unread : PutHolds {C = C} NothingUnread put_in
   puts-unread to m s unread = either-holds NothingUnread (to.at == 0) _ _ (λ _. head-unread to.side to m s unread) (below-unread to.way to m s unread)
@@ -76,9 +106,16 @@ module _ {C : Type 0} where
     driver-same Master here m t same = record { master = same.master; slave = same.slave; locked = same.locked; next_ioctl = same.next_ioctl; from_master = same.from_master; from_slave = same.from_slave }
     driver-same Slave here m t same = record { master = same.master; slave = same.slave; locked = same.locked; next_ioctl = same.next_ioctl; from_master = same.from_master; from_slave = same.from_slave }
 
+    module-same : (side : Side) (here : Spot) (m : Message C) (t : State C) → SameEnds s t → SameEnds s (put_at_module side here m t).state
+    module-same Master here m t same = record { master = same.master; slave = same.slave; locked = same.locked; next_ioctl = same.next_ioctl; from_master = same.from_master; from_slave = same.from_slave }
+    module-same Slave here m t same = record { master = same.master; slave = same.slave; locked = same.locked; next_ioctl = same.next_ioctl; from_master = same.from_master; from_slave = same.from_slave }
+
+    behind-same : (way : Way) (here : Spot) (m : Message C) (t : State C) → SameEnds s t → SameEnds s (put_behind way here m t).state
+    behind-same Down here m t same = driver-same here.side here m t same
+    behind-same Up here m t same = either-holds (SameEnds s) (is_flush m.kind && here.at == suc MODULES) _ _ (λ _. driver-same here.side here m t same) same
+
     below-same : (way : Way) (here : Spot) (m : Message C) (t : State C) → SameEnds s t → SameEnds s (put_below way here m t).state
-    below-same Down here m t same = driver-same here.side here m t same
-    below-same Up here m t same = either-holds (SameEnds s) (is_flush m.kind && here.at == suc MODULES) _ _ (λ _. driver-same here.side here m t same) same
+    below-same way here m t same = either-holds (SameEnds s) (nat_le here.at (modules_on here.side t)) _ _ (λ _. module-same here.side here m t same) (behind-same way here m t same)
 
     pub puts-same : PutHolds (SameEnds s) put_in
     puts-same to m t same = either-holds (SameEnds s) (to.at == 0) _ _ (λ _. head-same to.side to m t same) (below-same to.way to m t same)

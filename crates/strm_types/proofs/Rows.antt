@@ -31,7 +31,7 @@ unfolding chunk_count data_message rank_of band_of size_of cells_of is_high_prio
 write-takes = refl
 
 pub write-enables : after-write.enabled ≡ driver_of Master ∷ []
-unfolding chunk_count data_message rank_of band_of size_of cells_of is_high_priority
+unfolding carried chunk_count data_message rank_of band_of size_of cells_of is_high_priority
 write-enables = refl
 
 pub turn-moves : (turned plain (driver_of Master) Idle after-write).turn ≡ Moved 3
@@ -51,11 +51,11 @@ abbrev after-long : State ℕ
 after-long = (called plain (record { side = Master }) (Write (replicate 600 122)) opened).state
 
 pub long-write-stops : (called plain (record { side = Master }) (Write (replicate 600 122)) opened).answer ≡ Count 512
-unfolding chunk_count data_message rank_of band_of size_of cells_of is_high_priority
+unfolding carried chunk_count data_message rank_of band_of size_of cells_of is_high_priority
 long-write-stops = refl
 
 pub full-is-refused : refused_by_state after-long (record { side = Master }) (Write (122 ∷ [])) ≡ Some Eagain
-unfolding chunk_count data_message rank_of band_of size_of cells_of is_high_priority
+unfolding carried chunk_count data_message rank_of band_of size_of cells_of is_high_priority
 full-is-refused = refl
 
 pub turn-makes-room : (turned plain (driver_of Master) Idle after-long).turn ≡ Moved 256

@@ -88,21 +88,21 @@ abbrev written_twice : State Tagged
 written_twice = (called tagged (caller Slave) (Write (98 ∷ 99 ∷ [])) (called tagged (caller Slave) (Write (97 ∷ [])) opening).state).state
 
 pub second-write-is-booked-behind-the-first : map cells_of written_twice.slave.driver.queue.messages ≡ cells_written tagged SlaveToMaster 0 (97 ∷ []) ∷ cells_written tagged SlaveToMaster 1 (98 ∷ 99 ∷ []) ∷ []
-unfolding chunk_count data_message rank_of band_of size_of cells_of is_high_priority
+unfolding carried chunk_count data_message rank_of band_of size_of cells_of is_high_priority
 second-write-is-booked-behind-the-first = refl
 
 pub books-after-two-writes : written_twice.from_slave.written ∷ written_twice.from_slave.made ∷ written_twice.from_master.written ∷ [] ≡ 3 ∷ 0 ∷ 0 ∷ []
-unfolding chunk_count data_message rank_of band_of size_of cells_of is_high_priority
+unfolding carried chunk_count data_message rank_of band_of size_of cells_of is_high_priority
 books-after-two-writes = refl
 
 -- only what was taken is booked
 pub refused-bytes-are-not-booked : (called plain (caller Master) (Write (replicate 600 97)) opening).state.from_master ≡ record { written = 512; made = 0 }
-unfolding chunk_count data_message rank_of band_of size_of cells_of is_high_priority
+unfolding carried chunk_count data_message rank_of band_of size_of cells_of is_high_priority
 refused-bytes-are-not-booked = refl
 
 -- a write enables the writer's driver once
 pub write-enables-its-driver : written_twice.enabled ≡ driver_of Slave ∷ []
-unfolding chunk_count data_message rank_of band_of size_of cells_of is_high_priority
+unfolding carried chunk_count data_message rank_of band_of size_of cells_of is_high_priority
 write-enables-its-driver = refl
 
 -- a write of band 0 enables no driver that is busy, but one that had an idle turn
@@ -114,11 +114,11 @@ pub idle-turn-wants-to-be-read : idle ≡ record { turn = Idle; state = pair (en
 idle-turn-wants-to-be-read = refl
 
 pub write-after-an-idle-turn-enables : (called plain (caller Master) (Write (97 ∷ [])) idle.state).state.enabled ≡ driver_of Master ∷ []
-unfolding chunk_count data_message rank_of band_of size_of cells_of is_high_priority
+unfolding carried chunk_count data_message rank_of band_of size_of cells_of is_high_priority
 write-after-an-idle-turn-enables = refl
 
 pub write-on-a-busy-driver-enables-nothing : (called plain (caller Master) (Write (97 ∷ [])) (pair (end Open (queue [] []) (busy [] (flow 9 2 false ∷ []))) idle_end [])).state.enabled ≡ []
-unfolding chunk_count data_message rank_of band_of size_of cells_of is_high_priority
+unfolding carried chunk_count data_message rank_of band_of size_of cells_of is_high_priority
 write-on-a-busy-driver-enables-nothing = refl
 
 -- two writers: their drivers are enabled in the order of their writes, and a turn that leaves more puts its queue last
@@ -127,7 +127,7 @@ abbrev two_enabled : State ℕ
 two_enabled = (called plain (caller Master) (Write (98 ∷ [])) (called plain (caller Slave) (Write (97 ∷ [])) opening).state).state
 
 pub enabled-in-order-of-writing : two_enabled.enabled ≡ driver_of Slave ∷ driver_of Master ∷ []
-unfolding chunk_count data_message rank_of band_of size_of cells_of is_high_priority
+unfolding carried chunk_count data_message rank_of band_of size_of cells_of is_high_priority
 enabled-in-order-of-writing = refl
 
 abbrev three : List (Message ℕ)

@@ -1,27 +1,38 @@
 -- Forgetting the origins of cells commutes with turns of the drivers.
-use Rattle.std.proofs.Common.{ℕ, ◌≡◌, Bool, true, false, cond, List, [], ◌∷◌, refl, sym, ap, ◌∙◌}
-use Rattle.std.specs.Prelude.{◌==◌, ◌&&◌, ◌||◌, not}
+use Rattle.std.proofs.Common.{ℕ, ◌≡◌, Bool, true, false, cond, List, [], ◌∷◌, refl, sym, ap, ◌∙◌, suc}
+use Rattle.std.specs.Prelude.{◌==◌, ◌&&◌, ◌||◌, not, Option}
 use Rattle.strm_types.specs.declared.answers.Turn.TheVariants.{Moved, Blocked}
 use Rattle.strm_types.specs.declared.kinds.MsgKind.{MsgKind}
+use Rattle.strm_types.specs.declared.names.QueueName.{QueueName}
 use Rattle.strm_types.specs.declared.names.Side.{Side}
 use Rattle.strm_types.specs.declared.names.Side.TheVariants.{Master, Slave}
+use Rattle.strm_types.specs.declared.spots.Spot.{Spot}
+use Rattle.strm_types.specs.declared.names.Way.TheVariants.{Up}
 use Rattle.strm_types.specs.Deliver.{Carried}
 use Rattle.strm_types.specs.Message.{Message, size_of, band_of, is_held, map_message}
-use Rattle.strm_types.specs.Names.{before, driver_of, enable_if, enable_some, is_open, other}
+use Rattle.strm_types.specs.Earlier.{before_driver, driver_place}
+use Rattle.strm_types.specs.Names.{driver_of, enable_if, enable_some, is_open, other}
 use Rattle.strm_types.specs.Origins.{map_carried}
 use Rattle.strm_types.specs.Puts.{delivered}
-use Rattle.strm_types.specs.Queue.{Queue, is_full, is_none_left, left_with, relieved, relieves, with_writer_at, map_messages, map_queue}
-use Rattle.strm_types.specs.State.{State, stream, with_stream, with_head_queue, map_stream, map_state}
-use Rattle.strm_types.specs.Turns.{TurnOutcome, blocked_at_head, driver_serves, driver_turned, held_back, is_stopped, map_turn_outcome, moved_across, stayed_put, turn_ended, turned_queue, up_across, with_driver}
+use Rattle.strm_types.specs.Queue.{Queue, is_none_left, left_with, relieved, relieves, map_messages, map_queue}
+use Rattle.strm_types.specs.State.{State, stream, map_state}
+use Rattle.strm_types.specs.Turns.{TurnOutcome, blocked_across, driver_serves, driver_turned, held_back, is_stopped_across, map_turn_outcome, moved_across, stayed_put, turn_ended, turned_queue, up_across, with_driver}
+use Rattle.strm_types.proofs.Earlier.{before_driver-forgets, modules_on-forgets}
 use Rattle.strm_types.proofs.EmptiedForgets.{stream-forgets}
-use Rattle.strm_types.proofs.Forgetting.{band-forgets, full-forgets, kind-forgets, none-forgets, relieved-forgets, relieves_from-forgets, size-forgets}
+use Rattle.strm_types.proofs.Forgetting.{band-forgets, kind-forgets, none-forgets, relieved-forgets, relieves_from-forgets, size-forgets}
 use Rattle.strm_types.proofs.PutsForget.{delivered-forgets}
+use Rattle.strm_types.specs.Past.{has_room_past, writer_waits}
+use Rattle.strm_types.proofs.Past.{room-forgets, writer_waits-forgets}
 
 -- the end of a turn: the queue behind it, whether more stands there, and whether a writer is let go
-abbrev ended_made : {E : Type 0} → Side → Queue E → Bool → Bool → State E → State E
-ended_made side q more goes s = record (with_driver side q s) {
-  enabled = enable_if more (driver_of side) (enable_some goes (before (driver_of side)) s.enabled);
+abbrev ended_made : {E : Type 0} → Side → Queue E → Bool → Bool → Option QueueName → State E → State E
+ended_made side q more goes earlier s = record (with_driver side q s) {
+  enabled = enable_if more (driver_of side) (enable_some goes earlier s.enabled);
 }
+
+-- a place of a side's stream on the way up
+abbrev up_spot : Side → ℕ → Spot
+up_spot side at = record { side = side; at = at; way = Up }
 
 -- a turn that moved a message of this size
 abbrev moved_made : {E : Type 0} → Side → ℕ → Carried E (State E) → TurnOutcome E
@@ -32,19 +43,24 @@ abbrev served : {E : Type 0} → Bool → Bool → TurnOutcome E → TurnOutcome
 served opened stopped shut waits moves = cond (not opened) shut (cond stopped waits moves)
 
 module _ {C D : Type 0} (f : C → D) where
-  stopped-forgets : (m : Message C) (q : Queue C) → is_stopped (map_message f m) (map_queue f q) ≡ is_stopped m q
-  stopped-forgets m q =
-      ap (λ (kind : MsgKind). is_held kind && is_full (band_of (map_message f m)) (map_queue f q)) (kind-forgets f m)
-      ∙ ap (λ (band : ℕ). is_held m.kind && is_full band (map_queue f q)) (band-forgets f m)
-      ∙ ap (λ (full : Bool). is_held m.kind && full) (full-forgets f (band_of m) q)
+  place-forgets : (side : Side) (s : State C) → driver_place side (map_state f s) ≡ driver_place side s
+  place-forgets side s = ap (λ (n : ℕ). suc n) (modules_on-forgets f side s)
+
+  stopped-forgets : (side : Side) (m : Message C) (s : State C) → is_stopped_across side (map_message f m) (map_state f s) ≡ is_stopped_across side m s
+  stopped-forgets side m s =
+      let there = driver_place (other side) s in
+      ap (λ (kind : MsgKind). is_held kind && not (has_room_past (other side) Up (driver_place (other side) (map_state f s)) (band_of (map_message f m)) (map_state f s))) (kind-forgets f m)
+      ∙ ap (λ (at : ℕ). is_held m.kind && not (has_room_past (other side) Up at (band_of (map_message f m)) (map_state f s))) (place-forgets (other side) s)
+      ∙ ap (λ (band : ℕ). is_held m.kind && not (has_room_past (other side) Up there band (map_state f s))) (band-forgets f m)
+      ∙ ap (λ (room : Bool). is_held m.kind && not room) (room-forgets f (other side) Up there (band_of m) s)
 
   with_driver-forgets : (side : Side) (q : Queue C) (s : State C) → with_driver side (map_queue f q) (map_state f s) ≡ map_state f (with_driver side q s)
   with_driver-forgets Master q s = refl
   with_driver-forgets Slave q s = refl
 
-  ended_made-forgets : (side : Side) (q : Queue C) (more goes : Bool) (s : State C) → ended_made side (map_queue f q) more goes (map_state f s) ≡ map_state f (ended_made side q more goes s)
-  ended_made-forgets Master q more goes s = refl
-  ended_made-forgets Slave q more goes s = refl
+  ended_made-forgets : (side : Side) (q : Queue C) (more goes : Bool) (earlier : Option QueueName) (s : State C) → ended_made side (map_queue f q) more goes earlier (map_state f s) ≡ map_state f (ended_made side q more goes earlier s)
+  ended_made-forgets Master q more goes earlier s = refl
+  ended_made-forgets Slave q more goes earlier s = refl
 
   turned_queue-forgets : (q : Queue C) → turned_queue (map_queue f q) ≡ map_queue f (turned_queue q)
   turned_queue-forgets q = ap (λ (none : Bool). record (map_queue f q) { want_read = q.want_read || none }) (none-forgets f (map_message f) q.messages)
@@ -57,15 +73,18 @@ module _ {C D : Type 0} (f : C → D) where
   turn_ended-forgets side size s = over side
     where
       from : (side : Side) (went : Bool) (q : Queue C) → let r = turned_queue (map_queue f q) in
-          ended_made side (cond went (relieved r) r) (not (is_none_left r.messages)) (went && relieves r) (map_state f s)
-          ≡ (let r = turned_queue q in map_state f (ended_made side (cond went (relieved r) r) (not (is_none_left r.messages)) (went && relieves r) s))
+          ended_made side (cond went (relieved r) r) (not (is_none_left r.messages)) (went && relieves r) (before_driver side (map_state f s)) (map_state f s)
+          ≡ (let r = turned_queue q in map_state f (ended_made side (cond went (relieved r) r) (not (is_none_left r.messages)) (went && relieves r) (before_driver side s) s))
       from side went q =
           let r = turned_queue q in
-          ap (λ (x : Queue D). ended_made side (cond went (relieved x) x) (not (is_none_left x.messages)) (went && relieves x) (map_state f s)) (turned_queue-forgets q)
-          ∙ ap (λ (x : Queue D). ended_made side x (not (is_none_left (map_messages f r.messages))) (went && relieves (map_queue f r)) (map_state f s)) (left-forgets went r)
-          ∙ ap (λ (none : Bool). ended_made side (map_queue f (cond went (relieved r) r)) (not none) (went && relieves (map_queue f r)) (map_state f s)) (none-forgets f (map_message f) r.messages)
-          ∙ ap (λ (goes : Bool). ended_made side (map_queue f (cond went (relieved r) r)) (not (is_none_left r.messages)) (went && goes) (map_state f s)) (relieves_from-forgets f 0 r.messages r.flows)
-          ∙ ended_made-forgets side (cond went (relieved r) r) (not (is_none_left r.messages)) (went && relieves r) s
+          let image = turned_queue (map_queue f q) in
+          let earlier = before_driver side s in
+          ap (λ (e : Option QueueName). ended_made side (cond went (relieved image) image) (not (is_none_left image.messages)) (went && relieves image) e (map_state f s)) (before_driver-forgets f side s)
+          ∙ ap (λ (x : Queue D). ended_made side (cond went (relieved x) x) (not (is_none_left x.messages)) (went && relieves x) earlier (map_state f s)) (turned_queue-forgets q)
+          ∙ ap (λ (x : Queue D). ended_made side x (not (is_none_left (map_messages f r.messages))) (went && relieves (map_queue f r)) earlier (map_state f s)) (left-forgets went r)
+          ∙ ap (λ (none : Bool). ended_made side (map_queue f (cond went (relieved r) r)) (not none) (went && relieves (map_queue f r)) earlier (map_state f s)) (none-forgets f (map_message f) r.messages)
+          ∙ ap (λ (goes : Bool). ended_made side (map_queue f (cond went (relieved r) r)) (not (is_none_left r.messages)) (went && goes) earlier (map_state f s)) (relieves_from-forgets f 0 r.messages r.flows)
+          ∙ ended_made-forgets side (cond went (relieved r) r) (not (is_none_left r.messages)) (went && relieves r) earlier s
 
       over : (side : Side) → turn_ended side size (map_state f s) ≡ map_state f (turn_ended side size s)
       over Master = from Master (not (size == 0)) s.master.driver.queue
@@ -78,21 +97,28 @@ module _ {C D : Type 0} (f : C → D) where
   taken-forgets Master rest s = refl
   taken-forgets Slave rest s = refl
 
+  across-forgets : (side : Side) (s : State C) → up_across side (map_state f s) ≡ up_across side s
+  across-forgets side s = ap (λ (at : ℕ). up_spot (other side) at) (modules_on-forgets f (other side) s)
+
   moved-forgets : (side : Side) (m : Message C) (rest : List (Message C)) (s : State C) → moved_across side (map_message f m) (map_messages f rest) (map_state f s) ≡ map_turn_outcome f (moved_across side m rest s)
   moved-forgets side m rest s =
       let from = with_driver side (left_with rest (stream side s).driver.queue) s in
-      ap (λ (x : State D). moved_made side (size_of (map_message f m)) (delivered (up_across side) (map_message f m) x)) (taken-forgets side rest s)
-      ∙ ap (λ (size : ℕ). moved_made side size (delivered (up_across side) (map_message f m) (map_state f from))) (size-forgets f m)
-      ∙ ap (λ (t : Carried D (State D)). moved_made side (size_of m) t) (delivered-forgets f (up_across side) m from)
-      ∙ moved_made-forgets side (size_of m) (delivered (up_across side) m from)
+      ap (λ (x : State D). moved_made side (size_of (map_message f m)) (delivered (up_across side x) (map_message f m) x)) (taken-forgets side rest s)
+      ∙ ap (λ (to : Spot). moved_made side (size_of (map_message f m)) (delivered to (map_message f m) (map_state f from))) (across-forgets side from)
+      ∙ ap (λ (size : ℕ). moved_made side size (delivered (up_across side from) (map_message f m) (map_state f from))) (size-forgets f m)
+      ∙ ap (λ (t : Carried D (State D)). moved_made side (size_of m) t) (delivered-forgets f (up_across side from) m from)
+      ∙ moved_made-forgets side (size_of m) (delivered (up_across side from) m from)
 
   held-forgets : (side : Side) (s : State C) → with_driver side (held_back (stream side (map_state f s)).driver.queue) (map_state f s) ≡ map_state f (with_driver side (held_back (stream side s).driver.queue) s)
   held-forgets Master s = refl
   held-forgets Slave s = refl
 
-  blocked-forgets : (side : Side) (m : Message C) (s : State C) → blocked_at_head side (map_message f m) (map_state f s) ≡ map_state f (blocked_at_head side m s)
-  blocked-forgets Master m s = ap (λ (band : ℕ). with_stream Slave (with_head_queue (record (map_queue f s.slave.head.queue) { flows = with_writer_at band s.slave.head.queue.flows }) (map_stream f s.slave)) (map_state f s)) (band-forgets f m)
-  blocked-forgets Slave m s = ap (λ (band : ℕ). with_stream Master (with_head_queue (record (map_queue f s.master.head.queue) { flows = with_writer_at band s.master.head.queue.flows }) (map_stream f s.master)) (map_state f s)) (band-forgets f m)
+  blocked-forgets : (side : Side) (m : Message C) (s : State C) → blocked_across side (map_message f m) (map_state f s) ≡ map_state f (blocked_across side m s)
+  blocked-forgets side m s =
+      let there = driver_place (other side) s in
+      ap (λ (at : ℕ). writer_waits (other side) Up at (band_of (map_message f m)) (map_state f s)) (place-forgets (other side) s)
+      ∙ ap (λ (band : ℕ). writer_waits (other side) Up there band (map_state f s)) (band-forgets f m)
+      ∙ writer_waits-forgets f (other side) Up there (band_of m) s
 
   served-forgets : (opened stopped : Bool) (shut waits moves : TurnOutcome C) (shut' waits' moves' : TurnOutcome D) → shut' ≡ map_turn_outcome f shut → waits' ≡ map_turn_outcome f waits → moves' ≡ map_turn_outcome f moves
       → served opened stopped shut' waits' moves' ≡ map_turn_outcome f (served opened stopped shut waits moves)
@@ -108,12 +134,12 @@ module _ {C D : Type 0} (f : C → D) where
       let kept = with_driver side (held_back (stream side s).driver.queue) s in
       let moves = moved_across side (map_message f m) (map_messages f rest) (map_state f s) in
       let shut = stayed_put Blocked waits in
-      let blocked = stayed_put Blocked (blocked_at_head side (map_message f m) waits) in
-      ap (λ t. served (is_open t.opened) (is_stopped (map_message f m) t.head.queue) shut blocked moves) (stream-forgets f (other side) s)
-      ∙ ap (λ (stopped : Bool). served (is_open above.opened) stopped shut blocked moves) (stopped-forgets m above.head.queue)
-      ∙ served-forgets (is_open above.opened) (is_stopped m above.head.queue) (stayed_put Blocked kept) (stayed_put Blocked (blocked_at_head side m kept)) (moved_across side m rest s) shut blocked moves
+      let blocked = stayed_put Blocked (blocked_across side (map_message f m) waits) in
+      ap (λ t. served (is_open t.opened) (is_stopped_across side (map_message f m) (map_state f s)) shut blocked moves) (stream-forgets f (other side) s)
+      ∙ ap (λ (stopped : Bool). served (is_open above.opened) stopped shut blocked moves) (stopped-forgets side m s)
+      ∙ served-forgets (is_open above.opened) (is_stopped_across side m s) (stayed_put Blocked kept) (stayed_put Blocked (blocked_across side m kept)) (moved_across side m rest s) shut blocked moves
       (ap (λ (x : State D). stayed_put Blocked x) (held-forgets side s))
-      (ap (λ (x : State D). stayed_put Blocked (blocked_at_head side (map_message f m) x)) (held-forgets side s) ∙ ap (λ (x : State D). stayed_put Blocked x) (blocked-forgets side m kept))
+      (ap (λ (x : State D). stayed_put Blocked (blocked_across side (map_message f m) x)) (held-forgets side s) ∙ ap (λ (x : State D). stayed_put Blocked x) (blocked-forgets side m kept))
       (moved-forgets side m rest s)
 
   pub driver_turned-forgets : (side : Side) (s : State C) → driver_turned side (map_state f s) ≡ map_turn_outcome f (driver_turned side s)

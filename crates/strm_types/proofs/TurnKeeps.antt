@@ -1,5 +1,5 @@
 -- A turn loses no cell, and leaves a side that isn't open nothing to be read.
-use Rattle.std.proofs.Common.{ℕ, ◌≡◌, ◌+◌, Bool, true, false, cond, List, [], ◌∷◌, refl, ap, arith}
+use Rattle.std.proofs.Common.{ℕ, ◌≡◌, ◌+◌, Bool, true, false, cond, List, [], ◌∷◌, length, refl, ap, arith}
 use Rattle.std.specs.Prelude.{◌==◌, not}
 use Rattle.strm_types.specs.declared.answers.Turn.{Turn}
 use Rattle.strm_types.specs.declared.names.Side.{Side}
@@ -9,15 +9,20 @@ use Rattle.strm_types.specs.declared.names.Place.TheVariants.{Head, Ldterm, Driv
 use Rattle.strm_types.specs.declared.names.QueueName.{QueueName}
 use Rattle.strm_types.specs.Cells.{Cells}
 use Rattle.strm_types.specs.Kept.{NothingUnread, state_weight}
-use Rattle.strm_types.specs.Message.{Message, size_of}
+use Rattle.strm_types.specs.Message.{Message, size_of, band_of}
 use Rattle.strm_types.specs.Names.{is_open, other, without}
 use Rattle.strm_types.specs.Places.{weight_gone, weight_made}
 use Rattle.strm_types.specs.Puts.{delivered}
 use Rattle.strm_types.specs.Queue.{Queue, left_with, relieved, weight}
 use Rattle.strm_types.specs.State.{State, stream}
-use Rattle.strm_types.specs.Turns.{TurnOutcome, blocked_at_head, driver_serves, held_back, is_stopped, moved_across, turned, turned_at, turned_queue, turn_ended, up_across, with_driver}
+use Rattle.strm_types.specs.Turns.{TurnOutcome, blocked_across, driver_serves, held_back, is_stopped_across, moved_across, turned, turned_at, turned_queue, turn_ended, up_across, with_driver}
+use Rattle.strm_types.proofs.TurnHolds.{Turns, any-holds, turn-holds}
 use Rattle.strm_types.proofs.Deliveries.{delivered-keeps, delivered-unread}
+use Rattle.strm_types.proofs.PutsFall.{few-stand}
 use Rattle.strm_types.proofs.Weights.{weight-take}
+use Rattle.strm_types.specs.Earlier.{driver_place}
+use Rattle.strm_types.proofs.Past.{waits-keeps, waits-unread}
+use Rattle.strm_types.specs.declared.names.Way.TheVariants.{Up}
 
 module _ {C : Type 0} where
   -- the end of a turn leaves all messages on its queue
@@ -29,38 +34,11 @@ module _ {C : Type 0} where
   with-unread Master q s unread = record { master = unread.master; slave = unread.slave }
   with-unread Slave q s unread = record { master = unread.master; slave = unread.slave }
 
-  ended-unread : (side : Side) (size : ℕ) (s : State C) → NothingUnread s → NothingUnread (turn_ended side size s)
-  ended-unread Master size s unread = record { master = unread.master; slave = unread.slave }
-  ended-unread Slave size s unread = record { master = unread.master; slave = unread.slave }
-
-  moved-unread : (side : Side) (m : Message C) (rest : List (Message C)) (s : State C) → NothingUnread s → NothingUnread (moved_across side m rest s).state
-  moved-unread side m rest s unread =
-      let from = with_driver side (left_with rest (stream side s).driver.queue) s in
-      ended-unread side (size_of m) (delivered (up_across side) m from).state (delivered-unread (up_across side) m from (with-unread side (left_with rest (stream side s).driver.queue) s unread))
-
-  blocked-unread : (side : Side) (m : Message C) (s : State C) → NothingUnread s → NothingUnread (blocked_at_head side m s)
-  blocked-unread Master m s unread = record { master = unread.master; slave = unread.slave }
-  blocked-unread Slave m s unread = record { master = unread.master; slave = unread.slave }
-
-  pub any-holds : (Holds : TurnOutcome C → Type 0) (opened stopped : Bool) (shut waits moves : TurnOutcome C) → Holds shut → Holds waits → Holds moves → Holds (cond (not opened) shut (cond stopped waits moves))
-  any-holds Holds false stopped shut waits moves one two three = one
-  any-holds Holds true true shut waits moves one two three = two
-  any-holds Holds true false shut waits moves one two three = three
-
-  serves-unread : (side : Side) (ms : List (Message C)) (s : State C) → NothingUnread s → NothingUnread (driver_serves side ms s).state
-  serves-unread side [] s unread = with-unread side (record (stream side s).driver.queue { want_read = true }) s unread
-  serves-unread side (m ∷ rest) s unread =
-      let waits = with-unread side (held_back (stream side s).driver.queue) s unread in
-      any-holds (λ t. NothingUnread t.state) (is_open (stream (other side) s).opened) (is_stopped m (stream (other side) s).head.queue) _ _ _
-      waits (blocked-unread side m (with_driver side (held_back (stream side s).driver.queue) s) waits) (moved-unread side m rest s unread)
+  turns : Turns {C = C} NothingUnread
+  turns = record { drivers = with-unread; named = λ names s unread. record { master = unread.master; slave = unread.slave }; given = delivered-unread; waits = waits-unread }
 
   pub turn-unread : (cells : Cells C) (name : QueueName) (turn : Turn) (s : State C) → NothingUnread s → NothingUnread (turned cells name turn s).state
-  turn-unread cells name turn s unread = at name.place (record s { enabled = without name s.enabled }) (record { master = unread.master; slave = unread.slave })
-    where
-      at : (place : Place) (s : State C) → NothingUnread s → NothingUnread (turned_at cells place name.side turn s).state
-      at Driver s unread = serves-unread name.side (stream name.side s).driver.queue.messages s unread
-      at Head s unread = unread
-      at Ldterm s unread = unread
+  turn-unread cells name turn s unread = turn-holds NothingUnread turns cells name turn s unread
 
 module _ {C : Type 0} (p : C → Bool) where
   -- a turn in a pair that had so many cells
@@ -81,22 +59,21 @@ module _ {C : Type 0} (p : C → Bool) where
   moved-keeps : (side : Side) (m : Message C) (rest : List (Message C)) (s : State C) → (stream side s).driver.queue.messages ≡ m ∷ rest → Keeps (moved_across side m rest s) (state_weight p s)
   moved-keeps side m rest s is =
       let from = with_driver side (left_with rest (stream side s).driver.queue) s in
-      omega (arith, ended-keeps side (size_of m) (delivered (up_across side) m from).state, delivered-keeps p (up_across side) m from (omega arith), taken-keeps side m rest s is, weight-take p m [])
+      omega (arith, ended-keeps side (size_of m) (delivered (up_across side from) m from).state, delivered-keeps p (up_across side from) m from (omega (arith, few-stand (length (stream (other side) from).modules))), taken-keeps side m rest s is, weight-take p m [])
 
-  blocked-keeps : (side : Side) (m : Message C) (s : State C) → state_weight p (blocked_at_head side m s) ≡ state_weight p s
-  blocked-keeps Master m s = refl
-  blocked-keeps Slave m s = refl
+  blocked-keeps : (side : Side) (m : Message C) (s : State C) → state_weight p (blocked_across side m s) ≡ state_weight p s
+  blocked-keeps side m s = waits-keeps p (other side) Up (driver_place (other side) s) (band_of m) s
 
-  waits-keeps : (side : Side) (s : State C) (want : Bool) → state_weight p (with_driver side (record (stream side s).driver.queue { want_read = want }) s) ≡ state_weight p s
-  waits-keeps Master s want = refl
-  waits-keeps Slave s want = refl
+  held-keeps : (side : Side) (s : State C) (want : Bool) → state_weight p (with_driver side (record (stream side s).driver.queue { want_read = want }) s) ≡ state_weight p s
+  held-keeps Master s want = refl
+  held-keeps Slave s want = refl
 
   serves-keeps : (side : Side) (ms : List (Message C)) (s : State C) → (stream side s).driver.queue.messages ≡ ms → Keeps (driver_serves side ms s) (state_weight p s)
-  serves-keeps side [] s is = omega (arith, waits-keeps side s true)
+  serves-keeps side [] s is = omega (arith, held-keeps side s true)
   serves-keeps side (m ∷ rest) s is =
-      any-holds (λ t. Keeps t (state_weight p s)) (is_open (stream (other side) s).opened) (is_stopped m (stream (other side) s).head.queue) _ _ _
-      (omega (arith, waits-keeps side s false))
-      (omega (arith, waits-keeps side s false, blocked-keeps side m (with_driver side (held_back (stream side s).driver.queue) s)))
+      any-holds (λ t. Keeps t (state_weight p s)) (is_open (stream (other side) s).opened) (is_stopped_across side m s) _ _ _
+      (omega (arith, held-keeps side s false))
+      (omega (arith, held-keeps side s false, blocked-keeps side m (with_driver side (held_back (stream side s).driver.queue) s)))
       (moved-keeps side m rest s is)
 
   pub turn-keeps : (cells : Cells C) (name : QueueName) (turn : Turn) (s : State C) → Keeps (turned cells name turn s) (state_weight p s)

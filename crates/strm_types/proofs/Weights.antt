@@ -1,13 +1,12 @@
 -- What a test counts of the cells of a queue, after each operation.
-use Rattle.std.proofs.Common.{ℕ, zero, suc, ◌≡◌, ◌+◌, ◌-◌, Bool, true, false, cond, List, [], ◌∷◌, ◌++◌, length, take, drop, refl, sym, ap, ◌∙◌, arith}
+use Rattle.std.proofs.Common.{ℕ, ◌≡◌, ◌+◌, ◌-◌, Bool, true, false, cond, List, [], ◌∷◌, ◌++◌, length, take, drop, refl, sym, ap, ◌∙◌, arith}
 use Rattle.std.specs.Prelude.{count_by, ◌==◌, ◌||◌, nat_lt}
 use Rattle.std.proofs.lemmas.List.{take-append-drop, nil_from_length}
 use Rattle.std.proofs.Math.Seq.{take-append-add}
 use Rattle.std.proofs.lemmas.Bool.Decides.{nat_tests}
 use Rattle.std.proofs.lemmas.List.Sums.{sum_by-cons, sum_by-append}
 use Rattle.strm_types.specs.Message.{Message, rank_of, cells_of, size_of, weight_of, data_message}
-use Rattle.strm_types.specs.Queue.{Queue, put, put_back, put_on, weight, is_full}
-use Rattle.strm_types.specs.Write.{sent, written, chunks_of, chunk_count}
+use Rattle.strm_types.specs.Queue.{put, put_back, weight}
 use Rattle.strm_types.specs.Head.{Taken, rest_of, gathered, head_read}
 use Rattle.strm_types.proofs.Ranked.{sum-put, sum-put_back}
 
@@ -34,22 +33,6 @@ module _ {C : Type 0} (p : C → Bool) where
       ap (λ xs. count_by p (take (length (take 256 cells) + more) xs)) (sym (take-append-drop 256 cells))
       ∙ ap (λ xs. count_by p xs) (take-append-add (take 256 cells) (drop 256 cells) more)
       ∙ count-join (take 256 cells) (take more (drop 256 cells))
-
-  weight-chunks-at : (count : ℕ) (cells : List C) (q : Queue C) (b : Bool) → is_full 0 q ≡ b
-      → weight p (sent (chunks_of count (drop 256 cells)) (put_on (data_message (take 256 cells)) q)).queue.messages ≡ count_by p (take (sent (chunks_of count (drop 256 cells)) (put_on (data_message (take 256 cells)) q)).taken (drop 256 cells)) + weight p (put_on (data_message (take 256 cells)) q).messages
-      → weight p (sent (chunks_of (suc count) cells) q).queue.messages ≡ count_by p (take (sent (chunks_of (suc count) cells) q).taken cells) + weight p q.messages
-  weight-chunks-at count cells q true full ih = rw full (omega arith)
-  weight-chunks-at count cells q false full ih =
-      let more = (sent (chunks_of count (drop 256 cells)) (put_on (data_message (take 256 cells)) q)).taken in
-      rw full (omega (arith, ih, first-cells cells more, weight-put (data_message (take 256 cells)) q.messages, weight-data (take 256 cells)))
-
-  weight-chunks : (count : ℕ) (cells : List C) (q : Queue C) → weight p (sent (chunks_of count cells) q).queue.messages ≡ count_by p (take (sent (chunks_of count cells) q).taken cells) + weight p q.messages
-  weight-chunks zero cells q = omega arith
-  weight-chunks (suc count) cells q = weight-chunks-at count cells q _ refl (weight-chunks count (drop 256 cells) (put_on (data_message (take 256 cells)) q))
-
-  -- a write adds the cells that it takes
-  pub weight-written : (cells : List C) (q : Queue C) → weight p (written cells q).queue.messages ≡ count_by p (take (written cells q).taken cells) + weight p q.messages
-  weight-written cells q = weight-chunks (chunk_count (length cells)) cells q
 
   weight-rest : (n : ℕ) (m : Message C) → count_by p (take n (cells_of m)) + weight_of p (rest_of n m) ≡ weight_of p m
   unfolding weight_of cells_of

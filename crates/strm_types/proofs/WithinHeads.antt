@@ -1,6 +1,6 @@
 -- What a head keeps for its caller stays bounded: signals wait once each, and answers are cut.
 use Rattle.std.proofs.Common.{ℕ, ◌≤◌, Bool, true, false, cond, List, length, arith}
-use Rattle.std.specs.Prelude.{◌==◌, ◌&&◌, suc, drop, Option, None, Some}
+use Rattle.std.specs.Prelude.{◌==◌, ◌&&◌, nat_le, suc, drop, Option, None, Some}
 use Rattle.std.proofs.lemmas.List.{length-take}
 use Rattle.strm_types.specs.declared.flushing.FlushAsked.{FlushAsked}
 use Rattle.strm_types.specs.declared.ioctls.Ioc.{Ioc}
@@ -15,12 +15,13 @@ use Rattle.strm_types.specs.declared.slots.Slot.TheVariants.{Free, Waiting, Acke
 use Rattle.strm_types.specs.declared.spots.Spot.{Spot}
 use Rattle.strm_types.specs.Calls.{ioctl_begun}
 use Rattle.strm_types.specs.Deliver.{Acted, Took}
+use Rattle.strm_types.specs.Earlier.{modules_on}
 use Rattle.strm_types.specs.Flushing.{is_flush, asked_by}
 use Rattle.strm_types.specs.Heads.{flush_up, head_flushed, head_put, is_doubled, obeyed, passed_by, turned_round, waits_for_readers}
 use Rattle.strm_types.specs.Ioctls.{read_ioc}
 use Rattle.strm_types.specs.Message.{Message, has_parts}
 use Rattle.strm_types.specs.Names.{is_open}
-use Rattle.strm_types.specs.Puts.{delivered, passed_up, put_at_driver, put_at_head, put_below, put_in}
+use Rattle.strm_types.specs.Puts.{delivered, passed_up, put_at_driver, put_at_head, put_at_module, put_behind, put_below, put_in}
 use Rattle.strm_types.specs.Slots.{PlainSlot, ack_body, answer_bytes, slot_behind, slot_told, with_answer}
 use Rattle.strm_types.specs.State.{Head, State, stream, with_stream}
 use Rattle.strm_types.specs.Within.{AreWithin, IsWithin}
@@ -95,11 +96,18 @@ module _ {C : Type 0} where
   driver-within Master here m s within = record { master = within.master; slave = within.slave }
   driver-within Slave here m s within = record { master = within.master; slave = within.slave }
 
-  below-within : (way : Way) (here : Spot) (m : Message C) (s : State C) → AreWithin s → AreWithin (put_below way here m s).state
-  below-within Down here m s within = driver-within here.side here m s within
-  below-within Up here m s within = either-are (is_flush m.kind && here.at == suc MODULES) (put_at_driver here.side here m s) (passed_up here m s) (driver-within here.side here m s within) within
+  module-within : (side : Side) (here : Spot) (m : Message C) (s : State C) → AreWithin s → AreWithin (put_at_module side here m s).state
+  module-within Master here m s within = record { master = within.master; slave = within.slave }
+  module-within Slave here m s within = record { master = within.master; slave = within.slave }
 
-  puts-within : (here : Spot) (m : Message C) (s : State C) → AreWithin s → AreWithin (put_in here m s).state
+  behind-within : (way : Way) (here : Spot) (m : Message C) (s : State C) → AreWithin s → AreWithin (put_behind way here m s).state
+  behind-within Down here m s within = driver-within here.side here m s within
+  behind-within Up here m s within = either-are (is_flush m.kind && here.at == suc MODULES) (put_at_driver here.side here m s) (passed_up here m s) (driver-within here.side here m s within) within
+
+  below-within : (way : Way) (here : Spot) (m : Message C) (s : State C) → AreWithin s → AreWithin (put_below way here m s).state
+  below-within way here m s within = either-are (nat_le here.at (modules_on here.side s)) (put_at_module here.side here m s) (put_behind way here m s) (module-within here.side here m s within) (behind-within way here m s within)
+
+  pub puts-within : (here : Spot) (m : Message C) (s : State C) → AreWithin s → AreWithin (put_in here m s).state
   puts-within here m s within = either-are (here.at == 0) (put_at_head here.side here m s) (put_below here.way here m s) (head-within here.side here m s within) (below-within here.way here m s within)
 
   pub delivered-within : (to : Spot) (m : Message C) (s : State C) → AreWithin s → AreWithin (delivered to m s).state

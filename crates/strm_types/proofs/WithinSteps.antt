@@ -1,5 +1,5 @@
 -- What a head keeps for its caller stays bounded behind each step of a pair, and is so in a new one.
-use Rattle.std.proofs.Common.{ℕ, Bool, true, false, cond, List, [], ◌∷◌, subst, arith}
+use Rattle.std.proofs.Common.{ℕ, Bool, true, false, cond, List, [], subst, arith}
 use Rattle.std.specs.Prelude.{Option, None, Some}
 use Rattle.strm_types.specs.declared.answers.Turn.{Turn}
 use Rattle.strm_types.specs.declared.books.Book.{Book}
@@ -11,8 +11,6 @@ use Rattle.strm_types.specs.declared.modes.Mode.TheVariants as chosen
 use Rattle.strm_types.specs.declared.modes.Prio.{Prio}
 use Rattle.strm_types.specs.declared.names.Dir.{Dir}
 use Rattle.strm_types.specs.declared.names.Dir.TheVariants.{MasterToSlave, SlaveToMaster}
-use Rattle.strm_types.specs.declared.names.Place.{Place}
-use Rattle.strm_types.specs.declared.names.Place.TheVariants.{Head, Ldterm, Driver}
 use Rattle.strm_types.specs.declared.names.QueueName.{QueueName}
 use Rattle.strm_types.specs.declared.names.Side.{Side}
 use Rattle.strm_types.specs.declared.names.Side.TheVariants.{Master, Slave}
@@ -20,24 +18,27 @@ use Rattle.strm_types.specs.declared.names.Way.TheVariants.{Down}
 use Rattle.strm_types.specs.declared.rules.Rule.TheVariants.{EndClosed}
 use Rattle.strm_types.specs.declared.spots.Spot.{Spot}
 use Rattle.strm_types.specs.Calls.{Request, called, get_at, ioctl_begun, ioctl_sent, ioctl_told, message_put, mode_set, put_at, read_at, signals_told, wrote}
-use Rattle.strm_types.specs.Cells.{Cells}
-use Rattle.strm_types.specs.Closes.{head_emptied, driver_emptied, ended, hung_up_at, closed_at}
+use Rattle.strm_types.specs.Cells.{Cells, cells_written}
+use Rattle.strm_types.specs.Closes.{head_emptied, driver_emptied, ended, hung_up_at, closed_at, stream_emptied}
 use Rattle.strm_types.specs.Emptied.{of_all}
 use Rattle.strm_types.specs.Flushing.{asked_of, flush_bytes, flush_message}
 use Rattle.strm_types.specs.Ioctls.{asking, ioctl_message}
 use Rattle.strm_types.specs.Journal.{PlainEntry}
-use Rattle.strm_types.specs.Message.{Message, size_of}
-use Rattle.strm_types.specs.Names.{is_open, other, without}
-use Rattle.strm_types.specs.Puts.{delivered}
-use Rattle.strm_types.specs.Queue.{Queue, left_with}
+use Rattle.strm_types.specs.Names.{is_open, direction_from}
+use Rattle.strm_types.specs.Pushes.{head_above, named_by, popped, pushed_named, with_modules}
+use Rattle.strm_types.specs.Queue.{Queue}
 use Rattle.strm_types.specs.Slots.{slot_behind}
-use Rattle.strm_types.specs.State.{State, new_head, opening, stream, with_book}
+use Rattle.strm_types.specs.Stacked.{Module}
+use Rattle.strm_types.specs.State.{State, new_head, opening, stream, with_book, book}
 use Rattle.strm_types.specs.Step.{Step}
-use Rattle.strm_types.specs.Turns.{blocked_at_head, driver_serves, held_back, is_stopped, moved_across, turn_ended, turned, turned_at, up_across, with_driver}
+use Rattle.strm_types.specs.Turns.{turned, with_driver}
 use Rattle.strm_types.specs.declared.modes.Wanted.{Wanted}
 use Rattle.strm_types.specs.Within.{AreWithin, IsWithin}
-use Rattle.strm_types.proofs.TurnKeeps.{any-holds}
+use Rattle.strm_types.proofs.TurnHolds.{Turns, turn-holds}
+use Rattle.strm_types.proofs.PushHolds.{Survives, modules_emptied-holds, pop-holds, push-holds}
+use Rattle.strm_types.proofs.WriteSteps.{cells_sent-holds}
 use Rattle.strm_types.proofs.WithinHeads.{behind-fits, begun-within, delivered-within, side-within, with-head-within}
+use Rattle.strm_types.proofs.Past.{waits-within}
 
 -- the place below a side's head
 abbrev below : Side → Spot
@@ -56,36 +57,11 @@ module _ {C : Type 0} where
   driver-within Master q s within = record { master = within.master; slave = within.slave }
   driver-within Slave q s within = record { master = within.master; slave = within.slave }
 
-  ended-within : (side : Side) (size : ℕ) (s : State C) → AreWithin s → AreWithin (turn_ended side size s)
-  ended-within Master size s within = record { master = within.master; slave = within.slave }
-  ended-within Slave size s within = record { master = within.master; slave = within.slave }
-
-  moved-within : (side : Side) (m : Message C) (rest : List (Message C)) (s : State C) → AreWithin s → AreWithin (moved_across side m rest s).state
-  moved-within side m rest s within =
-      let from = with_driver side (left_with rest (stream side s).driver.queue) s in
-      ended-within side (size_of m) (delivered (up_across side) m from).state (delivered-within (up_across side) m from (driver-within side (left_with rest (stream side s).driver.queue) s within))
-
-  same-within : (side : Side) (q : Queue C) (s : State C) → AreWithin s → IsWithin (record (stream side s).head { queue = q })
-  same-within side q s within = let at = side-within side s within in record { signals = at.signals; answer = at.answer }
-
-  blocked-within : (side : Side) (m : Message C) (s : State C) → AreWithin s → AreWithin (blocked_at_head side m s)
-  blocked-within Master m s within = record { master = within.master; slave = record { signals = within.slave.signals; answer = within.slave.answer } }
-  blocked-within Slave m s within = record { master = record { signals = within.master.signals; answer = within.master.answer }; slave = within.slave }
-
-  serves-within : (side : Side) (ms : List (Message C)) (s : State C) → AreWithin s → AreWithin (driver_serves side ms s).state
-  serves-within side [] s within = driver-within side (record (stream side s).driver.queue { want_read = true }) s within
-  serves-within side (m ∷ rest) s within =
-      let waits = driver-within side (held_back (stream side s).driver.queue) s within in
-      any-holds (λ t. AreWithin t.state) (is_open (stream (other side) s).opened) (is_stopped m (stream (other side) s).head.queue) _ _ _
-      waits (blocked-within side m (with_driver side (held_back (stream side s).driver.queue) s) waits) (moved-within side m rest s within)
+  turns : Turns {C = C} AreWithin
+  turns = record { drivers = driver-within; named = λ names s within. record { master = within.master; slave = within.slave }; given = delivered-within; waits = waits-within }
 
   turn-within : (cells : Cells C) (name : QueueName) (turn : Turn) (s : State C) → AreWithin s → AreWithin (turned cells name turn s).state
-  turn-within cells name turn s within = at name.place (record s { enabled = without name s.enabled }) (record { master = within.master; slave = within.slave })
-    where
-      at : (place : Place) (s : State C) → AreWithin s → AreWithin (turned_at cells place name.side turn s).state
-      at Driver s within = serves-within name.side (stream name.side s).driver.queue.messages s within
-      at Head s within = within
-      at Ldterm s within = within
+  turn-within cells name turn s within = turn-holds AreWithin turns cells name turn s within
 
   -- calls
   hung_up-within : (s : State C) → AreWithin s → AreWithin (hung_up_at Slave s)
@@ -95,16 +71,42 @@ module _ {C : Type 0} where
       at true = record { master = within.master; slave = record { signals = within.slave.signals; answer = within.slave.answer } }
       at false = within
 
-  closed-within : (side : Side) (s : State C) → AreWithin s → AreWithin (closed_at side s).state
-  closed-within Slave s within = record { master = within.master; slave = new-within }
-  closed-within Master s within =
-      let heads = (head_emptied EndClosed of_all Master s).state in
-      let all = (driver_emptied EndClosed of_all Slave (driver_emptied EndClosed of_all Master heads).state).state in
-      hung_up-within (ended Master all) (record { master = new-within; slave = within.slave })
+  abbrev AnyModules : List (Module C) → Type 0
+  AnyModules ps = Unit {0}
 
-  write-within : (cells : Cells C) (side : Side) (bytes : List ℕ) (s : State C) → AreWithin s → AreWithin (wrote cells side bytes s).state
-  write-within cells Master bytes s within = record { master = within.master; slave = within.slave }
-  write-within cells Slave bytes s within = record { master = within.master; slave = within.slave }
+  survives : (side : Side) → Survives side AreWithin AnyModules
+  survives side = record {
+    named = λ names s within. record { master = within.master; slave = within.slave };
+    apart = apart side;
+    given = λ m s within. delivered-within (head_above side) m s within;
+    good = λ s within. tt;
+    below = λ l ls good. tt;
+  }
+    where
+      apart : (side : Side) (ps : List (Module C)) (s : State C) → AnyModules ps → AreWithin s → AreWithin (with_modules side ps s)
+      apart Master ps s good within = record { master = within.master; slave = within.slave }
+      apart Slave ps s good within = record { master = within.master; slave = within.slave }
+
+  push-within : (side : Side) (p : Option (Module C)) (s : State C) → AreWithin s → AreWithin (pushed_named side p s).state
+  push-within side p s within = push-holds side AreWithin AnyModules (survives side) p s (λ q. tt) within
+
+  pop-within : (side : Side) (s : State C) → AreWithin s → AreWithin (popped side s).state
+  pop-within side s within = pop-holds side AreWithin AnyModules (survives side) s within
+
+  head-emptied-within : (side : Side) (s : State C) → AreWithin s → AreWithin (head_emptied EndClosed of_all side s).state
+  head-emptied-within Master s within = record { master = record { signals = within.master.signals; answer = within.master.answer }; slave = within.slave }
+  head-emptied-within Slave s within = record { master = within.master; slave = record { signals = within.slave.signals; answer = within.slave.answer } }
+
+  emptied-within : (side : Side) (s : State C) → AreWithin s → AreWithin (stream_emptied side s).state
+  emptied-within side s within =
+      modules_emptied-holds side AreWithin AnyModules (survives side) EndClosed (head_emptied EndClosed of_all side s).state (head-emptied-within side s within)
+
+  closed-within : (side : Side) (s : State C) → AreWithin s → AreWithin (closed_at side s).state
+  closed-within Slave s within = record { master = (emptied-within Slave s within).master; slave = new-within }
+  closed-within Master s within =
+      let heads = (stream_emptied Master s).state in
+      let all = (driver_emptied EndClosed of_all Slave (driver_emptied EndClosed of_all Master heads).state).state in
+      hung_up-within (ended Master all) (record { master = new-within; slave = (emptied-within Master s within).slave })
 
   read-within : (cells : Cells C) (side : Side) (n : ℕ) (s : State C) → AreWithin s → AreWithin (read_at cells side n s).state
   read-within cells Master n s within = record { master = record { signals = within.master.signals; answer = within.master.answer }; slave = within.slave }
@@ -117,6 +119,10 @@ module _ {C : Type 0} where
   booked-within : (dir : Dir) (b : Book) (s : State C) → AreWithin s → AreWithin (with_book dir b s)
   booked-within MasterToSlave b s within = record { master = within.master; slave = within.slave }
   booked-within SlaveToMaster b s within = record { master = within.master; slave = within.slave }
+
+  write-within : (cells : Cells C) (side : Side) (bytes : List ℕ) (s : State C) → AreWithin s → AreWithin (wrote cells side bytes s).state
+  write-within cells side bytes s within =
+      booked-within _ _ _ (cells_sent-holds AreWithin delivered-within side (cells_written cells (direction_from side) (book (direction_from side) s).written bytes) s within)
 
   put_at-within : (cells : Cells C) (side : Side) (prio : Prio) (control body : Option (List ℕ)) (s : State C) → AreWithin s → AreWithin (put_at cells side prio control body s).state
   put_at-within cells side prio None None s within = within
@@ -147,8 +153,8 @@ module _ {C : Type 0} where
   call-within cells caller Unlock s within = record { master = within.master; slave = within.slave }
   call-within cells caller OpenSlave s within = record { master = within.master; slave = new-within }
   call-within cells caller Shut s within = closed-within caller.side s within
-  call-within cells caller (Push name) s within = within
-  call-within cells caller Pop s within = within
+  call-within cells caller (Push name) s within = push-within caller.side (named_by name) s within
+  call-within cells caller Pop s within = pop-within caller.side s within
   call-within cells caller Look s within = within
   call-within cells caller (Flush what band) s within = delivered-within (below caller.side) (flush_message (flush_bytes (asked_of what band))) s within
   call-within cells caller (Write bytes) s within = write-within cells caller.side bytes s within

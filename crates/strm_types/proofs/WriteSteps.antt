@@ -1,10 +1,9 @@
 -- What a write sends down a stream, chunk by chunk: it loses no cell, keeps what each delivery keeps, and is the same where the origins of
 -- cells are forgotten.
 use Rattle.std.proofs.Common.{ℕ, zero, suc, ◌≡◌, ◌+◌, Bool, true, false, cond, List, [], ◌∷◌, ◌++◌, length, map, take, drop, refl, sym, ap, ◌∙◌, arith}
-use Rattle.std.specs.Prelude.{count_by}
+use Rattle.std.specs.Prelude.{count_by, not}
 use Rattle.std.proofs.lemmas.List.{drop-map, length-map, take-map}
 use Rattle.strm_types.specs.declared.names.Side.{Side}
-use Rattle.strm_types.specs.declared.names.Side.TheVariants.{Master, Slave}
 use Rattle.strm_types.specs.declared.spots.Spot.{Spot}
 use Rattle.strm_types.specs.Deliver.{Carried}
 use Rattle.strm_types.specs.Kept.{state_weight}
@@ -12,16 +11,17 @@ use Rattle.strm_types.specs.Message.{Message, data_message}
 use Rattle.strm_types.specs.Origins.{map_carried, map_fate}
 use Rattle.strm_types.specs.Places.{weight_gone, weight_made}
 use Rattle.strm_types.specs.Puts.{delivered}
-use Rattle.strm_types.specs.Queue.{is_full, map_queue}
 use Rattle.strm_types.specs.State.{State, map_state}
 use Rattle.strm_types.specs.Write.{chunk_count, chunks_of}
-use Rattle.strm_types.specs.Writes.{Wrote, below_head, cells_sent, chunks_sent, map_wrote, queue_below}
+use Rattle.strm_types.specs.Writes.{Wrote, below_head, cells_sent, chunks_sent, map_wrote, is_full_below}
 use Rattle.strm_types.proofs.Deliveries.{delivered-keeps}
 use Rattle.strm_types.proofs.DeliveryForgets.{map-join}
 use Rattle.strm_types.proofs.DeliveryKeeps.{gone-append, made-append}
-use Rattle.strm_types.proofs.Forgetting.{data-forgets, full-forgets}
+use Rattle.strm_types.proofs.Forgetting.{data-forgets}
 use Rattle.strm_types.proofs.PutsForget.{delivered-forgets}
 use Rattle.strm_types.proofs.Weights.{first-cells, weight-data}
+use Rattle.strm_types.proofs.Past.{room-forgets}
+use Rattle.strm_types.specs.declared.names.Way.TheVariants.{Down}
 
 module _ {C : Type 0} where
   -- a write by whether the first queue below is full, and what a chunk's delivery and the chunks behind it lead to
@@ -41,7 +41,7 @@ module _ {C : Type 0} where
     chunks-hold side [] s holds = holds
     chunks-hold side (chunk ∷ chunks) s holds =
         let t = chunk_goes side chunk s in
-        went-holds (is_full 0 (queue_below side s)) (length chunk) s t (chunks_sent side chunks t.state) holds
+        went-holds (is_full_below 0 side s) (length chunk) s t (chunks_sent side chunks t.state) holds
         (chunks-hold side chunks t.state (each (below_head side) (data_message chunk) s holds))
 
     pub cells_sent-holds : (side : Side) (cells : List C) (s : State C) → Holds s → Holds (cells_sent side cells s).state
@@ -62,7 +62,7 @@ module _ {C : Type 0} where
     chunks-keep side zero cells s = omega arith
     chunks-keep side (suc count) cells s =
         let t = chunk_goes side (take 256 cells) s in
-        went-keeps (is_full 0 (queue_below side s)) cells s t (chunks_sent side (chunks_of count (drop 256 cells)) t.state)
+        went-keeps (is_full_below 0 side s) cells s t (chunks_sent side (chunks_of count (drop 256 cells)) t.state)
         (let here = delivered-keeps p (below_head side) (data_message (take 256 cells)) s (omega arith) in omega (arith, weight-data p (take 256 cells)))
         (chunks-keep side count (drop 256 cells) t.state)
 
@@ -75,9 +75,8 @@ module _ {C D : Type 0} (f : C → D) where
   went-forgets true size s t more = refl
   went-forgets false size s t more = ap (λ fates. record { taken = size + more.taken; state = map_state f more.state; gone = fates }) (sym (map-join (map_fate f) t.gone more.gone))
 
-  below-forgets : (side : Side) (s : State C) → queue_below side (map_state f s) ≡ map_queue f (queue_below side s)
-  below-forgets Master s = refl
-  below-forgets Slave s = refl
+  below-forgets : (side : Side) (s : State C) → is_full_below 0 side (map_state f s) ≡ is_full_below 0 side s
+  below-forgets side s = ap (λ (room : Bool). not room) (room-forgets f side Down 0 0 s)
 
   goes-forgets : (side : Side) (chunk : List C) (s : State C) → chunk_goes side (map f chunk) (map_state f s) ≡ map_carried f (map_state f) (chunk_goes side chunk s)
   goes-forgets side chunk s =
@@ -87,19 +86,19 @@ module _ {C D : Type 0} (f : C → D) where
   chunks-forget : (side : Side) (count : ℕ) (cells : List C) (s : State C) → chunks_sent side (chunks_of count (map f cells)) (map_state f s) ≡ map_wrote f (chunks_sent side (chunks_of count cells) s)
   chunks-forget side zero cells s = refl
   chunks-forget side (suc count) cells s =
-      let q = queue_below side s in
+      let full = is_full_below 0 side s in
       let chunk = take 256 cells in
       let rest = drop 256 cells in
       let t = chunk_goes side chunk s in
       let next : List D → Carried D (State D) → Wrote D = λ cells' t'. chunks_sent side (chunks_of count cells') t'.state in
-      ap (λ full. went full (length (take 256 (map f cells))) (map_state f s) (chunk_goes side (take 256 (map f cells)) (map_state f s)) (next (drop 256 (map f cells)) (chunk_goes side (take 256 (map f cells)) (map_state f s))))
-      (ap (λ q'. is_full 0 q') (below-forgets side s) ∙ full-forgets f 0 q)
-      ∙ ap (λ (chunk' : List D). went (is_full 0 q) (length chunk') (map_state f s) (chunk_goes side chunk' (map_state f s)) (next (drop 256 (map f cells)) (chunk_goes side chunk' (map_state f s)))) (take-map f 256 cells)
-      ∙ ap (λ (rest' : List D). went (is_full 0 q) (length (map f chunk)) (map_state f s) (chunk_goes side (map f chunk) (map_state f s)) (next rest' (chunk_goes side (map f chunk) (map_state f s)))) (drop-map f 256 cells)
-      ∙ ap (λ n. went (is_full 0 q) n (map_state f s) (chunk_goes side (map f chunk) (map_state f s)) (next (map f rest) (chunk_goes side (map f chunk) (map_state f s)))) (length-map chunk f)
-      ∙ ap (λ (t' : Carried D (State D)). went (is_full 0 q) (length chunk) (map_state f s) t' (next (map f rest) t')) (goes-forgets side chunk s)
-      ∙ ap (λ more. went (is_full 0 q) (length chunk) (map_state f s) (map_carried f (map_state f) t) more) (chunks-forget side count rest t.state)
-      ∙ went-forgets (is_full 0 q) (length chunk) s t (chunks_sent side (chunks_of count rest) t.state)
+      ap (λ b. went b (length (take 256 (map f cells))) (map_state f s) (chunk_goes side (take 256 (map f cells)) (map_state f s)) (next (drop 256 (map f cells)) (chunk_goes side (take 256 (map f cells)) (map_state f s))))
+      (below-forgets side s)
+      ∙ ap (λ (chunk' : List D). went full (length chunk') (map_state f s) (chunk_goes side chunk' (map_state f s)) (next (drop 256 (map f cells)) (chunk_goes side chunk' (map_state f s)))) (take-map f 256 cells)
+      ∙ ap (λ (rest' : List D). went full (length (map f chunk)) (map_state f s) (chunk_goes side (map f chunk) (map_state f s)) (next rest' (chunk_goes side (map f chunk) (map_state f s)))) (drop-map f 256 cells)
+      ∙ ap (λ n. went full n (map_state f s) (chunk_goes side (map f chunk) (map_state f s)) (next (map f rest) (chunk_goes side (map f chunk) (map_state f s)))) (length-map chunk f)
+      ∙ ap (λ (t' : Carried D (State D)). went full (length chunk) (map_state f s) t' (next (map f rest) t')) (goes-forgets side chunk s)
+      ∙ ap (λ more. went full (length chunk) (map_state f s) (map_carried f (map_state f) t) more) (chunks-forget side count rest t.state)
+      ∙ went-forgets full (length chunk) s t (chunks_sent side (chunks_of count rest) t.state)
 
   pub cells_sent-forgets : (side : Side) (cells : List C) (s : State C) → cells_sent side (map f cells) (map_state f s) ≡ map_wrote f (cells_sent side cells s)
   cells_sent-forgets side cells s =

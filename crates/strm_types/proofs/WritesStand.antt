@@ -1,20 +1,28 @@
 -- Where no module stands, the chunks of a write are put on the driver's queue.
 use Rattle.std.proofs.Common.{◌≡◌, ◌+◌, Bool, true, false, cond, List, [], ◌∷◌, ◌++◌, length, refl, ap, ◌∙◌}
-use Rattle.std.specs.Prelude.{◌||◌}
+use Rattle.std.specs.Prelude.{◌||◌, not}
 use Rattle.std.proofs.lemmas.List.Folds.{list_any-append}
 use Rattle.strm_types.specs.declared.names.QueueName.{QueueName}
 use Rattle.strm_types.specs.declared.names.Side.{Side}
 use Rattle.strm_types.specs.declared.names.Side.TheVariants.{Master, Slave}
 use Rattle.strm_types.specs.Deliver.{Carried}
+use Rattle.strm_types.specs.Earlier.{NoModules}
 use Rattle.strm_types.specs.Message.{data_message, has_parts}
 use Rattle.strm_types.specs.Names.{driver_of, enable, enable_if, is_closed, is_enabled, same_queue}
 use Rattle.strm_types.specs.PutEffect.{put_effect, write_effect}
 use Rattle.strm_types.specs.Queue.{Queue, is_full, put_on, put_enables}
 use Rattle.strm_types.specs.State.{State, stream, with_stream, with_driver_queue}
 use Rattle.strm_types.specs.Write.{Sent, sent}
-use Rattle.strm_types.specs.Writes.{Wrote, chunks_sent, queue_below}
+use Rattle.strm_types.specs.Writes.{Wrote, chunks_sent, is_full_below, below_head}
 use Rattle.strm_types.proofs.PutDelivered.{put-delivered}
 use Rattle.strm_types.proofs.WriteSteps.{went}
+use Rattle.strm_types.specs.Puts.{delivered}
+use Rattle.strm_types.specs.Past.{may_pass}
+use Rattle.strm_types.specs.declared.names.Way.TheVariants.{Down}
+
+not-not : (b : Bool) → not (not b) ≡ b
+not-not true = refl
+not-not false = refl
 
 -- what is enabled twice is enabled once
 or-true : (b : Bool) → (b || true) ≡ true
@@ -79,15 +87,24 @@ module _ {C : Type 0} where
   still-open Master chunk s stays = stays
   still-open Slave chunk s stays = stays
 
+  still-none : (side : Side) (chunk : List C) (s : State C) → NoModules s → NoModules (put_effect side (data_message chunk) s).state
+  still-none Master chunk s none = record { master = none.master; slave = none.slave }
+  still-none Slave chunk s none = record { master = none.master; slave = none.slave }
+
   none-stands : (side : Side) (s : State C) → record { taken = 0; state = s; gone = [] } ≡ write_effect side [] s
   none-stands Master s = refl
   none-stands Slave s = refl
 
-  pub chunks-stand : (side : Side) (chunks : List (List C)) (s : State C) → is_closed s.master.opened ≡ false → chunks_sent side chunks s ≡ write_effect side chunks s
-  chunks-stand side [] s stays = none-stands side s
-  chunks-stand side (chunk ∷ chunks) s stays =
+  pub below-alone : (side : Side) (s : State C) → NoModules s → is_full_below 0 side s ≡ is_full 0 (stream side s).driver.queue
+  below-alone Master s none = ap (λ ps. not (may_pass Down 0 0 (record s.master { modules = ps }))) none.master ∙ not-not (is_full 0 s.master.driver.queue)
+  below-alone Slave s none = ap (λ ps. not (may_pass Down 0 0 (record s.slave { modules = ps }))) none.slave ∙ not-not (is_full 0 s.slave.driver.queue)
+
+  pub chunks-stand : (side : Side) (chunks : List (List C)) (s : State C) → is_closed s.master.opened ≡ false → NoModules s → chunks_sent side chunks s ≡ write_effect side chunks s
+  chunks-stand side [] s stays none = none-stands side s
+  chunks-stand side (chunk ∷ chunks) s stays none =
       let m = data_message chunk in
-      let full = is_full 0 (queue_below side s) in
-      ap (λ (t : Carried C (State C)). went full (length chunk) s t (chunks_sent side chunks t.state)) (put-delivered side m s (data-parts chunk) stays)
-      ∙ ap (λ (more : Wrote C). went full (length chunk) s (put_effect side m s) more) (chunks-stand side chunks (put_effect side m s).state (still-open side chunk s stays))
+      let full = is_full 0 (stream side s).driver.queue in
+      ap (λ (b : Bool). went b (length chunk) s (delivered (below_head side) m s) (chunks_sent side chunks (delivered (below_head side) m s).state)) (below-alone side s none)
+      ∙ ap (λ (t : Carried C (State C)). went full (length chunk) s t (chunks_sent side chunks t.state)) (put-delivered side m s (data-parts chunk) stays none)
+      ∙ ap (λ (more : Wrote C). went full (length chunk) s (put_effect side m s) more) (chunks-stand side chunks (put_effect side m s).state (still-open side chunk s stays) (still-none side chunk s none))
       ∙ step-stands side full chunk chunks s

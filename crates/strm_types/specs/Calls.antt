@@ -1,5 +1,5 @@
 -- The calls on a pair: what each one does where nothing refuses it.
-use Rattle.std.specs.Prelude.{ℕ, suc, ◌+◌, false, not, min, if◌then◌else◌, List, [], ◌++◌, length, Option, option_map}
+use Rattle.std.specs.Prelude.{ℕ, suc, ◌+◌, false, not, min, if◌then◌else◌, List, [], ◌++◌, length, Option, None, Some, option_map}
 use denote.Ref.{Bor}
 use Rattle.strm_types.specs.declared.limits.TheConstants.{READ_MAX}
 use Rattle.strm_types.specs.declared.answers.Answer.{Answer}
@@ -12,16 +12,18 @@ use Rattle.strm_types.specs.declared.events.Caller.{Caller}
 use Rattle.strm_types.specs.declared.modes.Mode as modes
 use Rattle.strm_types.specs.declared.modes.Prio.{Prio}
 use Rattle.strm_types.specs.declared.modes.Wanted.{Wanted}
+use Rattle.strm_types.specs.declared.names.ModuleName.{ModuleName}
 use Rattle.strm_types.specs.declared.names.Side.{Side}
 use Rattle.strm_types.specs.declared.names.Side.TheVariants.{Master}
 use Rattle.strm_types.specs.declared.names.Openness.TheVariants.{Open}
 use Rattle.strm_types.specs.declared.names.Way.TheVariants.{Down}
 use Rattle.strm_types.specs.Cells.{Cells, cells_written, bytes_of}
-use Rattle.strm_types.specs.Names.{driver_of, head_of, direction_from, before, enable_if, enable_some}
-use Rattle.strm_types.specs.State.{State, stream, with_stream, with_driver_queue, with_head_queue, new_head, with_mode, with_ioctl, with_signals, book, with_book, map_state}
+use Rattle.strm_types.specs.Earlier.{before_head}
+use Rattle.strm_types.specs.Names.{driver_of, direction_from, enable_if, enable_some}
+use Rattle.strm_types.specs.State.{State, stream, with_stream, with_head_queue, new_head, with_mode, with_ioctl, with_signals, book, with_book, map_state}
 use Rattle.strm_types.specs.Books.{with_written}
 use Rattle.strm_types.specs.Reads.{head_draw, read_queue, read_lets_go}
-use Rattle.strm_types.specs.Write.{written}
+use Rattle.strm_types.specs.Writes.{Wrote, cells_sent}
 use Rattle.strm_types.specs.Queue.{is_none_left}
 use Rattle.strm_types.specs.Closes.{closed_at}
 use Rattle.strm_types.specs.Deliver.{Carried}
@@ -30,6 +32,7 @@ use Rattle.strm_types.specs.Gets.{head_get, prio_got, first_data}
 use Rattle.strm_types.specs.Ioctls.{asking, ioctl_message}
 use Rattle.strm_types.specs.Message.{Message, part}
 use Rattle.strm_types.specs.PutMsg.{put_message, no_parts}
+use Rattle.strm_types.specs.Pushes.{named_by, popped, pushed_named, top_on}
 use Rattle.strm_types.specs.Puts.{delivered, flushed_on}
 use Rattle.strm_types.specs.Slots.{told_of, slot_behind}
 
@@ -90,6 +93,11 @@ content_of (Msg prio control body more_control more_data) = part control ++ part
 content_of (Signals bytes) = bytes
 content_of _ = []
 
+-- the name of the module on top is told; there is one where a look isn't refused
+abbrev pub name_told : Option ModuleName → Reply
+name_told None = Done
+name_told (Some name) = Name name
+
 -- what a call leads to
 pub record Outcome (C : Type 0) : Type 0 where
   pub answer : Reply
@@ -115,19 +123,18 @@ module _ {C : Type 0} where
     enabled = enable_if (not (is_none_left s.master.driver.queue.messages)) (driver_of Master) s.enabled;
   }
 
-  -- a write of these bytes on a side's stream: those that go down are booked as written
+  -- what a write of these bytes on a side's stream sends down
+  abbrev pub write_sent : Cells C → Side → List ℕ → State C → Wrote C
+  write_sent cells side bytes s =
+      let dir = direction_from side in
+      cells_sent side (cells_written cells dir (book dir s).written bytes) s
+
+  -- a write of these bytes: those that go down are booked as written
   abbrev pub wrote : Cells C → Side → List ℕ → State C → Outcome C
   wrote cells side bytes s =
       let dir = direction_from side in
-      let below = stream side s in
-      let down = written (cells_written cells dir (book dir s).written bytes) below.driver.queue in
-      let state = with_stream side (with_driver_queue down.queue below) s in
-      record {
-        answer = Count down.taken;
-        state = record (with_book dir (with_written down.taken (book dir s)) state) {
-          enabled = enable_if down.enables (driver_of side) s.enabled;
-        };
-      }
+      let t = write_sent cells side bytes s in
+      record { answer = Count t.taken; state = with_book dir (with_written t.taken (book dir s)) t.state }
 
   -- a read of up to n bytes on a side's stream, in the modes of its head
   abbrev pub read_at : Cells C → Side → ℕ → State C → Outcome C
@@ -138,7 +145,7 @@ module _ {C : Type 0} where
       record {
         answer = Bytes (bytes_of cells (head_draw h.read_mode h.control_mode most h.queue.messages).given);
         state = record (with_stream side (with_head_queue (read_queue h.read_mode h.control_mode most h.queue) above) s) {
-          enabled = enable_some (read_lets_go h.read_mode h.control_mode most h.queue) (before (head_of side)) s.enabled;
+          enabled = enable_some (read_lets_go h.read_mode h.control_mode most h.queue) (before_head side s) s.enabled;
         };
       }
 
@@ -153,7 +160,7 @@ module _ {C : Type 0} where
       record {
         answer = Msg (prio_got got) (option_map (bytes_of cells) got.control) (option_map (bytes_of cells) got.body) got.more_control got.more_data;
         state = record (with_stream side (with_head_queue (get_queue wanted most_control most_data q) above) s) {
-          enabled = enable_some (get_lets_go wanted most_control most_data q) (before (head_of side)) s.enabled;
+          enabled = enable_some (get_lets_go wanted most_control most_data q) (before_head side s) s.enabled;
         };
       }
 
@@ -200,15 +207,18 @@ module _ {C : Type 0} where
   abbrev pub signals_told : Side → State C → Outcome C
   signals_told side s = record { answer = Signals (stream side s).head.signals; state = with_signals side [] s }
 
-  -- What a call leads to where nothing refuses it. No module is known yet, so a push, a pop and a look are always refused.
+  abbrev pub looked : Side → State C → Outcome C
+  looked side s = record { answer = name_told (top_on side s); state = s }
+
+  -- what a call leads to where nothing refuses it
   abbrev pub called : Cells C → Caller → Request → State C → Outcome C
   called cells caller OpenMaster s = done (opened_master s)
   called cells caller Unlock s = done (record s { locked = false })
   called cells caller OpenSlave s = done (opened_slave s)
   called cells caller Shut s = done (closed_at caller.side s).state
-  called cells caller (Push name) s = done s
-  called cells caller Pop s = done s
-  called cells caller Look s = done s
+  called cells caller (Push name) s = done (pushed_named caller.side (named_by name) s).state
+  called cells caller Pop s = done (popped caller.side s).state
+  called cells caller Look s = looked caller.side s
   called cells caller (Flush what band) s = done (flushed_on band caller.side what s).state
   called cells caller (Write bytes) s = wrote cells caller.side bytes s
   called cells caller (Read n) s = read_at cells caller.side n s

@@ -8,7 +8,9 @@ use Rattle.strm_types.specs.declared.rules.Rule.{Rule}
 use Rattle.strm_types.specs.declared.rules.Rule.TheVariants.{EndClosed}
 use Rattle.strm_types.specs.Deliver.{Carried, Goes}
 use Rattle.strm_types.specs.Emptied.{Choice, of_all, cells_gone, queue_behind, writer_goes}
-use Rattle.strm_types.specs.Names.{driver_of, head_of, direction_of, before, is_open, enable_some}
+use Rattle.strm_types.specs.Earlier.{before_head, before_driver}
+use Rattle.strm_types.specs.Pushes.{modules_emptied}
+use Rattle.strm_types.specs.Names.{driver_of, head_of, direction_of, is_open, enable_some}
 use Rattle.strm_types.specs.State.{State, stream, with_stream, with_head_queue, with_driver_queue, new_head}
 
 module _ {C : Type 0} where
@@ -18,7 +20,7 @@ module _ {C : Type 0} where
       let above = stream side s in
       let q = above.head.queue in
       record (with_stream side (with_head_queue (queue_behind chosen q) above) s) {
-        enabled = enable_some (writer_goes chosen q) (before (head_of side)) s.enabled;
+        enabled = enable_some (writer_goes chosen q) (before_head side s) s.enabled;
       }
 
   abbrev pub head_emptied : Rule → Choice → Side → State C → Carried C (State C)
@@ -33,7 +35,7 @@ module _ {C : Type 0} where
       let below = stream side s in
       let q = below.driver.queue in
       record (with_stream side (with_driver_queue (queue_behind chosen q) below) s) {
-        enabled = enable_some (writer_goes chosen q) (before (driver_of side)) s.enabled;
+        enabled = enable_some (writer_goes chosen q) (before_driver side s) s.enabled;
       }
 
   abbrev pub driver_emptied : Rule → Choice → Side → State C → Carried C (State C)
@@ -56,12 +58,16 @@ module _ {C : Type 0} where
       let above = stream side s in
       if is_open above.opened then with_stream side (record above { head = record above.head { hung_up = true } }) s else s
 
+  -- what stands on a side's head and then on its modules goes, from the top down, and the modules with it
+  abbrev pub stream_emptied : Side → State C → Carried C (State C)
+  stream_emptied side s = and_then (head_emptied EndClosed of_all side s) (modules_emptied EndClosed side)
+
   -- A close of a side. The slave's driver keeps what it has for the master. What both drivers have goes with the master,
   -- and an open slave is hung up.
   abbrev pub closed_at : Side → State C → Carried C (State C)
   closed_at Slave s =
-      let t = head_emptied EndClosed of_all Slave s in
+      let t = stream_emptied Slave s in
       record { state = ended Slave t.state; gone = t.gone }
   closed_at Master s =
-      let t = and_then (and_then (head_emptied EndClosed of_all Master s) (driver_emptied EndClosed of_all Master)) (driver_emptied EndClosed of_all Slave) in
+      let t = and_then (and_then (stream_emptied Master s) (driver_emptied EndClosed of_all Master)) (driver_emptied EndClosed of_all Slave) in
       record { state = hung_up_at Slave (ended Master t.state); gone = t.gone }

@@ -1,13 +1,15 @@
 -- That no byte is lost, and none made but what is told: what stands on a pair's queues, what a step brings there and what it
 -- takes away.
 use Rattle.std.specs.Prelude.{◌≡◌, ℕ, ◌+◌, min, Bool, false, List, [], ◌∷◌, take}
+use Rattle.std.specs.List.{AllByRecursion}
 use Rattle.strm_types.specs.declared.limits.TheConstants.{READ_MAX}
 use Rattle.strm_types.specs.declared.names.Side.{Side}
-use Rattle.strm_types.specs.declared.events.Event.TheVariants.{Shut, Flush, Write, Read, Put, Get, Ioctl}
+use Rattle.strm_types.specs.declared.events.Event.TheVariants.{Shut, Push, Pop, Flush, Write, Read, Put, Get, Ioctl}
 use Rattle.strm_types.specs.declared.entries.Entry.TheVariants.{Called, Turned}
-use Rattle.strm_types.specs.Calls.{message_put, put_at, ioctl_sent}
+use Rattle.strm_types.specs.Calls.{message_put, put_at, ioctl_sent, write_sent}
 use Rattle.strm_types.specs.Cells.{Cells, cells_written}
 use Rattle.strm_types.specs.GetQueues.{get_gone}
+use Rattle.strm_types.specs.Ldterms.{IsIdle}
 use Rattle.strm_types.specs.Message.{cells_of}
 use Rattle.strm_types.specs.Names.{direction_from, direction_of, head_of, is_open}
 use Rattle.strm_types.specs.Queue.{weight}
@@ -18,9 +20,9 @@ use Rattle.strm_types.specs.Deliver.{Fate, tallied}
 use Rattle.strm_types.specs.Step.{after}
 use Rattle.strm_types.specs.declared.rules.Fates.{Fates}
 use Rattle.strm_types.specs.Closes.{closed_at}
+use Rattle.strm_types.specs.Pushes.{named_by, popped, pushed_named}
 use Rattle.strm_types.specs.Puts.{flushed_on}
 use Rattle.strm_types.specs.Turns.{turned}
-use Rattle.strm_types.specs.Write.{written}
 use Rattle.strm_types.specs.Journal.{PlainEntry}
 
 module _ {C : Type 0} where
@@ -36,12 +38,16 @@ module _ {C : Type 0} where
     pub master : is_open s.master.opened ≡ false → s.master.head.queue.messages ≡ []
     pub slave : is_open s.slave.opened ≡ false → s.slave.head.queue.messages ≡ []
 
+  -- Between turns no module of a stream has anything of a turn under way.
+  pub record AreIdle (s : State C) : Type 0 where
+    pub master : AllByRecursion (λ p. IsIdle p) s.master.modules
+    pub slave : AllByRecursion (λ p. IsIdle p) s.slave.modules
+
   -- the cells that a write on a side's stream takes: the first ones of its bytes
   abbrev pub cells_taken : Cells C → Side → List ℕ → State C → List C
   cells_taken cells side bytes s =
       let dir = direction_from side in
-      let all = cells_written cells dir (book dir s).written bytes in
-      take (written all (stream side s).driver.queue).taken all
+      take (write_sent cells side bytes s).taken (cells_written cells dir (book dir s).written bytes)
 
   -- the cells that an entry brings: what a write takes, and what a putmsg sends
   abbrev pub came : Cells C → State C → PlainEntry → List C
@@ -58,10 +64,13 @@ module _ {C : Type 0} where
       read_gone (direction_of (head_of caller.side)) h.read_mode h.control_mode (min n READ_MAX) h.queue.messages
   gone cells s (Called caller (Get wanted cmax dmax) answer) =
       get_gone (direction_of (head_of caller.side)) wanted (min cmax READ_MAX) (min dmax READ_MAX) (stream caller.side s).head.queue.messages
+  gone cells s (Called caller (Write bytes) answer) = (write_sent cells caller.side bytes s).gone
   gone cells s (Called caller (Put prio control body) answer) = (put_at cells caller.side prio control body s).gone
   gone cells s (Called caller (Ioctl command body) answer) = (ioctl_sent caller.side command body s).gone
   gone cells s (Called caller (Flush what band) answer) = (flushed_on band caller.side what s).gone
   gone cells s (Called caller Shut answer) = (closed_at caller.side s).gone
+  gone cells s (Called caller (Push name) answer) = (pushed_named caller.side (named_by name) s).gone
+  gone cells s (Called caller Pop answer) = (popped caller.side s).gone
   gone cells s (Called caller asked answer) = []
   gone cells s (Turned name turn) = (turned cells name turn s).gone
 

@@ -1,11 +1,12 @@
 -- What holds of ldterm between the calls of its procedures.
-use Rattle.std.specs.Prelude.{◌≡◌, Bool, true, false, ◌&&◌, ◌==◌, [], None}
+use Rattle.std.specs.Prelude.{◌≡◌, Bool, true, false, not, ◌&&◌, ◌==◌, [], None, is_some}
 use Rattle.std.specs.List.{list_any}
 use Rattle.strm_types.specs.declared.names.Way.{Way}
 use Rattle.strm_types.specs.declared.names.Way.TheVariants.{Up}
 use Rattle.strm_types.specs.Input.{is_data}
-use Rattle.strm_types.specs.Ldterms.{Ldterm, Between}
+use Rattle.strm_types.specs.Ldterms.{Ldterm, Stage, Between}
 use Rattle.strm_types.specs.Message.{Message}
+use Rattle.strm_types.specs.Queue.{is_none_left}
 
 -- a message as an echo is: M_DATA of band 0
 abbrev pub is_echo : {C : Type 0} → Message C → Bool
@@ -21,3 +22,11 @@ pub record IsOrderly {C : Type 0} (l : Ldterm C) : Type 0 where
 abbrev pub IsItsTurn : {C : Type 0} → Way → Bool → Ldterm C → Type 0
 IsItsTurn Up true l = Unit {0}
 IsItsTurn way again l = l.in_work ≡ None
+
+-- whether nothing of a turn is under way: no message in work, nothing that waits to go up, no echo that grows, and no byte that has begun
+abbrev pub is_between : {C : Type 0} → Stage C → Bool
+is_between Between = true
+is_between _ = false
+
+abbrev pub ldterm_rests : {C : Type 0} → Ldterm C → Bool
+ldterm_rests l = not (is_some l.in_work) && (is_none_left l.gathered && (not l.echoing && is_between l.stage))

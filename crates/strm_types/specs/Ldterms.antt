@@ -1,6 +1,6 @@
 -- The module ldterm on a stream: its queues, its unfinished line, and what it does with what is put at it (ldterm(7M); STREAMS
 -- Programming Guide, "Flush Handling").
-use Rattle.std.specs.Prelude.{ℕ, Bool, true, false, ◌&&◌, ◌==◌, nat_lt, not, if◌then◌else◌, List, [], ◌∷◌, ◌++◌, Option, None, Some}
+use Rattle.std.specs.Prelude.{ℕ, ◌≡◌, Bool, true, false, ◌&&◌, ◌==◌, nat_lt, not, if◌then◌else◌, List, [], ◌∷◌, ◌++◌, Option, None, Some}
 use Rattle.strm_types.specs.declared.flushing.FlushAsked.{FlushAsked}
 use Rattle.strm_types.specs.declared.kinds.Band.{Band}
 use Rattle.strm_types.specs.declared.kinds.MsgKind.{MsgKind}
@@ -70,6 +70,10 @@ module _ {C : Type 0} where
     echoing = false;
     stage = Between;
   }
+
+  -- Nothing of a turn is under way: no message is in work, nothing waits to go up, no echo grows, and no byte has begun.
+  abbrev pub IsIdle : Ldterm C → Type 0
+  IsIdle p = (p.in_work ≡ None) × (p.gathered ≡ []) × (p.echoing ≡ false) × (p.stage ≡ Between)
 
   -- its queues
   abbrev pub queue_at : Way → Ldterm C → Queue C

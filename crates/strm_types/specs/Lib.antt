@@ -44,6 +44,7 @@ pub mod Signals
 pub mod Slots
 pub mod Options
 pub mod Within
+pub mod CutOff
 pub mod Keys
 pub mod Lines
 pub mod Standing
@@ -54,4 +55,9 @@ pub mod Input
 pub mod LdtermWeights
 pub mod LdtermOrigins
 pub mod LdtermTurns
+pub mod Asking
 pub mod Stacked
+pub mod ModuleTurns
+pub mod Earlier
+pub mod Pushes
+pub mod Past

@@ -8,7 +8,6 @@ use Rattle.strm_types.specs.declared.modes.Prio.TheVariants.{High, Band}
 use Rattle.strm_types.specs.declared.refusals.Refusal.{Refusal}
 use Rattle.strm_types.specs.declared.refusals.Refusal.TheVariants.{Einval, Erange}
 use Rattle.strm_types.specs.Message.{Message, part, is_part}
-use Rattle.strm_types.specs.Queue.{Queue, is_full}
 
 -- the band of a priority, 0 for the high one
 abbrev pub put_band : Prio → ℕ
@@ -54,6 +53,6 @@ module _ {C : Type 0} where
   put_blocks control body = part_blocks control + part_blocks body
 
 -- Whether it has to wait, as the queue below is full in its band. High priority waits for nothing, nor does what isn't sent.
-abbrev pub put_waits : {C D : Type 0} → Prio → Option (List C) → Option (List C) → Queue D → Bool
-put_waits High control body q = false
-put_waits (Band band) control body q = not (no_parts control body) && is_full band.0 q
+abbrev pub put_waits : {C : Type 0} → Prio → Option (List C) → Option (List C) → (ℕ → Bool) → Bool
+put_waits High control body full = false
+put_waits (Band band) control body full = not (no_parts control body) && full band.0

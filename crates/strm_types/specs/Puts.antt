@@ -1,6 +1,6 @@
 -- What a message does that is put at a spot of a pair, and with all that it gives rise to (STREAMS Programming Guide, "Put
--- Procedures"): at a head, at a driver, or at a place where nothing stands.
-use Rattle.std.specs.Prelude.{ℕ, suc, ◌≡◌, ◌+◌, ◌-◌, Bool, true, false, ◌&&◌, ◌==◌, if◌then◌else◌, List, [], ◌∷◌, Option}
+-- Procedures"): at a head, at a module, at a driver, or at a place where nothing stands.
+use Rattle.std.specs.Prelude.{ℕ, suc, ◌≡◌, ◌+◌, ◌-◌, Bool, true, false, ◌&&◌, ◌==◌, nat_le, if◌then◌else◌, List, [], ◌∷◌, slice_index_or, Option, None, Some}
 use Rattle.strm_types.specs.declared.events.FlushQueues.{FlushQueues}
 use Rattle.strm_types.specs.declared.kinds.Band.{Band}
 use Rattle.strm_types.specs.declared.kinds.MsgKind.{MsgKind}
@@ -22,14 +22,17 @@ use Rattle.strm_types.specs.Drivers.{driver_put}
 use Rattle.strm_types.specs.Flushing.{is_flush, asked_by, asked_of, flush_bytes, flush_message}
 use Rattle.strm_types.specs.Heads.{head_put}
 use Rattle.strm_types.specs.Message.{Message, cells_of}
-use Rattle.strm_types.specs.Names.{other, is_open, is_closed, direction_at, before, enable, enable_found}
+use Rattle.strm_types.specs.Earlier.{before_at, driver_place, modules_on, places_of, queue_named}
+use Rattle.strm_types.specs.Modules.{put_among}
+use Rattle.strm_types.specs.Names.{other, is_open, is_closed, direction_at, enable_found}
+use Rattle.strm_types.specs.Stacked.{module_puts}
 use Rattle.strm_types.specs.State.{State, stream, with_stream, with_driver_queue}
 
--- the enabled queues behind what a put says of the queues of a place, one after the other
-abbrev pub noted : Side → Place → List Note → List QueueName → List QueueName
-noted side place [] names = names
-noted side place (Enable way ∷ notes) names = noted side place notes (enable (record { side = side; place = place; way = way }) names)
-noted side place (Room way ∷ notes) names = noted side place notes (enable_found (before (record { side = side; place = place; way = way })) names)
+-- the enabled queues behind what a put says of the queues of a place, one after the other, with the nearest earlier queues of that place
+abbrev pub noted : Side → Option Place → (Way → Option QueueName) → List Note → List QueueName → List QueueName
+noted side place earlier [] names = names
+noted side place earlier (Enable way ∷ notes) names = noted side place earlier notes (enable_found (queue_named side way place) names)
+noted side place earlier (Room way ∷ notes) names = noted side place earlier notes (enable_found (earlier way) names)
 
 -- whether what comes up to a head sends something down: an M_FLUSH with FLUSHW goes down again, and an M_IOCTL is answered
 abbrev pub turns_round : MsgKind → List ℕ → Bool
@@ -52,9 +55,13 @@ abbrev pub far : {C : Type 0} → Spot → Message C → ℕ
 far here m = far_at here.way (is_turned m) here.at
 
 module _ {C : Type 0} where
-  -- what the driver of a side is told of the other one: no module stands on a stream yet
+  -- the nearest earlier queues of a place
+  abbrev pub earlier_at : Side → ℕ → State C → Way → Option QueueName
+  earlier_at side at s way = before_at side way at s
+
+  -- what the driver of a side is told of the other one
   abbrev pub across_of : Side → State C → Across
-  across_of side s = record { is_open = is_open (stream (other side) s).opened; bottom = 0; ended = is_closed s.master.opened }
+  across_of side s = record { is_open = is_open (stream (other side) s).opened; bottom = modules_on (other side) s; ended = is_closed s.master.opened }
 
   -- a message that comes to the head of a side's stream; where that isn't open nobody reads, and its bytes go
   abbrev pub put_at_head : Side → Spot → Message C → State C → Took C (State C)
@@ -62,31 +69,49 @@ module _ {C : Type 0} where
       let above = stream side s in
       let t = head_put here m above.head in
       if is_open above.opened then record {
-        state = record (with_stream side (record above { head = t.state }) s) { enabled = noted side places.Head t.notes s.enabled };
+        state = record (with_stream side (record above { head = t.state }) s) { enabled = noted side (Some places.Head) (earlier_at side 0 s) t.notes s.enabled };
         sent = t.sent;
         gone = t.gone;
       }
       else record { state = s; sent = []; gone = Goes (direction_at Up side) EndClosed (cells_of m) ∷ [] }
 
-  -- a message that comes to the driver of a side's stream, which is the first place below the head
-  abbrev pub put_at_driver : Side → Spot → Message C → State C → Took C (State C)
-  put_at_driver side here m s =
-      let below = stream side s in
-      let t = driver_put side (across_of side s) (record here { at = 1 }) m below.driver.queue in
+  -- a message that comes to a module of a side's stream, by its place
+  abbrev pub put_at_module : Side → Spot → Message C → State C → Took C (State C)
+  put_at_module side here m s =
+      let on = stream side s in
+      let t = put_among module_puts (here.at - 1) here m on.modules in
       record {
-        state = record (with_stream side (with_driver_queue t.state below) s) { enabled = noted side places.Driver t.notes s.enabled };
+        state = record (with_stream side (record on { modules = t.state }) s) {
+          enabled = noted side (slice_index_or (places_of on.modules) (here.at - 1) None) (earlier_at side here.at s) t.notes s.enabled;
+        };
         sent = t.sent;
         gone = t.gone;
       }
 
-  -- a place where nothing stands: what comes up goes on to the head
-  abbrev pub passed_up : Spot → Message C → State C → Took C (State C)
-  passed_up here m s = record { state = s; sent = record { to = record here { at = 0 }; message = m } ∷ []; gone = [] }
+  -- a message that comes to the driver of a side's stream, which is the first place below the modules
+  abbrev pub put_at_driver : Side → Spot → Message C → State C → Took C (State C)
+  put_at_driver side here m s =
+      let below = stream side s in
+      let at = driver_place side s in
+      let t = driver_put side (across_of side s) (record here { at = at }) m below.driver.queue in
+      record {
+        state = record (with_stream side (with_driver_queue t.state below) s) { enabled = noted side (Some places.Driver) (earlier_at side at s) t.notes s.enabled };
+        sent = t.sent;
+        gone = t.gone;
+      }
 
-  -- on the way up, behind the head: the driver's place takes what was sent across
+  -- a place where nothing stands: what comes up goes on to the lowest module, and where there is none to the head
+  abbrev pub passed_up : Spot → Message C → State C → Took C (State C)
+  passed_up here m s = record { state = s; sent = record { to = record here { at = modules_on here.side s }; message = m } ∷ []; gone = [] }
+
+  -- below the modules: on the way up the driver's place takes what was sent across
+  abbrev pub put_behind : Way → Spot → Message C → State C → Took C (State C)
+  put_behind Down here m s = put_at_driver here.side here m s
+  put_behind Up here m s = if is_flush m.kind && here.at == suc MODULES then put_at_driver here.side here m s else passed_up here m s
+
+  -- below the head
   abbrev pub put_below : Way → Spot → Message C → State C → Took C (State C)
-  put_below Down here m s = put_at_driver here.side here m s
-  put_below Up here m s = if is_flush m.kind && here.at == suc MODULES then put_at_driver here.side here m s else passed_up here m s
+  put_below way here m s = if nat_le here.at (modules_on here.side s) then put_at_module here.side here m s else put_behind way here m s
 
   -- a message that is put at a spot
   abbrev pub put_in : Spot → Message C → State C → Took C (State C)

@@ -1,6 +1,6 @@
 -- Which refusal a call or a turn meets: the first whose condition holds, in this order. A side that isn't open; an
 -- argument; a book that is full; a full journal; too few free blocks; what the state says.
-use Rattle.std.specs.Prelude.{ℕ, Bool, true, false, not, ◌&&◌, ◌||◌, nat_lt, nat_le, ◌+◌, ◌-◌, List, length, Option, None, Some}
+use Rattle.std.specs.Prelude.{ℕ, Bool, true, false, not, ◌&&◌, ◌||◌, nat_lt, nat_le, ◌+◌, ◌-◌, List, length, Option, None, Some, is_some}
 use Rattle.strm_types.specs.declared.limits.Config.{Config}
 use Rattle.strm_types.specs.declared.events.Caller.{Caller}
 use Rattle.strm_types.specs.declared.names.QueueName.{QueueName}
@@ -15,7 +15,7 @@ use Rattle.strm_types.specs.declared.names.ModuleName.{ModuleName}
 use Rattle.std.specs.List.{list_any}
 use Rattle.strm_types.specs.Message.{Message, is_held}
 use Rattle.strm_types.specs.Names.{is_master, is_enabled, is_open, is_never, is_closed}
-use Rattle.strm_types.specs.Queue.{is_full}
+use Rattle.strm_types.specs.Pushes.{may_stand, named_by, top_on}
 use Rattle.strm_types.specs.State.{State, stream}
 use Rattle.strm_types.specs.Slots.{is_free, result_refusal}
 use Rattle.strm_types.specs.Write.{chunk_count}
@@ -27,6 +27,10 @@ use Rattle.strm_types.specs.declared.events.Event.TheVariants.{OpenMaster, Unloc
 use Rattle.strm_types.specs.Books as books
 use Rattle.strm_types.specs.Calls.{Request, payload_of}
 use Rattle.strm_types.specs.Journal.{PlainEntry, content_max, room_used}
+use Rattle.strm_types.specs.Writes.{is_full_below}
+use Rattle.strm_types.specs.Stacked.{Module, module_queue}
+use Rattle.strm_types.specs.ModuleQueues.{messages_at}
+use Rattle.strm_types.specs.declared.names.Way.TheVariants.{Up}
 
 -- how many blocks of each kind are free
 pub record Free : Type 0 where
@@ -101,13 +105,17 @@ module _ {C : Type 0} where
   abbrev pub has_no_data : List (Message C) → Bool
   has_no_data ms = not (list_any (λ m. is_held m.kind) ms)
 
+  -- nor on the read queues of modules
+  abbrev pub none_waits_up : List (Module C) → Bool
+  none_waits_up ps = not (list_any (λ p. not (has_no_data (messages_at module_queue Up p))) ps)
+
   -- The end of input at a side's head, where nothing is to be read there: the other end is gone, or the slave was closed and
   -- no M_DATA or M_PROTO of it stands anywhere.
   abbrev pub at_end : Side → State C → Bool
   at_end Slave s = s.slave.head.hung_up
   at_end Master s =
       s.master.head.hung_up
-      || (is_closed s.slave.opened && (has_no_data s.slave.driver.queue.messages && has_no_data s.master.head.queue.messages))
+      || (is_closed s.slave.opened && (has_no_data s.slave.driver.queue.messages && (none_waits_up s.master.modules && has_no_data s.master.head.queue.messages)))
 
   -- more may be written and made in both directions, as a call in one may make bytes in the other
   abbrev pub in_range : State C → Bool
@@ -142,16 +150,17 @@ module _ {C : Type 0} where
   refused_by_state s caller OpenMaster = unless (is_never s.master.opened) Einval
   refused_by_state s caller OpenSlave =
       or_else (unless (not (is_open s.slave.opened)) Einval) (unless (not s.locked) Eagain)
-  refused_by_state s caller (Write bytes) = unless (not (is_full 0 (stream caller.side s).driver.queue)) Eagain
+  refused_by_state s caller (Write bytes) = unless (not (is_full_below 0 caller.side s)) Eagain
   refused_by_state s caller (Read n) =
       let h = (stream caller.side s).head in
       read_refusal h.control_mode (at_end caller.side s) n h.queue.messages
-  refused_by_state s caller (Put prio control body) = unless (not (put_waits prio control body (stream caller.side s).driver.queue)) Eagain
+  refused_by_state s caller (Put prio control body) = unless (not (put_waits prio control body (λ band. is_full_below band caller.side s))) Eagain
   refused_by_state s caller (Get wanted cmax dmax) = get_refusal wanted (at_end caller.side s) (stream caller.side s).head.queue.messages
   refused_by_state s caller (Ioctl command body) = unless (is_free (stream caller.side s).head.ioctl) Eagain
   refused_by_state s caller (IoctlResult number) = result_refusal number (stream caller.side s).head.ioctl
-  refused_by_state s caller Pop = Some Einval
-  refused_by_state s caller Look = Some Einval
+  refused_by_state s caller (Push name) = unless (may_stand (named_by name) (stream caller.side s).modules) Einval
+  refused_by_state s caller Pop = unless (is_some (top_on caller.side s)) Einval
+  refused_by_state s caller Look = unless (is_some (top_on caller.side s)) Einval
   refused_by_state s caller _ = None
 
   -- the refusal of a call, if any, where the pool has enough blocks for it or not

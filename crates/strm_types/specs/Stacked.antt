@@ -4,11 +4,14 @@ use Rattle.std.specs.Prelude.{ℕ, Bool, List, [], ◌∷◌, sum_by, flat_map, 
 use Rattle.strm_types.specs.declared.names.ModuleName.{ModuleName}
 use Rattle.strm_types.specs.declared.names.ModuleName.TheVariants.{Ldterm}
 use Rattle.strm_types.specs.declared.names.Way.{Way}
+use Rattle.strm_types.specs.declared.spots.Asks.{Asks}
 use Rattle.strm_types.specs.declared.spots.Spot.{Spot}
+use Rattle.strm_types.specs.Asking.{ldterm_asks}
 use Rattle.strm_types.specs.Cells.{Cells}
 use Rattle.strm_types.specs.Deliver.{Acted}
 use Rattle.strm_types.specs.Input.{ldterm_serves}
 use Rattle.strm_types.specs.LdtermOrigins.{map_ldterm}
+use Rattle.strm_types.specs.LdtermTurns.{ldterm_rests}
 use Rattle.strm_types.specs.LdtermWeights.{ldterm_weight}
 use Rattle.strm_types.specs.Ldterms as ldterms
 use Rattle.strm_types.specs.Ldterms.{queue_at, with_queue_at, without_line, ldterm_puts}
@@ -53,6 +56,13 @@ module _ {C : Type 0} where
   -- a message that is put at it
   abbrev pub module_puts : Spot → Message C → Module C → Acted C (Module C)
   module_puts here m p = ldterm_puts here m p
+
+  -- what the first message of its queue of a way asks before it goes on, and whether nothing of a turn is under way in it
+  abbrev pub module_asks : Way → Module C → Asks
+  module_asks way p = ldterm_asks way p
+
+  abbrev pub module_rests : Module C → Bool
+  module_rests p = ldterm_rests p
 
   -- a call of the service procedure of its queue: so many cells were made before, the turn begins or goes on, and it stops or not
   -- when so many bytes are treated

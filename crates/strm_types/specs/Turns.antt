@@ -7,15 +7,17 @@ use Rattle.strm_types.specs.declared.names.Place.{Place}
 use Rattle.strm_types.specs.declared.names.Place.TheVariants.{Head, Ldterm, Driver}
 use Rattle.strm_types.specs.declared.names.QueueName.{QueueName}
 use Rattle.strm_types.specs.Message.{Message, size_of, band_of, is_held}
-use Rattle.strm_types.specs.Queue.{Queue, is_none_left, is_full, left_with, relieved, relieves, with_writer_at}
+use Rattle.strm_types.specs.Queue.{Queue, is_none_left, is_full, left_with, relieved, relieves}
 use Rattle.strm_types.specs.Cells.{Cells}
 use Rattle.strm_types.specs.declared.names.Way.TheVariants.{Up}
 use Rattle.strm_types.specs.declared.spots.Spot.{Spot}
 use Rattle.strm_types.specs.Deliver.{Fate}
 use Rattle.strm_types.specs.Origins.{map_fate}
 use Rattle.strm_types.specs.Puts.{delivered}
-use Rattle.strm_types.specs.Names.{other, driver_of, before, is_open, without, enable_if, enable_some}
-use Rattle.strm_types.specs.State.{State, Stream, stream, with_stream, with_driver_queue, with_head_queue, map_state}
+use Rattle.strm_types.specs.Earlier.{before_driver, driver_place, modules_on}
+use Rattle.strm_types.specs.Past.{has_room_past, writer_waits}
+use Rattle.strm_types.specs.Names.{other, driver_of, is_open, without, enable_if, enable_some}
+use Rattle.strm_types.specs.State.{State, Stream, stream, with_stream, with_driver_queue, map_state}
 
 -- what a turn leads to, and what goes on the way by which rule
 pub record TurnOutcome (C : Type 0) : Type 0 where
@@ -27,11 +29,11 @@ pub record TurnOutcome (C : Type 0) : Type 0 where
 abbrev pub map_turn_outcome : {C D : Type 0} → (C → D) → TurnOutcome C → TurnOutcome D
 map_turn_outcome f outcome = record { turn = outcome.turn; state = map_state f outcome.state; gone = map (map_fate f) outcome.gone }
 
--- the lowest place of the other side's stream, on the way up
-abbrev pub up_across : Side → Spot
-up_across side = record { side = other side; at = 0; way = Up }
-
 module _ {C : Type 0} where
+  -- the lowest place of the other side's stream on the way up: that of its lowest module, and where there is none the head's
+  abbrev pub up_across : Side → State C → Spot
+  up_across side s = record { side = other side; at = modules_on (other side) s; way = Up }
+
   -- how many bytes the first message has
   abbrev pub first_size : List (Message C) → ℕ
   first_size [] = 0
@@ -65,23 +67,25 @@ module _ {C : Type 0} where
       let went = not (size == 0) in
       record (with_driver side (if went then relieved q else q) s) {
         enabled = enable_if (not (is_none_left q.messages)) (driver_of side)
-            (enable_some (went && relieves q) (before (driver_of side)) s.enabled);
+            (enable_some (went && relieves q) (before_driver side s) s.enabled);
       }
 
   -- a message taken off the driver's queue of a side goes up the other side's stream, with all that it gives rise to
   abbrev pub moved_across : Side → Message C → List (Message C) → State C → TurnOutcome C
   moved_across side m rest s =
-      let t = delivered (up_across side) m (with_driver side (left_with rest (stream side s).driver.queue) s) in
+      let from = with_driver side (left_with rest (stream side s).driver.queue) s in
+      let t = delivered (up_across side from) m from in
       record { turn = Moved (size_of m); state = turn_ended side (size_of m) t.state; gone = t.gone }
 
-  -- Where the other side's head has no room for the message, a writer waits for it there.
-  abbrev pub blocked_at_head : Side → Message C → State C → State C
-  blocked_at_head side m s =
-      let above = stream (other side) s in
-      let q = above.head.queue in
-      with_stream (other side) (with_head_queue (record q { flows = with_writer_at (band_of m) q.flows }) above) s
+  -- the nearest queue past the driver on the way up the other side's stream has no room for the message
+  abbrev pub is_stopped_across : Side → Message C → State C → Bool
+  is_stopped_across side m s = is_held m.kind && not (has_room_past (other side) Up (driver_place (other side) s) (band_of m) s)
 
-  -- A driver sends its first message up the other side's stream, unless that isn't open, or the head there is full in the
+  -- a writer waits for it there
+  abbrev pub blocked_across : Side → Message C → State C → State C
+  blocked_across side m s = writer_waits (other side) Up (driver_place (other side) s) (band_of m) s
+
+  -- A driver sends its first message up the other side's stream, unless that isn't open, or the next queue there is full in the
   -- message's band.
   abbrev pub driver_serves : Side → List (Message C) → State C → TurnOutcome C
   driver_serves side [] s = stayed_put Idle (with_driver side (record (stream side s).driver.queue { want_read = true }) s)
@@ -89,7 +93,7 @@ module _ {C : Type 0} where
       let above = stream (other side) s in
       let waits = with_driver side (held_back (stream side s).driver.queue) s in
       if not (is_open above.opened) then stayed_put Blocked waits
-      else (if is_stopped m above.head.queue then stayed_put Blocked (blocked_at_head side m waits)
+      else (if is_stopped_across side m s then stayed_put Blocked (blocked_across side m waits)
       else moved_across side m rest s)
 
   -- a turn of the driver of a side, taken off the enabled list

@@ -1,6 +1,6 @@
 -- A write on a side's stream, as modules see it: its chunks go down from the head, one after the other (write(2), streamio(7I); STREAMS
 -- Programming Guide, "Flow Control").
-use Rattle.std.specs.Prelude.{ℕ, ◌+◌, if◌then◌else◌, List, [], ◌∷◌, ◌++◌, length, map}
+use Rattle.std.specs.Prelude.{ℕ, ◌+◌, if◌then◌else◌, List, [], ◌∷◌, ◌++◌, length, map, Bool, not}
 use Rattle.strm_types.specs.declared.names.Side.{Side}
 use Rattle.strm_types.specs.declared.names.Way.TheVariants.{Down}
 use Rattle.strm_types.specs.declared.spots.Spot.{Spot}
@@ -8,9 +8,9 @@ use Rattle.strm_types.specs.Deliver.{Fate}
 use Rattle.strm_types.specs.Message.{data_message}
 use Rattle.strm_types.specs.Origins.{map_fate}
 use Rattle.strm_types.specs.Puts.{delivered}
-use Rattle.strm_types.specs.Queue.{Queue, is_full}
-use Rattle.strm_types.specs.State.{State, stream, map_state}
+use Rattle.strm_types.specs.State.{State, map_state}
 use Rattle.strm_types.specs.Write.{chunk_count, chunks_of}
+use Rattle.strm_types.specs.Past.{has_room_past}
 
 -- the place below a side's head
 abbrev pub below_head : Side → Spot
@@ -23,15 +23,15 @@ pub record Wrote (C : Type 0) : Type 0 where
   pub gone : List (Fate C)
 
 module _ {C : Type 0} where
-  -- the first queue below a side's head: that of its driver, as no module stands on a stream yet
-  abbrev pub queue_below : Side → State C → Queue C
-  queue_below side s = (stream side s).driver.queue
+  -- the first queue below a side's head has no room for a band
+  abbrev pub is_full_below : ℕ → Side → State C → Bool
+  is_full_below band side s = not (has_room_past side Down 0 band s)
 
   -- Each chunk in turn goes down as an ordinary message, while band 0 of the first queue below isn't full.
   abbrev pub chunks_sent : Side → List (List C) → State C → Wrote C
   chunks_sent side [] s = record { taken = 0; state = s; gone = [] }
   chunks_sent side (chunk ∷ chunks) s =
-      if is_full 0 (queue_below side s) then record { taken = 0; state = s; gone = [] }
+      if is_full_below 0 side s then record { taken = 0; state = s; gone = [] }
       else (let t = delivered (below_head side) (data_message chunk) s in
       let more = chunks_sent side chunks t.state in
       record { taken = length chunk + more.taken; state = more.state; gone = t.gone ++ more.gone })

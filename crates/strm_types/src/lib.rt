@@ -46,5 +46,5 @@ pub use options::{Marks, Options};
 pub use refusals::{NoMemory, Refusal};
 pub use rules::{Fates, RULES, Rule};
 pub use slots::Slot;
-pub use spots::{Across, Note, Spot};
+pub use spots::{Across, Asks, Note, Spot};
 pub use termios::{ControlChar, InputModes, LocalModes, OutputModes, Termios};

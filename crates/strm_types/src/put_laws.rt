@@ -8,9 +8,13 @@ ghost use Rattle.strm_types.specs.declared.names.Side.{Side};
 ghost use Rattle.strm_types.specs.declared.names.Way.TheVariants.{Down};
 ghost use Rattle.strm_types.specs.declared.spots.Across.{Across};
 ghost use Rattle.strm_types.specs.declared.spots.Spot.{Spot};
+ghost use Rattle.strm_types.specs.Cells.{Cells};
+ghost use Rattle.strm_types.specs.CutOff.{IsCutOff};
 ghost use Rattle.strm_types.specs.Deliver.{Falls};
 ghost use Rattle.strm_types.specs.Drivers.{driver_put};
+ghost use Rattle.strm_types.specs.Earlier.{NoModules};
 ghost use Rattle.strm_types.specs.Heads.{head_put};
+ghost use Rattle.strm_types.specs.Journal.{PlainEntry};
 ghost use Rattle.strm_types.specs.Kept.{NothingUnread, state_weight};
 ghost use Rattle.strm_types.specs.Message.{Message, has_parts};
 ghost use Rattle.strm_types.specs.Names.{is_closed};
@@ -19,7 +23,9 @@ ghost use Rattle.strm_types.specs.Places.{PutKeeps, weight_gone, weight_made};
 ghost use Rattle.strm_types.specs.PutEffect.{put_effect, write_effect};
 ghost use Rattle.strm_types.specs.Puts.{SameEnds, delivered, far, put_in};
 ghost use Rattle.strm_types.specs.Queue.{Queue};
-ghost use Rattle.strm_types.specs.State.{Head, State, map_state};
+ghost use Rattle.strm_types.specs.Refused.{goes_down};
+ghost use Rattle.strm_types.specs.State.{Head, State, map_state, opening};
+ghost use Rattle.strm_types.specs.Step.{IsLegal, Step, replay};
 ghost use Rattle.strm_types.specs.Writes.{cells_sent, chunks_sent, map_wrote};
 
 /// What a put sends on has less before it than what was put, wherever that was; and from the places of a stream, of which the
@@ -54,11 +60,11 @@ pub fn deliveries_leave_the_ends<C>()
     ensures unread { (to : Spot) (m : Message C) (s : State C) → NothingUnread s → NothingUnread (delivered to m s).state }
 {}
 
-/// Where no module stands on a stream, a message with parts that goes down from its head, as that of a putmsg(2), is put on the
+/// Where no module stands on a pair's streams, a message with parts that goes down from a head, as that of a putmsg(2), is put on the
 /// driver's queue, which is enabled as putq(9F) has it. Nothing else changes and nothing goes. Its premise is that the master
 /// isn't closed, as then nothing crosses any more.
 pub fn puts_stand_at_the_driver<C>()
-    ensures { (side : Side) (m : Message C) (s : State C) → has_parts m ≡ true → is_closed s.master.opened ≡ false →
+    ensures { (side : Side) (m : Message C) (s : State C) → has_parts m ≡ true → is_closed s.master.opened ≡ false → NoModules s →
         delivered (record { side = side; at = 1; way = Down }) m s ≡ put_effect side m s }
 {}
 
@@ -76,9 +82,18 @@ pub fn writes_forget_origins<C, D>()
         cells_sent side (map f cells) (map_state f s) ≡ map_wrote f (cells_sent side cells s) }
 {}
 
-/// Where no module stands on a stream, the chunks of a write are put on the driver's queue one after the other, while its band 0 isn't
+/// Where no module stands on a pair's streams, the chunks of a write are put on the driver's queue one after the other, while its band 0 isn't
 /// full, and enable it as putq(9F) has it. Its premise is that the master isn't closed.
 pub fn writes_stand_at_the_driver<C>()
     ensures { (side : Side) (chunks : List (List C)) (s : State C) → is_closed s.master.opened ≡ false →
-        chunks_sent side chunks s ≡ write_effect side chunks s }
+        NoModules s → chunks_sent side chunks s ≡ write_effect side chunks s }
+{}
+
+/// Once the master is closed the slave isn't open or is hung up, so that nothing may go down its stream any more: it is so in a
+/// new pair, behind each step, and where any legal journal leads. A side whose stream messages may go down has a master that isn't closed.
+pub fn closed_masters_cut_off<C>()
+    ensures opening { (s : State C) → s ≡ opening → IsCutOff s }
+    ensures step { (cells : Cells C) (old new : State C) (entry : PlainEntry) → IsCutOff old → Step cells old entry new → IsCutOff new }
+    ensures journal { (cells : Cells C) (s : State C) (es : List PlainEntry) → IsCutOff s → IsLegal cells s es → IsCutOff (replay cells s es) }
+    ensures goes { (side : Side) (s : State C) → IsCutOff s → goes_down side s ≡ true → is_closed s.master.opened ≡ false }
 {}

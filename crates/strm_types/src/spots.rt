@@ -4,6 +4,7 @@ ghost use Rattle.std.specs.Prelude.{◌≡◌, ◌<◌, ◌^◌};
 ghost use Rattle.strm_types.specs.Deliver.{toward};
 ghost use Rattle.strm_types.specs.Names.{direction_at};
 
+use crate::kinds::Band;
 use crate::names::{Dir, Side, Way};
 
 /// Where a message is put: on which side's stream, at which place of it, and which way it goes there. Places count from
@@ -68,4 +69,18 @@ impl Default for Note {
     fn default() -> Note {
         Note::Enable(Way::Up)
     }
+}
+
+/// What the first message of a queue asks before it goes on, where its service procedure looks at it (srv(9E); STREAMS
+/// Programming Guide, "Flow Control").
+#[derive(Clone, Copy, Debug, PartialEq, Eq)]
+pub enum Asks {
+    /// No message stands there.
+    Empty,
+    /// It may not go on, whatever room there is, as where output is stopped.
+    Held,
+    /// It goes on, as messages of high priority do.
+    Free,
+    /// It goes on where a band has room ahead.
+    Room(Band),
 }

@@ -1,0 +1,146 @@
+-- No push and no pop loses a byte, or makes one: what a module has that is taken off goes by a rule.
+use Rattle.std.proofs.Common.{ℕ, ◌≡◌, ◌+◌, Bool, true, false, List, [], ◌∷◌, refl, ap, arith}
+use Rattle.std.specs.Prelude.{Option, None, Some, count_by}
+use Rattle.std.specs.List.{AllByRecursion}
+use Rattle.std.proofs.lemmas.List.Sums.{sum_by-cons}
+use Rattle.strm_types.specs.declared.modes.ReadMode.{ReadMode}
+use Rattle.strm_types.specs.declared.names.ModuleName.{ModuleName}
+use Rattle.strm_types.specs.declared.names.ModuleName.TheVariants as names
+use Rattle.strm_types.specs.declared.names.Side.{Side}
+use Rattle.strm_types.specs.declared.names.Side.TheVariants.{Master, Slave}
+use Rattle.strm_types.specs.declared.names.Way.TheVariants.{Up, Down}
+use Rattle.strm_types.specs.declared.rules.Rule.{Rule}
+use Rattle.strm_types.specs.declared.rules.Rule.TheVariants.{ModulePopped}
+use Rattle.strm_types.specs.Deliver.{Carried, Fate, Goes}
+use Rattle.strm_types.specs.Emptied.{of_all, cells_gone}
+use Rattle.strm_types.specs.Kept.{state_weight}
+use Rattle.strm_types.specs.LdtermWeights.{weight_begun, weight_in_work}
+use Rattle.strm_types.specs.Ldterms.{IsIdle, new_ldterm}
+use Rattle.strm_types.specs.Message.{cells_of, weight_of}
+use Rattle.strm_types.specs.ModuleQueues.{has_queue}
+use Rattle.strm_types.specs.Names.{direction_at}
+use Rattle.strm_types.specs.Places.{weight_gone, weight_made}
+use Rattle.strm_types.specs.Pushes.{all_taken, head_above, let_come, mode_behind, mode_message, mode_on_push, mode_put, modules_emptied, named_by, popped, pushed, pushed_named, top_on, top_taken, with_modules}
+use Rattle.strm_types.specs.Queue.{Queue, weight}
+use Rattle.strm_types.specs.Service.{line_gone}
+use Rattle.strm_types.specs.Stacked.{Module, module_name, module_queue, module_weight, modules_weight}
+use Rattle.strm_types.specs.State.{State, stream}
+use Rattle.strm_types.proofs.Deliveries.{delivered-keeps}
+use Rattle.strm_types.proofs.DeliveryKeeps.{gone-append, made-append}
+use Rattle.strm_types.proofs.EmptiedKeeps.{behind-all, behind-keeps}
+use Rattle.strm_types.proofs.LdtermKeeps.{lost-gone, lost-made}
+use Rattle.strm_types.proofs.PushForgets.{clears}
+
+module _ {C : Type 0} (p : C → Bool) where
+  -- what a pair comes to that had so many cells
+  abbrev Keeps : Carried C (State C) → ℕ → Type 0
+  Keeps t n = state_weight p t.state + weight_gone p t.gone ≡ n + weight_made p t.gone
+
+  -- a module of which nothing of a turn is under way lets go all that it has, and makes nothing
+  all-goes : (q : Queue C) → count_by p (cells_gone of_all q.messages) ≡ weight p q.messages
+  all-goes q = omega (arith, behind-keeps p of_all q, behind-all p q)
+
+  begun-none : (l : Module C) → IsIdle l → module_weight p l ≡ weight p l.read_queue.messages + (count_by p l.line + weight p l.write_queue.messages)
+  begun-none l idle =
+      let stage = ap (λ x. weight_begun p x) idle.3 in
+      let work = ap (λ x. weight_in_work p x) idle.0 in
+      let gathered = ap (λ xs. count_by p xs) idle.1 in
+      omega arith
+
+  -- what its write queue had
+  abbrev down_gone : Side → Rule → Module C → List (Fate C)
+  down_gone side rule l = Goes (direction_at Down side) rule (cells_gone of_all l.write_queue.messages) ∷ []
+
+  clears-keeps : (side : Side) (rule : Rule) (l : Module C) → IsIdle l → weight_gone p (clears side rule l).gone ≡ module_weight p l
+  clears-keeps side rule l idle =
+      let line = lost-gone p side rule l.line in
+      let up = all-goes l.read_queue in
+      let down = all-goes l.write_queue in
+      let joined = gone-append p (line_gone side rule l.line) (down_gone side rule l) in
+      omega (arith, begun-none l idle, line, up, down, joined)
+
+  clears-make-none : (side : Side) (rule : Rule) (l : Module C) → weight_made p (clears side rule l).gone ≡ 0
+  clears-make-none side rule l = omega (arith, lost-made p side rule l.line, made-append p (line_gone side rule l.line) (down_gone side rule l))
+
+  -- a pair with other modules on a side
+  modules-weigh : (side : Side) (ps : List (Module C)) (s : State C) → state_weight p (with_modules side ps s) + modules_weight p (stream side s).modules ≡ state_weight p s + modules_weight p ps
+  modules-weigh Master ps s = omega arith
+  modules-weigh Slave ps s = omega arith
+
+  modules-are : (side : Side) (ps : List (Module C)) (s : State C) → (stream side (with_modules side ps s)).modules ≡ ps
+  modules-are Master ps s = refl
+  modules-are Slave ps s = refl
+
+  -- the module on top, and all of them
+  pub top_taken-keeps : (rule : Rule) (side : Side) (ps : List (Module C)) (s : State C) → (stream side s).modules ≡ ps → AllByRecursion (λ l. IsIdle l) ps → Keeps (top_taken rule side ps s) (state_weight p s)
+  top_taken-keeps rule side [] s are idle = refl
+  top_taken-keeps rule side (l ∷ ls) s are idle =
+      let there = ap (λ ps. modules_weight p ps) are in
+      let cons = sum_by-cons (module_weight p) l ls in
+      let goes = clears-keeps side rule l idle.0 in
+      let makes = clears-make-none side rule l in
+      let apart = modules-weigh side ls s in
+      omega arith
+
+  taken-are : (rule : Rule) (side : Side) (l : Module C) (ls : List (Module C)) (s : State C) → (stream side (top_taken rule side (l ∷ ls) s).state).modules ≡ ls
+  taken-are rule Master l ls s = refl
+  taken-are rule Slave l ls s = refl
+
+  all_taken-keeps : (rule : Rule) (side : Side) (ps : List (Module C)) (s : State C) → (stream side s).modules ≡ ps → AllByRecursion (λ l. IsIdle l) ps → Keeps (all_taken rule side ps s) (state_weight p s)
+  all_taken-keeps rule side [] s are idle = refl
+  all_taken-keeps rule side (l ∷ ls) s are idle =
+      let t = top_taken rule side (l ∷ ls) s in
+      let u = all_taken rule side ls t.state in
+      let first = top_taken-keeps rule side (l ∷ ls) s are idle in
+      let rest = all_taken-keeps rule side ls t.state (taken-are rule side l ls s) idle.1 in
+      let gone = gone-append p t.gone u.gone in
+      let made = made-append p t.gone u.gone in
+      omega arith
+
+  pub modules_emptied-keeps : (rule : Rule) (side : Side) (s : State C) → AllByRecursion (λ l. IsIdle l) (stream side s).modules → Keeps (modules_emptied rule side s) (state_weight p s)
+  modules_emptied-keeps rule side s idle = all_taken-keeps rule side (stream side s).modules s refl idle
+
+  -- the head's read mode
+  weight-mode : (mode : ReadMode) → weight_of p (mode_message {C = C} mode) ≡ 0
+  unfolding weight_of cells_of
+  weight-mode mode = refl
+
+  mode_put-keeps : (side : Side) (mode : Option ReadMode) (s : State C) → Keeps (mode_put side mode s) (state_weight p s)
+  mode_put-keeps side None s = refl
+  mode_put-keeps side (Some mode) s = omega (arith, delivered-keeps p (head_above side) (mode_message mode) s (omega arith), weight-mode mode)
+
+  -- a push
+  come-keeps : (reads : Bool) (side : Side) (s : State C) → state_weight p (let_come reads side s) ≡ state_weight p s
+  come-keeps false side s = refl
+  come-keeps true side s = refl
+
+  pushed-keeps : (side : Side) (l : Module C) (s : State C) → Keeps (pushed side l s) (state_weight p s + module_weight p l)
+  pushed-keeps side l s =
+      let on = with_modules side (l ∷ (stream side s).modules) s in
+      let told = mode_put side (mode_on_push (module_name l)) on in
+      let comes = come-keeps (has_queue module_queue Up l) side told.state in
+      let first = mode_put-keeps side (mode_on_push (module_name l)) on in
+      let cons = sum_by-cons (module_weight p) l (stream side s).modules in
+      let apart = modules-weigh side (l ∷ (stream side s).modules) s in
+      omega arith
+
+  new-weight : module_weight p (new_ldterm {C = C}) ≡ 0
+  new-weight = refl
+
+  pub push-keeps : (side : Side) (name : Option ModuleName) (s : State C) → Keeps (pushed_named side (named_by name) s) (state_weight p s)
+  push-keeps side None s = refl
+  push-keeps side (Some names.Ldterm) s = let made = new-weight in let all = pushed-keeps side new_ldterm s in omega arith
+  push-keeps side (Some names.Ptem) s = refl
+  push-keeps side (Some names.Pckt) s = refl
+
+  -- a pop
+  pub pop-keeps : (side : Side) (s : State C) → AllByRecursion (λ l. IsIdle l) (stream side s).modules → Keeps (popped side s) (state_weight p s)
+  pop-keeps side s idle =
+      let ps = (stream side s).modules in
+      let t = top_taken ModulePopped side ps s in
+      let u = mode_put side (mode_behind (top_on side s)) t.state in
+      let first = top_taken-keeps ModulePopped side ps s refl idle in
+      let rest = mode_put-keeps side (mode_behind (top_on side s)) t.state in
+      let gone = gone-append p t.gone u.gone in
+      let made = made-append p t.gone u.gone in
+      omega arith
