@@ -5,8 +5,8 @@ use Rattle.strm_types.specs.declared.spots.Spot.{Spot}
 use Rattle.strm_types.specs.Message.{Message}
 use Rattle.strm_types.specs.Deliver.{Parcel}
 use Rattle.strm_blocks.specs.Blocks.{StoreValue, free_m, free_d}
-use Rattle.strm_frame.specs.declared.service.Asks.{Asks}
-use Rattle.strm_frame.specs.declared.service.Asks.TheVariants.{Room}
+use Rattle.strm_types.specs.declared.spots.Asks.{Asks}
+use Rattle.strm_types.specs.declared.spots.Asks.TheVariants.{Room}
 use Rattle.strm_frame.specs.declared.service.Served.{Served}
 use Rattle.strm_frame.specs.Outboxes.{cost_of}
 

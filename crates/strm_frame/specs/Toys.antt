@@ -11,8 +11,8 @@ use Rattle.strm_types.specs.Queue.{Queue, put_on, put_enables, left_with, is_non
 use Rattle.strm_types.specs.Message.{Message, size_of}
 use Rattle.strm_types.specs.Deliver.{Took, Acted, toward}
 use Rattle.strm_types.specs.Service.{Serving}
-use Rattle.strm_frame.specs.declared.service.Asks.{Asks}
-use Rattle.strm_frame.specs.declared.service.Asks.TheVariants as asked
+use Rattle.strm_types.specs.declared.spots.Asks.{Asks}
+use Rattle.strm_types.specs.declared.spots.Asks.TheVariants as asked
 
 abbrev pub is_flush : MsgKind → Bool
 is_flush Flush = true

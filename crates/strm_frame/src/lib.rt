@@ -19,7 +19,7 @@ pub use modules::{Acts, Module};
 pub use parcels::{Outbox, Sent};
 pub use places::Stations;
 pub use queues::{clear_queue, end_queue_turn};
-pub use service::{Asks, Served, TurnEnd};
+pub use service::{Served, TurnEnd};
 pub use stack::Stream;
 
 #[cfg(test)]

@@ -5,6 +5,7 @@ ghost use Rattle.std.specs.Bool.{OnTrue};
 ghost use Rattle.strm_types.specs.declared.names.ModuleName.{ModuleName};
 ghost use Rattle.strm_types.specs.declared.names.Way.{Way};
 ghost use Rattle.strm_types.specs.declared.spots.Spot.{Spot};
+ghost use Rattle.strm_types.specs.declared.spots.Asks.{Asks};
 ghost use Rattle.strm_types.specs.Message.{Message};
 ghost use Rattle.strm_types.specs.declared.limits.TheConstants.{BANDS, MODULES, STOP_BLOCKS};
 ghost use Rattle.strm_types.specs.Deliver.{Acted, AreLower, tallied};
@@ -15,15 +16,14 @@ ghost use Rattle.strm_blocks.specs.Blocks.{StoreValue, in_hand};
 ghost use Rattle.strm_msg.specs.Messages.{IsChain};
 ghost use Rattle.strm_frame.specs.Outboxes.{message_in, sent_of, times_sent, parcels_in, AreChains, cost_of};
 ghost use Rattle.strm_queue.specs.Stored.{FreesBlocks};
-ghost use Rattle.strm_frame.specs.declared.service.Asks.{Asks};
 ghost use Rattle.strm_frame.specs.Serves.{IsBand, SameHand, least_free, stop_of, later_cost};
 ghost use Rattle.strm_frame.specs.Hands.{AreIn, CanPut, Handles, Hands, SamePool, SameOwn, OnlyOwn, HasRoom, Spends};
 
 use crate::parcels::Outbox;
-use crate::service::{Asks, Served, TurnEnd};
+use crate::service::{Served, TurnEnd};
 use arrayvec::ArrayVec;
 use strm_blocks::Blocks;
-use strm_types::{Band, Fates, ModuleName, Note, Rule, Side, Spot, Way};
+use strm_types::{Asks, Band, Fates, ModuleName, Note, Rule, Side, Spot, Way};
 
 /// What a put at a module does, in this order: its queues come onto the enabled list, or those before them do, and messages
 /// are sent on.

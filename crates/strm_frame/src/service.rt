@@ -1,21 +1,7 @@
-//! What service procedures ask and tell, and turns of a module's queue (srv(9E); STREAMS Programming Guide, "Service
+//! What service procedures tell, and turns of a module's queue (srv(9E); STREAMS Programming Guide, "Service
 //! Procedures").
 
 use crate::modules::Acts;
-use strm_types::Band;
-
-/// What the first message of a queue asks before it goes on.
-#[derive(Clone, Copy, Debug, PartialEq, Eq)]
-pub enum Asks {
-    /// No message stands there.
-    Empty,
-    /// It may not go on, whatever room there is, as where output is stopped.
-    Held,
-    /// It goes on, as messages of high priority do.
-    Free,
-    /// It goes on where a band has room ahead.
-    Room(Band),
-}
 
 /// What a call of a service procedure did, how many bytes of the message it treated, and whether it is to be called again in
 /// the same turn, once what it sent is delivered. Where it stopped for want of blocks, the rest of the message is put back and

@@ -5,21 +5,21 @@
 ghost use Rattle.std.specs.Prelude.{ℕ, ◌≡◌, ◌<◌, ◌≤◌, ◌-◌, true, false, length, map, slice_index_or, HoldsAt};
 ghost use Rattle.std.specs.Bool.{OnTrue};
 ghost use Rattle.strm_types.specs.declared.limits.TheConstants.{MODULES, STOP_BLOCKS};
+ghost use Rattle.strm_types.specs.declared.spots.Asks.TheVariants.{Empty};
 ghost use Rattle.strm_types.specs.Deliver.{AreLower, tallied};
 ghost use Rattle.strm_types.specs.Modules.{change_among, act_among};
 ghost use Rattle.strm_types.specs.ModuleQueues.{at_place, queue_changed};
 ghost use Rattle.strm_types.specs.Service.{Serving, turn_ended, end_relieves, has_more};
-ghost use Rattle.strm_frame.specs.declared.service.Asks.TheVariants.{Empty};
 ghost use Rattle.strm_frame.specs.Hands.{AreIn, Handles, SamePool, HasRoom};
 ghost use Rattle.strm_frame.specs.Outboxes.{sent_of, times_sent, parcels_in, AreChains};
 ghost use Rattle.strm_frame.specs.Serves.{IsBand, least_free, stop_of, later_cost};
 ghost use Rattle.strm_frame.specs.Stacks.{all_of, AreHeld};
 
 use crate::modules::Module;
-use crate::service::{Asks, Served, TurnEnd};
+use crate::service::{Served, TurnEnd};
 use crate::stack::Stream;
 use strm_blocks::Blocks;
-use strm_types::{Fates, Spot, Way};
+use strm_types::{Asks, Fates, Spot, Way};
 
 // What the first message asks, of one of several modules, counted from 0.
 fn asks_among<B: Blocks, M: Module<B>>(store: &B, modules: &[M], at: usize, way: Way) -> Asks

@@ -7,11 +7,11 @@ ghost use Rattle.strm_msg.specs.Messages.{IsChain};
 ghost use Rattle.strm_frame.specs.Rigs.{is_end, AreTwo, AtRest};
 
 use crate::tests::stock::Stock;
-use crate::{Asks, Enabled, Outbox, Stations, Stream, deliver};
+use crate::{Enabled, Outbox, Stations, Stream, deliver};
 use arrayvec::ArrayVec;
 use strm_blocks::Blocks;
 use strm_queue::Queue;
-use strm_types::{Band, Fates, ModuleName, Note, QueueName, Side, Spot, Turn, Way};
+use strm_types::{Asks, Band, Fates, ModuleName, Note, QueueName, Side, Spot, Turn, Way};
 
 /// Two modules on a stream, the queues that are enabled, and how many messages have left at the top and at the bottom.
 #[derive(Drop)]

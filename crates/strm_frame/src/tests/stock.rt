@@ -6,13 +6,13 @@ ghost use Rattle.std.specs.Prelude.{if◌then◌else◌, [], ◌∷◌};
 ghost use Rattle.strm_frame.specs.Toys.{stays};
 
 use crate::tests::turner::onward;
-use crate::{Acts, Asks, Module, Outbox, Sent, Served, TurnEnd, clear_queue, end_queue_turn};
+use crate::{Acts, Module, Outbox, Sent, Served, TurnEnd, clear_queue, end_queue_turn};
 use arrayvec::ArrayVec;
 use strm_blocks::Blocks;
 use strm_msg::message_size;
 use strm_queue::Queue;
 use strm_queue::standing::{dequeue, enqueue, is_full, sizes};
-use strm_types::{Band, Fates, ModuleName, MsgKind, Note, Rule, Side, Spot, Way};
+use strm_types::{Asks, Band, Fates, ModuleName, MsgKind, Note, Rule, Side, Spot, Way};
 
 #[derive(Drop)]
 pub struct Stock {

@@ -3,10 +3,10 @@
 ghost use Rattle.std.specs.Prelude.{◌≡◌};
 ghost use Rattle.strm_frame.specs.Toys.{is_flush, onward};
 
-use crate::{Acts, Asks, Module, Outbox, Sent, Served, TurnEnd};
+use crate::{Acts, Module, Outbox, Sent, Served, TurnEnd};
 use arrayvec::ArrayVec;
 use strm_blocks::Blocks;
-use strm_types::{Band, Fates, ModuleName, MsgKind, Note, Rule, Side, Spot, Way};
+use strm_types::{Asks, Band, Fates, ModuleName, MsgKind, Note, Rule, Side, Spot, Way};
 
 #[derive(Drop)]
 pub struct Turner {
@@ -43,7 +43,7 @@ impl<B: Blocks> Module<B> for Turner {
     ghost use Rattle.std.specs.Prelude.{refl, None, [], false};
     ghost use Rattle.strm_types.specs.declared.names.ModuleName.{ModuleName};
     ghost use Rattle.strm_frame.specs.Toys.{turns, far, nothing, idle};
-    ghost use Rattle.strm_frame.specs.declared.service.Asks.TheVariants.{Empty};
+    ghost use Rattle.strm_types.specs.declared.spots.Asks.TheVariants.{Empty};
 
     ghost Plain = { ModuleName };
 
