@@ -12,10 +12,10 @@ use Rattle.strm_blocks.specs.Outcomes.{PeekedFirst}
 use Rattle.strm_msg.specs.Messages.{message_of}
 use Rattle.strm_msg.proofs.Chains.{kind-is, band-is}
 use Rattle.strm_queue.specs.Stored.{messages_on}
-use Rattle.strm_frame.specs.declared.service.Asks.{Asks}
-use Rattle.strm_frame.specs.declared.service.Asks.TheVariants as asked
+use Rattle.strm_types.specs.declared.spots.Asks.{Asks}
+use Rattle.strm_types.specs.declared.spots.Asks.TheVariants as asked
 use Rattle.strm_ldterm.specs.Stands.{IsOrdinary, kept_in}
-use Rattle.strm_ldterm.specs.Calls.{asked_by, asked_first}
+use Rattle.strm_types.specs.Asking.{asked_by, asked_first}
 
 pub asked-peek : (s : StoreValue) (k : ℕ) (way : Way) (peek : Peek) → PeekedFirst s k peek → asked_first way (messages_on s k) ≡ asked_by way peek.kind peek.band.0
 asked-peek s k way peek p =

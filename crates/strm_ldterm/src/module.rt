@@ -7,10 +7,11 @@ use crate::ldterm::Ldterm;
 use crate::{clearing, ending, ldterm, putting, queues, serving};
 use arrayvec::ArrayVec;
 use strm_blocks::Blocks;
-use strm_frame::{Acts, Asks, Module, Served, TurnEnd};
-use strm_types::{Band, Fates, ModuleName, Note, Rule, Side, Spot, Way};
+use strm_frame::{Acts, Module, Served, TurnEnd};
+use strm_types::{Asks, Band, Fates, ModuleName, Note, Rule, Side, Spot, Way};
 
 impl<B: Blocks> Module<B> for Ldterm<B::Mp> {
+    ghost use Rattle.strm_types.specs.Asking as asking;
     ghost use Rattle.strm_types.specs.Cells as cells;
     ghost use Rattle.strm_types.specs.Costs as costs;
     ghost use Rattle.strm_types.specs.Input.{ldterm_serves};
@@ -47,7 +48,7 @@ impl<B: Blocks> Module<B> for Ldterm<B::Mp> {
 
     ghost without_line = { plain.without_line };
 
-    ghost asks = { calls.ldterm_asks };
+    ghost asks = { asking.ldterm_asks };
 
     ghost serves = { λ here again stop p. ldterm_serves cells.plain here 0 again stop p };
 

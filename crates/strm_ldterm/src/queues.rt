@@ -9,14 +9,14 @@ ghost use Rattle.strm_types.specs.Message.{Message};
 ghost use Rattle.strm_queue.specs.Stored.{queue_in, messages_on, IsReady};
 ghost use Rattle.strm_frame.specs.Serves.{IsBand};
 ghost use Rattle.strm_ldterm.specs.Stands.{ldterm_in, kept_in, IsHeld, IsOrdinary};
-ghost use Rattle.strm_ldterm.specs.Calls.{queue_of, asked_by, asked_first, ldterm_asks};
+ghost use Rattle.strm_types.specs.Asking.{asked_by, asked_first, ldterm_asks};
+ghost use Rattle.strm_ldterm.specs.Calls.{queue_of};
 
 use crate::ldterm::Ldterm;
 use strm_blocks::Blocks;
-use strm_frame::Asks;
 use strm_msg::message_size;
 use strm_queue::{Queue, standing};
-use strm_types::{Band, MsgKind, Way};
+use strm_types::{Asks, Band, MsgKind, Way};
 
 /// How many bytes the turn's echo has, where there is one.
 pub(crate) fn echo_size<B: Blocks>(store: &B, echo: &Option<B::Mp>) -> usize

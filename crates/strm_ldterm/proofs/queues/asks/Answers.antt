@@ -2,7 +2,7 @@
 use Rattle.std.proofs.Common.{sym, ap, ◌∙◌}
 use Rattle.strm_queue.specs.Stored.{messages_on}
 use Rattle.strm_ldterm.specs.Stands.{ldterm_in}
-use Rattle.strm_ldterm.specs.Calls.{ldterm_asks}
+use Rattle.strm_types.specs.Asking.{ldterm_asks}
 use Rattle.strm_ldterm.proofs.Asking.{asked-echo}
 use Rattle.strm_ldterm.proofs.queues.asks.Goals as goal
 
