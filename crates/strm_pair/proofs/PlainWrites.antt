@@ -1,19 +1,68 @@
--- Writes and reads over plain cells are those of plain bytes.
-use Rattle.std.proofs.Common.{ℕ, ◌≡◌, List, refl, ap}
-use Rattle.std.specs.Prelude.{min}
-use Rattle.strm_types.specs.declared.answers.Answer.TheVariants.{Bytes}
+-- Writes and reads over plain cells are those of plain bytes. A write is put on the driver's queue, where the master isn't closed, as it
+-- is where nothing refuses a write; nothing goes on its way.
+use Rattle.std.proofs.Common.{ℕ, ◌≡◌, false, true, List, [], length, refl, ap, ◌∙◌}
+use Rattle.std.specs.Prelude.{min, None, Option}
+use Rattle.strm_types.specs.declared.answers.Answer.TheVariants.{Bytes, Count}
+use Rattle.strm_types.specs.declared.events.Caller.{Caller}
+use Rattle.strm_types.specs.declared.events.Event.TheVariants.{Put, Write}
 use Rattle.strm_types.specs.declared.limits.TheConstants.{READ_MAX}
+use Rattle.strm_types.specs.declared.modes.Prio.{Prio}
 use Rattle.strm_types.specs.declared.names.Side.{Side}
-use Rattle.strm_types.specs.Names.{direction_from}
+use Rattle.strm_types.specs.declared.names.Side.TheVariants.{Master, Slave}
+use Rattle.strm_types.specs.declared.refusals.Refusal.TheVariants.{Enxio, Erange}
+use Rattle.strm_types.specs.Books.{with_written}
+use Rattle.strm_types.specs.Names.{direction_from, is_closed}
 use Rattle.strm_types.specs.Cells.{plain}
-use Rattle.strm_types.specs.State.{State, stream, book}
+use Rattle.strm_types.specs.CutOff.{IsCutOff}
+use Rattle.strm_types.specs.PutEffect.{write_effect}
+use Rattle.strm_types.specs.PutMsg.{put_refusal}
+use Rattle.strm_types.specs.Refused.{goes_down, in_range, refused_at_once, unless}
+use Rattle.strm_types.specs.State.{State, stream, book, with_book}
 use Rattle.strm_types.specs.Reads.{head_draw}
-use Rattle.strm_types.specs.Calls.{wrote, read_at}
+use Rattle.strm_types.specs.Calls.{Outcome, wrote, write_sent, read_at}
+use Rattle.strm_types.specs.Write.{chunk_count, chunks_of}
+use Rattle.strm_types.specs.Writes.{Wrote, cells_sent}
+use Rattle.strm_types.proofs.CutOff.{goes-stays}
 use Rattle.strm_types.proofs.PlainCells.{written-plain, bytes-plain}
+use Rattle.strm_types.proofs.Replay.{or_else-none, unless-none}
+use Rattle.strm_types.proofs.WritesStand.{chunks-stand}
 use Rattle.strm_pair.specs.PlainCalls.{wrote_plain, read_plain}
+use Rattle.strm_types.specs.Earlier.{NoModules}
 
-pub wrote-is : (side : Side) (bytes : List ℕ) (s : State ℕ) → wrote plain side bytes s ≡ wrote_plain side bytes s
-wrote-is side bytes s = rw (written-plain (direction_from side) (book (direction_from side) s).written bytes) refl
+-- where nothing refuses a write at once, the master isn't closed
+pub write-stays : (s : State ℕ) (caller : Caller) (bytes : List ℕ) → IsCutOff s → refused_at_once s caller (Write bytes) ≡ None → is_closed s.master.opened ≡ false
+write-stays s caller bytes cut at_once =
+    goes-stays caller.side s cut (unless-none (goes_down caller.side s) Enxio (or_else-none (unless (goes_down caller.side s) Enxio) (unless (in_range s) Erange) at_once).0)
+
+-- where nothing refuses a putmsg at once, more may be written
+pub put-in_range : (s : State ℕ) (caller : Caller) (prio : Prio) (control body : Option (List ℕ)) → refused_at_once s caller (Put prio control body) ≡ None → in_range s ≡ true
+put-in_range s caller prio control body at_once =
+    let later = (or_else-none (unless (goes_down caller.side s) Enxio) _ at_once).1 in
+    unless-none (in_range s) Erange (or_else-none (put_refusal prio control body) (unless (in_range s) Erange) later).1
+
+module _ (side : Side) (bytes : List ℕ) (s : State ℕ) (stays : is_closed s.master.opened ≡ false) (none : NoModules s) where
+  -- what stands at the driver
+  abbrev stands : Wrote ℕ
+  stands = write_effect side (chunks_of (chunk_count (length bytes)) bytes) s
+
+  sent-stands : write_sent plain side bytes s ≡ stands
+  sent-stands =
+      ap (λ (xs : List ℕ). cells_sent side xs s) (written-plain (direction_from side) (book (direction_from side) s).written bytes)
+      ∙ chunks-stand side (chunks_of (chunk_count (length bytes)) bytes) s stays none
+
+  pub wrote-none : (write_sent plain side bytes s).gone ≡ []
+  wrote-none = ap (λ (t : Wrote ℕ). t.gone) sent-stands
+
+-- what a write makes of what was sent
+abbrev booked : Side → State ℕ → Wrote ℕ → Outcome ℕ
+booked side s t = let dir = direction_from side in record { answer = Count t.taken; state = with_book dir (with_written t.taken (book dir s)) t.state }
+
+booked-stands : (side : Side) (bytes : List ℕ) (s : State ℕ) → booked side s (write_effect side (chunks_of (chunk_count (length bytes)) bytes) s) ≡ wrote_plain side bytes s
+booked-stands Master bytes s = refl
+booked-stands Slave bytes s = refl
+
+pub wrote-is : (side : Side) (bytes : List ℕ) (s : State ℕ) → is_closed s.master.opened ≡ false → NoModules s → wrote plain side bytes s ≡ wrote_plain side bytes s
+wrote-is side bytes s stays none = ap (λ (t : Wrote ℕ). booked side s t) (sent-stands side bytes s stays none) ∙ booked-stands side bytes s
 
 pub read-is : (side : Side) (n : ℕ) (s : State ℕ) → read_at plain side n s ≡ read_plain side n s
 read-is side n s =

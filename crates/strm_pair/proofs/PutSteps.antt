@@ -1,6 +1,7 @@
 -- Puts at the heads and the drivers of a pair, step by step.
 use Rattle.std.proofs.Common.{ℕ, ◌≡◌, ◌≤◌, ◌+◌, Bool, true, false, cond, List, [], ◌∷◌, refl, sym, ap, subst, ◌∙◌, arith}
-use Rattle.std.specs.Prelude.{Option, None, Some}
+use Rattle.std.specs.Prelude.{◌==◌, Option, None, Some}
+use Rattle.std.proofs.lemmas.Bool.Decides.{nat_tests}
 use Rattle.strm_types.specs.declared.flushing.FlushAsked.{FlushAsked}
 use Rattle.strm_types.specs.declared.kinds.MsgKind.{MsgKind}
 use Rattle.strm_types.specs.declared.kinds.MsgKind.TheVariants.{Flush, Ioctl}
@@ -20,7 +21,9 @@ use Rattle.strm_frame.specs.Outboxes.{sent_of}
 use Rattle.strm_frame.proofs.Shifting.{shifts-joined}
 use Rattle.strm_pty.specs.Does.{OnlyQueue, driver_cost}
 use Rattle.strm_pair.specs.Pairs.{end_at, with_end}
-use Rattle.strm_pair.proofs.Sides.{driver-changed, driver-state, head-changed, head-state, driver-is, head-is}
+use Rattle.strm_types.specs.Earlier.{NoModules, by_name}
+use Rattle.strm_types.proofs.Alone.{below-is-behind, across_alone, across-is-alone, driver-is-alone, head_alone, head-is-alone, passed-is-alone}
+use Rattle.strm_pair.proofs.Sides.{none-stand, driver-changed, driver-state, head-changed, head-state, driver-is, head-is}
 use Rattle.strm_types.specs.declared.names.Place.TheVariants as places
 use Rattle.strm_types.specs.declared.names.QueueName.{QueueName}
 use Rattle.strm_types.specs.declared.names.Side.{Side}
@@ -32,7 +35,7 @@ use Rattle.strm_types.specs.Flushing.{asked_by, flush_bytes, flush_message}
 use Rattle.strm_types.specs.Heads.{head_put, is_doubled, obeyed, turned_round, waits_for_readers}
 use Rattle.strm_types.specs.Message.{Message, cells_of, has_parts}
 use Rattle.strm_types.specs.Names.{before, direction_at, enable_found, enable_some, head_of, is_open}
-use Rattle.strm_types.specs.Puts.{across_of, is_turned, turns_round, noted, passed_up, put_at_driver, put_at_head}
+use Rattle.strm_types.specs.Puts.{across_of, is_turned, turns_round, noted, passed_up, put_at_driver, put_at_head, put_behind, put_below, put_in}
 use Rattle.strm_types.specs.Reads.{is_there}
 use Rattle.strm_types.specs.State.{Head, State, stream, with_stream, with_driver_queue}
 use Rattle.strm_blocks.specs.Blocks.{StoreValue, in_hand}
@@ -48,7 +51,7 @@ use Rattle.strm_frame.proofs.Shifting.{shifts-both, shifts-as}
 use Rattle.strm_pty.specs.Does.{Makes, Swaps}
 use Rattle.strm_pty.proofs.Doing.{times-one}
 use Rattle.strm_pair.specs.declared.streams.Streams.{Streams}
-use Rattle.strm_types.specs.Costs.{head_takes, below_takes}
+use Rattle.strm_types.specs.Costs.{head_takes, below_takes, is_across, takes}
 use Rattle.strm_pair.specs.Pairs.{state_in, AreBeside}
 use Rattle.strm_pair.specs.Framing.{same-state, same-beside}
 use Rattle.strm_pair.specs.PutBy.{PutBy, CameBy}
@@ -103,7 +106,7 @@ pub room-less : (s t : StoreValue) (gone come : ℕ → ℕ) (n k : ℕ) → Shi
 room-less s t gone come n k hands le room = record { mblks = (let a = hands.mblks in let b = room.mblks in omega arith); dblks = (let a = hands.dblks in let b = room.dblks in omega arith) }
 
 -- a waiting writer is let go where the head says so
-pub noted-room : (side : Side) (lets_go : Bool) (names : List QueueName) → noted side places.Head (notes_of lets_go) names ≡ cond lets_go (enable_found (before (head_of side)) names) names
+pub noted-room : (side : Side) (lets_go : Bool) (names : List QueueName) → noted side (Some places.Head) (by_name side places.Head) (notes_of lets_go) names ≡ cond lets_go (enable_found (before (head_of side)) names) names
 noted-room side true names = refl
 noted-room side false names = refl
 
@@ -115,13 +118,16 @@ closed-is side here m s closed = rw closed refl
 -- what a put at an open head leads to, by what the head does
 abbrev at_head : Side → State ℕ → Acted ℕ (Head ℕ) → Took ℕ (State ℕ)
 at_head side s t = record {
-  state = record (with_stream side (record (stream side s) { head = t.state }) s) { enabled = noted side places.Head t.notes s.enabled };
+  state = record (with_stream side (record (stream side s) { head = t.state }) s) { enabled = noted side (Some places.Head) (by_name side places.Head) t.notes s.enabled };
   sent = t.sent;
   gone = t.gone;
 }
 
-open-is : (side : Side) (here : Spot) (m : Message ℕ) (s : State ℕ) → is_open (stream side s).opened ≡ true → put_at_head side here m s ≡ at_head side s (head_put here m (stream side s).head)
-open-is side here m s opened = rw opened refl
+open-alone : (side : Side) (here : Spot) (m : Message ℕ) (s : State ℕ) → is_open (stream side s).opened ≡ true → head_alone side here m s ≡ at_head side s (head_put here m (stream side s).head)
+open-alone side here m s opened = rw opened refl
+
+open-is : (side : Side) (here : Spot) (m : Message ℕ) (s : State ℕ) → NoModules s → is_open (stream side s).opened ≡ true → put_at_head side here m s ≡ at_head side s (head_put here m (stream side s).head)
+open-is side here m s none opened = head-is-alone s none side here m ∙ open-alone side here m s opened
 
 module _ (side : Side) (s t : StoreValue) (p : Streams) (h : heads.Head) (i : ℕ) (to : Spot) (m : Message ℕ) (lets_go : Bool) (down : Option heads_down.Down) (f f' : Fates) where
   -- what the head did
@@ -140,7 +146,7 @@ module _ (side : Side) (s t : StoreValue) (p : Streams) (h : heads.Head) (i : �
         state = ap (λ (x : State ℕ). record x { enabled = enable_some lets_go (before (head_of side)) p.enabled })
             (head-state s t p beside side h only ∙ ap (λ x. with_stream side (record (stream side st) { head = x }) st) state)
             ∙ ap (λ ns. record (with_stream side (record (stream side st) { head = Did.state }) st) { enabled = ns })
-            (sym (noted-room side lets_go p.enabled) ∙ ap (λ n. noted side places.Head n p.enabled) notes);
+            (sym (noted-room side lets_go p.enabled) ∙ ap (λ n. noted side (Some places.Head) (by_name side places.Head) n p.enabled) notes);
         down_is = sent;
         tells = told;
         beside = head-changed s t p beside side h only readable;
@@ -155,7 +161,7 @@ module _ (side : Side) (s t : StoreValue) (p : Streams) (h : heads.Head) (i : �
   came-by q is store can beside opened state notes sent told changes readable frees q_is =
       let st = state_in s p in
       let here : put_at_head to.side to m st ≡ at_head side st Did =
-      open-is to.side to m st opened ∙ ap (λ sd. at_head sd st (head_put to m (stream sd st).head)) is ∙ ap (λ x. at_head side st (head_put to m x)) (head-is s p side) in
+      open-is to.side to m st (none-stand s p) opened ∙ ap (λ sd. at_head sd st (head_put to m (stream sd st).head)) is ∙ ap (λ x. at_head side st (head_put to m x)) (head-is s p side) in
       let there : q ≡ behind = q_is ∙ ap (λ sd. record (with_end side (record (end_at side p) { head = h }) p) { enabled = enable_some lets_go (before (head_of sd)) p.enabled }) is in
       subst (λ w. CameBy s t p q i (sent_down to down) f f' w) (sym here)
       (subst (λ x. CameBy s t p x i (sent_down to down) f f' (at_head side st Did)) (sym there) (came-at store can beside state notes sent told changes readable frees))
@@ -163,7 +169,7 @@ module _ (side : Side) (s t : StoreValue) (p : Streams) (h : heads.Head) (i : �
 -- a put at a driver, by what the driver does
 abbrev at_driver : Side → State ℕ → Acted ℕ (plain.Queue ℕ) → Took ℕ (State ℕ)
 at_driver side s t = record {
-  state = record (with_stream side (with_driver_queue t.state (stream side s)) s) { enabled = noted side places.Driver t.notes s.enabled };
+  state = record (with_stream side (with_driver_queue t.state (stream side s)) s) { enabled = noted side (Some places.Driver) (by_name side places.Driver) t.notes s.enabled };
   sent = t.sent;
   gone = t.gone;
 }
@@ -182,24 +188,26 @@ module _ {M : Type 0} (name : M → ℕ) where
       to.side ≡ side → across ≡ across_of to.side (state_in s p) → AreBeside s p → queue_in t d ≡ did.state → acts.notes.items ≡ did.notes → parcels_in name t (sent_of acts.sent) ≡ did.sent
       → f' ≡ tallied did.gone f → OnlyQueue s t (end_at side p).driver d → AreChains name t (sent_of acts.sent) → Hands s t i (λ _. 0) (λ _. 0) (λ j. times_sent name j (sent_of acts.sent))
       → Spends s t (driver_cost to.way m.kind) 0 → SamePool s t
-      → q ≡ record (with_end side (record (end_at side p) { driver = d }) p) { enabled = noted to.side places.Driver acts.notes.items p.enabled }
+      → q ≡ record (with_end side (record (end_at side p) { driver = d }) p) { enabled = noted to.side (Some places.Driver) (by_name to.side places.Driver) acts.notes.items p.enabled }
       → PutBy name s t p q i (below_takes to.way true) (sent_of acts.sent) f f' (put_at_driver to.side to m (state_in s p))
   driver-by side s t p q d i to across acts f f' is across_is beside state notes sent told only chains hands spends pool q_is =
       let m = message_in s i in
       let st = state_in s p in
       let did = driver_put to.side across (record to { at = 1 }) m (queue_in s (end_at side p).driver) in
-      let names = noted to.side places.Driver acts.notes.items p.enabled in
+      let names = noted to.side (Some places.Driver) (by_name to.side places.Driver) acts.notes.items p.enabled in
+      let none = none-stand s p in
       let low = cost-low to.way m.kind in
       let here : at_driver side st did ≡ put_at_driver to.side to m st =
-      ap (λ x. at_driver side st (driver_put to.side x (record to { at = 1 }) m (queue_in s (end_at side p).driver))) across_is
-      ∙ ap (λ x. at_driver side st (driver_put to.side (across_of to.side st) (record to { at = 1 }) m x)) (sym (driver-is s p side))
-      ∙ ap (λ sd. at_driver sd st (driver_put to.side (across_of to.side st) (record to { at = 1 }) m (stream sd st).driver.queue)) (sym is) in
+      ap (λ x. at_driver side st (driver_put to.side x (record to { at = 1 }) m (queue_in s (end_at side p).driver))) (across_is ∙ across-is-alone st none to.side)
+      ∙ ap (λ x. at_driver side st (driver_put to.side (across_alone to.side st) (record to { at = 1 }) m x)) (sym (driver-is s p side))
+      ∙ ap (λ sd. at_driver sd st (driver_put to.side (across_alone to.side st) (record to { at = 1 }) m (stream sd st).driver.queue)) (sym is)
+      ∙ sym (driver-is-alone st none to.side to m) in
       subst (λ w. PutBy name s t p q i (below_takes to.way true) (sent_of acts.sent) f f' w) here
       (record {
         state = ap (λ x. state_in t x) q_is
             ∙ ap (λ (x : State ℕ). record x { enabled = names }) (driver-state s t p beside side d only ∙ ap (λ x. with_stream side (with_driver_queue x (stream side st)) st) state)
             ∙ ap (λ ns. record (with_stream side (with_driver_queue did.state (stream side st)) st) { enabled = ns })
-            (ap (λ n. noted to.side places.Driver n p.enabled) notes ∙ ap (λ sd. noted sd places.Driver did.notes p.enabled) is);
+            (ap (λ n. noted to.side (Some places.Driver) (by_name to.side places.Driver) n p.enabled) notes ∙ ap (λ sd. noted sd (Some places.Driver) (by_name sd places.Driver) did.notes p.enabled) is);
         sent = sent;
         tells = told;
         beside = subst (λ x. AreBeside t x) (sym q_is) (driver-changed s t p beside side d only);
@@ -240,7 +248,8 @@ module _ {M : Type 0} (name : M → ℕ) where
       → PutBy name s s p p (name x.message) 0 sent_on f f (passed_up to (message_in s (name x.message)) (state_in s p))
   passed-put s p x sent_on f to beside chain on one = record {
     state = refl;
-    sent = one-parts name s x sent_on one ∙ ap (λ spot. record { to = spot; message = message_in s (name x.message) } ∷ []) on;
+    sent = one-parts name s x sent_on one ∙ ap (λ spot. record { to = spot; message = message_in s (name x.message) } ∷ []) on
+        ∙ ap (λ (t : Took ℕ (State ℕ)). t.sent) (sym (passed-is-alone (state_in s p) (none-stand s p) to (message_in s (name x.message))));
     tells = refl;
     beside = beside;
     chains = one-chains name s x sent_on one chain;
@@ -252,6 +261,17 @@ module _ {M : Type 0} (name : M → ℕ) where
       pool = record { mblks = refl; dblks = refl };
     };
   }
+
+  -- behind the head
+  pub behind-put : (way : Way) (s t : StoreValue) (p q : Streams) (i : ℕ) (to : Spot) (sent_on : List (Sent M)) (f f' : Fates) → let m = message_in s i in to.way ≡ way → (to.at ≡ 0 → ⊥)
+      → PutBy name s t p q i (below_takes way (is_across to m)) sent_on f f' (put_behind way to m (state_in s p)) → PutBy name s t p q i (takes to m) sent_on f f' (put_in to m (state_in s p))
+  behind-put way s t p q i to sent_on f f' is inside put =
+      let m = message_in s i in
+      let st = state_in s p in
+      let below : (to.at == 0) ≡ false = grind (arith, nat_tests) in
+      subst (λ b. PutBy name s t p q i (cond b (head_takes m) (below_takes to.way (is_across to m))) sent_on f f' (cond b (put_at_head to.side to m st) (put_below to.way to m st))) (sym below)
+      (subst (λ w. PutBy name s t p q i (below_takes to.way (is_across to m)) sent_on f f' w) (sym (below-is-behind st (none-stand s p) to.way to m below))
+      (subst (λ w. PutBy name s t p q i (below_takes w (is_across to m)) sent_on f f' (put_behind w to m st)) (sym is) put))
 
   -- what a head sends down is made
   pub came-put : (s t u : StoreValue) (p q : Streams) (m n k : ℕ) (down : List (Parcel ℕ)) (made : List (Sent M)) (f f' : Fates) (is : Took ℕ (State ℕ))

@@ -19,7 +19,9 @@ use Rattle.strm_types.specs.Heads.{head_put, is_doubled, nak_down, obeyed, turne
 use Rattle.strm_types.specs.Ioctls.{read_ioc, nak_message}
 use Rattle.strm_types.specs.Message.{Message, has_parts}
 use Rattle.strm_types.specs.Names.{is_master, is_open}
-use Rattle.strm_types.specs.Puts.{across_of, is_turned, passed_up, put_at_driver, put_at_head, put_below, put_in, turns_round}
+use Rattle.strm_types.specs.Earlier.{NoModules}
+use Rattle.strm_types.specs.Puts.{is_turned, put_in, turns_round}
+use Rattle.strm_types.proofs.Alone.{across_alone, below_alone, driver_alone, head_alone, passed_alone, put-is-alone}
 use Rattle.strm_types.specs.Queue.{Queue}
 use Rattle.strm_types.specs.State.{Head, State, stream}
 use Rattle.strm_types.proofs.PutsFall.{reads-alone}
@@ -170,41 +172,41 @@ module _ (C : Type 0) where
       at true = head-stays (is_turned m) _ (sent-none 0 (Head C) (is_doubled m h.queue.messages) _ _ refl refl)
       at false = obeyed-fits here m.kind m.plain h
 
-  -- in a pair
+  -- in a pair where no module stands
   either-fits : (own all : ℕ) (b : Bool) (one another : Took C (State C)) → Fits own one.sent all → Fits own another.sent all → Fits own (cond b one another).sent all
   either-fits own all true one another first second = first
   either-fits own all false one another first second = second
 
-  reached-fits : (side : Side) (here : Spot) (m : Message C) (s : State C) → FitsHead (is_turned m) (put_at_head side here m s).sent
+  reached-fits : (side : Side) (here : Spot) (m : Message C) (s : State C) → FitsHead (is_turned m) (head_alone side here m s).sent
   reached-fits side here m s =
       either-fits (cond (is_turned m) 1 0) (cond (is_turned m) 4 0) (is_open (stream side s).opened) _ _ (head-fits here m (stream side s).head) (head-stays (is_turned m) [] (none-few 0))
 
-  going-up-fits : (here : Spot) (m : Message C) (s : State C) (flush : Bool) → Fits 0 (passed_up (record here { way = Up }) m s).sent (cond (is_turned m) 4 (cond flush 1 0))
+  going-up-fits : (here : Spot) (m : Message C) (s : State C) (flush : Bool) → Fits 0 (passed_alone (record here { way = Up }) m s).sent (cond (is_turned m) 4 (cond flush 1 0))
   going-up-fits here m s flush =
       let more = up-more flush (is_turned m) in
       few-fits 0 (cond (is_turned m) 4 0) (cond (is_turned m) 4 (cond flush 1 0)) _ (one-few (cond (is_turned m) 4 0) (record here { at = 0; way = Up }) m (omega arith)) (omega (arith, more))
 
   up-fits : (here : Spot) (m : Message C) (s : State C) (flush last : Bool) →
-      Fits (cond (flush && last) 1 0) (cond (flush && last) (put_at_driver here.side (record here { way = Up }) m s) (passed_up (record here { way = Up }) m s)).sent (cond (is_turned m) 4 (cond flush 1 0))
+      Fits (cond (flush && last) 1 0) (cond (flush && last) (driver_alone here.side (record here { way = Up }) m s) (passed_alone (record here { way = Up }) m s)).sent (cond (is_turned m) 4 (cond flush 1 0))
   up-fits here m s true true =
       let some = up-some (is_turned m) in
-      few-fits 1 0 (cond (is_turned m) 4 1) _ (came-up-few here.side (across_of here.side s) (record here { at = 1 }) m (stream here.side s).driver.queue refl) (omega (arith, some))
+      few-fits 1 0 (cond (is_turned m) 4 1) _ (came-up-few here.side (across_alone here.side s) (record here { at = 1 }) m (stream here.side s).driver.queue refl) (omega (arith, some))
   up-fits here m s true false = going-up-fits here m s true
   up-fits here m s false last = going-up-fits here m s false
 
   below-fits : (way : Way) (here : Spot) (m : Message C) (s : State C) → let to : Spot = record here { way = way } in
-      Fits (below_takes way (is_flush m.kind && here.at == suc MODULES)) (put_below way to m s).sent (below_cost way (is_flush m.kind) (is_turned m))
+      Fits (below_takes way (is_flush m.kind && here.at == suc MODULES)) (below_alone way to m s).sent (below_cost way (is_flush m.kind) (is_turned m))
   below-fits Down here m s =
-      few-fits 2 1 3 _ (came-down-few here.side (across_of here.side s) (record here { at = 1 }) m (stream here.side s).driver.queue refl refl) (omega arith)
+      few-fits 2 1 3 _ (came-down-few here.side (across_alone here.side s) (record here { at = 1 }) m (stream here.side s).driver.queue refl refl) (omega arith)
   below-fits Up here m s = up-fits here m s (is_flush m.kind) (here.at == suc MODULES)
 
   put-fits : (way : Way) (here : Spot) (m : Message C) (s : State C) (top : Bool) → let to : Spot = record here { way = way } in
       Fits (cond top (cond (is_turned m) 1 0) (below_takes way (is_flush m.kind && here.at == suc MODULES)))
-      (cond top (put_at_head here.side to m s) (put_below way to m s)).sent
+      (cond top (head_alone here.side to m s) (below_alone way to m s)).sent
       (cond top (cond (is_turned m) 4 0) (below_cost way (is_flush m.kind) (is_turned m)))
   put-fits way here m s true = reached-fits here.side (record here { way = way }) m s
   put-fits way here m s false = below-fits way here m s
 
 -- what a put takes itself, and what its messages take after it, is within what a delivery from there takes
-pub puts-cost : {C : Type 0} (to : Spot) (m : Message C) (s : State C) → takes to m + cost_of cost (put_in to m s).sent ≤ cost to m
-puts-cost to m s = put-fits _ to.way to m s (to.at == 0)
+pub puts-cost : {C : Type 0} (to : Spot) (m : Message C) (s : State C) → NoModules s → takes to m + cost_of cost (put_in to m s).sent ≤ cost to m
+puts-cost {C = C} to m s none = subst (λ (t : Took C (State C)). takes to m + cost_of cost t.sent ≤ cost to m) (sym (put-is-alone s none to m)) (put-fits C to.way to m s (to.at == 0))

@@ -1,11 +1,12 @@
 -- A read of a side's head.
 use Rattle.std.proofs.Common.{ℕ, ◌≡◌, Bool, List, sym, ap, ◌∙◌}
-use Rattle.std.specs.Prelude.{min}
+use Rattle.std.specs.Prelude.{min, Option}
 use Rattle.strm_types.specs.declared.answers.Answer.TheVariants.{Bytes}
 use Rattle.strm_types.specs.declared.limits.TheConstants.{READ_MAX}
 use Rattle.strm_types.specs.declared.names.Side.{Side}
 use Rattle.strm_types.specs.declared.rules.Fates.{Fates}
 use Rattle.strm_types.specs.Deliver.{tallied}
+use Rattle.strm_types.specs.declared.names.QueueName.{QueueName}
 use Rattle.strm_types.specs.Names.{before, direction_of, enable_some, head_of}
 use Rattle.strm_types.specs.Reads.{head_draw, read_queue, read_lets_go, read_gone}
 use Rattle.strm_types.specs.State as plain
@@ -17,7 +18,8 @@ use Rattle.strm_queue.specs.Stored.{queue_in, IsHeadQueue, Keeps}
 use Rattle.strm_pair.specs.declared.streams.Streams.{Streams}
 use Rattle.strm_pair.specs.Pairs.{state_in, end_at, with_end, AreBeside}
 use Rattle.strm_pair.specs.PlainCalls.{read_plain, read_lets}
-use Rattle.strm_pair.proofs.Sides.{head-changed, head-state, head-is, only-kept}
+use Rattle.strm_types.proofs.Alone.{head-lets-go}
+use Rattle.strm_pair.proofs.Sides.{none-stand, head-changed, head-state, head-is, only-kept}
 
 module _ (side : Side) (s : StoreValue) (p : Streams) (most n : ℕ) (most_is : most ≡ min n READ_MAX) where
   -- the head as it stands
@@ -48,6 +50,15 @@ module _ (side : Side) (s : StoreValue) (p : Streams) (most n : ℕ) (most_is : 
       enabled = enable_some (read_lets_go x.read_mode x.control_mode m x.queue) (before (head_of side)) p.enabled;
     }
 
+    -- the same by the nearest earlier queue
+    abbrev led_by : Option QueueName → State ℕ
+    led_by earlier =
+        let above = stream side (state_in s p) in
+        let x = above.head in
+        record (with_stream side (record above { head = record x { queue = read_queue x.read_mode x.control_mode (min n READ_MAX) x.queue } }) (state_in s p)) {
+          enabled = enable_some (read_lets_go x.read_mode x.control_mode (min n READ_MAX) x.queue) earlier p.enabled;
+        }
+
     pub read-state : queue_in t h.queue ≡ read_queue here.read_mode here.control_mode most here.queue → lets_go ≡ read_lets_go here.read_mode here.control_mode most here.queue → state_in t behind ≡ (read_plain side n (state_in s p)).state
     read-state queue went =
         ap (λ (x : State ℕ). record x { enabled = enable_some lets_go (before (head_of side)) p.enabled })
@@ -58,3 +69,4 @@ module _ (side : Side) (s : StoreValue) (p : Streams) (most n : ℕ) (most_is : 
         }) went
         ∙ ap (λ m. led here m) most_is
         ∙ ap (λ x. led x (min n READ_MAX)) (sym (head-is s p side))
+        ∙ ap (λ earlier. led_by earlier) (sym (head-lets-go (state_in s p) (none-stand s p) side))

@@ -5,6 +5,7 @@ use Rattle.strm_types.specs.declared.names.Side.{Side}
 use Rattle.strm_types.specs.declared.names.Side.TheVariants.{Master, Slave}
 use Rattle.strm_types.specs.declared.kinds.MsgKind.TheVariants as kinds
 use Rattle.strm_types.specs.Flush.{is_data_kind}
+use Rattle.strm_types.specs.Earlier.{NoModules}
 use Rattle.strm_types.specs.Emptied.{of_all, stayed, emptied, none_goes, queue_behind}
 use Rattle.strm_types.specs.Message.{Message}
 use Rattle.strm_types.specs.Queue as state
@@ -242,3 +243,7 @@ pub slave-renewed : (s t : StoreValue) (p : Streams) (e : End) → AreBeside s p
 slave-renewed s t p e beside same keeps =
     let all = head-changed s t p beside Slave e.head (only-kept s t p.slave.head.queue e.head.queue keeps) (readable-kept s t p.slave.head.queue e.head.queue beside.slave.head keeps) in
     record { master = all.master; slave = as-side t 4 p.slave e same all.slave }
+
+-- no module stands on a pair's streams yet
+pub none-stand : (s : StoreValue) (p : Streams) → NoModules (state_in s p)
+none-stand s p = record { master = refl; slave = refl }

@@ -23,8 +23,11 @@ use Rattle.strm_pair.specs.declared.ends.End.{End}
 use Rattle.strm_pair.specs.declared.streams.Streams.{Streams}
 use Rattle.strm_pair.specs.Pairs.{state_in, end_at, with_end, AreBeside}
 use Rattle.strm_pair.specs.Took.{settled, settling_relieves, TookFirst, waits_at_head}
-use Rattle.strm_pair.proofs.Sides.{driver-changed, driver-state, driver-is, head-is}
+use Rattle.strm_types.proofs.Alone.{turn-ends-alone}
+use Rattle.strm_pair.proofs.Sides.{none-stand, driver-changed, driver-state, driver-is, head-is}
 use Rattle.strm_pair.proofs.Peeked.{seen-before}
+use Rattle.strm_types.specs.Earlier.{NoModules}
+use Rattle.strm_types.proofs.AloneCalls.{stops-alone, blocks-alone}
 
 pub only-dequeued : (s t : StoreValue) (q q' : Queue) (i : ℕ) → Dequeued s t q q' i → OnlyQueue s t q q'
 only-dequeued s t q q' i d = record { ready = d.ready; list = d.list; others = d.others }
@@ -69,6 +72,7 @@ ended-state s p side size q room more beside only queue room_is more_is names na
     ∙ ap (λ (x : plain.Queue ℕ). record (with_driver side (settled size x) st) {
       enabled = enable_if (not (is_none_left x.messages)) (driver_of side) (enable_some (settling_relieves size x) (before (driver_of side)) p.enabled);
     }) (sym same)
+    ∙ sym (turn-ends-alone st (none-stand s p) side size)
   where
     found : (b : Bool) (n : Option QueueName) (ns : List QueueName) → cond b (enable_found n ns) ns ≡ enable_some b n ns
     found true n ns = refl
@@ -91,13 +95,13 @@ module _ (s : StoreValue) (k : ℕ) (peek : Peek) (p : PeekedFirst s k peek) (q 
 abbrev pub kept_back : Side → ℕ → State ℕ → State ℕ
 kept_back side band st = waits_at_head (other side) band (with_driver side (held_back (stream side st).driver.queue) st)
 
-serves-stopped : (side : Side) (m : Message ℕ) (rest : List (Message ℕ)) (st : State ℕ) → is_open (stream (other side) st).opened ≡ true → is_stopped m (stream (other side) st).head.queue ≡ true
+serves-stopped : (side : Side) (m : Message ℕ) (rest : List (Message ℕ)) (st : State ℕ) → NoModules st → is_open (stream (other side) st).opened ≡ true → is_stopped m (stream (other side) st).head.queue ≡ true
     → driver_serves side (m ∷ rest) st ≡ stayed_put Blocked (kept_back side (band_of m) st)
-serves-stopped side m rest st opened stop = rw (opened, stop) refl
+serves-stopped side m rest st none opened stop = rw (opened, stops-alone st none side m ∙ stop) (ap (λ x. stayed_put Blocked x) (blocks-alone side m st none))
 
-serves-moved : (side : Side) (m : Message ℕ) (rest : List (Message ℕ)) (st : State ℕ) → is_open (stream (other side) st).opened ≡ true → is_stopped m (stream (other side) st).head.queue ≡ false
+serves-moved : (side : Side) (m : Message ℕ) (rest : List (Message ℕ)) (st : State ℕ) → NoModules st → is_open (stream (other side) st).opened ≡ true → is_stopped m (stream (other side) st).head.queue ≡ false
     → driver_serves side (m ∷ rest) st ≡ moved_across side m rest st
-serves-moved side m rest st opened goes = rw (opened, goes) refl
+serves-moved side m rest st none opened goes = rw (opened, stops-alone st none side m ∙ goes) refl
 
 -- what is seen of both ends is what the state has
 opened-at : (s : StoreValue) (p : Streams) (side : Side) → (stream side (state_in s p)).opened ≡ (end_at side p).opened
@@ -122,11 +126,11 @@ module _ (s : StoreValue) (p : Streams) (side : Side) (e x : End) (e_is : e ≡ 
   turned-stopped stop =
       let held = seen-held s e.driver.list peek seen (queue_in s x.head.queue) (sym asked ∙ stop) in
       ap (λ ms. driver_serves side ms (state_in s p)) stands
-      ∙ serves-stopped side (message_of seen.message) (map message_of seen.rest) (state_in s p) is-open-there (stopped-is ∙ stop)
+      ∙ serves-stopped side (message_of seen.message) (map message_of seen.rest) (state_in s p) (none-stand s p) is-open-there (stopped-is ∙ stop)
       ∙ ap (λ b. stayed_put Blocked (kept_back side b (state_in s p))) (held-band seen.message held ∙ sym seen.seen.band)
 
   pub turned-moved : stops ≡ false → (m : Message ℕ) (rest : List (Message ℕ)) → (stream side (state_in s p)).driver.queue.messages ≡ m ∷ rest → driver_turned side (state_in s p) ≡ moved_across side m rest (state_in s p)
   turned-moved goes m rest first =
       let same : message_of seen.message ≡ m = ap (λ ms. first_message ms m) (sym stands ∙ first) in
       ap (λ ms. driver_serves side ms (state_in s p)) first
-      ∙ serves-moved side m rest (state_in s p) is-open-there (ap (λ y. is_stopped y (stream (other side) (state_in s p)).head.queue) (sym same) ∙ stopped-is ∙ goes)
+      ∙ serves-moved side m rest (state_in s p) (none-stand s p) is-open-there (ap (λ y. is_stopped y (stream (other side) (state_in s p)).head.queue) (sym same) ∙ stopped-is ∙ goes)

@@ -3,7 +3,8 @@ use Rattle.std.specs.Prelude.{ℕ, min, List}
 use Rattle.strm_types.specs.declared.limits.TheConstants.{READ_MAX}
 use Rattle.strm_types.specs.declared.names.Side.{Side}
 use Rattle.strm_types.specs.declared.answers.Answer.TheVariants.{Count, Bytes}
-use Rattle.strm_types.specs.Names.{driver_of, head_of, before, direction_from, direction_of, enable_if, enable_some}
+use Rattle.strm_types.specs.Earlier.{before_head}
+use Rattle.strm_types.specs.Names.{driver_of, head_of, direction_from, direction_of, enable_if, enable_some}
 use Rattle.strm_types.specs.State.{State, stream, with_stream, with_driver_queue, with_head_queue, book, with_book}
 use Rattle.strm_types.specs.Books.{with_written}
 use Rattle.strm_types.specs.Calls.{Outcome}
@@ -11,7 +12,7 @@ use Rattle.strm_types.specs.Deliver.{Fate}
 use Rattle.strm_types.specs.Reads.{head_draw, read_queue, read_lets_go, read_gone}
 use Rattle.strm_types.specs.Write.{written}
 
--- a write of these bytes on a side's stream
+-- a write of these bytes on a side's stream, whose driver takes them in: the master isn't closed
 abbrev pub wrote_plain : Side → List ℕ → State ℕ → Outcome ℕ
 wrote_plain side bytes s =
     let dir = direction_from side in
@@ -34,7 +35,7 @@ read_plain side n s =
     record {
       answer = Bytes (head_draw h.read_mode h.control_mode most h.queue.messages).given;
       state = record (with_stream side (with_head_queue (read_queue h.read_mode h.control_mode most h.queue) above) s) {
-        enabled = enable_some (read_lets_go h.read_mode h.control_mode most h.queue) (before (head_of side)) s.enabled;
+        enabled = enable_some (read_lets_go h.read_mode h.control_mode most h.queue) (before_head side s) s.enabled;
       };
     }
 

@@ -1,12 +1,13 @@
 //! What stands on the streams of a pair, as delivery sees it: two heads and two drivers (STREAMS Programming Guide, "Put
 //! Procedures").
 
-ghost use Rattle.std.specs.Prelude.{ℕ, ◌≡◌, ◌<◌, ◌≤◌, ◌&&◌, ◌==◌, [], ◌∷◌, suc, true, false, if◌then◌else◌};
+ghost use Rattle.std.specs.Prelude.{ℕ, ◌≡◌, ◌<◌, ◌≤◌, ◌&&◌, ◌==◌, [], ◌∷◌, suc, true, false, if◌then◌else◌, Some};
 ghost use Rattle.strm_types.specs.declared.limits.TheConstants.{MODULES};
 ghost use Rattle.strm_types.specs.declared.names.Way.TheVariants.{Up};
 ghost use Rattle.strm_types.specs.Flushing.{is_flush};
 ghost use Rattle.strm_types.specs.Names.{before, enable_some, is_open};
-ghost use Rattle.strm_types.specs.Puts.{noted, across_of, put_at_head, put_at_driver, passed_up, put_below, put_in, far};
+ghost use Rattle.strm_types.specs.Puts.{noted, across_of, put_at_head, put_at_driver, passed_up, put_behind, put_in, far};
+ghost use Rattle.strm_types.specs.Earlier.{by_name};
 ghost use Rattle.strm_types.specs.State.{stream};
 ghost use Rattle.strm_blocks.specs.Blocks.{in_hand, block_at};
 ghost use Rattle.strm_msg.specs.Messages.{IsChain};
@@ -68,7 +69,7 @@ fn is_flush(kind: MsgKind) -> bool
 
 // Enables what a put says of the queues of a place, one note after the other.
 fn note(enabled: &mut Enabled, side: Side, place: Place, notes: &[Note])
-    ensures { enabled.new ≡ noted side place notes.now enabled.old }
+    ensures { enabled.new ≡ noted side (Some place) (by_name side place) notes.now enabled.old }
 {
     let Some((first, rest)) = notes.split_first() else {
         return;
@@ -95,7 +96,7 @@ impl Streams {
 
     // Does what a put says of the queues of a place.
     fn note(&mut self, side: Side, place: Place, notes: &[Note])
-        ensures { self.new ≡ record self.old { enabled = noted side place notes.now self.old.enabled } }
+        ensures { self.new ≡ record self.old { enabled = noted side (Some place) (by_name side place) notes.now self.old.enabled } }
     {
         note(&mut self.enabled, side, place, notes);
     }
@@ -240,7 +241,7 @@ impl Streams {
         requires up { to.way ≡ Up }
         ensures { let s = B.value store.old in let m = message_in s (B.name message) in
             PutBy B.name s (B.value store.new) self.old self.new (B.name message) (below_takes Up (is_across to m))
-            (sent_of result) told.old told.new (put_below Up to m (state_in s self.old)) }
+            (sent_of result) told.old told.new (put_behind Up to m (state_in s self.old)) }
     {
         store.audit();
         if to.at == MODULES + 1 && is_flush(store.kind(&message, 0)) {

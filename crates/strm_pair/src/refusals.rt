@@ -1,8 +1,9 @@
 //! What a call is refused for, by the streams alone.
 
-ghost use Rattle.std.specs.Prelude.{ℕ, ◌≡◌, ◌+◌, ◌≤◌, ◌<◌, ◌^◌, ◌&&◌, not, option_map};
+ghost use Rattle.std.specs.Prelude.{ℕ, ◌≡◌, ◌+◌, ◌≤◌, ◌<◌, ◌^◌, ◌&&◌, not, option_map, []};
 ghost use Rattle.strm_types.specs.Calls.{request};
 ghost use Rattle.strm_types.specs.Journal.{content_max};
+ghost use Rattle.strm_types.specs.Pushes.{may_stand, named_by};
 ghost use Rattle.strm_types.specs.Refused.{refused_at_once, refused_by_state, blocks_asked, unless, or_else, in_range, goes_down, at_end, is_known, is_a_band, asks_a_band, may_ask};
 ghost use Rattle.strm_types.specs.PutMsg.{part_blocks};
 ghost use Rattle.strm_pair.specs.Parts.{is_held_back};
@@ -45,6 +46,16 @@ fn is_known(name: Option<ModuleName>) -> bool
 {
     match name {
         Some(ModuleName::Ldterm | ModuleName::Ptem | ModuleName::Pckt) | None => false,
+    }
+}
+
+// Whether a module of this name could stand on a stream on which none stands: so far ldterm alone is built.
+fn is_built(name: Option<ModuleName>) -> bool
+    ensures { result ≡ may_stand {C = ℕ} (named_by name) [] }
+{
+    match name {
+        Some(ModuleName::Ldterm) => true,
+        Some(ModuleName::Ptem | ModuleName::Pckt) | None => false,
     }
 }
 
@@ -293,8 +304,9 @@ impl Streams {
             }
             Event::Ioctl { .. } => unless(self.end(caller.side).head.is_idle(), Refusal::Eagain),
             Event::IoctlResult { number } => self.end(caller.side).head.result_refusal(*number),
+            Event::Push { name } => unless(is_built(*name), Refusal::Einval),
             Event::Pop | Event::Look => Some(Refusal::Einval),
-            Event::Unlock | Event::Shut | Event::Push { .. } | Event::Flush { .. } => None,
+            Event::Unlock | Event::Shut | Event::Flush { .. } => None,
             Event::Mode { .. } | Event::Nread | Event::Signals => None,
         }
     }

@@ -6,6 +6,7 @@ ghost use Rattle.strm_types.specs.State.{opening, new_stream};
 ghost use Rattle.strm_types.specs.declared.answers.Answer.TheVariants.{Done, Count, Bytes};
 ghost use Rattle.strm_types.specs.declared.names.Openness.TheVariants.{Open};
 ghost use Rattle.strm_types.specs.Calls.{Reply, called, mode_set, request, opened_slave};
+ghost use Rattle.strm_types.specs.CutOff.{IsCutOff};
 ghost use Rattle.strm_types.specs.declared.entries.Entry.TheVariants.{Called};
 ghost use Rattle.strm_types.specs.Deliver.{tallied};
 ghost use Rattle.strm_types.specs.Kept.{gone};
@@ -123,7 +124,8 @@ impl Streams {
         }
     }
 
-    /// Writes bytes down a side's stream, and answers how many were taken.
+    /// Writes bytes down a side's stream, and answers how many were taken: they are put on the driver's queue, which is what their
+    /// deliveries come to while the master isn't closed.
     pub fn write<B: Blocks>(&mut self, store: &mut B, side: Side, bytes: &[u8]) -> usize
         requires held { AreHeld (B.value store.old) self.old }
         requires in_range { in_range (state_in (B.value store.old) self.old) ≡ true }
@@ -193,6 +195,7 @@ impl Streams {
     ) -> Answer<usize>
         requires held { AreHeld (B.value store.old) self.old }
         requires allowed { refused_at_once (state_in (B.value store.old) self.old) caller (request event.now) ≡ None }
+        requires cut_off { IsCutOff (state_in (B.value store.old) self.old) }
         requires room_m { blocks_asked (request event.now) ≤ free_m (B.value store.old) }
         requires room_d { blocks_asked (request event.now) ≤ free_d (B.value store.old) }
         ensures answer { reply_in result out.new.items

@@ -5,9 +5,12 @@ use Rattle.strm_types.specs.declared.entries.Entry.TheVariants.{Called}
 use Rattle.strm_types.specs.Cells.{plain}
 use Rattle.strm_types.specs.Calls.{payload_of, request}
 use Rattle.strm_types.specs.Journal.{PlainEntry, content_max, reply_in}
+use Rattle.strm_types.specs.CutOff.{IsCutOff}
+use Rattle.strm_types.specs.State.{opening}
 use Rattle.strm_types.specs.Step.{IsCall, after}
 use Rattle.strm_types.specs.Refused.{enough, blocks_asked}
 use Rattle.strm_types.specs.Pair.{PairState, AddsEntry, call_refused}
+use Rattle.strm_types.proofs.CutOff.{journal-cut, opening-cut}
 use Rattle.strm_types.proofs.Replay.{call-allowed}
 use Rattle.strm_pair.specs.Pairs.{state_in, journal_of, free_in}
 use Rattle.strm_pair.specs.PairViews.{pair_of}
@@ -72,6 +75,11 @@ returns-in-Some-clause-filled g c = search rules steps 30000
 
 pub carry_out-answer-requires-clause-held : goal.carry_out-answer-requires-clause-held
 carry_out-answer-requires-clause-held g c = search rules steps 100000
+
+pub carry_out-answer-requires-clause-cut_off : goal.carry_out-answer-requires-clause-cut_off
+carry_out-answer-requires-clause-cut_off g c =
+    let kept = c.self.invariant in
+    subst (λ t. IsCutOff t) (sym kept.replayed) (journal-cut plain opening (journal_of c.self.inside.journal) opening-cut kept.legal)
 
 pub carry_out-answer-requires-clause-room_m : goal.carry_out-answer-requires-clause-room_m
 carry_out-answer-requires-clause-room_m g c = search rules steps 300000

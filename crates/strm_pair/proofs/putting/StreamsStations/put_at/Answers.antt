@@ -6,6 +6,7 @@ use Rattle.strm_types.proofs.PutsFall.{puts-fall}
 use Rattle.strm_frame.specs.Outboxes.{message_in, cost_of}
 use Rattle.strm_types.specs.Costs.{cost}
 use Rattle.strm_pair.specs.Pairs.{state_in}
+use Rattle.strm_pair.proofs.Sides.{none-stand}
 use Rattle.strm_pair.proofs.PutsCost.{puts-cost}
 use Rattle.strm_pair.proofs.putting.StreamsStations.put_at.Goals as goal
 
@@ -19,7 +20,7 @@ pub returns-clause-spends : goal.returns-clause-spends
 returns-clause-spends g c =
     let s = g.B.Blocks.value c.args.store.now in
     let m = message_in s (g.B.Blocks.name c.args.message) in
-    let all = puts-cost c.args.to m (state_in s c.args.self.now) in
+    let all = puts-cost c.args.to m (state_in s c.args.self.now) (none-stand s c.args.self.now) in
     let sent = ap (cost_of (cost {C = ℕ})) c.put.ensures.sent in
     let h = c.put.ensures.hands in
     record { mblks = (let a = h.mblks in omega (arith, a, all, sent)); dblks = (let a = h.dblks in omega (arith, a, all, sent)) }

@@ -1,8 +1,10 @@
 -- Nothing is left on the queue that was cleared.
-use Rattle.std.proofs.Common.{◌∙◌}
+use Rattle.std.proofs.Common.{◌∙◌, rules}
+use Rattle.strm_types.proofs.Alone.{head-lets-go}
 use Rattle.strm_types.specs.declared.names.Side.TheVariants.{Master, Slave}
 use Rattle.strm_queue.specs.Stored.{queue_in}
-use Rattle.strm_pair.proofs.Sides.{head-changed, only-changed, readable-cleared}
+use Rattle.strm_pair.specs.Pairs.{state_in}
+use Rattle.strm_pair.proofs.Sides.{none-stand, head-changed, only-changed, readable-cleared}
 use Rattle.strm_pair.proofs.streams.Streams.clear_head.Goals as goal
 use Rattle.strm_pair.proofs.streams.Streams.clear_head.Goals.{in-Master, in-Slave}
 
@@ -30,3 +32,6 @@ returns-clause-held g c =
             beside = head-changed s t p c.requires.beside Slave (record p.slave.head { queue = q }) (only-changed s t p.slave.head.queue q e.changes) (readable-cleared t q (queue_in s p.slave.head.queue) e.queue);
           }))
     ]
+
+pub returns-clause-state : goal.returns-clause-state
+returns-clause-state g c = rw (head-lets-go (state_in (g.B.Blocks.value c.args.store.now) c.args.self.now) (none-stand (g.B.Blocks.value c.args.store.now) c.args.self.now) c.args.side) (search rules)

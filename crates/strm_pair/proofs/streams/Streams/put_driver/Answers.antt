@@ -2,6 +2,8 @@
 use Rattle.std.proofs.Common.{ap, ◌∙◌}
 use Rattle.strm_types.specs.declared.names.Place.TheVariants.{Driver}
 use Rattle.strm_types.specs.declared.names.Side.TheVariants.{Master, Slave}
+use Rattle.std.specs.Prelude.{Some}
+use Rattle.strm_types.specs.Earlier.{by_name}
 use Rattle.strm_types.specs.Puts.{noted}
 use Rattle.strm_frame.proofs.Handing.{can-in_hand}
 use Rattle.strm_pair.specs.declared.streams.Streams.{Streams}
@@ -21,20 +23,20 @@ returns g c =
     let i = g.B.Blocks.name c.args.message in
     let p = c.args.self.now in
     let to = c.args.to in
-    let q_is = c.note.ensures ∙ ap (λ ns. record c.match-to.self { enabled = noted to.side Driver ns c.match-to.self.enabled }) c.as_slice.ensures.value in
+    let q_is = c.note.ensures ∙ ap (λ ns. record c.match-to.self { enabled = noted to.side (Some Driver) (by_name to.side Driver) ns c.match-to.self.enabled }) c.as_slice.ensures.value in
     elim c.match-to.branch [
       | in-Master w ↦
           (let e = w.put-acts.ensures in
           rw (w.store-is, w.told-is, w.acts-is)
           (driver-by g.B.Blocks.name Master s (g.B.Blocks.value w.put-acts.new.store) p c.note.new.self w.put-acts.new.queue i to c.across-across.result w.put-acts.result c.args.told.now w.put-acts.new.told
           w.in-Master.is (c.across-across.ensures s) c.requires.beside e.state e.notes e.sent e.told e.only e.chains e.hands e.spends e.pool
-          (q_is ∙ ap (λ ns. record c.match-to.self { enabled = noted to.side Driver ns c.match-to.self.enabled }) (ap (λ x. x.notes.items) w.acts-is)
-          ∙ ap (λ (x : Streams). record x { enabled = noted to.side Driver w.put-acts.result.notes.items x.enabled }) w.self-is)))
+          (q_is ∙ ap (λ ns. record c.match-to.self { enabled = noted to.side (Some Driver) (by_name to.side Driver) ns c.match-to.self.enabled }) (ap (λ x. x.notes.items) w.acts-is)
+          ∙ ap (λ (x : Streams). record x { enabled = noted to.side (Some Driver) (by_name to.side Driver) w.put-acts.result.notes.items x.enabled }) w.self-is)))
       | in-Slave w ↦
           (let e = w.put-acts-in-Slave.ensures in
           rw (w.store-is, w.told-is, w.acts-is)
           (driver-by g.B.Blocks.name Slave s (g.B.Blocks.value w.put-acts-in-Slave.new.store) p c.note.new.self w.put-acts-in-Slave.new.queue i to c.across-across.result w.put-acts-in-Slave.result c.args.told.now w.put-acts-in-Slave.new.told
           w.in-Slave.is (c.across-across.ensures s) c.requires.beside e.state e.notes e.sent e.told e.only e.chains e.hands e.spends e.pool
-          (q_is ∙ ap (λ ns. record c.match-to.self { enabled = noted to.side Driver ns c.match-to.self.enabled }) (ap (λ x. x.notes.items) w.acts-is)
-          ∙ ap (λ (x : Streams). record x { enabled = noted to.side Driver w.put-acts-in-Slave.result.notes.items x.enabled }) w.self-is)))
+          (q_is ∙ ap (λ ns. record c.match-to.self { enabled = noted to.side (Some Driver) (by_name to.side Driver) ns c.match-to.self.enabled }) (ap (λ x. x.notes.items) w.acts-is)
+          ∙ ap (λ (x : Streams). record x { enabled = noted to.side (Some Driver) (by_name to.side Driver) w.put-acts-in-Slave.result.notes.items x.enabled }) w.self-is)))
     ]

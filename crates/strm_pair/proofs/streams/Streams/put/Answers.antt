@@ -1,0 +1,31 @@
+-- What stands at a place takes the message: behind the head the driver, as no module stands there.
+use Rattle.std.proofs.Common.{true, subst}
+use Rattle.strm_types.specs.declared.names.Way.TheVariants.{Up, Down}
+use Rattle.strm_types.specs.Costs.{below_takes}
+use Rattle.strm_types.specs.Puts.{put_at_driver}
+use Rattle.strm_frame.specs.Outboxes.{message_in, sent_of}
+use Rattle.strm_pair.specs.Pairs.{state_in}
+use Rattle.strm_pair.specs.PutBy.{PutBy}
+use Rattle.strm_pair.proofs.PutSteps.{behind-put}
+use Rattle.strm_pair.proofs.streams.Streams.put.Goals as goal
+
+pub returns-in-Down : goal.returns-in-Down
+returns-in-Down g c =
+    let s = g.B.Blocks.value c.args.store.now in
+    let t = g.B.Blocks.value c.put_driver.new.store in
+    let i = g.B.Blocks.name c.args.message in
+    let name = g.B.Blocks.name in
+    let p = c.args.self.now in
+    let q = c.put_driver.new.self in
+    let to = c.args.to in
+    let sent = sent_of c.put_driver.result in
+    let told = c.put_driver.new.told in
+    behind-put name Down s t p q i to sent c.args.told.now told c.in-Down.is c.if-to-eq0.false
+    (subst (λ way. PutBy name s t p q i (below_takes way true) sent c.args.told.now told (put_at_driver to.side to (message_in s i) (state_in s p))) c.in-Down.is c.put_driver.ensures)
+
+pub returns-in-Up : goal.returns-in-Up
+returns-in-Up g c =
+    let s = g.B.Blocks.value c.args.store.now in
+    let i = g.B.Blocks.name c.args.message in
+    behind-put g.B.Blocks.name Up s (g.B.Blocks.value c.put_up.new.store) c.args.self.now c.put_up.new.self i c.args.to (sent_of c.put_up.result) c.args.told.now c.put_up.new.told
+    c.in-Up.is c.if-to-eq0.false c.put_up.ensures
