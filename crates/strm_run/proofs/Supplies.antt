@@ -128,9 +128,9 @@ by_state-want s caller calls.OpenMaster = unless-want _ Einval refl
 by_state-want s caller calls.Unlock = none-want
 by_state-want s caller calls.OpenSlave = or_else-want _ _ (unless-want _ Einval refl) (unless-want _ Eagain refl)
 by_state-want s caller calls.Shut = none-want
-by_state-want s caller (calls.Push name) = none-want
-by_state-want s caller calls.Pop = unless-want false Einval refl
-by_state-want s caller calls.Look = unless-want false Einval refl
+by_state-want s caller (calls.Push name) = unless-want _ Einval refl
+by_state-want s caller calls.Pop = unless-want _ Einval refl
+by_state-want s caller calls.Look = unless-want _ Einval refl
 by_state-want s caller (calls.Flush what band) = none-want
 by_state-want s caller (calls.Write cells) = unless-want _ Eagain refl
 by_state-want s caller (calls.Read n) = let h = (stream caller.side s).head in read-want h.control_mode (at_end caller.side s) n h.queue.messages
