@@ -55,6 +55,7 @@ use Rattle.strm_types.specs.Costs.{head_takes, below_takes, is_across, takes}
 use Rattle.strm_pair.specs.Pairs.{state_in, AreBeside}
 use Rattle.strm_pair.specs.Framing.{same-state, same-beside}
 use Rattle.strm_pair.specs.PutBy.{PutBy, CameBy}
+use Rattle.strm_pair.specs.Streams.{View}
 
 -- what a head sends down is nothing where nothing is turned round
 sent-nothing : (S : Type 0) (b : Bool) (one another : Acted ℕ S) → one.sent ≡ [] → another.sent ≡ [] → (cond b one another).sent ≡ []
@@ -129,42 +130,42 @@ open-alone side here m s opened = rw opened refl
 open-is : (side : Side) (here : Spot) (m : Message ℕ) (s : State ℕ) → NoModules s → is_open (stream side s).opened ≡ true → put_at_head side here m s ≡ at_head side s (head_put here m (stream side s).head)
 open-is side here m s none opened = head-is-alone s none side here m ∙ open-alone side here m s opened
 
-module _ (side : Side) (s t : StoreValue) (p : Streams) (h : heads.Head) (i : ℕ) (to : Spot) (m : Message ℕ) (lets_go : Bool) (down : Option heads_down.Down) (f f' : Fates) where
+module _ {S : Type 0} (view : View S) (side : Side) (s t : StoreValue) (p : Streams S) (h : heads.Head) (i : ℕ) (to : Spot) (m : Message ℕ) (lets_go : Bool) (down : Option heads_down.Down) (f f' : Fates) where
   -- what the head did
   abbrev Did : Acted ℕ (Head ℕ)
   Did = head_put to m (head_in s (end_at side p).head)
 
-  abbrev behind : Streams
+  abbrev behind : Streams S
   behind = record (with_end side (record (end_at side p) { head = h }) p) { enabled = enable_some lets_go (before (head_of side)) p.enabled }
 
-  came-at : IsStore s → CanPut s i (λ _. 0) → AreBeside s p → head_in t h ≡ Did.state → notes_of lets_go ≡ Did.notes → sent_down to down ≡ Did.sent → f' ≡ tallied Did.gone f
-      → Changes (dropped s i) t (end_at side p).head.queue h.queue → HoldsReadable (list_at t h.queue.list) → FreesBlocks s t → CameBy s t p behind i (sent_down to down) f f' (at_head side (state_in s p) Did)
+  came-at : IsStore s → CanPut s i (λ _. 0) → AreBeside view s p → head_in t h ≡ Did.state → notes_of lets_go ≡ Did.notes → sent_down to down ≡ Did.sent → f' ≡ tallied Did.gone f
+      → Changes (dropped s i) t (end_at side p).head.queue h.queue → HoldsReadable (list_at t h.queue.list) → FreesBlocks s t → CameBy view s t p behind i (sent_down to down) f f' (at_head side (state_in view s p) Did)
   came-at store can beside state notes sent told changes readable frees =
       let only : OnlyQueue s t (end_at side p).head.queue h.queue = record { ready = changes.ready; list = changes.list; others = changes.others } in
-      let st = state_in s p in
+      let st = state_in view s p in
       record {
         state = ap (λ (x : State ℕ). record x { enabled = enable_some lets_go (before (head_of side)) p.enabled })
-            (head-state s t p beside side h only ∙ ap (λ x. with_stream side (record (stream side st) { head = x }) st) state)
+            (head-state view s t p beside side h only ∙ ap (λ x. with_stream side (record (stream side st) { head = x }) st) state)
             ∙ ap (λ ns. record (with_stream side (record (stream side st) { head = Did.state }) st) { enabled = ns })
             (sym (noted-room side lets_go p.enabled) ∙ ap (λ n. noted side (Some places.Head) (by_name side places.Head) n p.enabled) notes);
         down_is = sent;
         tells = told;
-        beside = head-changed s t p beside side h only readable;
+        beside = head-changed view s t p beside side h only readable;
         hands = shifts-joined s t i (end_at side p).head.queue h.queue store can changes frees;
       }
 
-  pub came-by : (q : Streams) → to.side ≡ side → IsStore s → CanPut s i (λ _. 0) → AreBeside s p → is_open (stream to.side (state_in s p)).opened ≡ true
+  pub came-by : (q : Streams S) → to.side ≡ side → IsStore s → CanPut s i (λ _. 0) → AreBeside view s p → is_open (stream to.side (state_in view s p)).opened ≡ true
       → head_in t h ≡ Did.state → notes_of lets_go ≡ Did.notes → sent_down to down ≡ Did.sent → f' ≡ tallied Did.gone f
       → Changes (dropped s i) t (end_at side p).head.queue h.queue → HoldsReadable (list_at t h.queue.list) → FreesBlocks s t
       → q ≡ record (with_end side (record (end_at side p) { head = h }) p) { enabled = enable_some lets_go (before (head_of to.side)) p.enabled }
-      → CameBy s t p q i (sent_down to down) f f' (put_at_head to.side to m (state_in s p))
+      → CameBy view s t p q i (sent_down to down) f f' (put_at_head to.side to m (state_in view s p))
   came-by q is store can beside opened state notes sent told changes readable frees q_is =
-      let st = state_in s p in
+      let st = state_in view s p in
       let here : put_at_head to.side to m st ≡ at_head side st Did =
-      open-is to.side to m st (none-stand s p) opened ∙ ap (λ sd. at_head sd st (head_put to m (stream sd st).head)) is ∙ ap (λ x. at_head side st (head_put to m x)) (head-is s p side) in
+      open-is to.side to m st (none-stand view s p beside) opened ∙ ap (λ sd. at_head sd st (head_put to m (stream sd st).head)) is ∙ ap (λ x. at_head side st (head_put to m x)) (head-is view s p side) in
       let there : q ≡ behind = q_is ∙ ap (λ sd. record (with_end side (record (end_at side p) { head = h }) p) { enabled = enable_some lets_go (before (head_of sd)) p.enabled }) is in
-      subst (λ w. CameBy s t p q i (sent_down to down) f f' w) (sym here)
-      (subst (λ x. CameBy s t p x i (sent_down to down) f f' (at_head side st Did)) (sym there) (came-at store can beside state notes sent told changes readable frees))
+      subst (λ w. CameBy view s t p q i (sent_down to down) f f' w) (sym here)
+      (subst (λ x. CameBy view s t p x i (sent_down to down) f f' (at_head side st Did)) (sym there) (came-at store can beside state notes sent told changes readable frees))
 
 -- a put at a driver, by what the driver does
 abbrev at_driver : Side → State ℕ → Acted ℕ (plain.Queue ℕ) → Took ℕ (State ℕ)
@@ -181,36 +182,36 @@ cost-low Up Flush = omega arith
 cost-low Down kind = omega arith
 cost-low Up kind = omega arith
 
-module _ {M : Type 0} (name : M → ℕ) where
+module _ {M S : Type 0} (name : M → ℕ) (view : View S) where
   -- the driver takes the message
-  pub driver-by : (side : Side) (s t : StoreValue) (p q : Streams) (d : Queue) (i : ℕ) (to : Spot) (across : Across) (acts : Acts M) (f f' : Fates)
+  pub driver-by : (side : Side) (s t : StoreValue) (p q : Streams S) (d : Queue) (i : ℕ) (to : Spot) (across : Across) (acts : Acts M) (f f' : Fates)
       → let m = message_in s i in let did = driver_put to.side across (record to { at = 1 }) m (queue_in s (end_at side p).driver) in
-      to.side ≡ side → across ≡ across_of to.side (state_in s p) → AreBeside s p → queue_in t d ≡ did.state → acts.notes.items ≡ did.notes → parcels_in name t (sent_of acts.sent) ≡ did.sent
+      to.side ≡ side → across ≡ across_of to.side (state_in view s p) → AreBeside view s p → queue_in t d ≡ did.state → acts.notes.items ≡ did.notes → parcels_in name t (sent_of acts.sent) ≡ did.sent
       → f' ≡ tallied did.gone f → OnlyQueue s t (end_at side p).driver d → AreChains name t (sent_of acts.sent) → Hands s t i (λ _. 0) (λ _. 0) (λ j. times_sent name j (sent_of acts.sent))
       → Spends s t (driver_cost to.way m.kind) 0 → SamePool s t
       → q ≡ record (with_end side (record (end_at side p) { driver = d }) p) { enabled = noted to.side (Some places.Driver) (by_name to.side places.Driver) acts.notes.items p.enabled }
-      → PutBy name s t p q i (below_takes to.way true) (sent_of acts.sent) f f' (put_at_driver to.side to m (state_in s p))
+      → PutBy name view s t p q i (below_takes to.way true) (sent_of acts.sent) f f' (put_at_driver to.side to m (state_in view s p))
   driver-by side s t p q d i to across acts f f' is across_is beside state notes sent told only chains hands spends pool q_is =
       let m = message_in s i in
-      let st = state_in s p in
+      let st = state_in view s p in
       let did = driver_put to.side across (record to { at = 1 }) m (queue_in s (end_at side p).driver) in
       let names = noted to.side (Some places.Driver) (by_name to.side places.Driver) acts.notes.items p.enabled in
-      let none = none-stand s p in
+      let none = none-stand view s p beside in
       let low = cost-low to.way m.kind in
       let here : at_driver side st did ≡ put_at_driver to.side to m st =
       ap (λ x. at_driver side st (driver_put to.side x (record to { at = 1 }) m (queue_in s (end_at side p).driver))) (across_is ∙ across-is-alone st none to.side)
-      ∙ ap (λ x. at_driver side st (driver_put to.side (across_alone to.side st) (record to { at = 1 }) m x)) (sym (driver-is s p side))
+      ∙ ap (λ x. at_driver side st (driver_put to.side (across_alone to.side st) (record to { at = 1 }) m x)) (sym (driver-is view s p side))
       ∙ ap (λ sd. at_driver sd st (driver_put to.side (across_alone to.side st) (record to { at = 1 }) m (stream sd st).driver.queue)) (sym is)
       ∙ sym (driver-is-alone st none to.side to m) in
-      subst (λ w. PutBy name s t p q i (below_takes to.way true) (sent_of acts.sent) f f' w) here
+      subst (λ w. PutBy name view s t p q i (below_takes to.way true) (sent_of acts.sent) f f' w) here
       (record {
-        state = ap (λ x. state_in t x) q_is
-            ∙ ap (λ (x : State ℕ). record x { enabled = names }) (driver-state s t p beside side d only ∙ ap (λ x. with_stream side (with_driver_queue x (stream side st)) st) state)
+        state = ap (λ x. state_in view t x) q_is
+            ∙ ap (λ (x : State ℕ). record x { enabled = names }) (driver-state view s t p beside side d only ∙ ap (λ x. with_stream side (with_driver_queue x (stream side st)) st) state)
             ∙ ap (λ ns. record (with_stream side (with_driver_queue did.state (stream side st)) st) { enabled = ns })
             (ap (λ n. noted to.side (Some places.Driver) (by_name to.side places.Driver) n p.enabled) notes ∙ ap (λ sd. noted sd (Some places.Driver) (by_name sd places.Driver) did.notes p.enabled) is);
         sent = sent;
         tells = told;
-        beside = subst (λ x. AreBeside t x) (sym q_is) (driver-changed s t p beside side d only);
+        beside = subst (λ x. AreBeside view t x) (sym q_is) (driver-changed view s t p beside side d only);
         chains = chains;
         hands = record {
           counts = λ j. let a = hands.counts j in omega arith;
@@ -221,7 +222,7 @@ module _ {M : Type 0} (name : M → ℕ) where
         };
       })
 
-  pub put-more : (s t : StoreValue) (p q : Streams) (m n k : ℕ) (sent_on : List (Sent M)) (f f' : Fates) (is : Took ℕ (State ℕ)) → n ≤ k → PutBy name s t p q m n sent_on f f' is → PutBy name s t p q m k sent_on f f' is
+  pub put-more : (s t : StoreValue) (p q : Streams S) (m n k : ℕ) (sent_on : List (Sent M)) (f f' : Fates) (is : Took ℕ (State ℕ)) → n ≤ k → PutBy name view s t p q m n sent_on f f' is → PutBy name view s t p q m k sent_on f f' is
   put-more s t p q m n k sent_on f f' is le put = record {
     state = put.state;
     sent = put.sent;
@@ -232,24 +233,24 @@ module _ {M : Type 0} (name : M → ℕ) where
   }
 
   -- a message goes, and the streams stay
-  pub swaps-put : (s t : StoreValue) (p : Streams) (m n k : ℕ) (made : List (Sent M)) (ps : List (Parcel ℕ)) (f f' : Fates) (is : Took ℕ (State ℕ))
-      → AreBeside s p → Swaps name s t m n made ps → n ≤ k → state_in s p ≡ is.state → ps ≡ is.sent → f' ≡ tallied is.gone f → PutBy name s t p p m k made f f' is
+  pub swaps-put : (s t : StoreValue) (p : Streams S) (m n k : ℕ) (made : List (Sent M)) (ps : List (Parcel ℕ)) (f f' : Fates) (is : Took ℕ (State ℕ))
+      → AreBeside view s p → Swaps name s t m n made ps → n ≤ k → state_in view s p ≡ is.state → ps ≡ is.sent → f' ≡ tallied is.gone f → PutBy name view s t p p m k made f f' is
   swaps-put s t p m n k made ps f f' is beside swaps le stays sends tells = record {
-    state = same-state s t swaps.lists p ∙ stays;
+    state = same-state view s t swaps.lists p beside ∙ stays;
     sent = swaps.sent ∙ sends;
     tells = tells;
-    beside = same-beside s t swaps.lists p beside;
+    beside = same-beside view s t swaps.lists p beside;
     chains = swaps.chains;
     hands = shifts-as s t (once m) (λ i. times_sent name i made) (once m) (λ i. times_sent name i made) n k swaps.hands (λ i. refl) (λ i. refl) le;
   }
 
   -- the message itself goes on
-  pub passed-put : (s : StoreValue) (p : Streams) (x : Sent M) (sent_on : List (Sent M)) (f : Fates) (to : Spot) → AreBeside s p → IsChain (in_hand s (name x.message)) → x.to ≡ record to { at = 0 } → sent_on ≡ x ∷ []
-      → PutBy name s s p p (name x.message) 0 sent_on f f (passed_up to (message_in s (name x.message)) (state_in s p))
+  pub passed-put : (s : StoreValue) (p : Streams S) (x : Sent M) (sent_on : List (Sent M)) (f : Fates) (to : Spot) → AreBeside view s p → IsChain (in_hand s (name x.message)) → x.to ≡ record to { at = 0 } → sent_on ≡ x ∷ []
+      → PutBy name view s s p p (name x.message) 0 sent_on f f (passed_up to (message_in s (name x.message)) (state_in view s p))
   passed-put s p x sent_on f to beside chain on one = record {
     state = refl;
     sent = one-parts name s x sent_on one ∙ ap (λ spot. record { to = spot; message = message_in s (name x.message) } ∷ []) on
-        ∙ ap (λ (t : Took ℕ (State ℕ)). t.sent) (sym (passed-is-alone (state_in s p) (none-stand s p) to (message_in s (name x.message))));
+        ∙ ap (λ (t : Took ℕ (State ℕ)). t.sent) (sym (passed-is-alone (state_in view s p) (none-stand view s p beside) to (message_in s (name x.message))));
     tells = refl;
     beside = beside;
     chains = one-chains name s x sent_on one chain;
@@ -263,24 +264,24 @@ module _ {M : Type 0} (name : M → ℕ) where
   }
 
   -- behind the head
-  pub behind-put : (way : Way) (s t : StoreValue) (p q : Streams) (i : ℕ) (to : Spot) (sent_on : List (Sent M)) (f f' : Fates) → let m = message_in s i in to.way ≡ way → (to.at ≡ 0 → ⊥)
-      → PutBy name s t p q i (below_takes way (is_across to m)) sent_on f f' (put_behind way to m (state_in s p)) → PutBy name s t p q i (takes to m) sent_on f f' (put_in to m (state_in s p))
-  behind-put way s t p q i to sent_on f f' is inside put =
+  pub behind-put : (way : Way) (s t : StoreValue) (p q : Streams S) (i : ℕ) (to : Spot) (sent_on : List (Sent M)) (f f' : Fates) → let m = message_in s i in AreBeside view s p → to.way ≡ way → (to.at ≡ 0 → ⊥)
+      → PutBy name view s t p q i (below_takes way (is_across to m)) sent_on f f' (put_behind way to m (state_in view s p)) → PutBy name view s t p q i (takes to m) sent_on f f' (put_in to m (state_in view s p))
+  behind-put way s t p q i to sent_on f f' beside is inside put =
       let m = message_in s i in
-      let st = state_in s p in
+      let st = state_in view s p in
       let below : (to.at == 0) ≡ false = grind (arith, nat_tests) in
-      subst (λ b. PutBy name s t p q i (cond b (head_takes m) (below_takes to.way (is_across to m))) sent_on f f' (cond b (put_at_head to.side to m st) (put_below to.way to m st))) (sym below)
-      (subst (λ w. PutBy name s t p q i (below_takes to.way (is_across to m)) sent_on f f' w) (sym (below-is-behind st (none-stand s p) to.way to m below))
-      (subst (λ w. PutBy name s t p q i (below_takes w (is_across to m)) sent_on f f' (put_behind w to m st)) (sym is) put))
+      subst (λ b. PutBy name view s t p q i (cond b (head_takes m) (below_takes to.way (is_across to m))) sent_on f f' (cond b (put_at_head to.side to m st) (put_below to.way to m st))) (sym below)
+      (subst (λ w. PutBy name view s t p q i (below_takes to.way (is_across to m)) sent_on f f' w) (sym (below-is-behind st (none-stand view s p beside) to.way to m below))
+      (subst (λ w. PutBy name view s t p q i (below_takes w (is_across to m)) sent_on f f' (put_behind w to m st)) (sym is) put))
 
   -- what a head sends down is made
-  pub came-put : (s t u : StoreValue) (p q : Streams) (m n k : ℕ) (down : List (Parcel ℕ)) (made : List (Sent M)) (f f' : Fates) (is : Took ℕ (State ℕ))
-      → CameBy s t p q m down f f' is → Makes name t u n made down → n ≤ k → PutBy name s u p q m k made f f' is
+  pub came-put : (s t u : StoreValue) (p q : Streams S) (m n k : ℕ) (down : List (Parcel ℕ)) (made : List (Sent M)) (f f' : Fates) (is : Took ℕ (State ℕ))
+      → CameBy view s t p q m down f f' is → Makes name t u n made down → n ≤ k → PutBy name view s u p q m k made f f' is
   came-put s t u p q m n k down made f f' is came makes le = record {
-    state = same-state t u makes.lists q ∙ came.state;
+    state = same-state view t u makes.lists q came.beside ∙ came.state;
     sent = makes.sent ∙ came.down_is;
     tells = came.tells;
-    beside = same-beside t u makes.lists q came.beside;
+    beside = same-beside view t u makes.lists q came.beside;
     chains = makes.chains;
     hands = shifts-as s u (λ i. once m i + 0) (λ i. 0 + times_sent name i made) (once m) (λ i. times_sent name i made) (0 + n) k
         (shifts-both s t u (once m) (λ _. 0) (λ _. 0) (λ i. times_sent name i made) 0 n came.hands makes.hands) (λ i. omega arith) (λ i. omega arith) (omega arith);

@@ -1,5 +1,5 @@
 -- What the state of a pair shows of its store.
-use Rattle.std.proofs.Common.{◌≡◌, ◌∙◌, ◌≤◌, ℕ, List, [], ◌∷◌, length, map, refl, ap, arith}
+use Rattle.std.proofs.Common.{◌≡◌, ◌∙◌, ◌≤◌, ℕ, List, [], ◌∷◌, length, map, refl, sym, ap, subst, arith}
 use Rattle.std.specs.List.{AllByRecursion}
 use Rattle.std.proofs.lemmas.List.{length-map}
 use Rattle.strm_types.specs.declared.limits.Config.{Config}
@@ -14,9 +14,11 @@ use Rattle.strm_msg.specs.Messages.{message_of}
 use Rattle.strm_msg.proofs.Chains.{rank-same}
 use Rattle.strm_pair.specs.declared.streams.Streams.{Streams}
 use Rattle.strm_queue.specs.Stored.{messages_on}
+use Rattle.strm_pair.specs.Framing.{alone}
 use Rattle.strm_pair.specs.Pairs.{state_in, free_in, AreHeld}
 use Rattle.strm_pair.specs.Pool.{IsPoolOf}
 use Rattle.strm_pair.proofs.FreeBlocks.{IsBare, used-enough, bare-free_m, bare-free_d}
+use Rattle.strm_pair.specs.Streams.{View}
 
 -- chains in order are messages in order
 ranks-map : (chain : List Block) (q : List (List Block)) → AllByRecursion (λ later. blocks.rank_of later ≤ blocks.rank_of chain) q → AllByRecursion (λ m. rank_of m ≤ rank_of (message_of chain)) (map message_of q)
@@ -28,8 +30,8 @@ ordered-map [] o = tt
 ordered-map (chain ∷ q) o = (ranks-map chain q o.0, ordered-map q o.1)
 
 -- each queue is in order
-pub ordered : (s : StoreValue) (p : Streams) → AreHeld s p → AreOrdered (state_in s p)
-ordered s p held = (
+pub ordered : {S : Type 0} (view : View S) (s : StoreValue) (p : Streams S) → AreHeld view s p → AreOrdered (state_in view s p)
+ordered view s p held = subst AreOrdered (sym (alone view s p held.beside)) (
   ordered-map (list_at s p.master.head.queue.list) held.beside.master.head.ready.messages.ordered,
   (
     ordered-map (list_at s p.master.driver.list) held.beside.master.driver.messages.ordered,
@@ -44,8 +46,8 @@ ordered s p held = (
 long : (s : StoreValue) (k n : ℕ) → k ≡ n → length (messages_on s k) ≡ length (list_at s n)
 long s k n is = length-map (list_at s k) message_of ∙ ap (λ j. length (list_at s j)) is
 
-in-use : (s : StoreValue) (p : Streams) → IsStore s → AreHeld s p → messages_in (state_in s p) ≤ used s
-in-use s p is held =
+in-use : {S : Type 0} (view : View S) (s : StoreValue) (p : Streams S) → IsStore s → AreHeld view s p → messages_in (state_in view s p) ≤ used s
+in-use view s p is held =
     omega (
       arith,
       used-enough s is,
@@ -53,18 +55,20 @@ in-use s p is held =
       long s p.master.driver.list 1 held.beside.master.driver_list,
       long s p.slave.head.queue.list 4 held.beside.slave.head_list,
       long s p.slave.driver.list 5 held.beside.slave.driver_list,
+      ap messages_in (alone view s p held.beside),
     )
 
 no-chain : (q : List (List Block)) → length q ≡ 0 → q ≡ []
 no-chain [] none = refl
 no-chain (c ∷ q) none = absurd (omega arith)
 
-bare : (s : StoreValue) (p : Streams) → IsStore s → AreHeld s p → messages_in (state_in s p) ≡ 0 → IsBare s
-bare s p is held none =
+bare : {S : Type 0} (view : View S) (s : StoreValue) (p : Streams S) → IsStore s → AreHeld view s p → messages_in (state_in view s p) ≡ 0 → IsBare s
+bare view s p is held none =
     let a = long s p.master.head.queue.list 0 held.beside.master.head_list in
     let b = long s p.master.driver.list 1 held.beside.master.driver_list in
     let c = long s p.slave.head.queue.list 4 held.beside.slave.head_list in
     let d = long s p.slave.driver.list 5 held.beside.slave.driver_list in
+    let all = ap messages_in (alone view s p held.beside) in
     record {
       eight = is.eight;
       hand = held.hand;
@@ -78,11 +82,11 @@ bare s p is held none =
       at_7 = held.beside.slave.spare_down;
     }
 
-pub free-shown : (s : StoreValue) (p : Streams) (limits : Config) → IsStore s → AreHeld s p → s.mblks ≡ limits.mblks → s.dblks ≡ limits.dblks → IsPoolOf (messages_in (state_in s p)) limits (free_in s)
-free-shown s p limits is held mblks dblks = record {
-  in_use = omega (arith, free_m-is s, in-use s p is held, is.enough, mblks);
+pub free-shown : {S : Type 0} (view : View S) (s : StoreValue) (p : Streams S) (limits : Config) → IsStore s → AreHeld view s p → s.mblks ≡ limits.mblks → s.dblks ≡ limits.dblks → IsPoolOf (messages_in (state_in view s p)) limits (free_in s)
+free-shown view s p limits is held mblks dblks = record {
+  in_use = omega (arith, free_m-is s, in-use view s p is held, is.enough, mblks);
   all_free = λ none.
-      let empty = bare s p is held none in
+      let empty = bare view s p is held none in
       rw (bare-free_m s empty, bare-free_d s empty, mblks, dblks) refl;
 }
 

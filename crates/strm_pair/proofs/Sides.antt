@@ -9,6 +9,7 @@ use Rattle.strm_types.specs.Earlier.{NoModules}
 use Rattle.strm_types.specs.Emptied.{of_all, stayed, emptied, none_goes, queue_behind}
 use Rattle.strm_types.specs.Message.{Message}
 use Rattle.strm_types.specs.Queue as state
+use Rattle.strm_types.specs.Stacked as stacked
 use Rattle.strm_types.specs.State as streams
 use Rattle.strm_types.specs.State.{State, stream, with_stream, with_driver_queue}
 use Rattle.strm_blocks.specs.Blocks.{Block, StoreValue, empty_store, list_at}
@@ -22,17 +23,18 @@ use Rattle.strm_queue.proofs.Placed.{ready-same}
 use Rattle.strm_pty.specs.Does.{OnlyQueue}
 use Rattle.strm_pair.specs.declared.ends.End.{End}
 use Rattle.strm_pair.specs.declared.streams.Streams.{Streams}
-use Rattle.strm_pair.specs.Streams.{stream_in, IsBlank, IsSide}
+use Rattle.strm_pair.specs.Framing.{state_with, modules-same}
+use Rattle.strm_pair.specs.Streams.{View, stream_in, IsBlank, IsSide}
 use Rattle.strm_pair.specs.Pairs.{state_in, end_at, with_end, AreBeside}
 
 -- the driver of a side is ready, and so is the head
-pub driver-ready : (s : StoreValue) (p : Streams) → AreBeside s p → (side : Side) → IsReady s (end_at side p).driver
-driver-ready s p beside Master = beside.master.driver
-driver-ready s p beside Slave = beside.slave.driver
+pub driver-ready : {S : Type 0} (view : View S) (s : StoreValue) (p : Streams S) → AreBeside view s p → (side : Side) → IsReady s (end_at side p).driver
+driver-ready view s p beside Master = beside.master.driver
+driver-ready view s p beside Slave = beside.slave.driver
 
-pub head-queue : (s : StoreValue) (p : Streams) → AreBeside s p → (side : Side) → IsHeadQueue s (end_at side p).head.queue
-head-queue s p beside Master = beside.master.head
-head-queue s p beside Slave = beside.slave.head
+pub head-queue : {S : Type 0} (view : View S) (s : StoreValue) (p : Streams S) → AreBeside view s p → (side : Side) → IsHeadQueue s (end_at side p).head.queue
+head-queue view s p beside Master = beside.master.head
+head-queue view s p beside Slave = beside.slave.head
 
 -- a store with nothing in it
 no-list : (n k : ℕ) → slice_index_or (replicate {A = List (List Block)} n []) k [] ≡ []
@@ -65,16 +67,16 @@ readable-none l none = subst HoldsReadable (sym none) (record { each = tt })
 queue-same : (s t : StoreValue) (q : Queue) → list_at t q.list ≡ list_at s q.list → queue_in t q ≡ queue_in s q
 queue-same s t q same = ap (λ l. record { messages = map message_of l; flows = plain_flows q.flows; want_read = q.want_read; no_enable = q.no_enable }) same
 
--- a stream by its two queues
-abbrev stream_of : End → state.Queue ℕ → state.Queue ℕ → streams.Stream ℕ
-stream_of e h d = record {
+-- a stream by its two queues and its modules
+abbrev stream_of : {S : Type 0} → End S → state.Queue ℕ → List (stacked.Module ℕ) → state.Queue ℕ → streams.Stream ℕ
+stream_of e h ms d = record {
   opened = e.opened;
   head = record { queue = h; read_mode = e.head.read_mode; control_mode = e.head.control_mode; hung_up = e.head.hung_up; signals = e.head.signals; ioctl = plain_slot e.head.ioctl };
-  modules = [];
+  modules = ms;
   driver = record { queue = d };
 }
 
-module _ (s t : StoreValue) (first : ℕ) (e : End) (is : IsSide s first e) where
+module _ {S : Type 0} (view : View S) (s t : StoreValue) (first : ℕ) (e : End S) (is : IsSide view s first e) where
   -- all lists of the side stay
   abbrev Stay : Type 0
   Stay = (k : ℕ) → first ≤ k → k < first + 4 → list_at t k ≡ list_at s k
@@ -85,64 +87,73 @@ module _ (s t : StoreValue) (first : ℕ) (e : End) (is : IsSide s first e) wher
   driver-at : Stay → list_at t e.driver.list ≡ list_at s e.driver.list
   driver-at stay = stay e.driver.list (let l = is.driver_list in omega arith) (let l = is.driver_list in omega arith)
 
-  side-stays : Stay → IsSide t first e
+  side-stays : Stay → IsSide view t first e
   side-stays stay = record {
     head_list = is.head_list;
     driver_list = is.driver_list;
     head = record { ready = ready-same s t e.head.queue (head-at stay) is.head.ready; readable = subst HoldsReadable (sym (head-at stay)) is.head.readable };
     driver = ready-same s t e.driver (driver-at stay) is.driver;
+    no_module = is.no_module;
     spare_up = stay (first + 2) (omega arith) (omega arith) ∙ is.spare_up;
     spare_down = stay (first + 3) (omega arith) (omega arith) ∙ is.spare_down;
   }
 
-  stream-stays : Stay → stream_in t e ≡ stream_in s e
+  stream-stays : Stay → stream_in view t e ≡ stream_in view s e
   stream-stays stay =
-      ap (λ h. stream_of e h (queue_in t e.driver)) (queue-same s t e.head.queue (head-at stay))
-      ∙ ap (λ d. stream_of e (queue_in s e.head.queue) d) (queue-same s t e.driver (driver-at stay))
+      ap (λ h. stream_of e h (view t e.stack) (queue_in t e.driver)) (queue-same s t e.head.queue (head-at stay))
+      ∙ ap (λ ms. stream_of e (queue_in s e.head.queue) ms (queue_in t e.driver)) (modules-same view s t first e is)
+      ∙ ap (λ d. stream_of e (queue_in s e.head.queue) (view s e.stack) d) (queue-same s t e.driver (driver-at stay))
 
   -- the driver's queue changed
   module _ (q : Queue) (only : OnlyQueue s t e.driver q) where
     head-beside : list_at t e.head.queue.list ≡ list_at s e.head.queue.list
     head-beside = only.others e.head.queue.list (λ eq. let a = is.head_list in let b = is.driver_list in absurd (omega arith))
 
-    driver-side : IsSide t first (record e { driver = q })
+    driver-side : IsSide view t first (record e { driver = q })
     driver-side = record {
       head_list = is.head_list;
       driver_list = only.list ∙ is.driver_list;
       head = record { ready = ready-same s t e.head.queue head-beside is.head.ready; readable = subst HoldsReadable (sym head-beside) is.head.readable };
       driver = only.ready;
+      no_module = is.no_module;
       spare_up = only.others (first + 2) (λ eq. let a = is.driver_list in absurd (omega arith)) ∙ is.spare_up;
       spare_down = only.others (first + 3) (λ eq. let a = is.driver_list in absurd (omega arith)) ∙ is.spare_down;
     }
 
-    driver-stream : stream_in t (record e { driver = q }) ≡ with_driver_queue (queue_in t q) (stream_in s e)
-    driver-stream = ap (λ h. stream_of e h (queue_in t q)) (queue-same s t e.head.queue head-beside)
+    driver-stream : stream_in view t (record e { driver = q }) ≡ with_driver_queue (queue_in t q) (stream_in view s e)
+    driver-stream =
+        ap (λ h. stream_of e h (view t e.stack) (queue_in t q)) (queue-same s t e.head.queue head-beside)
+        ∙ ap (λ ms. stream_of e (queue_in s e.head.queue) ms (queue_in t q)) (modules-same view s t first e is)
 
   -- the head changed
   module _ (h : Head) (only : OnlyQueue s t e.head.queue h.queue) where
     driver-beside : list_at t e.driver.list ≡ list_at s e.driver.list
     driver-beside = only.others e.driver.list (λ eq. let a = is.head_list in let b = is.driver_list in absurd (omega arith))
 
-    head-side : HoldsReadable (list_at t h.queue.list) → IsSide t first (record e { head = h })
+    head-side : HoldsReadable (list_at t h.queue.list) → IsSide view t first (record e { head = h })
     head-side readable = record {
       head_list = only.list ∙ is.head_list;
       driver_list = is.driver_list;
       head = record { ready = only.ready; readable = readable };
       driver = ready-same s t e.driver driver-beside is.driver;
+      no_module = is.no_module;
       spare_up = only.others (first + 2) (λ eq. let a = is.head_list in absurd (omega arith)) ∙ is.spare_up;
       spare_down = only.others (first + 3) (λ eq. let a = is.head_list in absurd (omega arith)) ∙ is.spare_down;
     }
 
-    head-stream : stream_in t (record e { head = h }) ≡ record (stream_in s e) { head = head_in t h }
-    head-stream = ap (λ d. record { opened = e.opened; head = head_in t h; modules = []; driver = record { queue = d } }) (queue-same s t e.driver driver-beside)
+    head-stream : stream_in view t (record e { head = h }) ≡ record (stream_in view s e) { head = head_in t h }
+    head-stream =
+        ap (λ d. record { opened = e.opened; head = head_in t h; modules = view t e.stack; driver = record { queue = d } }) (queue-same s t e.driver driver-beside)
+        ∙ ap (λ ms. record { opened = e.opened; head = head_in t h; modules = ms; driver = record { queue = queue_in s e.driver } }) (modules-same view s t first e is)
 
 -- a stream that was closed has the same driver
-as-side : (t : StoreValue) (first : ℕ) (e e' : End) → e'.driver ≡ e.driver → IsSide t first (record e { head = e'.head }) → IsSide t first e'
-as-side t first e e' same is = record {
+as-side : {S : Type 0} (view : View S) (t : StoreValue) (first : ℕ) (e e' : End S) → e'.driver ≡ e.driver → e'.stack ≡ e.stack → IsSide view t first (record e { head = e'.head }) → IsSide view t first e'
+as-side view t first e e' same stays is = record {
   head_list = is.head_list;
   driver_list = ap (λ d. d.list) same ∙ is.driver_list;
   head = is.head;
   driver = subst (IsReady t) (sym same) is.driver;
+  no_module = λ s. ap (view s) stays ∙ is.no_module s;
   spare_up = is.spare_up;
   spare_down = is.spare_down;
 }
@@ -163,22 +174,11 @@ readable-cleared t q old is = readable-none (list_at t q.list) (no-chain (list_a
     behind true = all-gone old.messages
     behind false = all-gone old.messages
 
--- a state by its two streams
-abbrev state_of : Streams → streams.Stream ℕ → streams.Stream ℕ → State ℕ
-state_of p m sl = record {
-  master = m;
-  slave = sl;
-  locked = p.locked;
-  enabled = p.enabled;
-  next_ioctl = p.next_ioctl;
-  from_master = p.from_master;
-  from_slave = p.from_slave;
-}
+-- a state where both streams change
+both : {S : Type 0} (p : Streams S) (m m' sl sl' : streams.Stream ℕ) → m ≡ m' → sl ≡ sl' → state_with p m sl ≡ state_with p m' sl'
+both p m m' sl sl' a b = ap (λ v. state_with p v sl) a ∙ ap (λ v. state_with p m' v) b
 
-both : (p : Streams) (m m' sl sl' : streams.Stream ℕ) → m ≡ m' → sl ≡ sl' → state_of p m sl ≡ state_of p m' sl'
-both p m m' sl sl' a b = ap (λ v. state_of p v sl) a ∙ ap (λ v. state_of p m' v) b
-
-module _ (s t : StoreValue) (p : Streams) (beside : AreBeside s p) where
+module _ {S : Type 0} (view : View S) (s t : StoreValue) (p : Streams S) (beside : AreBeside view s p) where
   module _ (q : Queue) (only : OnlyQueue s t p.master.driver q) where
     across-master-driver : (k : ℕ) → 4 ≤ k → k < 4 + 4 → list_at t k ≡ list_at s k
     across-master-driver k low high = only.others k (λ eq. let a = beside.master.driver_list in absurd (omega arith))
@@ -196,54 +196,54 @@ module _ (s t : StoreValue) (p : Streams) (beside : AreBeside s p) where
     across-slave-head k low high = only.others k (λ eq. let a = beside.slave.head_list in absurd (omega arith))
 
   -- the queue of a side's driver changed
-  pub driver-changed : (side : Side) (q : Queue) → OnlyQueue s t (end_at side p).driver q → AreBeside t (with_end side (record (end_at side p) { driver = q }) p)
-  driver-changed Master q only = record { master = driver-side s t 0 p.master beside.master q only; slave = side-stays s t 4 p.slave beside.slave (across-master-driver q only) }
-  driver-changed Slave q only = record { master = side-stays s t 0 p.master beside.master (across-slave-driver q only); slave = driver-side s t 4 p.slave beside.slave q only }
+  pub driver-changed : (side : Side) (q : Queue) → OnlyQueue s t (end_at side p).driver q → AreBeside view t (with_end side (record (end_at side p) { driver = q }) p)
+  driver-changed Master q only = record { master = driver-side view s t 0 p.master beside.master q only; slave = side-stays view s t 4 p.slave beside.slave (across-master-driver q only) }
+  driver-changed Slave q only = record { master = side-stays view s t 0 p.master beside.master (across-slave-driver q only); slave = driver-side view s t 4 p.slave beside.slave q only }
 
   pub driver-state : (side : Side) (q : Queue) → OnlyQueue s t (end_at side p).driver q
-      → state_in t (with_end side (record (end_at side p) { driver = q }) p) ≡ with_stream side (with_driver_queue (queue_in t q) (stream side (state_in s p))) (state_in s p)
+      → state_in view t (with_end side (record (end_at side p) { driver = q }) p) ≡ with_stream side (with_driver_queue (queue_in t q) (stream side (state_in view s p))) (state_in view s p)
   driver-state Master q only =
-      both p (stream_in t (record p.master { driver = q })) (with_driver_queue (queue_in t q) (stream_in s p.master)) (stream_in t p.slave) (stream_in s p.slave)
-      (driver-stream s t 0 p.master beside.master q only) (stream-stays s t 4 p.slave beside.slave (across-master-driver q only))
+      both p (stream_in view t (record p.master { driver = q })) (with_driver_queue (queue_in t q) (stream_in view s p.master)) (stream_in view t p.slave) (stream_in view s p.slave)
+      (driver-stream view s t 0 p.master beside.master q only) (stream-stays view s t 4 p.slave beside.slave (across-master-driver q only))
   driver-state Slave q only =
-      both p (stream_in t p.master) (stream_in s p.master) (stream_in t (record p.slave { driver = q })) (with_driver_queue (queue_in t q) (stream_in s p.slave))
-      (stream-stays s t 0 p.master beside.master (across-slave-driver q only)) (driver-stream s t 4 p.slave beside.slave q only)
+      both p (stream_in view t p.master) (stream_in view s p.master) (stream_in view t (record p.slave { driver = q })) (with_driver_queue (queue_in t q) (stream_in view s p.slave))
+      (stream-stays view s t 0 p.master beside.master (across-slave-driver q only)) (driver-stream view s t 4 p.slave beside.slave q only)
 
   -- the head of a side changed
-  pub head-changed : (side : Side) (h : Head) → OnlyQueue s t (end_at side p).head.queue h.queue → HoldsReadable (list_at t h.queue.list) → AreBeside t (with_end side (record (end_at side p) { head = h }) p)
-  head-changed Master h only readable = record { master = head-side s t 0 p.master beside.master h only readable; slave = side-stays s t 4 p.slave beside.slave (across-master-head h only) }
-  head-changed Slave h only readable = record { master = side-stays s t 0 p.master beside.master (across-slave-head h only); slave = head-side s t 4 p.slave beside.slave h only readable }
+  pub head-changed : (side : Side) (h : Head) → OnlyQueue s t (end_at side p).head.queue h.queue → HoldsReadable (list_at t h.queue.list) → AreBeside view t (with_end side (record (end_at side p) { head = h }) p)
+  head-changed Master h only readable = record { master = head-side view s t 0 p.master beside.master h only readable; slave = side-stays view s t 4 p.slave beside.slave (across-master-head h only) }
+  head-changed Slave h only readable = record { master = side-stays view s t 0 p.master beside.master (across-slave-head h only); slave = head-side view s t 4 p.slave beside.slave h only readable }
 
   pub head-state : (side : Side) (h : Head) → OnlyQueue s t (end_at side p).head.queue h.queue
-      → state_in t (with_end side (record (end_at side p) { head = h }) p) ≡ with_stream side (record (stream side (state_in s p)) { head = head_in t h }) (state_in s p)
+      → state_in view t (with_end side (record (end_at side p) { head = h }) p) ≡ with_stream side (record (stream side (state_in view s p)) { head = head_in t h }) (state_in view s p)
   head-state Master h only =
-      both p (stream_in t (record p.master { head = h })) (record (stream_in s p.master) { head = head_in t h }) (stream_in t p.slave) (stream_in s p.slave)
-      (head-stream s t 0 p.master beside.master h only) (stream-stays s t 4 p.slave beside.slave (across-master-head h only))
+      both p (stream_in view t (record p.master { head = h })) (record (stream_in view s p.master) { head = head_in t h }) (stream_in view t p.slave) (stream_in view s p.slave)
+      (head-stream view s t 0 p.master beside.master h only) (stream-stays view s t 4 p.slave beside.slave (across-master-head h only))
   head-state Slave h only =
-      both p (stream_in t p.master) (stream_in s p.master) (stream_in t (record p.slave { head = h })) (record (stream_in s p.slave) { head = head_in t h })
-      (stream-stays s t 0 p.master beside.master (across-slave-head h only)) (head-stream s t 4 p.slave beside.slave h only)
+      both p (stream_in view t p.master) (stream_in view s p.master) (stream_in view t (record p.slave { head = h })) (record (stream_in view s p.slave) { head = head_in t h })
+      (stream-stays view s t 0 p.master beside.master (across-slave-head h only)) (head-stream view s t 4 p.slave beside.slave h only)
 
 -- the queue of a side's driver, as the state has it
-pub driver-is : (s : StoreValue) (p : Streams) (side : Side) → (stream side (state_in s p)).driver.queue ≡ queue_in s (end_at side p).driver
-driver-is s p Master = refl
-driver-is s p Slave = refl
+pub driver-is : {S : Type 0} (view : View S) (s : StoreValue) (p : Streams S) (side : Side) → (stream side (state_in view s p)).driver.queue ≡ queue_in s (end_at side p).driver
+driver-is view s p Master = refl
+driver-is view s p Slave = refl
 
 -- and its head
-pub head-is : (s : StoreValue) (p : Streams) (side : Side) → (stream side (state_in s p)).head ≡ head_in s (end_at side p).head
-head-is s p Master = refl
-head-is s p Slave = refl
+pub head-is : {S : Type 0} (view : View S) (s : StoreValue) (p : Streams S) (side : Side) → (stream side (state_in view s p)).head ≡ head_in s (end_at side p).head
+head-is view s p Master = refl
+head-is view s p Slave = refl
 
 -- a side whose head's queue was emptied, and whose driver stays
-pub master-renewed : (s t : StoreValue) (p : Streams) (e : End) → AreBeside s p → e.driver ≡ p.master.driver → Keeps s t p.master.head.queue e.head.queue → AreBeside t (with_end Master e p)
-master-renewed s t p e beside same keeps =
-    let all = head-changed s t p beside Master e.head (only-kept s t p.master.head.queue e.head.queue keeps) (readable-kept s t p.master.head.queue e.head.queue beside.master.head keeps) in
-    record { master = as-side t 0 p.master e same all.master; slave = all.slave }
+pub master-renewed : {S : Type 0} (view : View S) (s t : StoreValue) (p : Streams S) (e : End S) → AreBeside view s p → e.driver ≡ p.master.driver → e.stack ≡ p.master.stack → Keeps s t p.master.head.queue e.head.queue → AreBeside view t (with_end Master e p)
+master-renewed view s t p e beside same stays keeps =
+    let all = head-changed view s t p beside Master e.head (only-kept s t p.master.head.queue e.head.queue keeps) (readable-kept s t p.master.head.queue e.head.queue beside.master.head keeps) in
+    record { master = as-side view t 0 p.master e same stays all.master; slave = all.slave }
 
-pub slave-renewed : (s t : StoreValue) (p : Streams) (e : End) → AreBeside s p → e.driver ≡ p.slave.driver → Keeps s t p.slave.head.queue e.head.queue → AreBeside t (with_end Slave e p)
-slave-renewed s t p e beside same keeps =
-    let all = head-changed s t p beside Slave e.head (only-kept s t p.slave.head.queue e.head.queue keeps) (readable-kept s t p.slave.head.queue e.head.queue beside.slave.head keeps) in
-    record { master = all.master; slave = as-side t 4 p.slave e same all.slave }
+pub slave-renewed : {S : Type 0} (view : View S) (s t : StoreValue) (p : Streams S) (e : End S) → AreBeside view s p → e.driver ≡ p.slave.driver → e.stack ≡ p.slave.stack → Keeps s t p.slave.head.queue e.head.queue → AreBeside view t (with_end Slave e p)
+slave-renewed view s t p e beside same stays keeps =
+    let all = head-changed view s t p beside Slave e.head (only-kept s t p.slave.head.queue e.head.queue keeps) (readable-kept s t p.slave.head.queue e.head.queue beside.slave.head keeps) in
+    record { master = all.master; slave = as-side view t 4 p.slave e same stays all.slave }
 
 -- no module stands on a pair's streams yet
-pub none-stand : (s : StoreValue) (p : Streams) → NoModules (state_in s p)
-none-stand s p = record { master = refl; slave = refl }
+pub none-stand : {S : Type 0} (view : View S) (s : StoreValue) (p : Streams S) → AreBeside view s p → NoModules (state_in view s p)
+none-stand view s p beside = record { master = beside.master.no_module s; slave = beside.slave.no_module s }

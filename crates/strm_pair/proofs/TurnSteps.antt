@@ -28,20 +28,21 @@ use Rattle.strm_pair.proofs.Sides.{none-stand, driver-changed, driver-state, dri
 use Rattle.strm_pair.proofs.Peeked.{seen-before}
 use Rattle.strm_types.specs.Earlier.{NoModules}
 use Rattle.strm_types.proofs.AloneCalls.{stops-alone, blocks-alone}
+use Rattle.strm_pair.specs.Streams.{View}
 
 pub only-dequeued : (s t : StoreValue) (q q' : Queue) (i : ℕ) → Dequeued s t q q' i → OnlyQueue s t q q'
 only-dequeued s t q q' i d = record { ready = d.ready; list = d.list; others = d.others }
 
-took-first : (side : Side) (s t : StoreValue) (p : Streams) (q : Queue) (i : ℕ) → AreBeside s p → Dequeued s t (end_at side p).driver q i → TookFirst side s t p (with_end side (record (end_at side p) { driver = q }) p) i
-took-first side s t p q i beside d =
+took-first : {S : Type 0} (view : View S) (side : Side) (s t : StoreValue) (p : Streams S) (q : Queue) (i : ℕ) → AreBeside view s p → Dequeued s t (end_at side p).driver q i → TookFirst view side s t p (with_end side (record (end_at side p) { driver = q }) p) i
+took-first view side s t p q i beside d =
     let only = only-dequeued s t (end_at side p).driver q i d in
-    let is = driver-is s p side in
+    let is = driver-is view s p side in
     record {
       rest = messages_on t q.list;
       first = ap (λ (x : plain.Queue ℕ). x.messages) is ∙ d.first;
-      state = driver-state s t p beside side q only
-          ∙ ap (λ x. with_driver side x (state_in s p)) (d.queue ∙ ap (λ x. left_with (messages_on t q.list) x) (sym is));
-      beside = driver-changed s t p beside side q only;
+      state = driver-state view s t p beside side q only
+          ∙ ap (λ x. with_driver side x (state_in view s p)) (d.queue ∙ ap (λ x. left_with (messages_on t q.list) x) (sym is));
+      beside = driver-changed view s t p beside side q only;
       hand = d.hand;
       chain = d.chain;
       mblks = d.mblks;
@@ -49,30 +50,30 @@ took-first side s t p q i beside d =
       frees = d.frees;
     }
 
-pub took : {A : Type 0} (name : A → ℕ) (side : Side) (s t : StoreValue) (p : Streams) (q : Queue) (result : Option A) → AreBeside s p
+pub took : {A S : Type 0} (view : View S) (name : A → ℕ) (side : Side) (s t : StoreValue) (p : Streams S) (q : Queue) (result : Option A) → AreBeside view s p
     → MatchOption result (messages_on s (end_at side p).driver.list ≡ []) (λ m. Dequeued s t (end_at side p).driver q (name m))
-    → MatchOption result (messages_on s (end_at side p).driver.list ≡ []) (λ m. TookFirst side s t p (with_end side (record (end_at side p) { driver = q }) p) (name m))
-took name side s t p q None beside none = none
-took name side s t p q (Some m) beside d = took-first side s t p q (name m) beside d
+    → MatchOption result (messages_on s (end_at side p).driver.list ≡ []) (λ m. TookFirst view side s t p (with_end side (record (end_at side p) { driver = q }) p) (name m))
+took view name side s t p q None beside none = none
+took view name side s t p q (Some m) beside d = took-first view side s t p q (name m) beside d
 
 -- the end of a turn
-pub ended-state : (s : StoreValue) (p : Streams) (side : Side) (size : ℕ) (q : Queue) (room more : Bool) → AreBeside s p → OnlyQueue s s (end_at side p).driver q
+pub ended-state : {S : Type 0} (view : View S) (s : StoreValue) (p : Streams S) (side : Side) (size : ℕ) (q : Queue) (room more : Bool) → AreBeside view s p → OnlyQueue s s (end_at side p).driver q
     → queue_in s q ≡ settled size (queue_in s (end_at side p).driver)
     → room ≡ settling_relieves size (queue_in s (end_at side p).driver) → more ≡ not (is_none_left (messages_on s (end_at side p).driver.list))
     → (names : List QueueName) → names ≡ enable_if more (driver_of side) (cond room (enable_found (before (driver_of side)) p.enabled) p.enabled)
-    → state_in s (record (with_end side (record (end_at side p) { driver = q }) p) { enabled = names }) ≡ turn_ended side size (state_in s p)
-ended-state s p side size q room more beside only queue room_is more_is names named =
-    let st = state_in s p in
+    → state_in view s (record (with_end side (record (end_at side p) { driver = q }) p) { enabled = names }) ≡ turn_ended side size (state_in view s p)
+ended-state view s p side size q room more beside only queue room_is more_is names named =
+    let st = state_in view s p in
     let d = queue_in s (end_at side p).driver in
-    let same = driver-is s p side in
-    ap (λ (x : State ℕ). record x { enabled = names }) (driver-state s s p beside side q only ∙ ap (λ x. with_driver side x st) queue)
+    let same = driver-is view s p side in
+    ap (λ (x : State ℕ). record x { enabled = names }) (driver-state view s s p beside side q only ∙ ap (λ x. with_driver side x st) queue)
     ∙ ap (λ ns. record (with_driver side (settled size d) st) { enabled = ns })
     (named ∙ ap (λ r. enable_if more (driver_of side) r) (found room (before (driver_of side)) p.enabled) ∙ ap (λ m. enable_if m (driver_of side) (enable_some room (before (driver_of side)) p.enabled)) more_is
     ∙ ap (λ r. enable_if (not (is_none_left d.messages)) (driver_of side) (enable_some r (before (driver_of side)) p.enabled)) room_is)
     ∙ ap (λ (x : plain.Queue ℕ). record (with_driver side (settled size x) st) {
       enabled = enable_if (not (is_none_left x.messages)) (driver_of side) (enable_some (settling_relieves size x) (before (driver_of side)) p.enabled);
     }) (sym same)
-    ∙ sym (turn-ends-alone st (none-stand s p) side size)
+    ∙ sym (turn-ends-alone st (none-stand view s p beside) side size)
   where
     found : (b : Bool) (n : Option QueueName) (ns : List QueueName) → cond b (enable_found n ns) ns ≡ enable_some b n ns
     found true n ns = refl
@@ -104,33 +105,33 @@ serves-moved : (side : Side) (m : Message ℕ) (rest : List (Message ℕ)) (st :
 serves-moved side m rest st none opened goes = rw (opened, stops-alone st none side m ∙ goes) refl
 
 -- what is seen of both ends is what the state has
-opened-at : (s : StoreValue) (p : Streams) (side : Side) → (stream side (state_in s p)).opened ≡ (end_at side p).opened
-opened-at s p Master = refl
-opened-at s p Slave = refl
+opened-at : {S : Type 0} (view : View S) (s : StoreValue) (p : Streams S) (side : Side) → (stream side (state_in view s p)).opened ≡ (end_at side p).opened
+opened-at view s p Master = refl
+opened-at view s p Slave = refl
 
-module _ (s : StoreValue) (p : Streams) (side : Side) (e x : End) (e_is : e ≡ end_at side p) (x_is : x ≡ end_at (other side) p) (opened : is_open x.opened ≡ true)
+module _ {S : Type 0} (view : View S) (s : StoreValue) (p : Streams S) (beside : AreBeside view s p) (side : Side) (e x : End S) (e_is : e ≡ end_at side p) (x_is : x ≡ end_at (other side) p) (opened : is_open x.opened ≡ true)
     (peek : Peek) (seen : PeekedFirst s e.driver.list peek) (stops : Bool) (asked : stops ≡ (is_held peek.kind && is_full peek.band.0 (queue_in s x.head.queue))) where
-  is-open-there : is_open (stream (other side) (state_in s p)).opened ≡ true
-  is-open-there = ap is_open (opened-at s p (other side) ∙ ap (λ (y : End). y.opened) (sym x_is)) ∙ opened
+  is-open-there : is_open (stream (other side) (state_in view s p)).opened ≡ true
+  is-open-there = ap is_open (opened-at view s p (other side) ∙ ap (λ (y : End S). y.opened) (sym x_is)) ∙ opened
 
-  above-is : queue_in s x.head.queue ≡ (stream (other side) (state_in s p)).head.queue
-  above-is = ap (λ (y : End). queue_in s y.head.queue) x_is ∙ sym (ap (λ h. h.queue) (head-is s p (other side)))
+  above-is : queue_in s x.head.queue ≡ (stream (other side) (state_in view s p)).head.queue
+  above-is = ap (λ (y : End S). queue_in s y.head.queue) x_is ∙ sym (ap (λ h. h.queue) (head-is view s p (other side)))
 
-  stands : (stream side (state_in s p)).driver.queue.messages ≡ message_of seen.message ∷ map message_of seen.rest
-  stands = ap (λ (q : plain.Queue ℕ). q.messages) (driver-is s p side) ∙ ap (λ (y : End). messages_on s y.driver.list) (sym e_is) ∙ seen-before s e.driver.list peek seen
+  stands : (stream side (state_in view s p)).driver.queue.messages ≡ message_of seen.message ∷ map message_of seen.rest
+  stands = ap (λ (q : plain.Queue ℕ). q.messages) (driver-is view s p side) ∙ ap (λ (y : End S). messages_on s y.driver.list) (sym e_is) ∙ seen-before s e.driver.list peek seen
 
-  stopped-is : is_stopped (message_of seen.message) (stream (other side) (state_in s p)).head.queue ≡ stops
+  stopped-is : is_stopped (message_of seen.message) (stream (other side) (state_in view s p)).head.queue ≡ stops
   stopped-is = ap (λ q. is_stopped (message_of seen.message) q) (sym above-is) ∙ sym (seen-stopped s e.driver.list peek seen (queue_in s x.head.queue)) ∙ sym asked
 
-  pub turned-stopped : stops ≡ true → driver_turned side (state_in s p) ≡ stayed_put Blocked (kept_back side peek.band.0 (state_in s p))
+  pub turned-stopped : stops ≡ true → driver_turned side (state_in view s p) ≡ stayed_put Blocked (kept_back side peek.band.0 (state_in view s p))
   turned-stopped stop =
       let held = seen-held s e.driver.list peek seen (queue_in s x.head.queue) (sym asked ∙ stop) in
-      ap (λ ms. driver_serves side ms (state_in s p)) stands
-      ∙ serves-stopped side (message_of seen.message) (map message_of seen.rest) (state_in s p) (none-stand s p) is-open-there (stopped-is ∙ stop)
-      ∙ ap (λ b. stayed_put Blocked (kept_back side b (state_in s p))) (held-band seen.message held ∙ sym seen.seen.band)
+      ap (λ ms. driver_serves side ms (state_in view s p)) stands
+      ∙ serves-stopped side (message_of seen.message) (map message_of seen.rest) (state_in view s p) (none-stand view s p beside) is-open-there (stopped-is ∙ stop)
+      ∙ ap (λ b. stayed_put Blocked (kept_back side b (state_in view s p))) (held-band seen.message held ∙ sym seen.seen.band)
 
-  pub turned-moved : stops ≡ false → (m : Message ℕ) (rest : List (Message ℕ)) → (stream side (state_in s p)).driver.queue.messages ≡ m ∷ rest → driver_turned side (state_in s p) ≡ moved_across side m rest (state_in s p)
+  pub turned-moved : stops ≡ false → (m : Message ℕ) (rest : List (Message ℕ)) → (stream side (state_in view s p)).driver.queue.messages ≡ m ∷ rest → driver_turned side (state_in view s p) ≡ moved_across side m rest (state_in view s p)
   turned-moved goes m rest first =
       let same : message_of seen.message ≡ m = ap (λ ms. first_message ms m) (sym stands ∙ first) in
-      ap (λ ms. driver_serves side ms (state_in s p)) first
-      ∙ serves-moved side m rest (state_in s p) (none-stand s p) is-open-there (ap (λ y. is_stopped y (stream (other side) (state_in s p)).head.queue) (sym same) ∙ stopped-is ∙ goes)
+      ap (λ ms. driver_serves side ms (state_in view s p)) first
+      ∙ serves-moved side m rest (state_in view s p) (none-stand view s p beside) is-open-there (ap (λ y. is_stopped y (stream (other side) (state_in view s p)).head.queue) (sym same) ∙ stopped-is ∙ goes)

@@ -1,6 +1,6 @@
 //! Flushes and closes of a side's stream (streamio(7I): I_FLUSH; close(2); STREAMS Programming Guide, "Flush Handling").
 
-ghost use Rattle.std.specs.Prelude.{◌≡◌};
+ghost use Rattle.std.specs.Prelude.{ℕ, ◌≡◌};
 ghost use Rattle.strm_types.specs.declared.answers.Answer.TheVariants.{Done};
 ghost use Rattle.strm_types.specs.declared.rules.Rule.TheVariants.{EndClosed};
 ghost use Rattle.strm_types.specs.Closes.{head_emptied, driver_emptied, ended, hung_up_at, closed_at};
@@ -8,21 +8,22 @@ ghost use Rattle.strm_types.specs.Emptied.{of_all};
 ghost use Rattle.strm_types.specs.Deliver.{tallied};
 ghost use Rattle.strm_types.specs.Puts.{flushed_on};
 ghost use Rattle.strm_frame.specs.Hands.{HasRoom};
+ghost use Rattle.strm_pair.specs.Streams.{View};
 
+use crate::stacks::Stacks;
 use crate::streams::Streams;
-use strm_blocks::Blocks;
 use strm_frame::{clear_queue, deliver};
 use strm_head::make_flush;
 use strm_types::{Answer, Band, Fates, FlushAsked, FlushQueues, HOPS, Rule, Side, Spot, Way};
 
-impl Streams {
+impl<S: Drop> Streams<S> {
     ghost use Rattle.strm_blocks.specs.Blocks.{StoreValue};
     ghost use Rattle.strm_types.specs.declared.names.Side.TheVariants.{Slave};
     ghost use Rattle.strm_pair.specs.Pairs.{state_in, AreHeld, AreBeside, SamePool};
 
     /// Flushes a side's stream: an M_FLUSH goes down from its head, with all that it gives rise to.
     #[inline(never)]
-    pub fn flush<B: Blocks>(
+    pub fn flush<B: Stacks<Stack = S>>(
         &mut self,
         store: &mut B,
         side: Side,
@@ -30,15 +31,15 @@ impl Streams {
         band: Option<Band>,
         told: &mut Fates,
     ) -> Answer<usize>
-        requires held { AreHeld (B.value store.old) self.old }
+        requires held { AreHeld B.modules (B.value store.old) self.old }
         requires room { HasRoom (B.value store.old) 5 }
         ensures answer { result ≡ Done }
-        ensures state { state_in (B.value store.new) self.new
-            ≡ (flushed_on band side what (state_in (B.value store.old) self.old)).state }
-        ensures held { AreHeld (B.value store.new) self.new }
+        ensures state { state_in B.modules (B.value store.new) self.new
+            ≡ (flushed_on band side what (state_in B.modules (B.value store.old) self.old)).state }
+        ensures held { AreHeld B.modules (B.value store.new) self.new }
         ensures pool { SamePool (B.value store.old) (B.value store.new) }
         ensures told { told.new ≡ tallied (flushed_on band side what
-            (state_in (B.value store.old) self.old)).gone told.old }
+            (state_in B.modules (B.value store.old) self.old)).gone told.old }
     {
         let message = make_flush(store, FlushAsked::of(what, band));
         let below = Spot {
@@ -51,12 +52,12 @@ impl Streams {
     }
 
     // Lets all go that stands at a side's head.
-    fn clear_head<B: Blocks>(&mut self, store: &mut B, side: Side, told: &mut Fates)
-        requires { AreHeld (B.value store.old) self.old }
-        ensures state { state_in (B.value store.new) self.new
-            ≡ (head_emptied EndClosed of_all side (state_in (B.value store.old) self.old)).state }
-        ensures told { told.new ≡ tallied (head_emptied EndClosed of_all side (state_in (B.value store.old) self.old)).gone told.old }
-        ensures held { AreHeld (B.value store.new) self.new }
+    fn clear_head<B: Stacks<Stack = S>>(&mut self, store: &mut B, side: Side, told: &mut Fates)
+        requires { AreHeld B.modules (B.value store.old) self.old }
+        ensures state { state_in B.modules (B.value store.new) self.new
+            ≡ (head_emptied EndClosed of_all side (state_in B.modules (B.value store.old) self.old)).state }
+        ensures told { told.new ≡ tallied (head_emptied EndClosed of_all side (state_in B.modules (B.value store.old) self.old)).gone told.old }
+        ensures held { AreHeld B.modules (B.value store.new) self.new }
         ensures pool { SamePool (B.value store.old) (B.value store.new) }
     {
         let name = side.head();
@@ -81,12 +82,12 @@ impl Streams {
     }
 
     // Lets all go that stands at a side's driver.
-    fn clear_driver<B: Blocks>(&mut self, store: &mut B, side: Side, told: &mut Fates)
-        requires { AreHeld (B.value store.old) self.old }
-        ensures state { state_in (B.value store.new) self.new
-            ≡ (driver_emptied EndClosed of_all side (state_in (B.value store.old) self.old)).state }
-        ensures told { told.new ≡ tallied (driver_emptied EndClosed of_all side (state_in (B.value store.old) self.old)).gone told.old }
-        ensures held { AreHeld (B.value store.new) self.new }
+    fn clear_driver<B: Stacks<Stack = S>>(&mut self, store: &mut B, side: Side, told: &mut Fates)
+        requires { AreHeld B.modules (B.value store.old) self.old }
+        ensures state { state_in B.modules (B.value store.new) self.new
+            ≡ (driver_emptied EndClosed of_all side (state_in B.modules (B.value store.old) self.old)).state }
+        ensures told { told.new ≡ tallied (driver_emptied EndClosed of_all side (state_in B.modules (B.value store.old) self.old)).gone told.old }
+        ensures held { AreHeld B.modules (B.value store.new) self.new }
         ensures pool { SamePool (B.value store.old) (B.value store.new) }
     {
         let name = side.driver();
@@ -111,10 +112,10 @@ impl Streams {
     }
 
     // A side is closed, with a head as new.
-    fn end_side<B: Blocks>(&mut self, store: &mut B, side: Side)
-        requires { AreHeld (B.value store.old) self.old }
-        ensures state { state_in (B.value store.new) self.new ≡ ended side (state_in (B.value store.old) self.old) }
-        ensures held { AreHeld (B.value store.new) self.new }
+    fn end_side<B: Stacks<Stack = S>>(&mut self, store: &mut B, side: Side)
+        requires { AreHeld B.modules (B.value store.old) self.old }
+        ensures state { state_in B.modules (B.value store.new) self.new ≡ ended side (state_in B.modules (B.value store.old) self.old) }
+        ensures held { AreHeld B.modules (B.value store.new) self.new }
         ensures pool { SamePool (B.value store.old) (B.value store.new) }
     {
         match side {
@@ -125,8 +126,8 @@ impl Streams {
 
     // An M_HANGUP goes up the slave's stream, where that is open.
     fn hang_up(&mut self)
-        ensures state { (s : StoreValue) → state_in s self.new ≡ hung_up_at Slave (state_in s self.old) }
-        ensures held { (s : StoreValue) → AreHeld s self.old → AreHeld s self.new }
+        ensures state { (view : View S) (s : StoreValue) → state_in view s self.new ≡ hung_up_at Slave (state_in view s self.old) }
+        ensures held { (view : View S) (s : StoreValue) → AreHeld view s self.old → AreHeld view s self.new }
     {
         if self.slave.opened.is_open() {
             self.slave.head.hung_up = true;
@@ -136,14 +137,19 @@ impl Streams {
     /// Closes a side. What stands for its readers goes, and with the master what both drivers have; the slave's driver
     /// keeps what it has for the master. The slave is hung up where the master goes.
     #[inline(never)]
-    pub fn shut<B: Blocks>(&mut self, store: &mut B, side: Side, told: &mut Fates) -> Answer<usize>
-        requires held { AreHeld (B.value store.old) self.old }
+    pub fn shut<B: Stacks<Stack = S>>(
+        &mut self,
+        store: &mut B,
+        side: Side,
+        told: &mut Fates,
+    ) -> Answer<usize>
+        requires held { AreHeld B.modules (B.value store.old) self.old }
         ensures answer { result ≡ Done }
-        ensures state { state_in (B.value store.new) self.new
-            ≡ (closed_at side (state_in (B.value store.old) self.old)).state }
-        ensures held { AreHeld (B.value store.new) self.new }
+        ensures state { state_in B.modules (B.value store.new) self.new
+            ≡ (closed_at side (state_in B.modules (B.value store.old) self.old)).state }
+        ensures held { AreHeld B.modules (B.value store.new) self.new }
         ensures pool { SamePool (B.value store.old) (B.value store.new) }
-        ensures told { told.new ≡ tallied (closed_at side (state_in (B.value store.old) self.old)).gone told.old }
+        ensures told { told.new ≡ tallied (closed_at side (state_in B.modules (B.value store.old) self.old)).gone told.old }
     {
         self.clear_head(store, side, told);
         match side {

@@ -11,21 +11,23 @@ use strm_head::Head;
 use strm_queue::{Flush, HEAD_HIGH, HEAD_LOW, Queue};
 use strm_types::Openness;
 
-/// The stream of one side: its head and its driver's queue, and whether it was opened.
+/// The stream of one side: its head, its modules and its driver's queue, and whether it was opened.
 #[derive(Drop)]
-pub(crate) struct End {
+pub(crate) struct End<S> {
     pub opened: Openness,
     pub head: Head,
+    pub stack: S,
     pub driver: Queue,
 }
 
-impl End {
+impl<S: Drop> End<S> {
     // Makes the head as new, with nothing on its queue.
     fn renew_head<B: Blocks>(&mut self, store: &mut B)
         requires { IsReady (B.value store.old) self.old.head.queue }
         ensures head { head_in (B.value store.new) self.new.head ≡ new_head }
         ensures opened { self.new.opened ≡ self.old.opened }
         ensures driver { self.new.driver ≡ self.old.driver }
+        ensures stack { self.new.stack ≡ self.old.stack }
         ensures keeps { Keeps (B.value store.old) (B.value store.new) self.old.head.queue self.new.head.queue }
     {
         store.audit();
@@ -39,6 +41,7 @@ impl End {
         ensures head { head_in (B.value store.new) self.new.head ≡ new_head }
         ensures opened { self.new.opened ≡ Open }
         ensures driver { self.new.driver ≡ self.old.driver }
+        ensures stack { self.new.stack ≡ self.old.stack }
         ensures keeps { Keeps (B.value store.old) (B.value store.new) self.old.head.queue self.new.head.queue }
     {
         self.opened = Openness::Open;
@@ -51,6 +54,7 @@ impl End {
         ensures head { head_in (B.value store.new) self.new.head ≡ new_head }
         ensures opened { self.new.opened ≡ Closed }
         ensures driver { self.new.driver ≡ self.old.driver }
+        ensures stack { self.new.stack ≡ self.old.stack }
         ensures keeps { Keeps (B.value store.old) (B.value store.new) self.old.head.queue self.new.head.queue }
     {
         self.opened = Openness::Closed;

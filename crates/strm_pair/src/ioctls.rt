@@ -1,6 +1,6 @@
 //! Ioctls on a side's stream, and the signals that wait at its head (ioctl(2), streamio(7I): I_STR).
 
-ghost use Rattle.std.specs.Prelude.{◌≡◌, ◌≤◌, ◌<◌, [], true, length};
+ghost use Rattle.std.specs.Prelude.{ℕ, ◌≡◌, ◌≤◌, ◌<◌, [], true, length};
 ghost use Rattle.strm_types.specs.declared.limits.TheConstants.{IOCTL_BLOCKS, IOCTL_END, IOCTL_MAX, READ_MAX, SIGNALS_MAX};
 ghost use Rattle.strm_types.specs.Calls.{ioctl_begun, ioctl_sent, ioctl_told, signals_told};
 ghost use Rattle.strm_types.specs.Deliver.{tallied};
@@ -9,21 +9,22 @@ ghost use Rattle.strm_types.specs.Refused.{may_ask};
 ghost use Rattle.strm_blocks.specs.Blocks.{StoreValue};
 ghost use Rattle.strm_frame.specs.Hands.{HasRoom};
 ghost use Rattle.strm_pair.specs.Parts.{longest_part};
+ghost use Rattle.strm_pair.specs.Streams.{View};
 
+use crate::stacks::Stacks;
 use crate::streams::Streams;
-use strm_blocks::Blocks;
 use strm_frame::deliver;
 use strm_head::make_ioctl;
 use strm_types::{Answer, Content, Fates, HOPS, Ioc, Side, Spot, Way};
 
-impl Streams {
+impl<S: Drop> Streams<S> {
     ghost use Rattle.strm_pair.specs.Pairs.{state_in, AreHeld, SamePool};
 
     // The ioctl of the next number is under way on a side's stream, and waits for its answer.
     fn begin_ioctl(&mut self, side: Side, command: u32)
         requires { self.old.next_ioctl < IOCTL_END }
-        ensures state { (s : StoreValue) → state_in s self.new ≡ ioctl_begun side command (state_in s self.old) }
-        ensures held { (s : StoreValue) → AreHeld s self.old → AreHeld s self.new }
+        ensures state { (view : View S) (s : StoreValue) → state_in view s self.new ≡ ioctl_begun side command (state_in view s self.old) }
+        ensures held { (view : View S) (s : StoreValue) → AreHeld view s self.old → AreHeld view s self.new }
     {
         let number = self.next_ioctl;
         self.next_ioctl = number + 1;
@@ -34,7 +35,7 @@ impl Streams {
     }
 
     // An ioctl of the next number is under way, and its M_IOCTL goes down from a side's head, with all that it gives rise to.
-    fn send_ioctl<B: Blocks>(
+    fn send_ioctl<B: Stacks<Stack = S>>(
         &mut self,
         store: &mut B,
         side: Side,
@@ -42,14 +43,14 @@ impl Streams {
         body: &[u8],
         told: &mut Fates,
     )
-        requires held { AreHeld (B.value store.old) self.old }
-        requires may_ask { may_ask body.now (state_in (B.value store.old) self.old) ≡ true }
+        requires held { AreHeld B.modules (B.value store.old) self.old }
+        requires may_ask { may_ask body.now (state_in B.modules (B.value store.old) self.old) ≡ true }
         requires room { HasRoom (B.value store.old) IOCTL_BLOCKS }
-        ensures state { state_in (B.value store.new) self.new
-            ≡ (ioctl_sent side command body.now (state_in (B.value store.old) self.old)).state }
-        ensures held { AreHeld (B.value store.new) self.new }
+        ensures state { state_in B.modules (B.value store.new) self.new
+            ≡ (ioctl_sent side command body.now (state_in B.modules (B.value store.old) self.old)).state }
+        ensures held { AreHeld B.modules (B.value store.new) self.new }
         ensures pool { SamePool (B.value store.old) (B.value store.new) }
-        ensures told { told.new ≡ tallied (ioctl_sent side command body.now (state_in (B.value store.old) self.old)).gone told.old }
+        ensures told { told.new ≡ tallied (ioctl_sent side command body.now (state_in B.modules (B.value store.old) self.old)).gone told.old }
     {
         let message = make_ioctl(store, Ioc::asking(command, self.next_ioctl), body);
         self.begin_ioctl(side, command);
@@ -66,11 +67,11 @@ impl Streams {
     #[inline(never)]
     pub fn tell_ioctl(&mut self, side: Side, out: &mut Content) -> Answer<usize>
         requires fresh { out.old.items ≡ [] }
-        ensures answer { (s : StoreValue) → reply_in result out.new.items ≡ (ioctl_told side (state_in s self.old)).answer }
+        ensures answer { (view : View S) (s : StoreValue) → reply_in result out.new.items ≡ (ioctl_told side (state_in view s self.old)).answer }
         ensures filled { answer_len result ≡ length out.new.items }
         ensures content { length out.new.items ≤ IOCTL_MAX }
-        ensures state { (s : StoreValue) → state_in s self.new ≡ (ioctl_told side (state_in s self.old)).state }
-        ensures held { (s : StoreValue) → AreHeld s self.old → AreHeld s self.new }
+        ensures state { (view : View S) (s : StoreValue) → state_in view s self.new ≡ (ioctl_told side (state_in view s self.old)).state }
+        ensures held { (view : View S) (s : StoreValue) → AreHeld view s self.old → AreHeld view s self.new }
     {
         match side {
             Side::Master => self.master.head.tell_ioctl(out),
@@ -81,7 +82,7 @@ impl Streams {
     /// Sends a command down from a side's head, with these bytes, and tells the answer if it came at once, else the number of the
     /// ioctl.
     #[inline(never)]
-    pub fn ioctl<B: Blocks>(
+    pub fn ioctl<B: Stacks<Stack = S>>(
         &mut self,
         store: &mut B,
         side: Side,
@@ -90,19 +91,19 @@ impl Streams {
         out: &mut Content,
         told: &mut Fates,
     ) -> Answer<usize>
-        requires held { AreHeld (B.value store.old) self.old }
-        requires may_ask { may_ask body.now (state_in (B.value store.old) self.old) ≡ true }
+        requires held { AreHeld B.modules (B.value store.old) self.old }
+        requires may_ask { may_ask body.now (state_in B.modules (B.value store.old) self.old) ≡ true }
         requires room { HasRoom (B.value store.old) IOCTL_BLOCKS }
         requires fresh { out.old.items ≡ [] }
         ensures answer { reply_in result out.new.items
-            ≡ (ioctl_told side (ioctl_sent side command body.now (state_in (B.value store.old) self.old)).state).answer }
+            ≡ (ioctl_told side (ioctl_sent side command body.now (state_in B.modules (B.value store.old) self.old)).state).answer }
         ensures filled { answer_len result ≡ length out.new.items }
         ensures content { length out.new.items ≤ IOCTL_MAX }
-        ensures state { state_in (B.value store.new) self.new
-            ≡ (ioctl_told side (ioctl_sent side command body.now (state_in (B.value store.old) self.old)).state).state }
-        ensures held { AreHeld (B.value store.new) self.new }
+        ensures state { state_in B.modules (B.value store.new) self.new
+            ≡ (ioctl_told side (ioctl_sent side command body.now (state_in B.modules (B.value store.old) self.old)).state).state }
+        ensures held { AreHeld B.modules (B.value store.new) self.new }
         ensures pool { SamePool (B.value store.old) (B.value store.new) }
-        ensures told { told.new ≡ tallied (ioctl_sent side command body.now (state_in (B.value store.old) self.old)).gone told.old }
+        ensures told { told.new ≡ tallied (ioctl_sent side command body.now (state_in B.modules (B.value store.old) self.old)).gone told.old }
     {
         self.send_ioctl(store, side, command, body, told);
         self.tell_ioctl(side, out)
@@ -112,11 +113,11 @@ impl Streams {
     #[inline(never)]
     pub fn take_signals(&mut self, side: Side, out: &mut Content) -> Answer<usize>
         requires fresh { out.old.items ≡ [] }
-        ensures answer { (s : StoreValue) → reply_in result out.new.items ≡ (signals_told side (state_in s self.old)).answer }
+        ensures answer { (view : View S) (s : StoreValue) → reply_in result out.new.items ≡ (signals_told side (state_in view s self.old)).answer }
         ensures filled { answer_len result ≡ length out.new.items }
         ensures content { length out.new.items ≤ SIGNALS_MAX }
-        ensures state { (s : StoreValue) → state_in s self.new ≡ (signals_told side (state_in s self.old)).state }
-        ensures held { (s : StoreValue) → AreHeld s self.old → AreHeld s self.new }
+        ensures state { (view : View S) (s : StoreValue) → state_in view s self.new ≡ (signals_told side (state_in view s self.old)).state }
+        ensures held { (view : View S) (s : StoreValue) → AreHeld view s self.old → AreHeld view s self.new }
     {
         match side {
             Side::Master => self.master.head.take_signals(out),

@@ -13,10 +13,12 @@ mod pair;
 mod putting;
 mod refusals;
 mod sending;
+mod stacks;
 mod streams;
 mod turning;
 
 pub use pair::{Pair, Recorded};
+pub use stacks::Stacks;
 
 #[cfg(test)]
 mod tests;

@@ -7,6 +7,7 @@ ghost use Rattle.strm_types.specs.Refused.{has_no_data};
 ghost use Rattle.strm_queue.specs.Stored.{messages_on};
 ghost use Rattle.strm_pair.specs.Shows.{count_at, full_at, messages_at};
 
+use crate::stacks::Stacks;
 use crate::streams::Streams;
 use strm_blocks::{Blocks, Peek, Visitor};
 use strm_queue::Queue;
@@ -41,14 +42,14 @@ pub(crate) fn has_no_data<B: Blocks>(store: &B, queue: &Queue) -> bool
     !ordinary.found
 }
 
-impl Streams {
+impl<S: Drop> Streams<S> {
     ghost use Rattle.strm_pair.specs.Pairs.{state_in, AreHeld};
 
     /// How many bytes count in a band of a queue.
-    pub fn count<B: Blocks>(&self, store: &B, queue: QueueName, band: Band) -> usize
-        requires held { AreHeld (B.value store.now) self.now }
+    pub fn count<B: Stacks<Stack = S>>(&self, store: &B, queue: QueueName, band: Band) -> usize
+        requires held { AreHeld B.modules (B.value store.now) self.now }
         requires band { band.0 < BANDS }
-        ensures { result ≡ count_at queue band.0 (state_in (B.value store.now) self.now) }
+        ensures { result ≡ count_at queue band.0 (state_in B.modules (B.value store.now) self.now) }
     {
         let end = self.end(queue.side);
         match queue.place {
@@ -65,10 +66,10 @@ impl Streams {
     }
 
     /// How many messages stand on a queue, and how many bytes they have.
-    pub fn sizes<B: Blocks>(&self, store: &B, queue: QueueName) -> (usize, usize)
-        requires { AreHeld (B.value store.now) self.now }
-        ensures messages { result.0 ≡ length (messages_at queue (state_in (B.value store.now) self.now)) }
-        ensures bytes { result.1 ≡ bytes_of (messages_at queue (state_in (B.value store.now) self.now)) }
+    pub fn sizes<B: Stacks<Stack = S>>(&self, store: &B, queue: QueueName) -> (usize, usize)
+        requires { AreHeld B.modules (B.value store.now) self.now }
+        ensures messages { result.0 ≡ length (messages_at queue (state_in B.modules (B.value store.now) self.now)) }
+        ensures bytes { result.1 ≡ bytes_of (messages_at queue (state_in B.modules (B.value store.now) self.now)) }
     {
         let end = self.end(queue.side);
         match queue.place {
@@ -85,10 +86,10 @@ impl Streams {
     }
 
     /// Whether a band of a queue is full.
-    pub fn is_full<B: Blocks>(&self, store: &B, queue: QueueName, band: Band) -> bool
-        requires held { AreHeld (B.value store.now) self.now }
+    pub fn is_full<B: Stacks<Stack = S>>(&self, store: &B, queue: QueueName, band: Band) -> bool
+        requires held { AreHeld B.modules (B.value store.now) self.now }
         requires band { band.0 < BANDS }
-        ensures { result ≡ full_at queue band.0 (state_in (B.value store.now) self.now) }
+        ensures { result ≡ full_at queue band.0 (state_in B.modules (B.value store.now) self.now) }
     {
         let end = self.end(queue.side);
         match queue.place {

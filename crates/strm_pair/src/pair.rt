@@ -20,10 +20,10 @@ ghost use Rattle.strm_pair.specs.PairViews.{sizes_over};
 use crate::answers::own;
 use crate::journal::Journal;
 use crate::refusals::{blocks_asked, content_most, or_else, unless};
+use crate::stacks::Stacks;
 use crate::streams::Streams;
 use std::alloc::Global;
 use std::marker::Model;
-use strm_blocks::Blocks;
 use strm_types::{
     Answer, BANDS, Band, Caller, Config, Content, Entry, Event, Fates, LISTS, NoMemory, QueueName,
     READ_MAX, ReadBytes, Refusal, TURN_BLOCKS, Turn,
@@ -32,9 +32,9 @@ use strm_types::{
 /// A pair of a master and a slave, whose messages stand in a store of its own. Contracts see it as its plain state, its
 /// journal with the state that it began at, the sizes that it was made with, and the numbers of free blocks.
 #[derive(Drop)]
-pub struct Pair<B: Blocks + Drop> {
+pub struct Pair<B: Stacks + Drop> {
     store: B,
-    streams: Streams,
+    streams: Streams<B::Stack>,
     journal: Journal,
     limits: Config,
     fates: Fates,
@@ -47,19 +47,19 @@ pub struct Recorded<'a> {
     pub bytes: &'a [u8],
 }
 
-impl<B: Blocks + Drop> Model for Pair<B> {
+impl<B: Stacks + Drop> Model for Pair<B> {
     ghost use Rattle.strm_types.specs.Pair.{PairState};
 
     ghost Value = { PairState };
 
     ghost use Rattle.strm_pair.specs.PairViews.{pair_of, IsKept};
 
-    ghost view = { λ p. pair_of (B.value p.store) p.streams p.journal p.limits p.fates };
+    ghost view = { λ p. pair_of B.modules (B.value p.store) p.streams p.journal p.limits p.fates };
 
-    ghost invariant = { λ p. IsKept (B.value p.store) p.streams p.journal p.limits p.fates };
+    ghost invariant = { λ p. IsKept B.modules (B.value p.store) p.streams p.journal p.limits p.fates };
 }
 
-impl<B: Blocks + Drop> Pair<B> {
+impl<B: Stacks + Drop> Pair<B> {
     /// A pair which nobody opened, over a store that holds nothing: its lists are empty, and nothing is in hand. The
     /// sizes of its journal are those of `sizes`, its numbers of blocks are the store's. The memory of the journal is
     /// reserved here, and no later call takes any; where that is refused, the store comes back.
@@ -81,7 +81,7 @@ impl<B: Blocks + Drop> Pair<B> {
         };
         Ok(Pair {
             store,
-            streams: Streams::new(),
+            streams: Streams::new::<B>(),
             journal,
             limits,
             fates: Fates::none(),
@@ -94,7 +94,7 @@ impl<B: Blocks + Drop> Pair<B> {
         ensures { self.new ≡ new_pair self.old.limits }
     {
         self.store.reset();
-        self.streams = Streams::new();
+        self.streams = Streams::new::<B>();
         self.journal.clear();
         self.fates = Fates::none();
     }

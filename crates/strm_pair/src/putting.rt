@@ -18,7 +18,9 @@ ghost use Rattle.strm_head.specs.Heads.{down_message, sent_down};
 ghost use Rattle.strm_pty.specs.Does.{Makes, MadeOne};
 ghost use Rattle.strm_types.specs.Costs.{head_takes, is_across, below_takes, cost, takes};
 ghost use Rattle.strm_pair.specs.PutBy.{PutBy, CameBy};
+ghost use Rattle.strm_pair.specs.Streams.{View};
 
+use crate::stacks::Stacks;
 use crate::streams::Streams;
 use strm_blocks::Blocks;
 use strm_frame::{Enabled, Outbox, Sent, Stations};
@@ -81,7 +83,7 @@ fn note(enabled: &mut Enabled, side: Side, place: Place, notes: &[Note])
     note(enabled, side, place, rest);
 }
 
-impl Streams {
+impl<S: Drop> Streams<S> {
     ghost use Rattle.strm_pair.specs.Pairs.{state_in, AreBeside};
     ghost use Rattle.strm_blocks.specs.Blocks.{StoreValue};
 
@@ -103,7 +105,7 @@ impl Streams {
 
     // What the driver of a side is told of the other one.
     fn across(&self, side: Side) -> Across
-        ensures { (s : StoreValue) → result ≡ across_of side (state_in s self.now) }
+        ensures { (view : View S) (s : StoreValue) → AreBeside view s self.now → result ≡ across_of side (state_in view s self.now) }
     {
         Across {
             is_open: self.end(side.other()).opened.is_open(),
@@ -113,20 +115,20 @@ impl Streams {
     }
 
     // A message that comes to the head of a side that isn't open, where nobody reads: its bytes go.
-    fn lose<B: Blocks>(
+    fn lose<B: Stacks<Stack = S>>(
         &self,
         store: &mut B,
         to: Spot,
         message: B::Mp,
         told: &mut Fates,
     ) -> Outbox<B::Mp>
-        requires beside { AreBeside (B.value store.old) self.now }
+        requires beside { AreBeside B.modules (B.value store.old) self.now }
         requires can_put { CanPut (B.value store.old) (B.name message) (λ _. 0) }
         requires chain { IsChain (in_hand (B.value store.old) (B.name message)) }
-        requires closed { is_open (stream to.side (state_in (B.value store.old) self.now)).opened ≡ false }
+        requires closed { is_open (stream to.side (state_in B.modules (B.value store.old) self.now)).opened ≡ false }
         ensures { let s = B.value store.old in
-            PutBy B.name s (B.value store.new) self.now self.now (B.name message) 0 (sent_of result) told.old told.new
-            (put_at_head to.side to (message_in s (B.name message)) (state_in s self.now)) }
+            PutBy B.name B.modules s (B.value store.new) self.now self.now (B.name message) 0 (sent_of result) told.old told.new
+            (put_at_head to.side to (message_in s (B.name message)) (state_in B.modules s self.now)) }
     {
         store.audit();
         let bytes = booked_size(store, &message);
@@ -136,20 +138,20 @@ impl Streams {
     }
 
     // A message that comes to the head of an open side. What is to go down comes back.
-    fn come<B: Blocks>(
+    fn come<B: Stacks<Stack = S>>(
         &mut self,
         store: &mut B,
         to: Spot,
         message: B::Mp,
         told: &mut Fates,
     ) -> Option<Down>
-        requires beside { AreBeside (B.value store.old) self.old }
+        requires beside { AreBeside B.modules (B.value store.old) self.old }
         requires can_put { CanPut (B.value store.old) (B.name message) (λ _. 0) }
         requires chain { IsChain (in_hand (B.value store.old) (B.name message)) }
-        requires opened { is_open (stream to.side (state_in (B.value store.old) self.old)).opened ≡ true }
+        requires opened { is_open (stream to.side (state_in B.modules (B.value store.old) self.old)).opened ≡ true }
         ensures { let s = B.value store.old in
-            CameBy s (B.value store.new) self.old self.new (B.name message) (sent_down to result) told.old told.new
-            (put_at_head to.side to (message_in s (B.name message)) (state_in s self.old)) }
+            CameBy B.modules s (B.value store.new) self.old self.new (B.name message) (sent_down to result) told.old told.new
+            (put_at_head to.side to (message_in s (B.name message)) (state_in B.modules s self.old)) }
     {
         store.audit();
         let came = match to.side {
@@ -161,21 +163,21 @@ impl Streams {
     }
 
     // A message that comes to the head of a side.
-    fn put_head<B: Blocks>(
+    fn put_head<B: Stacks<Stack = S>>(
         &mut self,
         store: &mut B,
         to: Spot,
         message: B::Mp,
         told: &mut Fates,
     ) -> Outbox<B::Mp>
-        requires beside { AreBeside (B.value store.old) self.old }
+        requires beside { AreBeside B.modules (B.value store.old) self.old }
         requires can_put { CanPut (B.value store.old) (B.name message) (λ _. 0) }
         requires chain { IsChain (in_hand (B.value store.old) (B.name message)) }
         requires room { HasRoom (B.value store.old) (head_takes (message_in (B.value store.old) (B.name message))) }
         requires top { to.at ≡ 0 }
         ensures { let s = B.value store.old in let m = message_in s (B.name message) in
-            PutBy B.name s (B.value store.new) self.old self.new (B.name message) (head_takes m)
-            (sent_of result) told.old told.new (put_at_head to.side to m (state_in s self.old)) }
+            PutBy B.name B.modules s (B.value store.new) self.old self.new (B.name message) (head_takes m)
+            (sent_of result) told.old told.new (put_at_head to.side to m (state_in B.modules s self.old)) }
     {
         if !self.end(to.side).opened.is_open() {
             return self.lose(store, to, message, told);
@@ -185,20 +187,20 @@ impl Streams {
     }
 
     // A message that comes to the driver of a side.
-    fn put_driver<B: Blocks>(
+    fn put_driver<B: Stacks<Stack = S>>(
         &mut self,
         store: &mut B,
         to: Spot,
         message: B::Mp,
         told: &mut Fates,
     ) -> Outbox<B::Mp>
-        requires beside { AreBeside (B.value store.old) self.old }
+        requires beside { AreBeside B.modules (B.value store.old) self.old }
         requires can_put { CanPut (B.value store.old) (B.name message) (λ _. 0) }
         requires chain { IsChain (in_hand (B.value store.old) (B.name message)) }
         requires room { HasRoom (B.value store.old) (below_takes to.way true) }
         ensures { let s = B.value store.old in let m = message_in s (B.name message) in
-            PutBy B.name s (B.value store.new) self.old self.new (B.name message) (below_takes to.way true)
-            (sent_of result) told.old told.new (put_at_driver to.side to m (state_in s self.old)) }
+            PutBy B.name B.modules s (B.value store.new) self.old self.new (B.name message) (below_takes to.way true)
+            (sent_of result) told.old told.new (put_at_driver to.side to m (state_in B.modules s self.old)) }
     {
         store.audit();
         let across = self.across(to.side);
@@ -212,12 +214,12 @@ impl Streams {
     }
 
     // A message at a place where nothing stands goes on to the head.
-    fn pass_up<B: Blocks>(&self, store: &B, to: Spot, message: B::Mp) -> Outbox<B::Mp>
-        requires beside { AreBeside (B.value store.now) self.now }
+    fn pass_up<B: Stacks<Stack = S>>(&self, store: &B, to: Spot, message: B::Mp) -> Outbox<B::Mp>
+        requires beside { AreBeside B.modules (B.value store.now) self.now }
         requires chain { IsChain (in_hand (B.value store.now) (B.name message)) }
         ensures { (told : Fates) → let s = B.value store.now in
-            PutBy B.name s s self.now self.now (B.name message) 0 (sent_of result) told told
-            (passed_up to (message_in s (B.name message)) (state_in s self.now)) }
+            PutBy B.name B.modules s s self.now self.now (B.name message) 0 (sent_of result) told told
+            (passed_up to (message_in s (B.name message)) (state_in B.modules s self.now)) }
     {
         let _ = store;
         Outbox::one(Sent {
@@ -227,21 +229,21 @@ impl Streams {
     }
 
     // A message on its way up, behind the head: the driver's place takes what was sent across.
-    fn put_up<B: Blocks>(
+    fn put_up<B: Stacks<Stack = S>>(
         &mut self,
         store: &mut B,
         to: Spot,
         message: B::Mp,
         told: &mut Fates,
     ) -> Outbox<B::Mp>
-        requires beside { AreBeside (B.value store.old) self.old }
+        requires beside { AreBeside B.modules (B.value store.old) self.old }
         requires can_put { CanPut (B.value store.old) (B.name message) (λ _. 0) }
         requires chain { IsChain (in_hand (B.value store.old) (B.name message)) }
         requires room { HasRoom (B.value store.old) (below_takes Up (is_across to (message_in (B.value store.old) (B.name message)))) }
         requires up { to.way ≡ Up }
         ensures { let s = B.value store.old in let m = message_in s (B.name message) in
-            PutBy B.name s (B.value store.new) self.old self.new (B.name message) (below_takes Up (is_across to m))
-            (sent_of result) told.old told.new (put_behind Up to m (state_in s self.old)) }
+            PutBy B.name B.modules s (B.value store.new) self.old self.new (B.name message) (below_takes Up (is_across to m))
+            (sent_of result) told.old told.new (put_behind Up to m (state_in B.modules s self.old)) }
     {
         store.audit();
         if to.at == MODULES + 1 && is_flush(store.kind(&message, 0)) {
@@ -251,20 +253,20 @@ impl Streams {
     }
 
     // A message that is put at a spot.
-    fn put<B: Blocks>(
+    fn put<B: Stacks<Stack = S>>(
         &mut self,
         store: &mut B,
         to: Spot,
         message: B::Mp,
         told: &mut Fates,
     ) -> Outbox<B::Mp>
-        requires beside { AreBeside (B.value store.old) self.old }
+        requires beside { AreBeside B.modules (B.value store.old) self.old }
         requires can_put { CanPut (B.value store.old) (B.name message) (λ _. 0) }
         requires chain { IsChain (in_hand (B.value store.old) (B.name message)) }
         requires room { HasRoom (B.value store.old) (takes to (message_in (B.value store.old) (B.name message))) }
         ensures { let s = B.value store.old in let m = message_in s (B.name message) in
-            PutBy B.name s (B.value store.new) self.old self.new (B.name message) (takes to m)
-            (sent_of result) told.old told.new (put_in to m (state_in s self.old)) }
+            PutBy B.name B.modules s (B.value store.new) self.old self.new (B.name message) (takes to m)
+            (sent_of result) told.old told.new (put_in to m (state_in B.modules s self.old)) }
     {
         if to.at == 0 {
             return self.put_head(store, to, message, told);
@@ -276,7 +278,7 @@ impl Streams {
     }
 }
 
-impl<B: Blocks> Stations<B> for Streams {
+impl<B: Stacks> Stations<B> for Streams<B::Stack> {
     ghost use Rattle.std.specs.Prelude.{ℕ};
     ghost use Rattle.strm_types.specs.State.{State};
     ghost use Rattle.strm_pair.specs.Pairs.{state_in, AreBeside};
@@ -284,9 +286,9 @@ impl<B: Blocks> Stations<B> for Streams {
 
     ghost Plain = { State ℕ };
 
-    ghost plain = { state_in };
+    ghost plain = { state_in B.modules };
 
-    ghost IsHeld = { AreBeside };
+    ghost IsHeld = { AreBeside B.modules };
 
     ghost keeps = { λ p i. 0 };
 
@@ -306,5 +308,5 @@ impl<B: Blocks> Stations<B> for Streams {
         self.put(store, to, message, told)
     }
 
-    ghost frame = { streams-frame };
+    ghost frame = { streams-frame B.modules };
 }

@@ -10,11 +10,12 @@ ghost use Rattle.strm_pair.specs.Parts.{is_held_back};
 ghost use Rattle.strm_types.specs.declared.refusals.Refusal.TheVariants.{Eagain, Einval, Enxio, Erange};
 ghost use Rattle.strm_types.specs.Names.{is_never, is_open};
 ghost use Rattle.strm_types.specs.State.{stream};
+ghost use Rattle.strm_pair.specs.Streams.{View};
 
 use crate::ends::End;
 use crate::looking::has_no_data;
+use crate::stacks::Stacks;
 use crate::streams::Streams;
-use strm_blocks::Blocks;
 use strm_head::put_refusal;
 use strm_queue::standing::is_full;
 use strm_types::{
@@ -121,15 +122,15 @@ pub(crate) fn content_most(event: &Event<&[u8]>) -> usize
     }
 }
 
-impl Streams {
+impl<S: Drop> Streams<S> {
     ghost use Rattle.strm_blocks.specs.Blocks.{StoreValue};
     ghost use Rattle.strm_pair.specs.Streams.{stream_in};
     ghost use Rattle.strm_pair.specs.Pairs.{state_in, end_at, AreHeld};
 
     /// The stream of a side.
-    pub(crate) fn end(&self, side: Side) -> &End
+    pub(crate) fn end(&self, side: Side) -> &End<S>
         ensures end { result.now ≡ end_at side self.now }
-        ensures stream { (s : StoreValue) → stream_in s result.now ≡ stream side (state_in s self.now) }
+        ensures stream { (view : View S) (s : StoreValue) → stream_in view s result.now ≡ stream side (state_in view s self.now) }
     {
         match side {
             Side::Master => &self.master,
@@ -139,15 +140,15 @@ impl Streams {
 
     // ENXIO where a side isn't open.
     fn unopened(&self, side: Side) -> Option<Refusal>
-        ensures { (s : StoreValue) →
-            result ≡ unless (is_open (stream side (state_in s self.now)).opened) Enxio }
+        ensures { (view : View S) (s : StoreValue) →
+            result ≡ unless (is_open (stream side (state_in view s self.now)).opened) Enxio }
     {
         unless(self.end(side).opened.is_open(), Refusal::Enxio)
     }
 
     // ENXIO where a side isn't open, or its other end is gone.
     fn unreached(&self, side: Side) -> Option<Refusal>
-        ensures { (s : StoreValue) → result ≡ unless (goes_down side (state_in s self.now)) Enxio }
+        ensures { (view : View S) (s : StoreValue) → result ≡ unless (goes_down side (state_in view s self.now)) Enxio }
     {
         let end = self.end(side);
         unless(end.opened.is_open() && !end.head.hung_up, Refusal::Enxio)
@@ -155,7 +156,7 @@ impl Streams {
 
     /// ERANGE where the books of a direction are full.
     pub(crate) fn beyond(&self) -> Option<Refusal>
-        ensures { (s : StoreValue) → result ≡ unless (in_range (state_in s self.now)) Erange }
+        ensures { (view : View S) (s : StoreValue) → result ≡ unless (in_range (state_in view s self.now)) Erange }
     {
         unless(
             self.from_master.has_room() && self.from_slave.has_room(),
@@ -165,8 +166,8 @@ impl Streams {
 
     // ERANGE where an ioctl sends more than it may, there is no number left for it, or the books of a direction are full.
     fn unasked(&self, body: &[u8]) -> Option<Refusal>
-        ensures { (s : StoreValue) →
-            result ≡ unless (may_ask body.now (state_in s self.now) && in_range (state_in s self.now)) Erange }
+        ensures { (view : View S) (s : StoreValue) →
+            result ≡ unless (may_ask body.now (state_in view s self.now) && in_range (state_in view s self.now)) Erange }
     {
         let may_ask = body.len() <= IOCTL_MAX && self.next_ioctl < IOCTL_END;
         unless(
@@ -177,7 +178,7 @@ impl Streams {
 
     // EINVAL where the master was opened before.
     fn opened_before(&self) -> Option<Refusal>
-        ensures { (s : StoreValue) → result ≡ unless (is_never (state_in s self.now).master.opened) Einval }
+        ensures { (view : View S) (s : StoreValue) → result ≡ unless (is_never (state_in view s self.now).master.opened) Einval }
     {
         unless(
             matches!(self.master.opened, Openness::Never),
@@ -187,7 +188,7 @@ impl Streams {
 
     // EINVAL where the slave is open, EAGAIN where it is locked.
     fn unready(&self) -> Option<Refusal>
-        ensures { (s : StoreValue) → let state = state_in s self.now in
+        ensures { (view : View S) (s : StoreValue) → let state = state_in view s self.now in
             result ≡ or_else (unless (not (is_open state.slave.opened)) Einval) (unless (not state.locked) Eagain) }
     {
         or_else(
@@ -197,9 +198,9 @@ impl Streams {
     }
 
     // Whether a side's head is at the end of its input, where nothing is to be read there.
-    fn is_at_end<B: Blocks>(&self, store: &B, side: Side) -> bool
-        requires { AreHeld (B.value store.now) self.now }
-        ensures { result ≡ at_end side (state_in (B.value store.now) self.now) }
+    fn is_at_end<B: Stacks<Stack = S>>(&self, store: &B, side: Side) -> bool
+        requires { AreHeld B.modules (B.value store.now) self.now }
+        ensures { result ≡ at_end side (state_in B.modules (B.value store.now) self.now) }
     {
         match side {
             Side::Slave => self.slave.head.hung_up,
@@ -213,9 +214,9 @@ impl Streams {
     }
 
     // Whether a message of this priority finds the driver's queue of a side full in its band. One of high priority waits for nothing.
-    fn is_held_back<B: Blocks>(&self, store: &B, side: Side, prio: Prio) -> bool
-        requires { AreHeld (B.value store.now) self.now }
-        ensures { result ≡ is_held_back prio (stream side (state_in (B.value store.now) self.now)).driver.queue }
+    fn is_held_back<B: Stacks<Stack = S>>(&self, store: &B, side: Side, prio: Prio) -> bool
+        requires { AreHeld B.modules (B.value store.now) self.now }
+        ensures { result ≡ is_held_back prio (stream side (state_in B.modules (B.value store.now) self.now)).driver.queue }
     {
         match prio {
             Prio::High => false,
@@ -227,8 +228,8 @@ impl Streams {
 
     /// What a call is refused for before all else: its side, and then its arguments.
     pub fn refused_at_once(&self, caller: Caller, event: &Event<&[u8]>) -> Option<Refusal>
-        ensures { (s : StoreValue) →
-            result ≡ refused_at_once (state_in s self.now) caller (request event.now) }
+        ensures { (view : View S) (s : StoreValue) →
+            result ≡ refused_at_once (state_in view s self.now) caller (request event.now) }
     {
         match event {
             Event::OpenMaster => None,
@@ -265,14 +266,14 @@ impl Streams {
     }
 
     /// What a call is refused for after all else: what the state says.
-    pub fn refused_by_state<B: Blocks>(
+    pub fn refused_by_state<B: Stacks<Stack = S>>(
         &self,
         store: &B,
         caller: Caller,
         event: &Event<&[u8]>,
     ) -> Option<Refusal>
-        requires { AreHeld (B.value store.now) self.now }
-        ensures { result ≡ refused_by_state (state_in (B.value store.now) self.now) caller (request event.now) }
+        requires { AreHeld B.modules (B.value store.now) self.now }
+        ensures { result ≡ refused_by_state (state_in B.modules (B.value store.now) self.now) caller (request event.now) }
     {
         match event {
             Event::OpenMaster => self.opened_before(),

@@ -17,13 +17,13 @@ ghost use Rattle.strm_types.specs.Refused.{blocks_asked, in_range, refused_at_on
 ghost use Rattle.strm_types.specs.Write.{chunk_count};
 ghost use Rattle.strm_types.specs.Journal.{reply_in, answer_len, content_max};
 ghost use Rattle.strm_blocks.specs.Blocks.{StoreValue, free_m, free_d, empty_store};
-ghost use Rattle.strm_pair.specs.Streams.{IsBlank, IsSide, stream_in};
+ghost use Rattle.strm_pair.specs.Streams.{View, IsBlank, IsSide, stream_in};
 ghost use Rattle.strm_pair.specs.Parts.{longest_part};
 ghost use Rattle.strm_pair.specs.PlainCalls.{wrote_plain, read_plain, read_lets};
 
 use crate::ends::End;
 use crate::sending::send;
-use strm_blocks::Blocks;
+use crate::stacks::Stacks;
 use strm_frame::Enabled;
 use strm_head::Head;
 use strm_queue::{HEAD_HIGH, HEAD_LOW, OTHER_HIGH, OTHER_LOW, Queue};
@@ -35,9 +35,9 @@ use strm_types::{
 /// The streams of a pair, whether its slave is locked, the queues that are enabled, the number that the next ioctl gets,
 /// and what was booked of each direction.
 #[derive(Drop)]
-pub(crate) struct Streams {
-    pub master: End,
-    pub slave: End,
+pub(crate) struct Streams<S> {
+    pub master: End<S>,
+    pub slave: End<S>,
     pub locked: bool,
     pub enabled: Enabled,
     pub next_ioctl: u32,
@@ -47,29 +47,30 @@ pub(crate) struct Streams {
 
 // A stream that nobody opened, whose queues stand on the lists from a number on: the head's, the driver's, and two that
 // are kept for the queues of a module.
-fn new_end(first: usize) -> End
+fn new_end<S: Drop>(first: usize, stack: S) -> End<S>
     requires { first ≤ 4 }
-    ensures side { (s : StoreValue) → IsBlank s first → IsSide s first result }
-    ensures stream { (s : StoreValue) → IsBlank s first → stream_in s result ≡ new_stream }
+    ensures side { (view : View S) (s : StoreValue) → ((t : StoreValue) → view t stack ≡ []) → IsBlank s first → IsSide view s first result }
+    ensures stream { (view : View S) (s : StoreValue) → ((t : StoreValue) → view t stack ≡ []) → IsBlank s first → stream_in view s result ≡ new_stream }
 {
     End {
         opened: Openness::Never,
         head: Head::new(Queue::new(first, HEAD_HIGH, HEAD_LOW)),
+        stack,
         driver: Queue::new(first + 1, OTHER_HIGH, OTHER_LOW),
     }
 }
 
-impl Streams {
+impl<S: Drop> Streams<S> {
     ghost use Rattle.strm_pair.specs.Pairs.{state_in, AreHeld, SamePool};
 
     /// The streams of a new pair.
-    pub fn new() -> Streams
-        ensures state { (mblks dblks : ℕ) → state_in (empty_store mblks dblks) result ≡ opening }
-        ensures held { (mblks dblks : ℕ) → AreHeld (empty_store mblks dblks) result }
+    pub fn new<B: Stacks<Stack = S>>() -> Streams<S>
+        ensures state { (mblks dblks : ℕ) → state_in B.modules (empty_store mblks dblks) result ≡ opening }
+        ensures held { (mblks dblks : ℕ) → AreHeld B.modules (empty_store mblks dblks) result }
     {
         Streams {
-            master: new_end(0),
-            slave: new_end(4),
+            master: new_end(0, B::no_module()),
+            slave: new_end(4, B::no_module()),
             locked: true,
             enabled: Enabled::new(),
             next_ioctl: 1,
@@ -98,11 +99,11 @@ impl Streams {
 
     /// Opens the slave: its head is as new, and what waits for it may come.
     #[inline(never)]
-    pub fn open_slave<B: Blocks>(&mut self, store: &mut B) -> Answer<usize>
-        requires { AreHeld (B.value store.old) self.old }
+    pub fn open_slave<B: Stacks<Stack = S>>(&mut self, store: &mut B) -> Answer<usize>
+        requires { AreHeld B.modules (B.value store.old) self.old }
         ensures answer { result ≡ Done }
-        ensures state { state_in (B.value store.new) self.new ≡ opened_slave (state_in (B.value store.old) self.old) }
-        ensures held { AreHeld (B.value store.new) self.new }
+        ensures state { state_in B.modules (B.value store.new) self.new ≡ opened_slave (state_in B.modules (B.value store.old) self.old) }
+        ensures held { AreHeld B.modules (B.value store.new) self.new }
         ensures pool { SamePool (B.value store.old) (B.value store.new) }
     {
         self.slave.open(store);
@@ -115,8 +116,8 @@ impl Streams {
     // Sets a mode of a side's head.
     #[inline(never)]
     fn set_mode(&mut self, side: Side, mode: Mode)
-        ensures state { (s : StoreValue) → state_in s self.new ≡ mode_set side mode (state_in s self.old) }
-        ensures held { (s : StoreValue) → AreHeld s self.old → AreHeld s self.new }
+        ensures state { (view : View S) (s : StoreValue) → state_in view s self.new ≡ mode_set side mode (state_in view s self.old) }
+        ensures held { (view : View S) (s : StoreValue) → AreHeld view s self.old → AreHeld view s self.new }
     {
         match side {
             Side::Master => self.master.head.set_mode(mode),
@@ -126,15 +127,15 @@ impl Streams {
 
     /// Writes bytes down a side's stream, and answers how many were taken: they are put on the driver's queue, which is what their
     /// deliveries come to while the master isn't closed.
-    pub fn write<B: Blocks>(&mut self, store: &mut B, side: Side, bytes: &[u8]) -> usize
-        requires held { AreHeld (B.value store.old) self.old }
-        requires in_range { in_range (state_in (B.value store.old) self.old) ≡ true }
+    pub fn write<B: Stacks<Stack = S>>(&mut self, store: &mut B, side: Side, bytes: &[u8]) -> usize
+        requires held { AreHeld B.modules (B.value store.old) self.old }
+        requires in_range { in_range (state_in B.modules (B.value store.old) self.old) ≡ true }
         requires room_m { chunk_count (length bytes.now) ≤ free_m (B.value store.old) }
         requires room_d { chunk_count (length bytes.now) ≤ free_d (B.value store.old) }
-        ensures answer { Count result ≡ (wrote_plain side bytes.now (state_in (B.value store.old) self.old)).answer }
-        ensures state { state_in (B.value store.new) self.new
-            ≡ (wrote_plain side bytes.now (state_in (B.value store.old) self.old)).state }
-        ensures held { AreHeld (B.value store.new) self.new }
+        ensures answer { Count result ≡ (wrote_plain side bytes.now (state_in B.modules (B.value store.old) self.old)).answer }
+        ensures state { state_in B.modules (B.value store.new) self.new
+            ≡ (wrote_plain side bytes.now (state_in B.modules (B.value store.old) self.old)).state }
+        ensures held { AreHeld B.modules (B.value store.new) self.new }
         ensures pool { SamePool (B.value store.old) (B.value store.new) }
     {
         let chunks = chunk_count(bytes.len());
@@ -157,7 +158,7 @@ impl Streams {
     }
 
     /// Reads up to `n` bytes from a side's head into `out`, as its modes say.
-    pub fn read<B: Blocks>(
+    pub fn read<B: Stacks<Stack = S>>(
         &mut self,
         store: &mut B,
         side: Side,
@@ -165,15 +166,15 @@ impl Streams {
         out: &mut Content,
         told: &mut Fates,
     )
-        requires held { AreHeld (B.value store.old) self.old }
+        requires held { AreHeld B.modules (B.value store.old) self.old }
         requires fresh { out.old.items ≡ [] }
-        ensures answer { Bytes out.new.items ≡ (read_plain side n (state_in (B.value store.old) self.old)).answer }
+        ensures answer { Bytes out.new.items ≡ (read_plain side n (state_in B.modules (B.value store.old) self.old)).answer }
         ensures most { length out.new.items ≤ min n READ_MAX }
-        ensures state { state_in (B.value store.new) self.new
-            ≡ (read_plain side n (state_in (B.value store.old) self.old)).state }
-        ensures held { AreHeld (B.value store.new) self.new }
+        ensures state { state_in B.modules (B.value store.new) self.new
+            ≡ (read_plain side n (state_in B.modules (B.value store.old) self.old)).state }
+        ensures held { AreHeld B.modules (B.value store.new) self.new }
         ensures pool { SamePool (B.value store.old) (B.value store.new) }
-        ensures told { told.new ≡ tallied (read_lets side n (state_in (B.value store.old) self.old)) told.old }
+        ensures told { told.new ≡ tallied (read_lets side n (state_in B.modules (B.value store.old) self.old)) told.old }
     {
         let wanted = (n as usize).min(READ_MAX);
         let direction = side.head().direction();
@@ -185,7 +186,7 @@ impl Streams {
     }
 
     /// Carries out a call that nothing refuses. What a read or a get gives stands in `out`, which is empty else.
-    pub fn carry_out<B: Blocks>(
+    pub fn carry_out<B: Stacks<Stack = S>>(
         &mut self,
         store: &mut B,
         caller: Caller,
@@ -193,20 +194,20 @@ impl Streams {
         out: &mut Content,
         told: &mut Fates,
     ) -> Answer<usize>
-        requires held { AreHeld (B.value store.old) self.old }
-        requires allowed { refused_at_once (state_in (B.value store.old) self.old) caller (request event.now) ≡ None }
-        requires cut_off { IsCutOff (state_in (B.value store.old) self.old) }
+        requires held { AreHeld B.modules (B.value store.old) self.old }
+        requires allowed { refused_at_once (state_in B.modules (B.value store.old) self.old) caller (request event.now) ≡ None }
+        requires cut_off { IsCutOff (state_in B.modules (B.value store.old) self.old) }
         requires room_m { blocks_asked (request event.now) ≤ free_m (B.value store.old) }
         requires room_d { blocks_asked (request event.now) ≤ free_d (B.value store.old) }
         ensures answer { reply_in result out.new.items
-            ≡ (called plain caller (request event.now) (state_in (B.value store.old) self.old)).answer }
+            ≡ (called plain caller (request event.now) (state_in B.modules (B.value store.old) self.old)).answer }
         ensures filled { answer_len result ≡ length out.new.items }
         ensures content { length out.new.items ≤ content_max (request event.now) }
         ensures parts { longest_part result ≤ READ_MAX }
-        ensures state { state_in (B.value store.new) self.new
-            ≡ (called plain caller (request event.now) (state_in (B.value store.old) self.old)).state }
-        ensures held { AreHeld (B.value store.new) self.new }
-        ensures told { (answer : Reply) → told.new ≡ tallied (gone plain (state_in (B.value store.old) self.old)
+        ensures state { state_in B.modules (B.value store.new) self.new
+            ≡ (called plain caller (request event.now) (state_in B.modules (B.value store.old) self.old)).state }
+        ensures held { AreHeld B.modules (B.value store.new) self.new }
+        ensures told { (answer : Reply) → told.new ≡ tallied (gone plain (state_in B.modules (B.value store.old) self.old)
             (Called caller (request event.now) answer)) told.old }
         ensures pool { SamePool (B.value store.old) (B.value store.new) }
     {
@@ -244,15 +245,20 @@ impl Streams {
     }
 
     /// A turn of an enabled queue.
-    pub fn turn<B: Blocks>(&mut self, store: &mut B, name: QueueName, told: &mut Fates) -> Turn
-        requires held { AreHeld (B.value store.old) self.old }
+    pub fn turn<B: Stacks<Stack = S>>(
+        &mut self,
+        store: &mut B,
+        name: QueueName,
+        told: &mut Fates,
+    ) -> Turn
+        requires held { AreHeld B.modules (B.value store.old) self.old }
         requires room { HasRoom (B.value store.old) TURN_BLOCKS }
-        ensures turn { result ≡ (turned plain name result (state_in (B.value store.old) self.old)).turn }
-        ensures state { state_in (B.value store.new) self.new
-            ≡ (turned plain name result (state_in (B.value store.old) self.old)).state }
-        ensures held { AreHeld (B.value store.new) self.new }
+        ensures turn { result ≡ (turned plain name result (state_in B.modules (B.value store.old) self.old)).turn }
+        ensures state { state_in B.modules (B.value store.new) self.new
+            ≡ (turned plain name result (state_in B.modules (B.value store.old) self.old)).state }
+        ensures held { AreHeld B.modules (B.value store.new) self.new }
         ensures pool { SamePool (B.value store.old) (B.value store.new) }
-        ensures told { told.new ≡ tallied (turned plain name result (state_in (B.value store.old) self.old)).gone told.old }
+        ensures told { told.new ≡ tallied (turned plain name result (state_in B.modules (B.value store.old) self.old)).gone told.old }
     {
         self.enabled.remove(name);
         match name.place {

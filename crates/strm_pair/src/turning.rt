@@ -1,6 +1,6 @@
 //! A turn of a driver: what goes from it up the other side's stream (STREAMS Programming Guide, "Service Procedures").
 
-ghost use Rattle.std.specs.Prelude.{◌≡◌, ◌<◌, [], not, false, MatchOption};
+ghost use Rattle.std.specs.Prelude.{ℕ, ◌≡◌, ◌<◌, [], not, false, MatchOption};
 ghost use Rattle.strm_types.specs.declared.limits.TheConstants.{BANDS};
 ghost use Rattle.strm_types.specs.Deliver.{tallied};
 ghost use Rattle.strm_types.specs.Turns.{driver_turned, turn_ended, with_driver};
@@ -10,7 +10,9 @@ ghost use Rattle.strm_frame.specs.Hands.{HasRoom};
 ghost use Rattle.strm_queue.specs.Stored.{messages_on, queue_in, IsReady};
 ghost use Rattle.strm_pty.specs.Does.{OnlyQueue};
 ghost use Rattle.strm_pair.specs.Took.{settled, settling_relieves, TookFirst, MovesAcross, waits_at_head};
+ghost use Rattle.strm_pair.specs.Streams.{View};
 
+use crate::stacks::Stacks;
 use crate::streams::Streams;
 use strm_blocks::Blocks;
 use strm_frame::{TurnEnd, deliver};
@@ -40,16 +42,16 @@ fn settle<B: Blocks>(store: &B, queue: &mut Queue, size: usize) -> TurnEnd
     }
 }
 
-impl Streams {
+impl<S: Drop> Streams<S> {
     ghost use Rattle.strm_blocks.specs.Blocks.{StoreValue};
     ghost use Rattle.strm_pair.specs.Pairs.{state_in, end_at, AreHeld, SamePool};
 
     // Takes the first message off the queue of a side's driver.
-    fn take_first<B: Blocks>(&mut self, store: &mut B, side: Side) -> Option<B::Mp>
-        requires { AreHeld (B.value store.old) self.old }
+    fn take_first<B: Stacks<Stack = S>>(&mut self, store: &mut B, side: Side) -> Option<B::Mp>
+        requires { AreHeld B.modules (B.value store.old) self.old }
         ensures { MatchOption result
             (messages_on (B.value store.old) (end_at side self.old).driver.list ≡ [])
-            (λ m. TookFirst side (B.value store.old) (B.value store.new) self.old self.new (B.name m)) }
+            (λ m. TookFirst B.modules side (B.value store.old) (B.value store.new) self.old self.new (B.name m)) }
     {
         match side {
             Side::Master => dequeue(store, &mut self.master.driver),
@@ -58,10 +60,10 @@ impl Streams {
     }
 
     // The end of a turn that took a message of this size off the queue of a side's driver.
-    fn end_turn<B: Blocks>(&mut self, store: &B, side: Side, size: usize)
-        requires { AreHeld (B.value store.now) self.old }
-        ensures state { state_in (B.value store.now) self.new ≡ turn_ended side size (state_in (B.value store.now) self.old) }
-        ensures held { AreHeld (B.value store.now) self.new }
+    fn end_turn<B: Stacks<Stack = S>>(&mut self, store: &B, side: Side, size: usize)
+        requires { AreHeld B.modules (B.value store.now) self.old }
+        ensures state { state_in B.modules (B.value store.now) self.new ≡ turn_ended side size (state_in B.modules (B.value store.now) self.old) }
+        ensures held { AreHeld B.modules (B.value store.now) self.new }
     {
         let end = match side {
             Side::Master => settle(store, &mut self.master.driver, size),
@@ -72,13 +74,18 @@ impl Streams {
     }
 
     // A driver's first message goes up the other side's stream, with all that it gives rise to.
-    fn move_across<B: Blocks>(&mut self, store: &mut B, side: Side, told: &mut Fates) -> Turn
-        requires held { AreHeld (B.value store.old) self.old }
+    fn move_across<B: Stacks<Stack = S>>(
+        &mut self,
+        store: &mut B,
+        side: Side,
+        told: &mut Fates,
+    ) -> Turn
+        requires held { AreHeld B.modules (B.value store.old) self.old }
         requires room { HasRoom (B.value store.old) 4 }
         requires some { is_none_left (messages_on (B.value store.old) (end_at side self.old).driver.list) ≡ false }
-        ensures moves { MovesAcross side (state_in (B.value store.old) self.old) result
-            (state_in (B.value store.new) self.new) told.old told.new }
-        ensures held { AreHeld (B.value store.new) self.new }
+        ensures moves { MovesAcross side (state_in B.modules (B.value store.old) self.old) result
+            (state_in B.modules (B.value store.new) self.new) told.old told.new }
+        ensures held { AreHeld B.modules (B.value store.new) self.new }
         ensures pool { SamePool (B.value store.old) (B.value store.new) }
     {
         let Some(message) = self.take_first(store, side) else {
@@ -98,9 +105,9 @@ impl Streams {
 
     // A driver's queue keeps what it has, and wants to be read or not.
     fn keep(&mut self, side: Side, want_read: bool)
-        ensures state { (s : StoreValue) → state_in s self.new
-            ≡ with_driver side (record (stream side (state_in s self.old)).driver.queue { want_read = want_read }) (state_in s self.old) }
-        ensures held { (s : StoreValue) → AreHeld s self.old → AreHeld s self.new }
+        ensures state { (view : View S) (s : StoreValue) → state_in view s self.new
+            ≡ with_driver side (record (stream side (state_in view s self.old)).driver.queue { want_read = want_read }) (state_in view s self.old) }
+        ensures held { (view : View S) (s : StoreValue) → AreHeld view s self.old → AreHeld view s self.new }
     {
         match side {
             Side::Master => self.master.driver.want_read = want_read,
@@ -111,8 +118,8 @@ impl Streams {
     // A writer waits for room in a band at a side's head.
     fn wait_at_head(&mut self, side: Side, band: Band)
         requires { band.0 < BANDS }
-        ensures state { (s : StoreValue) → state_in s self.new ≡ waits_at_head side band.0 (state_in s self.old) }
-        ensures held { (s : StoreValue) → AreHeld s self.old → AreHeld s self.new }
+        ensures state { (view : View S) (s : StoreValue) → state_in view s self.new ≡ waits_at_head side band.0 (state_in view s self.old) }
+        ensures held { (view : View S) (s : StoreValue) → AreHeld view s self.old → AreHeld view s self.new }
     {
         match side {
             Side::Master => self.master.head.queue.let_wait(band),
@@ -122,19 +129,19 @@ impl Streams {
 
     /// A turn of a side's driver, which is off the list of enabled queues: its first message goes up the other side's stream,
     /// unless that isn't open or its head is full.
-    pub(crate) fn turn_driver<B: Blocks>(
+    pub(crate) fn turn_driver<B: Stacks<Stack = S>>(
         &mut self,
         store: &mut B,
         side: Side,
         told: &mut Fates,
     ) -> Turn
-        requires held { AreHeld (B.value store.old) self.old }
+        requires held { AreHeld B.modules (B.value store.old) self.old }
         requires room { HasRoom (B.value store.old) 4 }
-        ensures turn { result ≡ (driver_turned side (state_in (B.value store.old) self.old)).turn }
-        ensures state { state_in (B.value store.new) self.new
-            ≡ (driver_turned side (state_in (B.value store.old) self.old)).state }
-        ensures told { told.new ≡ tallied (driver_turned side (state_in (B.value store.old) self.old)).gone told.old }
-        ensures held { AreHeld (B.value store.new) self.new }
+        ensures turn { result ≡ (driver_turned side (state_in B.modules (B.value store.old) self.old)).turn }
+        ensures state { state_in B.modules (B.value store.new) self.new
+            ≡ (driver_turned side (state_in B.modules (B.value store.old) self.old)).state }
+        ensures told { told.new ≡ tallied (driver_turned side (state_in B.modules (B.value store.old) self.old)).gone told.old }
+        ensures held { AreHeld B.modules (B.value store.new) self.new }
         ensures pool { SamePool (B.value store.old) (B.value store.new) }
     {
         let Some(first) = store.peek(self.end(side).driver.list) else {

@@ -2,12 +2,12 @@
 //! leads on.
 
 use crate::Pair;
+use crate::stacks::Stacks;
 use crate::tests::over_tables;
 use crate::tests::recount::PlainPair;
 use std::alloc::{AllocError, Global};
 use std::process::Abort;
 use std::test::Fail;
-use strm_blocks::Blocks;
 use strm_types::{
     Band, Caller, Config, Content, Entry, Event, FlushQueues, ModuleName, Place, QueueName,
     Refusal, Side, Turn, Way,
@@ -16,7 +16,7 @@ use strm_types::{
 // A pair, the model to which its journal has led, what the last read gave, the last random number, and how often what
 // was met.
 #[derive(Drop)]
-struct Walk<B: Blocks + Drop> {
+struct Walk<B: Stacks + Drop> {
     pair: Pair<B>,
     model: PlainPair,
     out: Content,
@@ -145,21 +145,21 @@ fn name_of(x: u64) -> Option<ModuleName> {
 }
 
 // Whether the model has the queues enabled that a pair has.
-fn enables_alike<B: Blocks + Drop>(pair: &Pair<B>, model: &PlainPair) -> bool {
+fn enables_alike<B: Stacks + Drop>(pair: &Pair<B>, model: &PlainPair) -> bool {
     let enabled = model.enabled();
     pair.enabled() == enabled && pair.first_enabled() == enabled.first().copied()
 }
 
 // Whether a journal has led the model to its end, and the pair is the model's: its free blocks, its enabled queues, and
 // what its queues keep.
-fn are_alike<B: Blocks + Drop>(pair: &Pair<B>, model: &PlainPair) -> bool {
+fn are_alike<B: Stacks + Drop>(pair: &Pair<B>, model: &PlainPair) -> bool {
     model.is_at_the_end_of(pair.journal())
         && pair.free_blocks() == model.free_blocks()
         && enables_alike(pair, model)
         && pair.kept() == model.kept()
 }
 
-impl<B: Blocks + Drop> Walk<B> {
+impl<B: Stacks + Drop> Walk<B> {
     fn next_random(&mut self) -> u64 {
         self.random = self
             .random

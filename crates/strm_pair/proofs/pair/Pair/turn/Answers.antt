@@ -19,10 +19,10 @@ invariant_of-self g c =
     let p = c.self.inside in
     let s = g.B.Blocks.value p.store in
     let new = g.B.Blocks.value c.turn-turn.new.store in
-    let old = state_in s p.streams in
+    let old = state_in g.B.Stacks.modules s p.streams in
     let entry : PlainEntry = Turned c.args.name c.turn-turn.result in
-    let allowed : queue_refused (pair_of s p.streams p.journal p.limits p.fates) c.args.name ≡ None = ap (λ (v : PairState). queue_refused v c.args.name) c.self.view_is ∙ sym c.turn_refusal.ensures ∙ c.in_default.is in
-    kept-step s new p.streams c.turn-turn.new.self p.journal c.add_turn.new.self p.limits p.fates c.turn-turn.new.told entry c.self.invariant
+    let allowed : queue_refused (pair_of g.B.Stacks.modules s p.streams p.journal p.limits p.fates) c.args.name ≡ None = ap (λ (v : PairState). queue_refused v c.args.name) c.self.view_is ∙ sym c.turn_refusal.ensures ∙ c.in_default.is in
+    kept-step g.B.Stacks.modules s new p.streams c.turn-turn.new.self p.journal c.add_turn.new.self p.limits p.fates c.turn-turn.new.told entry c.self.invariant
     (record {
       enabled = (turn-allowed old (journal_of p.journal) p.limits (enough TURN_BLOCKS (free_in s)) c.args.name allowed).0;
       in_range = (turn-allowed old (journal_of p.journal) p.limits (enough TURN_BLOCKS (free_in s)) c.args.name allowed).1;
@@ -38,19 +38,19 @@ returns-clause-adds g c =
     let new = g.B.Blocks.value c.turn-turn.new.store in
     let q = c.turn-turn.new.self in
     let k = c.add_turn.new.self in
-    let old = state_in s p.streams in
+    let old = state_in g.B.Stacks.modules s p.streams in
     let entry : PlainEntry = Turned c.args.name c.turn-turn.result in
-    let allowed : queue_refused (pair_of s p.streams p.journal p.limits p.fates) c.args.name ≡ None = ap (λ (v : PairState). queue_refused v c.args.name) c.self.view_is ∙ sym c.turn_refusal.ensures ∙ c.in_default.is in
+    let allowed : queue_refused (pair_of g.B.Stacks.modules s p.streams p.journal p.limits p.fates) c.args.name ≡ None = ap (λ (v : PairState). queue_refused v c.args.name) c.self.view_is ∙ sym c.turn_refusal.ensures ∙ c.in_default.is in
     let taken : IsTurn plain old c.args.name c.turn-turn.result (after plain old entry) = record {
       enabled = (turn-allowed old (journal_of p.journal) p.limits (enough TURN_BLOCKS (free_in s)) c.args.name allowed).0;
       in_range = (turn-allowed old (journal_of p.journal) p.limits (enough TURN_BLOCKS (free_in s)) c.args.name allowed).1;
       answered = sym c.turn-turn.ensures.turn;
       leads = refl;
     } in
-    subst (λ (v : PairState). AddsEntry v (pair_of new q k p.limits c.turn-turn.new.told) entry) c.self.view_is
+    subst (λ (v : PairState). AddsEntry v (pair_of g.B.Stacks.modules new q k p.limits c.turn-turn.new.told) entry) c.self.view_is
     (record {
       journal = c.add_turn.ensures.added;
-      step = step-shown s new p.streams q entry c.turn-turn.ensures.state taken;
+      step = step-shown g.B.Stacks.modules s new p.streams q entry c.turn-turn.ensures.state taken;
       fates = c.turn-turn.ensures.told;
       base = refl;
       limits = refl;

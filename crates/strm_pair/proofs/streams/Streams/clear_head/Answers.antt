@@ -20,7 +20,7 @@ returns-clause-held g c =
           rw (w.store-is, c.let_go.ensures, w.self-is)
           (record {
             hand = e.changes.hand ∙ c.requires.hand;
-            beside = head-changed s t p c.requires.beside Master (record p.master.head { queue = q }) (only-changed s t p.master.head.queue q e.changes) (readable-cleared t q (queue_in s p.master.head.queue) e.queue);
+            beside = head-changed g.B.Stacks.modules s t p c.requires.beside Master (record p.master.head { queue = q }) (only-changed s t p.master.head.queue q e.changes) (readable-cleared t q (queue_in s p.master.head.queue) e.queue);
           }))
       | in-Slave w ↦
           (let e = w.clear_queue-lets_go-in-Slave.ensures in
@@ -29,9 +29,9 @@ returns-clause-held g c =
           rw (w.store-is, c.let_go.ensures, w.self-is)
           (record {
             hand = e.changes.hand ∙ c.requires.hand;
-            beside = head-changed s t p c.requires.beside Slave (record p.slave.head { queue = q }) (only-changed s t p.slave.head.queue q e.changes) (readable-cleared t q (queue_in s p.slave.head.queue) e.queue);
+            beside = head-changed g.B.Stacks.modules s t p c.requires.beside Slave (record p.slave.head { queue = q }) (only-changed s t p.slave.head.queue q e.changes) (readable-cleared t q (queue_in s p.slave.head.queue) e.queue);
           }))
     ]
 
 pub returns-clause-state : goal.returns-clause-state
-returns-clause-state g c = rw (head-lets-go (state_in (g.B.Blocks.value c.args.store.now) c.args.self.now) (none-stand (g.B.Blocks.value c.args.store.now) c.args.self.now) c.args.side) (search rules)
+returns-clause-state g c = rw (head-lets-go (state_in g.B.Stacks.modules (g.B.Blocks.value c.args.store.now) c.args.self.now) (none-stand g.B.Stacks.modules (g.B.Blocks.value c.args.store.now) c.args.self.now c.requires.beside) c.args.side) (search rules)

@@ -30,16 +30,16 @@ returns g c =
           (let e = w.put-came.ensures in
           let r = w.put-came.result in
           rw (w.store-is, w.told-is, w.came-is)
-          (came-by Master s (g.B.Blocks.value w.put-came.new.store) p w.put-came.new.self i to m r.lets_go r.down c.args.told.now w.put-came.new.told c.let_go.new.self
+          (came-by g.B.Stacks.modules Master s (g.B.Blocks.value w.put-came.new.store) p w.put-came.new.self i to m r.lets_go r.down c.args.told.now w.put-came.new.told c.let_go.new.self
           w.in-Master.is c.audit.ensures c.requires.can_put c.requires.beside c.requires.opened e.state e.notes e.sent e.told e.changes e.readable e.frees
           (q_is ∙ ap (λ b. record c.match-to.self { enabled = enable_some b (before (head_of to.side)) c.match-to.self.enabled }) (ap (λ x. x.lets_go) w.came-is)
-          ∙ ap (λ (x : Streams). record x { enabled = enable_some r.lets_go (before (head_of to.side)) x.enabled }) w.self-is)))
+          ∙ ap (λ (x : Streams _). record x { enabled = enable_some r.lets_go (before (head_of to.side)) x.enabled }) w.self-is)))
       | in-Slave w ↦
           (let e = w.put-came-in-Slave.ensures in
           let r = w.put-came-in-Slave.result in
           rw (w.store-is, w.told-is, w.came-is)
-          (came-by Slave s (g.B.Blocks.value w.put-came-in-Slave.new.store) p w.put-came-in-Slave.new.self i to m r.lets_go r.down c.args.told.now w.put-came-in-Slave.new.told c.let_go.new.self
+          (came-by g.B.Stacks.modules Slave s (g.B.Blocks.value w.put-came-in-Slave.new.store) p w.put-came-in-Slave.new.self i to m r.lets_go r.down c.args.told.now w.put-came-in-Slave.new.told c.let_go.new.self
           w.in-Slave.is c.audit.ensures c.requires.can_put c.requires.beside c.requires.opened e.state e.notes e.sent e.told e.changes e.readable e.frees
           (q_is ∙ ap (λ b. record c.match-to.self { enabled = enable_some b (before (head_of to.side)) c.match-to.self.enabled }) (ap (λ x. x.lets_go) w.came-is)
-          ∙ ap (λ (x : Streams). record x { enabled = enable_some r.lets_go (before (head_of to.side)) x.enabled }) w.self-is)))
+          ∙ ap (λ (x : Streams _). record x { enabled = enable_some r.lets_go (before (head_of to.side)) x.enabled }) w.self-is)))
     ]

@@ -31,9 +31,9 @@ returns g c =
     let m = message_in s i in
     let made = sent_of c.none.result in
     let inside = can-in_hand s i (λ j. 0) c.audit.ensures c.requires.can_put in
-    subst (λ w. PutBy name s t p p i 0 made c.args.told.now c.tell.new.self w) (sym (closed-is to.side to m (state_in s p) c.requires.closed))
-    (swaps-put name s t p i 0 0 made [] c.args.told.now c.tell.new.self
-    (record { state = state_in s p; sent = []; gone = Goes (direction_at Up to.side) EndClosed (cells_of m) ∷ [] })
+    subst (λ w. PutBy name g.B.Stacks.modules s t p p i 0 made c.args.told.now c.tell.new.self w) (sym (closed-is to.side to m (state_in g.B.Stacks.modules s p) c.requires.closed))
+    (swaps-put name g.B.Stacks.modules s t p i 0 0 made [] c.args.told.now c.tell.new.self
+    (record { state = state_in g.B.Stacks.modules s p; sent = []; gone = Goes (direction_at Up to.side) EndClosed (cells_of m) ∷ [] })
     c.requires.beside (swaps-freed name s t i made c.audit.ensures inside c.free.ensures c.none.ensures) (omega arith) refl refl
     (c.tell.ensures
     ∙ ap (λ d. told_more d EndClosed c.booked_size-bytes.result c.args.told.now) (c.direction.ensures ∙ ap (λ n. direction_of n) c.head.ensures)

@@ -38,14 +38,14 @@ returns-clause-moves g c =
     let s = g.B.Blocks.value c.args.store.now in
     let p = c.args.self.now in
     let side = c.args.side in
-    let st = state_in s p in
+    let st = state_in g.B.Stacks.modules s p in
     let got = g.B.Blocks.value c.take_first.new.store in
     let took = c.take_first.new.self in
     let t = g.B.Blocks.value c.deliver.new.store in
     let m = message_of (in_hand got (g.B.Blocks.name c.in-Some.message)) in
     let e = c.in-Some.ensures in
     let size_is = c.message_size-size.ensures.message e.chain in
-    let is = moves-alone side m e.rest st (none-stand s p) in
+    let is = moves-alone side m e.rest st (none-stand g.B.Stacks.modules s p c.requires.held.beside) in
     let up : Side → Spot = λ sd. record { side = sd; at = 0; way = Up } in
     record {
       message = m;
@@ -53,11 +53,11 @@ returns-clause-moves g c =
       first = e.first;
       answer = ap Moved size_is;
       state = c.end_turn.ensures.state
-          ∙ ap (λ n. turn_ended side n (state_in t c.deliver.new.stations)) size_is
-          ∙ ap (λ v. turn_ended side (size_of m) v) (c.deliver.ensures.state ∙ ap (λ sd. (delivered (up sd) m (state_in got took)).state) c.other.ensures ∙ ap (λ v. (delivered (up (other side)) m v).state) e.state)
+          ∙ ap (λ n. turn_ended side n (state_in g.B.Stacks.modules t c.deliver.new.stations)) size_is
+          ∙ ap (λ v. turn_ended side (size_of m) v) (c.deliver.ensures.state ∙ ap (λ sd. (delivered (up sd) m (state_in g.B.Stacks.modules got took)).state) c.other.ensures ∙ ap (λ v. (delivered (up (other side)) m v).state) e.state)
           ∙ ap (λ (o : TurnOutcome ℕ). o.state) (sym is);
       tells = c.deliver.ensures.told
-          ∙ ap (λ sd. tallied (delivered (up sd) m (state_in got took)).gone c.args.told.now) c.other.ensures
+          ∙ ap (λ sd. tallied (delivered (up sd) m (state_in g.B.Stacks.modules got took)).gone c.args.told.now) c.other.ensures
           ∙ ap (λ v. tallied (delivered (up (other side)) m v).gone c.args.told.now) e.state
           ∙ ap (λ (o : TurnOutcome ℕ). tallied o.gone c.args.told.now) (sym is);
     }

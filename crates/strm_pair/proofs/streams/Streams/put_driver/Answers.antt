@@ -28,15 +28,15 @@ returns g c =
       | in-Master w ↦
           (let e = w.put-acts.ensures in
           rw (w.store-is, w.told-is, w.acts-is)
-          (driver-by g.B.Blocks.name Master s (g.B.Blocks.value w.put-acts.new.store) p c.note.new.self w.put-acts.new.queue i to c.across-across.result w.put-acts.result c.args.told.now w.put-acts.new.told
-          w.in-Master.is (c.across-across.ensures s) c.requires.beside e.state e.notes e.sent e.told e.only e.chains e.hands e.spends e.pool
+          (driver-by g.B.Blocks.name g.B.Stacks.modules Master s (g.B.Blocks.value w.put-acts.new.store) p c.note.new.self w.put-acts.new.queue i to c.across-across.result w.put-acts.result c.args.told.now w.put-acts.new.told
+          w.in-Master.is (c.across-across.ensures g.B.Stacks.modules s c.requires.beside) c.requires.beside e.state e.notes e.sent e.told e.only e.chains e.hands e.spends e.pool
           (q_is ∙ ap (λ ns. record c.match-to.self { enabled = noted to.side (Some Driver) (by_name to.side Driver) ns c.match-to.self.enabled }) (ap (λ x. x.notes.items) w.acts-is)
-          ∙ ap (λ (x : Streams). record x { enabled = noted to.side (Some Driver) (by_name to.side Driver) w.put-acts.result.notes.items x.enabled }) w.self-is)))
+          ∙ ap (λ (x : Streams _). record x { enabled = noted to.side (Some Driver) (by_name to.side Driver) w.put-acts.result.notes.items x.enabled }) w.self-is)))
       | in-Slave w ↦
           (let e = w.put-acts-in-Slave.ensures in
           rw (w.store-is, w.told-is, w.acts-is)
-          (driver-by g.B.Blocks.name Slave s (g.B.Blocks.value w.put-acts-in-Slave.new.store) p c.note.new.self w.put-acts-in-Slave.new.queue i to c.across-across.result w.put-acts-in-Slave.result c.args.told.now w.put-acts-in-Slave.new.told
-          w.in-Slave.is (c.across-across.ensures s) c.requires.beside e.state e.notes e.sent e.told e.only e.chains e.hands e.spends e.pool
+          (driver-by g.B.Blocks.name g.B.Stacks.modules Slave s (g.B.Blocks.value w.put-acts-in-Slave.new.store) p c.note.new.self w.put-acts-in-Slave.new.queue i to c.across-across.result w.put-acts-in-Slave.result c.args.told.now w.put-acts-in-Slave.new.told
+          w.in-Slave.is (c.across-across.ensures g.B.Stacks.modules s c.requires.beside) c.requires.beside e.state e.notes e.sent e.told e.only e.chains e.hands e.spends e.pool
           (q_is ∙ ap (λ ns. record c.match-to.self { enabled = noted to.side (Some Driver) (by_name to.side Driver) ns c.match-to.self.enabled }) (ap (λ x. x.notes.items) w.acts-is)
-          ∙ ap (λ (x : Streams). record x { enabled = noted to.side (Some Driver) (by_name to.side Driver) w.put-acts-in-Slave.result.notes.items x.enabled }) w.self-is)))
+          ∙ ap (λ (x : Streams _). record x { enabled = noted to.side (Some Driver) (by_name to.side Driver) w.put-acts-in-Slave.result.notes.items x.enabled }) w.self-is)))
     ]

@@ -49,8 +49,8 @@ returns-then-is_flush g c =
     let flush : is_flush m.kind ≡ true = ap is_flush (kind-is (in_hand s i) ∙ sym c.kind.ensures) ∙ sym c.is_flush.ensures ∙ c.if-is_flush.true in
     let across : is_across to m ≡ true = ap (λ b. b && (to.at == 4)) flush ∙ at-place c.args.to.at c.if-to.true in
     let sent = sent_of c.put_driver.result in
-    subst (λ b. PutBy name s t p c.put_driver.new.self i (cond b 1 0) sent c.args.told.now c.put_driver.new.told (cond b (put_at_driver to.side to m (state_in s p)) (passed_up to m (state_in s p)))) (sym across)
-    (subst (λ w. PutBy name s t p c.put_driver.new.self i (below_takes w true) sent c.args.told.now c.put_driver.new.told (put_at_driver to.side to m (state_in s p))) c.requires.up c.put_driver.ensures)
+    subst (λ b. PutBy name g.B.Stacks.modules s t p c.put_driver.new.self i (cond b 1 0) sent c.args.told.now c.put_driver.new.told (cond b (put_at_driver to.side to m (state_in g.B.Stacks.modules s p)) (passed_up to m (state_in g.B.Stacks.modules s p)))) (sym across)
+    (subst (λ w. PutBy name g.B.Stacks.modules s t p c.put_driver.new.self i (below_takes w true) sent c.args.told.now c.put_driver.new.told (put_at_driver to.side to m (state_in g.B.Stacks.modules s p))) c.requires.up c.put_driver.ensures)
 
 pub returns : goal.returns
 returns g c =
@@ -68,4 +68,4 @@ returns g c =
           ap (λ b. b && (to.at == 4)) flush)
       | else-to-via-else-to w ↦ ap (λ b. is_flush m.kind && b) (at-other to.at w.if-to.false) ∙ and-false (is_flush m.kind)
     ] in
-    subst (λ b. PutBy name s s p p i (cond b 1 0) sent f f (cond b (put_at_driver to.side to m (state_in s p)) (passed_up to m (state_in s p)))) (sym passes) (c.pass_up.ensures f)
+    subst (λ b. PutBy name g.B.Stacks.modules s s p p i (cond b 1 0) sent f f (cond b (put_at_driver to.side to m (state_in g.B.Stacks.modules s p)) (passed_up to m (state_in g.B.Stacks.modules s p)))) (sym passes) (c.pass_up.ensures f)
