@@ -28,7 +28,8 @@ use Rattle.strm_types.specs.Names.{before, direction_at, driver_of, enable_found
 use Rattle.strm_types.specs.Puts.{across_of, delivered, earlier_at, noted, passed_up, put_at_driver, put_at_head, put_at_module, put_behind, put_below, put_in}
 use Rattle.strm_types.specs.Queue.{is_none_left, left_with, relieved, relieves}
 use Rattle.strm_types.specs.State.{State, stream, with_stream, with_driver_queue, with_head_queue}
-use Rattle.strm_types.specs.Turns.{TurnOutcome, moved_across, turn_ended, turned_queue, up_across, with_driver}
+use Rattle.strm_types.specs.TurnOutcomes.{TurnOutcome}
+use Rattle.strm_types.specs.Turns.{moved_across, turn_ended, turned_queue, up_across, with_driver}
 use Rattle.strm_types.proofs.Earlier.{before-head-alone, before-driver-alone, none-among, none-on}
 
 -- what is noted goes by the nearest earlier queues alone

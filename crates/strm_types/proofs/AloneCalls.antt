@@ -1,25 +1,34 @@
--- Where no module stands on a pair's streams, flow control asks heads and drivers alone, and a close empties them.
-use Rattle.std.proofs.Common.{ℕ, suc, ◌≡◌, Bool, true, false, List, [], ◌++◌, refl, ap, ◌∙◌}
+-- Where no module stands on a pair's streams, flow control asks heads and drivers alone, drivers alone have turns, and a close empties heads
+-- and drivers.
+use Rattle.std.proofs.Common.{ℕ, suc, ◌≡◌, Bool, true, false, List, [], ◌++◌, refl, sym, ap, ◌∙◌}
 use Rattle.std.specs.Prelude.{not, ◌&&◌, ◌||◌}
 use Rattle.std.proofs.lemmas.List.{append-nil}
+use Rattle.strm_types.specs.declared.answers.Turn.{Turn}
+use Rattle.strm_types.specs.declared.answers.Turn.TheVariants.{Idle}
+use Rattle.strm_types.specs.declared.names.Place.{Place}
+use Rattle.strm_types.specs.declared.names.Place.TheVariants.{Head, Ldterm, Driver}
+use Rattle.strm_types.specs.declared.names.QueueName.{QueueName}
 use Rattle.strm_types.specs.declared.names.Side.{Side}
 use Rattle.strm_types.specs.declared.names.Side.TheVariants.{Master, Slave}
 use Rattle.strm_types.specs.declared.names.Way.TheVariants.{Up, Down}
 use Rattle.strm_types.specs.declared.rules.Rule.TheVariants.{EndClosed}
+use Rattle.strm_types.specs.Cells.{Cells}
 use Rattle.strm_types.specs.Closes.{and_then, closed_at, driver_emptied, ended, head_emptied, hung_up_at, stream_emptied}
 use Rattle.strm_types.specs.Deliver.{Carried, Fate}
 use Rattle.strm_types.specs.Earlier.{NoModules, driver_place}
 use Rattle.strm_types.specs.Emptied.{of_all}
 use Rattle.strm_types.specs.Message.{Message, band_of, is_held}
 use Rattle.strm_types.specs.ModuleQueues.{place_past}
-use Rattle.strm_types.specs.Names.{is_closed, other}
+use Rattle.strm_types.specs.ModuleTurns.{module_turned, place_named, turned_named}
+use Rattle.strm_types.specs.Names.{is_closed, other, without}
 use Rattle.strm_types.specs.Past.{may_pass, waits_on, writer_waits}
 use Rattle.strm_types.specs.Pushes.{all_taken}
 use Rattle.strm_types.specs.Queue.{Queue, is_full, with_writer_at}
 use Rattle.strm_types.specs.Refused.{at_end, has_no_data, none_waits_up}
 use Rattle.strm_types.specs.Stacked.{Module, module_queue}
 use Rattle.strm_types.specs.State.{State, stream, with_stream, with_head_queue}
-use Rattle.strm_types.specs.Turns.{blocked_across, held_back, is_stopped, is_stopped_across, with_driver}
+use Rattle.strm_types.specs.TurnOutcomes.{stayed_put}
+use Rattle.strm_types.specs.Turns.{blocked_across, held_back, is_stopped, is_stopped_across, turned, turned_at, with_driver}
 use Rattle.strm_types.specs.Writes.{is_full_below}
 use Rattle.strm_types.proofs.Earlier.{none-among, none-on}
 
@@ -66,6 +75,21 @@ module _ {C : Type 0} where
   blocks-alone side m s none =
       let q = held_back (stream side s).driver.queue in
       waits-alone (with_driver side q s) (held-none side q s none) (other side) (band_of m)
+
+  -- no module has a turn
+  pub module-turns-alone : (cells : Cells C) (name : QueueName) (turn : Turn) (s : State C) → NoModules s → module_turned cells name turn s ≡ stayed_put Idle s
+  module-turns-alone cells name turn s none =
+      ap (λ (ps : List (Module C)). turned_named cells name turn s (place_named name.place ps)) (none-among name.side s none)
+
+  -- and no turn goes by how it is answered
+  turned_at-alone : (cells : Cells C) (place : Place) (name : QueueName) (turn another : Turn) (s : State C) → NoModules s → turned_at cells place name turn s ≡ turned_at cells place name another s
+  turned_at-alone cells Head name turn another s none = refl
+  turned_at-alone cells Driver name turn another s none = refl
+  turned_at-alone cells Ldterm name turn another s none = module-turns-alone cells name turn s none ∙ sym (module-turns-alone cells name another s none)
+
+  pub turns-alone : (cells : Cells C) (name : QueueName) (turn another : Turn) (s : State C) → NoModules s → turned cells name turn s ≡ turned cells name another s
+  turns-alone cells name turn another s none =
+      turned_at-alone cells name.place name turn another (record s { enabled = without name s.enabled }) (record { master = none.master; slave = none.slave })
 
   -- closes
   abbrev pub closed_alone : Side → State C → Carried C (State C)

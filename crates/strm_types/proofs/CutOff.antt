@@ -1,5 +1,5 @@
 -- Once the master is closed, nothing goes down the slave's stream: in a new pair, and behind each step.
-use Rattle.std.proofs.Common.{ℕ, suc, ◌≡◌, Bool, true, false, cond, List, [], ◌∷◌, refl, ap, subst, sym, ◌∙◌}
+use Rattle.std.proofs.Common.{ℕ, suc, ◌≡◌, Bool, true, false, cond, List, [], ◌∷◌, refl, ap, subst}
 use Rattle.std.specs.Prelude.{not, ◌&&◌, ◌==◌, Option, None, Some, nat_le}
 use Rattle.strm_types.specs.declared.answers.Turn.{Turn}
 use Rattle.strm_types.specs.declared.books.Book.{Book}
@@ -26,6 +26,7 @@ use Rattle.strm_types.specs.declared.names.Way.TheVariants.{Up, Down}
 use Rattle.strm_types.specs.declared.refusals.Refusal.TheVariants.{Enxio}
 use Rattle.strm_types.specs.declared.rules.Rule.TheVariants.{EndClosed}
 use Rattle.strm_types.specs.declared.spots.Spot.{Spot}
+use Rattle.strm_types.specs.Books.{with_made}
 use Rattle.strm_types.specs.Calls.{Request, called, get_at, ioctl_begun, ioctl_sent, ioctl_told, message_put, mode_set, opened_slave, put_at, read_at, signals_told, wrote}
 use Rattle.strm_types.specs.Cells.{Cells, cells_written}
 use Rattle.strm_types.specs.Closes.{closed_at, driver_emptied, ended, hung_up_at, stream_emptied}
@@ -46,15 +47,13 @@ use Rattle.strm_types.specs.State as states
 use Rattle.strm_types.specs.State.{State, book, opening, stream, with_book, with_ioctl}
 use Rattle.strm_types.specs.Step.{IsLegal, Step, after, replay}
 use Rattle.strm_types.specs.Turns.{turned, with_driver}
-use Rattle.strm_types.proofs.TurnHolds.{Turns, turn-holds}
+use Rattle.strm_types.proofs.TurnHolds.{turn-holds, turns-stay}
 use Rattle.strm_types.proofs.DeliveryHolds.{carried-holds}
+use Rattle.strm_types.proofs.ModuleTurnEnds.{Stays, waiting}
 use Rattle.strm_types.proofs.Replay.{or_else-none, unless-none}
 use Rattle.strm_types.proofs.WriteSteps.{cells_sent-holds}
 use Rattle.strm_types.specs.Earlier.{modules_on}
-use Rattle.strm_types.specs.Past.{waits_on, writer_waits}
-use Rattle.strm_types.proofs.Past.{waits_on-stands}
-use Rattle.strm_types.specs.ModuleQueues.{place_past}
-use Rattle.strm_types.specs.Stacked.{Module, module_queue}
+use Rattle.strm_types.specs.Stacked.{Module}
 use Rattle.strm_types.specs.Pushes.{head_above, named_by, popped, pushed_named, with_modules}
 use Rattle.strm_types.proofs.PushHolds.{Survives, pop-holds, push-holds}
 
@@ -137,23 +136,25 @@ module _ {C : Type 0} where
   with_driver-cut Master q s cut = record { slave = cut.slave }
   with_driver-cut Slave q s cut = record { slave = cut.slave }
 
-  waits-cut : (side : Side) (way : Way) (at band : ℕ) (s : State C) → IsCutOff s → IsCutOff (writer_waits side way at band s)
-  waits-cut Master way at band s cut =
-      let stands = waits_on-stands way band (place_past module_queue way at s.master.modules) s.master in
-      record { slave = λ closed. cut.slave (ap is_closed (sym stands.opened) ∙ closed) }
-  waits-cut Slave way at band s cut =
-      let t = waits_on way band (place_past module_queue way at s.slave.modules) s.slave in
-      let stands = waits_on-stands way band (place_past module_queue way at s.slave.modules) s.slave in
-      record {
-        slave = λ closed.
-            ap (λ o. is_open o && not t.head.hung_up) stands.opened ∙ ap (λ h. is_open s.slave.opened && not h) stands.hung_up ∙ cut.slave closed;
-      }
+  cut-stays : Stays {C = C} IsCutOff
+  cut-stays = record { puts = puts-cut; modules = modules; names = λ names s cut. record { slave = cut.slave }; books = books; waits = waits }
+    where
+      modules : (side : Side) (ps : List (Module C)) (s : State C) → IsCutOff s → IsCutOff (with_modules side ps s)
+      modules Master ps s cut = record { slave = cut.slave }
+      modules Slave ps s cut = record { slave = cut.slave }
 
-  turns : Turns {C = C} IsCutOff
-  turns = record { drivers = with_driver-cut; named = λ names s cut. record { slave = cut.slave }; given = delivered-cut; waits = waits-cut }
+      books : (dir : Dir) (n : ℕ) (s : State C) → IsCutOff s → IsCutOff (with_book dir (with_made n (book dir s)) s)
+      books MasterToSlave n s cut = record { slave = cut.slave }
+      books SlaveToMaster n s cut = record { slave = cut.slave }
+
+      waits : (side : Side) (way : Way) (band : ℕ) (s : State C) → IsCutOff s → IsCutOff (waiting side way band s)
+      waits Master Up band s cut = record { slave = cut.slave }
+      waits Master Down band s cut = record { slave = cut.slave }
+      waits Slave Up band s cut = record { slave = cut.slave }
+      waits Slave Down band s cut = record { slave = cut.slave }
 
   turn-cut : (cells : Cells C) (name : QueueName) (turn : Turn) (s : State C) → IsCutOff s → IsCutOff (turned cells name turn s).state
-  turn-cut cells name turn s cut = turn-holds IsCutOff turns cells name turn s cut
+  turn-cut cells name turn s cut = turn-holds IsCutOff (turns-stay IsCutOff with_driver-cut cut-stays) cells name turn s cut
 
   -- pushes and pops
   abbrev AnyModules : List (Module C) → Type 0

@@ -16,7 +16,7 @@ module _ {C : Type 0} (p : C → Bool) where
   made-append (x ∷ xs) ys = let ih = made-append xs ys in omega arith
 
 module _ {C S : Type 0} (p : C → Bool) (weigh : S → ℕ) where
-  in_turn-keeps : (carry : Parcel C → S → Carried C S) (ps : List (Parcel C)) → AllByRecursion (CarryKeeps p weigh carry) ps → (s : S) →
+  pub in_turn-keeps : (carry : Parcel C → S → Carried C S) (ps : List (Parcel C)) → AllByRecursion (CarryKeeps p weigh carry) ps → (s : S) →
       weigh (in_turn carry ps s).state + weight_gone p (in_turn carry ps s).gone ≡ weigh s + (weight_sent p ps + weight_made p (in_turn carry ps s).gone)
   in_turn-keeps carry [] all s = omega arith
   in_turn-keeps carry (q ∷ qs) all s =

@@ -31,7 +31,8 @@ use Rattle.strm_types.specs.State.{Head, State, stream, with_stream, with_head_q
 use Rattle.strm_types.specs.Books.{with_written}
 use Rattle.strm_types.specs.Writes.{Wrote, cells_sent, map_wrote}
 use Rattle.strm_types.specs.Reads.{Drawn, head_draw, read_queue, read_lets_go}
-use Rattle.strm_types.specs.Turns.{TurnOutcome, map_turn_outcome, turned_at, turned}
+use Rattle.strm_types.specs.TurnOutcomes.{TurnOutcome, map_turn_outcome}
+use Rattle.strm_types.specs.Turns.{turned_at, turned}
 use Rattle.strm_types.specs.Calls.{Outcome, Request, Reply, map_outcome, done, read_at, wrote, get_at, mode_set, name_told, sizes_at, ioctl_sent, ioctl_told, called}
 use Rattle.strm_types.specs.Journal.{PlainEntry}
 use Rattle.strm_types.specs.Step.{after, replay}
@@ -42,6 +43,7 @@ use Rattle.strm_types.proofs.ClosesForget.{closed_at-forgets}
 use Rattle.strm_types.proofs.WriteSteps.{cells_sent-forgets}
 use Rattle.strm_types.proofs.PlainCells.{written-plain, bytes-plain, written-bytes}
 use Rattle.strm_types.proofs.IoctlCalls.{ioctl_told-forgets, sent-forgets, signals-forget}
+use Rattle.strm_types.proofs.ModuleTurnForgets.{module_turned-forgets}
 use Rattle.strm_types.proofs.PushForgets.{pop-forgets, push-forgets, top-forgets}
 use Rattle.strm_types.proofs.PutsForget.{flushed_on-forgets}
 use Rattle.strm_types.proofs.GetKeeps.{get-forgets}
@@ -214,10 +216,10 @@ module _ {C : Type 0} (cells : Cells C) (are : AreCells cells) where
   pub turn-forgets : (name : QueueName) (turn : Turn) (s : State C) → turned plain name turn (map_state cells.byte s) ≡ map_turn_outcome cells.byte (turned cells name turn s)
   turn-forgets name turn s = at name.place (record s { enabled = without name s.enabled })
     where
-      at : (place : Place) (s : State C) → turned_at plain place name.side turn (map_state cells.byte s) ≡ map_turn_outcome cells.byte (turned_at cells place name.side turn s)
+      at : (place : Place) (s : State C) → turned_at plain place name turn (map_state cells.byte s) ≡ map_turn_outcome cells.byte (turned_at cells place name turn s)
       at places.Driver s = driver_turned-forgets cells.byte name.side s
       at places.Head s = refl
-      at places.Ldterm s = refl
+      at places.Ldterm s = module_turned-forgets cells are name turn s
 
   after-forgets : (s : State C) (e : PlainEntry) → after plain (map_state cells.byte s) e ≡ map_state cells.byte (after cells s e)
   after-forgets s (Called caller asked answer) = ap (λ (o : Outcome ℕ). o.state) (call-forgets caller asked s)

@@ -1,5 +1,5 @@
--- A turn of a module's queue keeps what each put keeps, and with it the ends of the streams: a side that isn't open has nothing for its
--- readers, and no side opens or closes.
+-- A turn of a module's queue keeps what each put keeps and what stays so whatever modules stand, and with it the ends of the streams: a side
+-- that isn't open has nothing for its readers, and no side opens or closes.
 use Rattle.std.proofs.Common.{ℕ, zero, suc, Bool, true, false, cond, List, [], ◌∷◌, length, refl, ap, ◌∙◌}
 use Rattle.std.specs.Prelude.{◌-◌, ◌==◌, ◌*◌, ◌+◌, not, Option, None, Some}
 use Rattle.strm_types.specs.declared.answers.Turn.{Turn}
@@ -26,9 +26,13 @@ use Rattle.strm_types.specs.ModuleQueues.{with_waiting}
 use Rattle.strm_types.specs.Puts.{put_in}
 use Rattle.strm_types.specs.Stacked.{Module, module_asks, module_queue, module_rests}
 use Rattle.strm_types.specs.State.{State, book, stream, with_book, with_stream}
-use Rattle.strm_types.specs.Turns.{TurnOutcome}
+use Rattle.strm_types.specs.TurnOutcomes.{TurnOutcome}
 use Rattle.strm_types.proofs.DeliveryHolds.{PutHolds, carried-holds, in_turn-holds}
 use Rattle.strm_types.proofs.PutsKeep.{puts-same, puts-unread}
+
+-- a writer of a band that waits at the end of a stream
+abbrev pub waiting : {C : Type 0} → Side → Way → ℕ → State C → State C
+waiting side way band s = with_stream side (let on = stream side s in with_end_queue way (with_waiting band (end_queue way on)) on) s
 
 -- what a turn of a module's queue changes beside what puts do
 pub record Stays {C : Type 0} (P : State C → Type 0) : Type 0 where
@@ -36,7 +40,7 @@ pub record Stays {C : Type 0} (P : State C → Type 0) : Type 0 where
   pub modules : (side : Side) (ps : List (Module C)) (s : State C) → P s → P (with_stream side (record (stream side s) { modules = ps }) s)
   pub names : (names : List QueueName) (s : State C) → P s → P (record s { enabled = names })
   pub books : (dir : Dir) (n : ℕ) (s : State C) → P s → P (with_book dir (with_made n (book dir s)) s)
-  pub waits : (side : Side) (way : Way) (band : ℕ) (s : State C) → P s → P (with_stream side (let on = stream side s in with_end_queue way (with_waiting band (end_queue way on)) on) s)
+  pub waits : (side : Side) (way : Way) (band : ℕ) (s : State C) → P s → P (waiting side way band s)
 
 module _ {C : Type 0} (P : State C → Type 0) (stays : Stays P) where
   either-holds : (b : Bool) (one another : State C) → P one → P another → P (cond b one another)
@@ -62,7 +66,7 @@ module _ {C : Type 0} (P : State C → Type 0) (stays : Stays P) where
   ended-holds : (here : Spot) (took : Bool) (s : State C) → P s → P (with_stream here.side (queue_ended here took (stream here.side s)) s)
   ended-holds here took s holds = stays.modules here.side (queue_ended here took (stream here.side s)).modules s holds
 
-  past-holds : (side : Side) (way : Way) (band : ℕ) (o : Option ℕ) (s : State C) → P s → P (with_stream side (waits_on way band o (stream side s)) s)
+  pub past-holds : (side : Side) (way : Way) (band : ℕ) (o : Option ℕ) (s : State C) → P s → P (with_stream side (waits_on way band o (stream side s)) s)
   past-holds side way band None s holds = stays.waits side way band s holds
   past-holds side way band (Some place) s holds = stays.modules side (waits_on way band (Some place) (stream side s)).modules s holds
 
@@ -108,7 +112,7 @@ module _ {C : Type 0} (P : State C → Type 0) (stays : Stays P) where
 
 -- a side that isn't open has nothing for its readers
 module _ {C : Type 0} where
-  unread-stays : Stays {C = C} NothingUnread
+  pub unread-stays : Stays {C = C} NothingUnread
   unread-stays = record { puts = puts-unread; modules = modules; names = λ names s unread. record { master = unread.master; slave = unread.slave }; books = books; waits = waits }
     where
       modules : (side : Side) (ps : List (Module C)) (s : State C) → NothingUnread s → NothingUnread (with_stream side (record (stream side s) { modules = ps }) s)
@@ -119,18 +123,15 @@ module _ {C : Type 0} where
       books MasterToSlave n s unread = record { master = unread.master; slave = unread.slave }
       books SlaveToMaster n s unread = record { master = unread.master; slave = unread.slave }
 
-      waits : (side : Side) (way : Way) (band : ℕ) (s : State C) → NothingUnread s → NothingUnread (with_stream side (let on = stream side s in with_end_queue way (with_waiting band (end_queue way on)) on) s)
+      waits : (side : Side) (way : Way) (band : ℕ) (s : State C) → NothingUnread s → NothingUnread (waiting side way band s)
       waits Master Up band s unread = record { master = unread.master; slave = unread.slave }
       waits Master Down band s unread = record { master = unread.master; slave = unread.slave }
       waits Slave Up band s unread = record { master = unread.master; slave = unread.slave }
       waits Slave Down band s unread = record { master = unread.master; slave = unread.slave }
 
-  pub module_turned-unread : (cells : Cells C) (name : QueueName) (turn : Turn) (s : State C) → NothingUnread s → NothingUnread (module_turned cells name turn s).state
-  module_turned-unread cells name turn s unread = module_turned-holds NothingUnread unread-stays cells name turn s unread
-
 -- which sides are open, the lock, the number of the next ioctl and what was written stay; cells may be made
 module _ {C : Type 0} (s : State C) where
-  same-stays : Stays {C = C} (SameButMade s)
+  pub same-stays : Stays {C = C} (SameButMade s)
   same-stays = record { puts = puts; modules = modules; names = λ names t same. record { master = same.master; slave = same.slave; locked = same.locked; next_ioctl = same.next_ioctl; from_master = same.from_master; from_slave = same.from_slave }; books = books; waits = waits }
     where
       puts : PutHolds {C = C} (SameButMade s) put_in
@@ -153,12 +154,8 @@ module _ {C : Type 0} (s : State C) where
       books MasterToSlave n t same = record { master = same.master; slave = same.slave; locked = same.locked; next_ioctl = same.next_ioctl; from_master = same.from_master; from_slave = same.from_slave }
       books SlaveToMaster n t same = record { master = same.master; slave = same.slave; locked = same.locked; next_ioctl = same.next_ioctl; from_master = same.from_master; from_slave = same.from_slave }
 
-      waits : (side : Side) (way : Way) (band : ℕ) (t : State C) → SameButMade s t → SameButMade s (with_stream side (let on = stream side t in with_end_queue way (with_waiting band (end_queue way on)) on) t)
+      waits : (side : Side) (way : Way) (band : ℕ) (t : State C) → SameButMade s t → SameButMade s (waiting side way band t)
       waits Master Up band t same = record { master = same.master; slave = same.slave; locked = same.locked; next_ioctl = same.next_ioctl; from_master = same.from_master; from_slave = same.from_slave }
       waits Master Down band t same = record { master = same.master; slave = same.slave; locked = same.locked; next_ioctl = same.next_ioctl; from_master = same.from_master; from_slave = same.from_slave }
       waits Slave Up band t same = record { master = same.master; slave = same.slave; locked = same.locked; next_ioctl = same.next_ioctl; from_master = same.from_master; from_slave = same.from_slave }
       waits Slave Down band t same = record { master = same.master; slave = same.slave; locked = same.locked; next_ioctl = same.next_ioctl; from_master = same.from_master; from_slave = same.from_slave }
-
-  pub module_turned-same : (cells : Cells C) (name : QueueName) (turn : Turn) → SameButMade s (module_turned cells name turn s).state
-  module_turned-same cells name turn =
-      module_turned-holds (SameButMade s) same-stays cells name turn s (record { master = refl; slave = refl; locked = refl; next_ioctl = refl; from_master = refl; from_slave = refl })

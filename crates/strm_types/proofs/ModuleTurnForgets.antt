@@ -36,7 +36,7 @@ use Rattle.strm_types.specs.Queue.{Queue, is_none_left, map_messages, map_queue,
 use Rattle.strm_types.specs.Service.{Serving, end_relieves, has_more, turn_ended, turn_relieves}
 use Rattle.strm_types.specs.Stacked.{Module, map_module, module_asks, module_queue, module_rests, module_serves, with_module_queue}
 use Rattle.strm_types.specs.State.{State, Stream, book, stream, with_book, with_stream, map_state, map_stream}
-use Rattle.strm_types.specs.Turns.{TurnOutcome, first_size, map_turn_outcome, stayed_put}
+use Rattle.strm_types.specs.TurnOutcomes.{TurnOutcome, first_size, map_turn_outcome, stayed_put}
 use Rattle.strm_types.proofs.DeliveryForgets.{carried-agrees, in_turn-agrees, map-join}
 use Rattle.strm_types.proofs.Earlier.{before_at-forgets, places-forget}
 use Rattle.strm_types.proofs.EmptiedForgets.{stream-forgets}

@@ -3,6 +3,7 @@ use Rattle.std.proofs.Common.{ℕ, ◌≡◌, Bool, true, false, List, [], ◌�
 use Rattle.std.specs.Prelude.{None, Some}
 use Rattle.strm_types.specs.declared.answers.Turn.{Turn}
 use Rattle.strm_types.specs.declared.answers.Turn.TheVariants.{Moved, Blocked, Idle}
+use Rattle.strm_types.specs.declared.entries.Entry.TheVariants.{Turned}
 use Rattle.strm_types.specs.declared.names.Openness.TheVariants.{Open}
 use Rattle.strm_types.specs.declared.names.Place.TheVariants.{Driver, Ldterm}
 use Rattle.strm_types.specs.declared.names.QueueName.{QueueName}
@@ -18,7 +19,9 @@ use Rattle.strm_types.specs.Names.{driver_of}
 use Rattle.strm_types.specs.Queue.{Flow, Queue}
 use Rattle.strm_types.specs.Stacked.{Module}
 use Rattle.strm_types.specs.State.{State, Stream, new_stream}
-use Rattle.strm_types.specs.Turns.{TurnOutcome}
+use Rattle.strm_types.specs.Step.{IsTurn, after}
+use Rattle.strm_types.specs.TurnOutcomes.{TurnOutcome}
+use Rattle.strm_types.specs.Turns.{turned, whole_turn}
 use Rattle.strm_types.proofs.Samples.{head_with, ordinary}
 use Rattle.strm_types.specs.Past.{may_pass}
 
@@ -194,3 +197,38 @@ whole-of-the-first = refl
 
 pub whole-of-none : whole_module {C = ℕ} Ldterm Up new_stream ≡ Idle
 whole-of-none = refl
+
+-- A journal's turn of a module's queue is such a turn, once the queue is off the list of enabled ones.
+abbrev typed_on : State ℕ
+typed_on = record typed { enabled = reading ∷ driver_of Slave ∷ [] }
+
+pub journal-turns-modules : seen (turned plain reading (Moved 3) typed_on)
+    ≡ record {
+      turn = Moved 3;
+      cells = ((97 ∷ 10 ∷ []) ∷ []) ∷ [] ∷ ((97 ∷ 10 ∷ 98 ∷ []) ∷ []) ∷ [] ∷ [];
+      waits = (false ∷ []) ∷ (false ∷ []) ∷ (false ∷ []) ∷ (false ∷ []) ∷ [];
+      wants = false ∷ true ∷ false ∷ false ∷ [];
+      enabled = driver_of Slave ∷ driver_of Master ∷ [];
+      made = 3;
+    }
+unfolding carried cells_of band_of is_high_priority size_of rank_of data_message
+journal-turns-modules = refl
+
+-- the state behind its entry, which is a step with the answer that it stores and no other one
+pub entry-leads-behind-the-turn : map (λ bytes. map cells_of (after plain typed_on (Turned reading (Moved bytes))).slave.head.queue.messages) (2 ∷ 0 ∷ [])
+    ≡ ((97 ∷ 10 ∷ []) ∷ []) ∷ [] ∷ []
+unfolding carried cells_of band_of is_high_priority size_of rank_of data_message
+entry-leads-behind-the-turn = refl
+
+pub entry-is-a-step : IsTurn plain typed_on reading (Moved 3) (after plain typed_on (Turned reading (Moved 3)))
+unfolding carried cells_of band_of is_high_priority size_of rank_of data_message
+entry-is-a-step = record { enabled = refl; in_range = refl; answered = refl; leads = refl }
+
+pub idle-entry-is-no-step : IsTurn plain typed_on reading Idle (after plain typed_on (Turned reading Idle)) → ⊥
+unfolding carried cells_of band_of is_high_priority size_of rank_of data_message
+idle-entry-is-no-step = λ step. let answered = step.answered in (cc)
+
+-- each queue's whole turn is that of what it belongs to
+pub whole-turns-by-name : map (λ name. whole_turn name typed) (reading ∷ writing ∷ driver_of Slave ∷ []) ≡ Moved 3 ∷ Moved 0 ∷ Moved 0 ∷ []
+unfolding cells_of size_of
+whole-turns-by-name = refl

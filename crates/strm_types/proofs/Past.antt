@@ -1,28 +1,22 @@
 -- Room past a place is the same where the origins of cells are forgotten, and a writer that waits there changes nothing that stands.
-use Rattle.std.proofs.Common.{ℕ, zero, suc, ◌≡◌, ◌-◌, Bool, false, List, [], ◌∷◌, ◌≤◌, length, map, refl, sym, ap, subst, ◌∙◌, arith}
+use Rattle.std.proofs.Common.{ℕ, zero, suc, ◌≡◌, ◌-◌, Bool, false, List, [], ◌∷◌, map, refl, ap, ◌∙◌, arith}
 use Rattle.std.specs.Prelude.{not, slice_index_or, Option, None, Some, unwrap_or}
-use Rattle.std.specs.List.{AllByRecursion}
-use Rattle.std.proofs.lemmas.List.Sums.{sum_by-cons}
-use Rattle.strm_types.specs.declared.limits.TheConstants.{IOCTL_MAX}
 use Rattle.strm_types.specs.declared.names.Side.{Side}
 use Rattle.strm_types.specs.declared.names.Side.TheVariants.{Master, Slave}
 use Rattle.strm_types.specs.declared.names.Way.{Way}
 use Rattle.strm_types.specs.declared.names.Way.TheVariants.{Up, Down}
-use Rattle.strm_types.specs.Kept.{AreIdle, NothingUnread, state_weight, stream_weight}
-use Rattle.strm_types.specs.Ldterms.{IsIdle}
-use Rattle.strm_types.specs.ModuleQueues.{can_pass, full_at, place_past, room_at, waits}
+use Rattle.strm_types.specs.Kept.{AreIdle, state_weight, stream_weight}
+use Rattle.strm_types.specs.ModuleQueues.{can_pass, full_at, place_past, room_at, waits, with_waiting}
 use Rattle.strm_types.specs.Modules.{change_among}
-use Rattle.strm_types.specs.Names.{is_open}
 use Rattle.strm_types.specs.Past.{end_queue, has_room_past, may_pass, waits_on, writer_waits}
 use Rattle.strm_types.specs.Queue.{is_full}
-use Rattle.strm_types.specs.Signals.{AreSignals}
-use Rattle.strm_types.specs.Slots.{answer_bytes}
-use Rattle.strm_types.specs.Stacked.{Module, map_module, module_queue, module_weight, modules_weight, with_module_queue}
+use Rattle.strm_types.specs.Stacked.{Module, map_module, module_queue, with_module_queue}
 use Rattle.strm_types.specs.State.{State, Stream, stream, with_stream, map_state, map_stream}
-use Rattle.strm_types.specs.Within.{AreWithin, IsWithin}
 use Rattle.strm_types.proofs.Earlier.{place_past-forgets}
 use Rattle.strm_types.proofs.EmptiedForgets.{stream-forgets}
 use Rattle.strm_types.proofs.Forgetting.{full-forgets}
+use Rattle.strm_types.proofs.ModulesIdle.{AllIdle}
+use Rattle.strm_types.proofs.QueueChanges.{changes-idle, changes-keep}
 
 module _ {C D : Type 0} (f : C → D) where
   abbrev images : List (Module C) → List (Module D)
@@ -88,77 +82,20 @@ module _ {C D : Type 0} (f : C → D) where
       ∙ with_stream-same side (waits_on way band past t) s
 
 module _ {C : Type 0} where
-  -- of all else that a stream has, nothing changes
-  pub record Stands (t u : Stream C) : Type 0 where
-    pub opened : t.opened ≡ u.opened
-    pub messages : t.head.queue.messages ≡ u.head.queue.messages
-    pub signals : t.head.signals ≡ u.head.signals
-    pub ioctl : t.head.ioctl ≡ u.head.ioctl
-    pub hung_up : t.head.hung_up ≡ u.head.hung_up
-
-  pub waits_on-stands : (way : Way) (band : ℕ) (o : Option ℕ) (t : Stream C) → Stands (waits_on way band o t) t
-  waits_on-stands Up band None t = record { opened = refl; messages = refl; signals = refl; ioctl = refl; hung_up = refl }
-  waits_on-stands Down band None t = record { opened = refl; messages = refl; signals = refl; ioctl = refl; hung_up = refl }
-  waits_on-stands way band (Some place) t = record { opened = refl; messages = refl; signals = refl; ioctl = refl; hung_up = refl }
-
-  idle-waits : (way : Way) (band : ℕ) (p : Module C) → IsIdle p → IsIdle (waits module_queue with_module_queue way band p)
-  idle-waits Up band p idle = idle
-  idle-waits Down band p idle = idle
-
-  idle-among : (way : Way) (band i : ℕ) (ps : List (Module C)) → AllByRecursion (λ l. IsIdle l) ps → AllByRecursion (λ l. IsIdle l) (change_among (waits module_queue with_module_queue way band) i ps)
-  idle-among way band i [] idle = tt
-  idle-among way band zero (p ∷ ps) idle = (idle-waits way band p idle.0, idle.1)
-  idle-among way band (suc i) (p ∷ ps) idle = (idle.0, idle-among way band i ps idle.1)
-
-  idle-on : (way : Way) (band : ℕ) (o : Option ℕ) (t : Stream C) → AllByRecursion (λ l. IsIdle l) t.modules → AllByRecursion (λ l. IsIdle l) (waits_on way band o t).modules
+  idle-on : (way : Way) (band : ℕ) (o : Option ℕ) (t : Stream C) → AllIdle t.modules → AllIdle (waits_on way band o t).modules
   idle-on Up band None t idle = idle
   idle-on Down band None t idle = idle
-  idle-on way band (Some place) t idle = idle-among way band (place - 1) t.modules idle
+  idle-on way band (Some place) t idle = changes-idle (with_waiting band) way (place - 1) t.modules idle
 
   pub waits-idle : (side : Side) (way : Way) (at band : ℕ) (s : State C) → AreIdle s → AreIdle (writer_waits side way at band s)
   waits-idle Master way at band s idle = record { master = idle-on way band (place_past module_queue way at s.master.modules) s.master idle.master; slave = idle.slave }
   waits-idle Slave way at band s idle = record { master = idle.master; slave = idle-on way band (place_past module_queue way at s.slave.modules) s.slave idle.slave }
 
-  pub waits-unread : (side : Side) (way : Way) (at band : ℕ) (s : State C) → NothingUnread s → NothingUnread (writer_waits side way at band s)
-  waits-unread Master way at band s unread =
-      let stands = waits_on-stands way band (place_past module_queue way at s.master.modules) s.master in
-      record { master = λ closed. stands.messages ∙ unread.master (ap is_open (sym stands.opened) ∙ closed); slave = unread.slave }
-  waits-unread Slave way at band s unread =
-      let stands = waits_on-stands way band (place_past module_queue way at s.slave.modules) s.slave in
-      record { master = unread.master; slave = λ closed. stands.messages ∙ unread.slave (ap is_open (sym stands.opened) ∙ closed) }
-
-  within-on : (t u : Stream C) → Stands t u → IsWithin u.head → IsWithin t.head
-  within-on t u stands within = record {
-    signals = subst AreSignals (sym stands.signals) within.signals;
-    answer = subst (λ slot. length (answer_bytes slot) ≤ IOCTL_MAX) (sym stands.ioctl) within.answer;
-  }
-
-  pub waits-within : (side : Side) (way : Way) (at band : ℕ) (s : State C) → AreWithin s → AreWithin (writer_waits side way at band s)
-  waits-within Master way at band s within =
-      let past = place_past module_queue way at s.master.modules in
-      record { master = within-on (waits_on way band past s.master) s.master (waits_on-stands way band past s.master) within.master; slave = within.slave }
-  waits-within Slave way at band s within =
-      let past = place_past module_queue way at s.slave.modules in
-      record { master = within.master; slave = within-on (waits_on way band past s.slave) s.slave (waits_on-stands way band past s.slave) within.slave }
-
   module _ (p : C → Bool) where
-    weight-waits : (way : Way) (band : ℕ) (l : Module C) → module_weight p (waits module_queue with_module_queue way band l) ≡ module_weight p l
-    weight-waits Up band l = refl
-    weight-waits Down band l = refl
-
-    weight-among : (way : Way) (band i : ℕ) (ps : List (Module C)) → modules_weight p (change_among (waits module_queue with_module_queue way band) i ps) ≡ modules_weight p ps
-    weight-among way band i [] = refl
-    weight-among way band zero (l ∷ ls) =
-        let q = waits module_queue with_module_queue way band l in
-        omega (arith, weight-waits way band l, sum_by-cons (module_weight p) l ls, sum_by-cons (module_weight p) q ls)
-    weight-among way band (suc i) (l ∷ ls) =
-        let qs = change_among (waits module_queue with_module_queue way band) i ls in
-        omega (arith, weight-among way band i ls, sum_by-cons (module_weight p) l ls, sum_by-cons (module_weight p) l qs)
-
     weight-on : (way : Way) (band : ℕ) (o : Option ℕ) (t : Stream C) → stream_weight p (waits_on way band o t) ≡ stream_weight p t
     weight-on Up band None t = refl
     weight-on Down band None t = refl
-    weight-on way band (Some place) t = let same = weight-among way band (place - 1) t.modules in omega arith
+    weight-on way band (Some place) t = let same = changes-keep (with_waiting band) p (λ q. refl) way (place - 1) t.modules in omega arith
 
     pub waits-keeps : (side : Side) (way : Way) (at band : ℕ) (s : State C) → state_weight p (writer_waits side way at band s) ≡ state_weight p s
     waits-keeps Master way at band s = let same = weight-on way band (place_past module_queue way at s.master.modules) s.master in omega arith

@@ -20,7 +20,8 @@ use Rattle.strm_types.specs.Queue.{Queue, Flow}
 use Rattle.strm_types.specs.Books.{new_book}
 use Rattle.strm_types.specs.State.{State, Stream, opening, new_stream, messages_in}
 use Rattle.strm_types.specs.Write.{chunk_count}
-use Rattle.strm_types.specs.Turns.{TurnOutcome, driver_serves, turned, whole_turn}
+use Rattle.strm_types.specs.TurnOutcomes.{TurnOutcome}
+use Rattle.strm_types.specs.Turns.{driver_serves, turned, whole_turn}
 use Rattle.strm_types.specs.Deliver.{carried}
 use Rattle.strm_types.specs.Calls.{content_of, called}
 use Rattle.strm_types.proofs.Samples.{head_with, flow, queue, ordinary, proto, urgent}

@@ -37,6 +37,7 @@ use Rattle.strm_types.specs.State.{Head, State, opening, stream, with_book, with
 use Rattle.strm_types.specs.Step.{Step}
 use Rattle.strm_types.specs.Turns.{turned, with_driver}
 use Rattle.strm_types.proofs.TurnHolds.{Turns, turn-holds}
+use Rattle.strm_types.proofs.ModuleTurnKeeps.{module_turned-rests}
 use Rattle.strm_types.proofs.ModulesIdle.{AllIdle, delivered-idle}
 use Rattle.strm_types.proofs.PushHolds.{Survives, modules_emptied-holds, pop-holds, pushed-holds}
 use Rattle.strm_types.proofs.Past.{waits-idle}
@@ -56,7 +57,7 @@ module _ {C : Type 0} where
   driver-idle Slave q s idle = record { master = idle.master; slave = idle.slave }
 
   turns : Turns {C = C} AreIdle
-  turns = record { drivers = driver-idle; named = λ names s idle. record { master = idle.master; slave = idle.slave }; given = delivered-idle; waits = waits-idle }
+  turns = record { drivers = driver-idle; named = λ names s idle. record { master = idle.master; slave = idle.slave }; given = delivered-idle; waits = waits-idle; modules = module_turned-rests }
 
   turn-idle : (cells : Cells C) (name : QueueName) (turn : Turn) (s : State C) → AreIdle s → AreIdle (turned cells name turn s).state
   turn-idle cells name turn s idle = turn-holds AreIdle turns cells name turn s idle

@@ -16,7 +16,8 @@ use Rattle.strm_types.specs.Origins.{map_carried}
 use Rattle.strm_types.specs.Puts.{delivered}
 use Rattle.strm_types.specs.Queue.{Queue, is_none_left, left_with, relieved, relieves, map_messages, map_queue}
 use Rattle.strm_types.specs.State.{State, stream, map_state}
-use Rattle.strm_types.specs.Turns.{TurnOutcome, blocked_across, driver_serves, driver_turned, held_back, is_stopped_across, map_turn_outcome, moved_across, stayed_put, turn_ended, turned_queue, up_across, with_driver}
+use Rattle.strm_types.specs.TurnOutcomes.{TurnOutcome, map_turn_outcome, stayed_put}
+use Rattle.strm_types.specs.Turns.{blocked_across, driver_serves, driver_turned, held_back, is_stopped_across, moved_across, turn_ended, turned_queue, up_across, with_driver}
 use Rattle.strm_types.proofs.Earlier.{before_driver-forgets, modules_on-forgets}
 use Rattle.strm_types.proofs.EmptiedForgets.{stream-forgets}
 use Rattle.strm_types.proofs.Forgetting.{band-forgets, kind-forgets, none-forgets, relieved-forgets, relieves_from-forgets, size-forgets}

@@ -1,5 +1,5 @@
--- What holds of a pair whatever stands on its drivers and whichever queues are enabled, and behind deliveries and where writers wait, holds
--- behind a turn.
+-- What holds of a pair whatever stands on its drivers and whichever queues are enabled, behind deliveries, where writers wait, and behind
+-- turns of modules' queues, holds behind each turn.
 use Rattle.std.proofs.Common.{ℕ, Bool, true, false, cond, List, [], ◌∷◌}
 use Rattle.std.specs.Prelude.{not}
 use Rattle.strm_types.specs.declared.answers.Turn.{Turn}
@@ -10,21 +10,39 @@ use Rattle.strm_types.specs.declared.names.Side.{Side}
 use Rattle.strm_types.specs.declared.names.Way.{Way}
 use Rattle.strm_types.specs.declared.names.Way.TheVariants.{Up}
 use Rattle.strm_types.specs.declared.spots.Spot.{Spot}
+use Rattle.strm_types.specs.declared.limits.TheConstants.{HOPS}
 use Rattle.strm_types.specs.Cells.{Cells}
 use Rattle.strm_types.specs.Earlier.{driver_place}
 use Rattle.strm_types.specs.Message.{Message, band_of}
+use Rattle.strm_types.specs.ModuleQueues.{place_past}
+use Rattle.strm_types.specs.ModuleTurns.{module_turned}
 use Rattle.strm_types.specs.Names.{is_open, other, without}
 use Rattle.strm_types.specs.Past.{writer_waits}
-use Rattle.strm_types.specs.Puts.{delivered}
+use Rattle.strm_types.specs.Puts.{delivered, put_in}
 use Rattle.strm_types.specs.Queue.{Queue, left_with}
+use Rattle.strm_types.specs.Stacked.{module_queue}
 use Rattle.strm_types.specs.State.{State, stream}
-use Rattle.strm_types.specs.Turns.{TurnOutcome, driver_serves, held_back, is_stopped_across, moved_across, turned, turned_at, up_across, with_driver}
+use Rattle.strm_types.specs.TurnOutcomes.{TurnOutcome}
+use Rattle.strm_types.specs.Turns.{driver_serves, held_back, is_stopped_across, moved_across, turned, turned_at, up_across, with_driver}
+use Rattle.strm_types.proofs.DeliveryHolds.{carried-holds}
+use Rattle.strm_types.proofs.ModuleTurnEnds.{Stays, module_turned-holds, past-holds}
 
 pub record Turns {C : Type 0} (P : State C → Type 0) : Type 0 where
   pub drivers : (side : Side) (q : Queue C) (s : State C) → P s → P (with_driver side q s)
   pub named : (names : List QueueName) (s : State C) → P s → P (record s { enabled = names })
   pub given : (to : Spot) (m : Message C) (s : State C) → P s → P (delivered to m s).state
   pub waits : (side : Side) (way : Way) (at band : ℕ) (s : State C) → P s → P (writer_waits side way at band s)
+  pub modules : (cells : Cells C) (name : QueueName) (turn : Turn) (s : State C) → P s → P (module_turned cells name turn s).state
+
+-- what stays so whatever stands on the drivers
+pub turns-stay : {C : Type 0} (P : State C → Type 0) → ((side : Side) (q : Queue C) (s : State C) → P s → P (with_driver side q s)) → Stays P → Turns P
+turns-stay P drivers stays = record {
+  drivers = drivers;
+  named = stays.names;
+  given = λ to m s holds. carried-holds P put_in stays.puts HOPS (record { to = to; message = m }) s holds;
+  waits = λ side way at band s holds. past-holds P stays side way band (place_past module_queue way at (stream side s).modules) s holds;
+  modules = λ cells name turn s holds. module_turned-holds P stays cells name turn s holds;
+}
 
 module _ {C : Type 0} where
   pub any-holds : (Holds : TurnOutcome C → Type 0) (opened stopped : Bool) (shut waits moves : TurnOutcome C) → Holds shut → Holds waits → Holds moves → Holds (cond (not opened) shut (cond stopped waits moves))
@@ -50,7 +68,7 @@ module _ {C : Type 0} (P : State C → Type 0) (turns : Turns P) where
   pub turn-holds : (cells : Cells C) (name : QueueName) (turn : Turn) (s : State C) → P s → P (turned cells name turn s).state
   turn-holds cells name turn s holds = at name.place (record s { enabled = without name s.enabled }) (turns.named (without name s.enabled) s holds)
     where
-      at : (place : Place) (s : State C) → P s → P (turned_at cells place name.side turn s).state
+      at : (place : Place) (s : State C) → P s → P (turned_at cells place name turn s).state
       at Driver s holds = serves-hold name.side (stream name.side s).driver.queue.messages s holds
       at Head s holds = holds
-      at Ldterm s holds = holds
+      at Ldterm s holds = turns.modules cells name turn s holds

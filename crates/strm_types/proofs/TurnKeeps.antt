@@ -1,4 +1,4 @@
--- A turn loses no cell, and leaves a side that isn't open nothing to be read.
+-- A turn loses no cell, and leaves the ends as they are and a side that isn't open nothing to be read.
 use Rattle.std.proofs.Common.{ℕ, ◌≡◌, ◌+◌, Bool, true, false, cond, List, [], ◌∷◌, length, refl, ap, arith}
 use Rattle.std.specs.Prelude.{◌==◌, not}
 use Rattle.strm_types.specs.declared.answers.Turn.{Turn}
@@ -8,20 +8,25 @@ use Rattle.strm_types.specs.declared.names.Place.{Place}
 use Rattle.strm_types.specs.declared.names.Place.TheVariants.{Head, Ldterm, Driver}
 use Rattle.strm_types.specs.declared.names.QueueName.{QueueName}
 use Rattle.strm_types.specs.Cells.{Cells}
-use Rattle.strm_types.specs.Kept.{NothingUnread, state_weight}
+use Rattle.strm_types.specs.Kept.{AreIdle, NothingUnread, state_weight}
+use Rattle.strm_types.specs.LdtermWeights.{IgnoresMapping}
 use Rattle.strm_types.specs.Message.{Message, size_of, band_of}
+use Rattle.strm_types.specs.ModuleTurns.{SameButMade}
 use Rattle.strm_types.specs.Names.{is_open, other, without}
 use Rattle.strm_types.specs.Places.{weight_gone, weight_made}
 use Rattle.strm_types.specs.Puts.{delivered}
 use Rattle.strm_types.specs.Queue.{Queue, left_with, relieved, weight}
 use Rattle.strm_types.specs.State.{State, stream}
-use Rattle.strm_types.specs.Turns.{TurnOutcome, blocked_across, driver_serves, held_back, is_stopped_across, moved_across, turned, turned_at, turned_queue, turn_ended, up_across, with_driver}
-use Rattle.strm_types.proofs.TurnHolds.{Turns, any-holds, turn-holds}
-use Rattle.strm_types.proofs.Deliveries.{delivered-keeps, delivered-unread}
+use Rattle.strm_types.specs.TurnOutcomes.{TurnOutcome}
+use Rattle.strm_types.specs.Turns.{blocked_across, driver_serves, held_back, is_stopped_across, moved_across, turned, turned_at, turned_queue, turn_ended, up_across, with_driver}
+use Rattle.strm_types.proofs.TurnHolds.{any-holds, turn-holds, turns-stay}
+use Rattle.strm_types.proofs.Deliveries.{delivered-keeps}
+use Rattle.strm_types.proofs.ModuleTurnEnds.{same-stays, unread-stays}
+use Rattle.strm_types.proofs.ModuleTurnKeeps.{module_turned-keeps}
 use Rattle.strm_types.proofs.PutsFall.{few-stand}
 use Rattle.strm_types.proofs.Weights.{weight-take}
 use Rattle.strm_types.specs.Earlier.{driver_place}
-use Rattle.strm_types.proofs.Past.{waits-keeps, waits-unread}
+use Rattle.strm_types.proofs.Past.{waits-keeps}
 use Rattle.strm_types.specs.declared.names.Way.TheVariants.{Up}
 
 module _ {C : Type 0} where
@@ -34,11 +39,18 @@ module _ {C : Type 0} where
   with-unread Master q s unread = record { master = unread.master; slave = unread.slave }
   with-unread Slave q s unread = record { master = unread.master; slave = unread.slave }
 
-  turns : Turns {C = C} NothingUnread
-  turns = record { drivers = with-unread; named = λ names s unread. record { master = unread.master; slave = unread.slave }; given = delivered-unread; waits = waits-unread }
-
   pub turn-unread : (cells : Cells C) (name : QueueName) (turn : Turn) (s : State C) → NothingUnread s → NothingUnread (turned cells name turn s).state
-  turn-unread cells name turn s unread = turn-holds NothingUnread turns cells name turn s unread
+  turn-unread cells name turn s unread = turn-holds NothingUnread (turns-stay NothingUnread with-unread unread-stays) cells name turn s unread
+
+module _ {C : Type 0} (s : State C) where
+  with-same : (side : Side) (q : Queue C) (t : State C) → SameButMade s t → SameButMade s (with_driver side q t)
+  with-same Master q t same = record { master = same.master; slave = same.slave; locked = same.locked; next_ioctl = same.next_ioctl; from_master = same.from_master; from_slave = same.from_slave }
+  with-same Slave q t same = record { master = same.master; slave = same.slave; locked = same.locked; next_ioctl = same.next_ioctl; from_master = same.from_master; from_slave = same.from_slave }
+
+  pub turn-same : (cells : Cells C) (name : QueueName) (turn : Turn) → SameButMade s (turned cells name turn s).state
+  turn-same cells name turn =
+      turn-holds (SameButMade s) (turns-stay (SameButMade s) with-same (same-stays s)) cells name turn s
+      (record { master = refl; slave = refl; locked = refl; next_ioctl = refl; from_master = refl; from_slave = refl })
 
 module _ {C : Type 0} (p : C → Bool) where
   -- a turn in a pair that had so many cells
@@ -76,10 +88,10 @@ module _ {C : Type 0} (p : C → Bool) where
       (omega (arith, held-keeps side s false, blocked-keeps side m (with_driver side (held_back (stream side s).driver.queue) s)))
       (moved-keeps side m rest s is)
 
-  pub turn-keeps : (cells : Cells C) (name : QueueName) (turn : Turn) (s : State C) → Keeps (turned cells name turn s) (state_weight p s)
-  turn-keeps cells name turn s = at name.place (record s { enabled = without name s.enabled })
+  pub turn-keeps : (cells : Cells C) → IgnoresMapping cells p → (name : QueueName) (turn : Turn) (s : State C) → AreIdle s → Keeps (turned cells name turn s) (state_weight p s)
+  turn-keeps cells ignores name turn s idle = at name.place (record s { enabled = without name s.enabled }) (record { master = idle.master; slave = idle.slave })
     where
-      at : (place : Place) (s : State C) → Keeps (turned_at cells place name.side turn s) (state_weight p s)
-      at Driver s = serves-keeps name.side (stream name.side s).driver.queue.messages s refl
-      at Head s = omega arith
-      at Ldterm s = omega arith
+      at : (place : Place) (s : State C) → AreIdle s → Keeps (turned_at cells place name turn s) (state_weight p s)
+      at Driver s idle = serves-keeps name.side (stream name.side s).driver.queue.messages s refl
+      at Head s idle = omega arith
+      at Ldterm s idle = module_turned-keeps p cells ignores name turn s idle

@@ -14,9 +14,11 @@ use Rattle.strm_types.specs.declared.names.Dir.TheVariants.{MasterToSlave, Slave
 use Rattle.strm_types.specs.declared.names.QueueName.{QueueName}
 use Rattle.strm_types.specs.declared.names.Side.{Side}
 use Rattle.strm_types.specs.declared.names.Side.TheVariants.{Master, Slave}
-use Rattle.strm_types.specs.declared.names.Way.TheVariants.{Down}
+use Rattle.strm_types.specs.declared.names.Way.{Way}
+use Rattle.strm_types.specs.declared.names.Way.TheVariants.{Up, Down}
 use Rattle.strm_types.specs.declared.rules.Rule.TheVariants.{EndClosed}
 use Rattle.strm_types.specs.declared.spots.Spot.{Spot}
+use Rattle.strm_types.specs.Books.{with_made}
 use Rattle.strm_types.specs.Calls.{Request, called, get_at, ioctl_begun, ioctl_sent, ioctl_told, message_put, mode_set, put_at, read_at, signals_told, wrote}
 use Rattle.strm_types.specs.Cells.{Cells, cells_written}
 use Rattle.strm_types.specs.Closes.{head_emptied, driver_emptied, ended, hung_up_at, closed_at, stream_emptied}
@@ -34,11 +36,11 @@ use Rattle.strm_types.specs.Step.{Step}
 use Rattle.strm_types.specs.Turns.{turned, with_driver}
 use Rattle.strm_types.specs.declared.modes.Wanted.{Wanted}
 use Rattle.strm_types.specs.Within.{AreWithin, IsWithin}
-use Rattle.strm_types.proofs.TurnHolds.{Turns, turn-holds}
+use Rattle.strm_types.proofs.TurnHolds.{turn-holds, turns-stay}
 use Rattle.strm_types.proofs.PushHolds.{Survives, modules_emptied-holds, pop-holds, push-holds}
 use Rattle.strm_types.proofs.WriteSteps.{cells_sent-holds}
-use Rattle.strm_types.proofs.WithinHeads.{behind-fits, begun-within, delivered-within, side-within, with-head-within}
-use Rattle.strm_types.proofs.Past.{waits-within}
+use Rattle.strm_types.proofs.WithinHeads.{behind-fits, begun-within, delivered-within, puts-within, side-within, with-head-within}
+use Rattle.strm_types.proofs.ModuleTurnEnds.{Stays, waiting}
 
 -- the place below a side's head
 abbrev below : Side → Spot
@@ -57,11 +59,25 @@ module _ {C : Type 0} where
   driver-within Master q s within = record { master = within.master; slave = within.slave }
   driver-within Slave q s within = record { master = within.master; slave = within.slave }
 
-  turns : Turns {C = C} AreWithin
-  turns = record { drivers = driver-within; named = λ names s within. record { master = within.master; slave = within.slave }; given = delivered-within; waits = waits-within }
+  within-stays : Stays {C = C} AreWithin
+  within-stays = record { puts = puts-within; modules = modules; names = λ names s within. record { master = within.master; slave = within.slave }; books = books; waits = waits }
+    where
+      modules : (side : Side) (ps : List (Module C)) (s : State C) → AreWithin s → AreWithin (with_modules side ps s)
+      modules Master ps s within = record { master = within.master; slave = within.slave }
+      modules Slave ps s within = record { master = within.master; slave = within.slave }
+
+      books : (dir : Dir) (n : ℕ) (s : State C) → AreWithin s → AreWithin (with_book dir (with_made n (book dir s)) s)
+      books MasterToSlave n s within = record { master = within.master; slave = within.slave }
+      books SlaveToMaster n s within = record { master = within.master; slave = within.slave }
+
+      waits : (side : Side) (way : Way) (band : ℕ) (s : State C) → AreWithin s → AreWithin (waiting side way band s)
+      waits Master Up band s within = record { master = record { signals = within.master.signals; answer = within.master.answer }; slave = within.slave }
+      waits Master Down band s within = record { master = within.master; slave = within.slave }
+      waits Slave Up band s within = record { master = within.master; slave = record { signals = within.slave.signals; answer = within.slave.answer } }
+      waits Slave Down band s within = record { master = within.master; slave = within.slave }
 
   turn-within : (cells : Cells C) (name : QueueName) (turn : Turn) (s : State C) → AreWithin s → AreWithin (turned cells name turn s).state
-  turn-within cells name turn s within = turn-holds AreWithin turns cells name turn s within
+  turn-within cells name turn s within = turn-holds AreWithin (turns-stay AreWithin driver-within within-stays) cells name turn s within
 
   -- calls
   hung_up-within : (s : State C) → AreWithin s → AreWithin (hung_up_at Slave s)

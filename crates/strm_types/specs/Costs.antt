@@ -1,34 +1,35 @@
 -- How many blocks of each kind a delivery takes at most: a driver makes two messages at most of an M_FLUSH, and one of what
--- was sent across; a head makes one of an M_FLUSH that goes down again, or of an M_IOCTL.
+-- was sent across; a head makes one of an M_FLUSH that goes down again, or of an M_IOCTL. A message with parts that goes down
+-- behind the head takes none: it stands on a queue as it is, or goes on as it is (putq(9F), putnext(9F)).
 use Rattle.std.specs.Prelude.{ℕ, suc, Bool, ◌&&◌, ◌==◌, if◌then◌else◌}
 use Rattle.strm_types.specs.declared.limits.TheConstants.{MODULES}
 use Rattle.strm_types.specs.declared.names.Way.{Way}
 use Rattle.strm_types.specs.declared.names.Way.TheVariants.{Up, Down}
 use Rattle.strm_types.specs.declared.spots.Spot.{Spot}
 use Rattle.strm_types.specs.Flushing.{is_flush}
-use Rattle.strm_types.specs.Message.{Message}
+use Rattle.strm_types.specs.Message.{Message, has_parts}
 use Rattle.strm_types.specs.Puts.{is_turned}
 
 -- with all that a message gives rise to, behind the head: what comes up may be turned round at the head, and then reaches a
 -- driver on its way down; an M_FLUSH may have been sent across, to the driver
-abbrev pub below_cost : Way → Bool → Bool → ℕ
-below_cost Down flush turned = 3
-below_cost Up flush turned = if turned then 4 else (if flush then 1 else 0)
+abbrev pub below_cost : Way → Bool → Bool → Bool → ℕ
+below_cost Down parts flush turned = if parts then 0 else 3
+below_cost Up parts flush turned = if turned then 4 else (if flush then 1 else 0)
 
-abbrev pub cost_at : Spot → Bool → Bool → ℕ
-cost_at here flush turned = if here.at == 0 then (if turned then 4 else 0) else below_cost here.way flush turned
+abbrev pub cost_at : Spot → Bool → Bool → Bool → ℕ
+cost_at here parts flush turned = if here.at == 0 then (if turned then 4 else 0) else below_cost here.way parts flush turned
 
 abbrev pub cost : {C : Type 0} → Spot → Message C → ℕ
-cost here m = cost_at here (is_flush m.kind) (is_turned m)
+cost here m = cost_at here (has_parts m) (is_flush m.kind) (is_turned m)
 
 -- whether a message on its way up was sent across, to the driver's place
 abbrev pub is_across : {C : Type 0} → Spot → Message C → Bool
 is_across here m = is_flush m.kind && here.at == suc MODULES
 
 -- what a put takes itself, behind the head, at it, and anywhere
-abbrev pub below_takes : Way → Bool → ℕ
-below_takes Down across = 2
-below_takes Up across = if across then 1 else 0
+abbrev pub below_takes : Way → Bool → Bool → ℕ
+below_takes Down parts across = if parts then 0 else 2
+below_takes Up parts across = if across then 1 else 0
 
 abbrev pub head_takes : {C : Type 0} → Message C → ℕ
 head_takes m = if is_turned m then 1 else 0
@@ -36,4 +37,4 @@ head_takes m = if is_turned m then 1 else 0
 abbrev pub takes : {C : Type 0} → Spot → Message C → ℕ
 takes here m =
     if here.at == 0 then head_takes m
-    else below_takes here.way (is_across here m)
+    else below_takes here.way (has_parts m) (is_across here m)

@@ -20,6 +20,7 @@ pub mod Modules
 pub mod ModuleQueues
 pub mod Places
 pub mod Origins
+pub mod TurnOutcomes
 pub mod Turns
 pub mod Emptied
 pub mod Closes

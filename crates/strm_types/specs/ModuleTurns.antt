@@ -23,7 +23,7 @@ use Rattle.strm_types.specs.Puts.{earlier_at, noted, put_in}
 use Rattle.strm_types.specs.Service.{end_relieves, has_more, turn_ended}
 use Rattle.strm_types.specs.Stacked.{Module, module_asks, module_queue, module_rests, module_serves, with_module_queue}
 use Rattle.strm_types.specs.State.{State, Stream, book, stream, with_book, with_stream}
-use Rattle.strm_types.specs.Turns.{TurnOutcome, first_size, stayed_put}
+use Rattle.strm_types.specs.TurnOutcomes.{TurnOutcome, first_size, stayed_put}
 use Rattle.strm_types.specs.Past.{has_room_past, writer_waits}
 
 -- What calls of a turn lead to: the state behind them, what has gone or was made, how many bytes they treated, and whether the turn

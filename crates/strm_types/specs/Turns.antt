@@ -1,5 +1,5 @@
 -- Turns of the service procedures (STREAMS Programming Guide, "Service Procedures"; canput(9F), getq(9F)).
-use Rattle.std.specs.Prelude.{ℕ, Bool, true, false, not, ◌&&◌, ◌||◌, ◌==◌, if◌then◌else◌, List, [], ◌∷◌, map}
+use Rattle.std.specs.Prelude.{ℕ, Bool, true, false, not, ◌&&◌, ◌||◌, ◌==◌, if◌then◌else◌, List, [], ◌∷◌}
 use Rattle.strm_types.specs.declared.answers.Turn.{Turn}
 use Rattle.strm_types.specs.declared.answers.Turn.TheVariants.{Moved, Blocked, Idle}
 use Rattle.strm_types.specs.declared.names.Side.{Side}
@@ -9,35 +9,21 @@ use Rattle.strm_types.specs.declared.names.QueueName.{QueueName}
 use Rattle.strm_types.specs.Message.{Message, size_of, band_of, is_held}
 use Rattle.strm_types.specs.Queue.{Queue, is_none_left, is_full, left_with, relieved, relieves}
 use Rattle.strm_types.specs.Cells.{Cells}
+use Rattle.strm_types.specs.declared.names.Way.{Way}
 use Rattle.strm_types.specs.declared.names.Way.TheVariants.{Up}
 use Rattle.strm_types.specs.declared.spots.Spot.{Spot}
-use Rattle.strm_types.specs.Deliver.{Fate}
-use Rattle.strm_types.specs.Origins.{map_fate}
 use Rattle.strm_types.specs.Puts.{delivered}
 use Rattle.strm_types.specs.Earlier.{before_driver, driver_place, modules_on}
+use Rattle.strm_types.specs.ModuleTurns.{module_turned, whole_module}
 use Rattle.strm_types.specs.Past.{has_room_past, writer_waits}
+use Rattle.strm_types.specs.TurnOutcomes.{TurnOutcome, first_size, stayed_put}
 use Rattle.strm_types.specs.Names.{other, driver_of, is_open, without, enable_if, enable_some}
-use Rattle.strm_types.specs.State.{State, Stream, stream, with_stream, with_driver_queue, map_state}
-
--- what a turn leads to, and what goes on the way by which rule
-pub record TurnOutcome (C : Type 0) : Type 0 where
-  pub turn : Turn
-  pub state : State C
-  pub gone : List (Fate C)
-
--- the same with a state of other cells
-abbrev pub map_turn_outcome : {C D : Type 0} → (C → D) → TurnOutcome C → TurnOutcome D
-map_turn_outcome f outcome = record { turn = outcome.turn; state = map_state f outcome.state; gone = map (map_fate f) outcome.gone }
+use Rattle.strm_types.specs.State.{State, Stream, stream, with_stream, with_driver_queue}
 
 module _ {C : Type 0} where
   -- the lowest place of the other side's stream on the way up: that of its lowest module, and where there is none the head's
   abbrev pub up_across : Side → State C → Spot
   up_across side s = record { side = other side; at = modules_on (other side) s; way = Up }
-
-  -- how many bytes the first message has
-  abbrev pub first_size : List (Message C) → ℕ
-  first_size [] = 0
-  first_size (m ∷ _) = size_of m
 
   -- the queue after a turn that may not treat its first message, which stays
   abbrev pub held_back : Queue C → Queue C
@@ -46,10 +32,6 @@ module _ {C : Type 0} where
   -- Whether flow control stops a message at a queue.
   abbrev pub is_stopped : Message C → Queue C → Bool
   is_stopped m q = is_held m.kind && is_full (band_of m) q
-
-  -- a turn that moved nothing
-  abbrev pub stayed_put : Turn → State C → TurnOutcome C
-  stayed_put turn s = record { turn = turn; state = s; gone = [] }
 
   -- the driver's queue of a side is another one
   abbrev pub with_driver : Side → Queue C → State C → State C
@@ -100,22 +82,22 @@ module _ {C : Type 0} where
   abbrev pub driver_turned : Side → State C → TurnOutcome C
   driver_turned side s = driver_serves side (stream side s).driver.queue.messages s
 
-  -- by what the queue belongs to: heads have no service procedure, and no module stands on a stream yet
-  abbrev pub turned_at : Cells C → Place → Side → Turn → State C → TurnOutcome C
-  turned_at cells Driver side turn s = driver_turned side s
-  turned_at cells Head side turn s = stayed_put Idle s
-  turned_at cells Ldterm side turn s = stayed_put Idle s
+  -- by what the queue belongs to: heads have no service procedure
+  abbrev pub turned_at : Cells C → Place → QueueName → Turn → State C → TurnOutcome C
+  turned_at cells Driver name turn s = driver_turned name.side s
+  turned_at cells Head name turn s = stayed_put Idle s
+  turned_at cells Ldterm name turn s = module_turned cells name turn s
 
   -- A turn of an enabled queue, which is answered so. Where a service procedure may stop within a message, the answer says
   -- how far it went.
   abbrev pub turned : Cells C → QueueName → Turn → State C → TurnOutcome C
-  turned cells name turn s = turned_at cells name.place name.side turn (record s { enabled = without name s.enabled })
+  turned cells name turn s = turned_at cells name.place name turn (record s { enabled = without name s.enabled })
 
   -- the answer of a turn that treats the first message of its queue whole
-  abbrev pub whole_at : Place → Stream C → Turn
-  whole_at Driver from = Moved (first_size from.driver.queue.messages)
-  whole_at Head from = Idle
-  whole_at Ldterm from = Idle
+  abbrev pub whole_at : Place → Way → Stream C → Turn
+  whole_at Driver way from = Moved (first_size from.driver.queue.messages)
+  whole_at Head way from = Idle
+  whole_at Ldterm way from = whole_module Ldterm way from
 
   abbrev pub whole_turn : QueueName → State C → Turn
-  whole_turn name s = whole_at name.place (stream name.side s)
+  whole_turn name s = whole_at name.place name.way (stream name.side s)
