@@ -28,13 +28,16 @@ module _ {X P : Type 0} (plain : StoreValue → X → P) (IsHeld : StoreValue �
       }) held.1 in
       (ap (λ p. p ∷ map (plain t) xs) here.0 ∙ ap (λ ps. plain s x ∷ ps) rest.0, (here.1, rest.1))
 
+  -- and all together
+  pub stack-stays : (s t : StoreValue) (xs : List X) → SameOwn s t (all_of owns xs) (all_of keeps xs) → AreHeld IsHeld owns s xs →
+      (map (plain t) xs ≡ map (plain s) xs) × AreHeld IsHeld owns t xs
+  stack-stays s t xs same held = let r = each-frame s t xs same held.each in (r.0, record { each = r.1; apart = held.apart })
+
   pub stack-frame : (s t : StoreValue) (xs : List X) → SameFor s t (all_of keeps xs) → AreHeld IsHeld owns s xs →
       (map (plain t) xs ≡ map (plain s) xs) × AreHeld IsHeld owns t xs
-  stack-frame s t xs same held =
-      let r = each-frame s t xs (record {
-        lists = λ k some. ap (λ ls. list_at (record s { lists = ls }) k) same.lists;
-        mblks = same.mblks;
-        dblks = same.dblks;
-        kept = same.kept;
-      }) held.each in
-      (r.0, record { each = r.1; apart = held.apart })
+  stack-frame s t xs same held = stack-stays s t xs (record {
+    lists = λ k some. ap (λ ls. list_at (record s { lists = ls }) k) same.lists;
+    mblks = same.mblks;
+    dblks = same.dblks;
+    kept = same.kept;
+  }) held

@@ -15,7 +15,7 @@ use Rattle.strm_types.specs.Flushing.{is_flush}
 use Rattle.strm_types.specs.Input.{begins_next, cells_left, left_of, made_of, next_stage, stage_at, stages, with_left}
 use Rattle.strm_types.specs.Keys.{restarts}
 use Rattle.strm_types.specs.Ldterms.{Ldterm, Stage, Between, Begun, Answered, ldterm_puts, onward, sends}
-use Rattle.strm_types.specs.Message.{Message, data_message}
+use Rattle.strm_types.specs.Message.{Message, data_message, has_parts}
 use Rattle.strm_types.specs.Puts.{is_turned}
 use Rattle.strm_types.specs.Queue.{is_full, is_none_left}
 use Rattle.strm_types.specs.Typing.{bare, echo_dir, echoed, echo_grows, echo_lost, echo_stands, gathered_up, is_lnext, stroke_at, struck}
@@ -26,24 +26,24 @@ use Rattle.strm_ldterm.specs.Turns.{leaves, needs}
 use Rattle.strm_ldterm.proofs.Onward.{puts-send, struck-sends}
 
 -- no more at the next place the same way
-up-cost : (flush turned top : Bool) → cond top (cond turned 4 0) (below_cost Up flush turned) ≤ below_cost Up flush turned
-up-cost flush true true = omega arith
-up-cost true false true = omega arith
-up-cost false false true = omega arith
-up-cost flush turned false = omega arith
+up-cost : (parts flush turned top : Bool) → cond top (cond turned 4 0) (below_cost Up parts flush turned) ≤ below_cost Up parts flush turned
+up-cost parts flush true true = omega arith
+up-cost parts true false true = omega arith
+up-cost parts false false true = omega arith
+up-cost parts flush turned false = omega arith
 
-next-below : (way : Way) (flush turned : Bool) (here : Spot) → cost_at (toward way here) flush turned ≤ below_cost way flush turned
-next-below Up flush turned here = up-cost flush turned (here.at - 1 == 0)
-next-below Down flush turned here =
+next-below : (way : Way) (parts flush turned : Bool) (here : Spot) → cost_at (toward way here) parts flush turned ≤ below_cost way parts flush turned
+next-below Up parts flush turned here = up-cost parts flush turned (here.at - 1 == 0)
+next-below Down parts flush turned here =
     let below : (here.at + 1 == 0) ≡ false = grind (arith, nat_tests) in
-    let three : cost_at (toward Down here) flush turned ≡ 3 = ap (λ top. cond top (cond turned 4 0) 3) below in
-    omega (arith, three)
+    let same : cost_at (toward Down here) parts flush turned ≡ cond parts 0 3 = ap (λ top. cond top (cond turned 4 0) (cond parts 0 3)) below in
+    omega (arith, same)
 
-next-cost : (flush turned : Bool) (here : Spot) → 0 < here.at → cost_at (toward here.way here) flush turned ≤ cost_at here flush turned
-next-cost flush turned here inside =
+next-cost : (parts flush turned : Bool) (here : Spot) → 0 < here.at → cost_at (toward here.way here) parts flush turned ≤ cost_at here parts flush turned
+next-cost parts flush turned here inside =
     let behind : (here.at == 0) ≡ false = grind (arith, nat_tests) in
-    let same : cost_at here flush turned ≡ below_cost here.way flush turned = ap (λ top. cond top (cond turned 4 0) (below_cost here.way flush turned)) behind in
-    let low = next-below here.way flush turned here in
+    let same : cost_at here parts flush turned ≡ below_cost here.way parts flush turned = ap (λ top. cond top (cond turned 4 0) (below_cost here.way parts flush turned)) behind in
+    let low = next-below here.way parts flush turned here in
     omega (arith, same, low)
 
 pub none-cost : (C : Type 0) → cost_of (cost {C = C}) [] ≡ 0
@@ -66,7 +66,7 @@ module _ {C : Type 0} where
   puts-cost here m p inside =
       let one = one-cost (toward here.way here) m in
       let none = none-cost C in
-      let low = next-cost (is_flush m.kind) (is_turned m) here inside in
+      let low = next-cost (has_parts m) (is_flush m.kind) (is_turned m) here inside in
       puts-send here (λ ps. cost_of cost ps ≤ cost here m) m p (omega (arith, none)) (omega (arith, one, low))
 
 module _ (here : Spot) where

@@ -1,95 +1,30 @@
 -- Behind a call of a service procedure nothing of a turn is under way, or it is called again; and a put, another queue or a line that is
 -- gone leave it so.
 use Rattle.std.proofs.Common.{ℕ, zero, suc, ◌≡◌, ◌+◌, ◌-◌, ◌*◌, Bool, true, false, cond, List, [], ◌∷◌, ◌++◌, length, refl, sym, ap, subst, ◌∙◌}
-use Rattle.std.proofs.lemmas.Bool.{and_left, false≢true}
-use Rattle.std.specs.Prelude.{Option, None, Some, is_some, nat_lt, not, ◌&&◌, option_map, unwrap_or}
-use Rattle.strm_types.specs.declared.flushing.FlushAsked.{FlushAsked}
-use Rattle.strm_types.specs.declared.kinds.Band.{Band}
+use Rattle.std.proofs.lemmas.Bool.{false≢true}
+use Rattle.std.specs.Prelude.{Option, None, Some, is_some, ◌&&◌, option_map, unwrap_or}
 use Rattle.strm_types.specs.declared.kinds.MsgKind.TheVariants as kinds
 use Rattle.strm_types.specs.declared.names.Way.{Way}
 use Rattle.strm_types.specs.declared.names.Way.TheVariants.{Up, Down}
-use Rattle.strm_types.specs.declared.rules.Rule.TheVariants.{Flushed}
 use Rattle.strm_types.specs.declared.spots.Spot.{Spot}
 use Rattle.strm_types.specs.Cells.{Cells, cells_made}
 use Rattle.strm_types.specs.Deliver.{Acted}
-use Rattle.strm_types.specs.Flushing.{is_flush, asked_by}
 use Rattle.strm_types.specs.Input.{begins_next, cells_left, input_begins, is_data, ldterm_serves, left_of, made_of, next_stage, output_passes, passes, stage_at, stages, stages_done, then_on, to_treat, treats, with_left}
 use Rattle.strm_types.specs.Keys.{restarts}
-use Rattle.strm_types.specs.Ldterms.{Ldterm, Stage, Between, Begun, Answered, both, flush_passes, ldterm_puts, line_flushed, onward, queue_flushed, queued_at, read_flushed, sends, takes_band_0, waits_there, with_queue_at, without_line, write_flushed}
+use Rattle.strm_types.specs.Ldterms.{Ldterm, Stage, Between, Begun, Answered, ldterm_puts, onward, sends, with_queue_at, without_line}
 use Rattle.strm_types.specs.Message.{Message, cells_of}
 use Rattle.strm_types.specs.Queue.{Queue, is_full, is_none_left, left_with}
-use Rattle.strm_types.specs.Service.{line_gone}
 use Rattle.strm_types.specs.Typing.{bare, begins, echo_dir, echo_grows, echo_lost, echo_stands, echoed, is_lnext, stroke_at, struck}
+use Rattle.strm_types.proofs.LdtermPutStays.{Stays, idle-stays, line-stays, puts-stay, queue-stays}
 use Rattle.strm_types.proofs.LdtermStages.{strikes-stay}
 use Rattle.strm_ldterm.specs.Served.{IsIdle, IsServed}
 
 module _ {C : Type 0} where
-  -- Nothing of a turn changed, but that its echo may have come to an end.
-  record Stays (p q : Ldterm C) : Type 0 where
-    work : q.in_work ≡ p.in_work
-    gathered : q.gathered ≡ p.gathered
-    echoing : p.echoing ≡ false → q.echoing ≡ false
-    stage : q.stage ≡ p.stage
-
-  idle-stays : (p q : Ldterm C) → Stays p q → IsIdle p → IsIdle q
-  idle-stays p q same idle = (same.work ∙ idle.0, same.gathered ∙ idle.1, same.echoing idle.2, same.stage ∙ idle.3)
-
   served-stays : (way : Way) (again : Bool) (p q : Ldterm C) → Stays p q → IsServed way again p → IsServed way again q
   served-stays Up true p q same is = ap is_some same.work ∙ is
   served-stays Up false p q same is = idle-stays p q same is
   served-stays Down true p q same is = idle-stays p q same is
   served-stays Down false p q same is = idle-stays p q same is
-
-  stays-so : (p : Ldterm C) → Stays p p
-  stays-so p = record { work = refl; gathered = refl; echoing = λ e. e; stage = refl }
-
-  stays-both : (p q r : Ldterm C) → Stays p q → Stays q r → Stays p r
-  stays-both p q r first second = record {
-    work = second.work ∙ first.work;
-    gathered = second.gathered ∙ first.gathered;
-    echoing = λ e. second.echoing (first.echoing e);
-    stage = second.stage ∙ first.stage;
-  }
-
-  either-stays : (b : Bool) (one another : Acted C (Ldterm C)) (p : Ldterm C) → Stays p one.state → Stays p another.state → Stays p (cond b one another).state
-  either-stays true one another p first second = first
-  either-stays false one another p first second = second
-
-  queue-stays : (way : Way) (q : Queue C) (p : Ldterm C) → Stays p (with_queue_at way q p)
-  queue-stays Up q p = record { work = refl; gathered = refl; echoing = λ e. e; stage = refl }
-  queue-stays Down q p = record { work = refl; gathered = refl; echoing = λ e. e; stage = refl }
-
-  queued-stays : (way : Way) (m : Message C) (p : Ldterm C) → Stays p (queued_at way m p).state
-  queued-stays Up m p = record { work = refl; gathered = refl; echoing = λ e. e; stage = refl }
-  queued-stays Down m p = record { work = refl; gathered = refl; echoing = λ e. and_left p.echoing (nat_lt 0 m.band) e; stage = refl }
-
-  line-stays : (p : Ldterm C) → Stays p (without_line p)
-  line-stays p = record { work = refl; gathered = refl; echoing = λ e. e; stage = refl }
-
-  flushed-stays : (here : Spot) (band : Option Band) (p : Ldterm C) → Stays p (line_flushed here band p).state
-  flushed-stays here band p =
-      either-stays (takes_band_0 band) (record (sends [] (without_line p)) { gone = line_gone here.side Flushed p.line }) (sends [] p) p (line-stays p) (stays-so p)
-
-  read-stays : (here : Spot) (asked : FlushAsked) (p : Ldterm C) → Stays p (read_flushed here asked p).state
-  read-stays here asked p =
-      let q = (queue_flushed Up here asked.band p).state in
-      either-stays asked.for_read (both (queue_flushed Up here asked.band p) (line_flushed here asked.band)) (sends [] p) p
-      (stays-both p q (line_flushed here asked.band q).state (queue-stays Up q.read_queue p) (flushed-stays here asked.band q)) (stays-so p)
-
-  write-stays : (here : Spot) (asked : FlushAsked) (p : Ldterm C) → Stays p (write_flushed here asked p).state
-  write-stays here asked p =
-      let ended : Ldterm C = record p { echoing = p.echoing && not (takes_band_0 asked.band) } in
-      let q = (queue_flushed Down here asked.band ended).state in
-      either-stays asked.for_write (queue_flushed Down here asked.band ended) (sends [] p) p
-      (stays-both p ended q (record { work = refl; gathered = refl; echoing = λ e. and_left p.echoing (not (takes_band_0 asked.band)) e; stage = refl }) (queue-stays Down q.write_queue ended)) (stays-so p)
-
-  puts-stay : (here : Spot) (m : Message C) (p : Ldterm C) → Stays p (ldterm_puts here m p).state
-  puts-stay here m p =
-      let asked = asked_by m.plain in
-      let q = (read_flushed here asked p).state in
-      let passed = sends (onward here.way here m ∷ []) p in
-      either-stays (waits_there m.kind) (queued_at here.way m p) (cond (is_flush m.kind) (flush_passes here m p) passed) p (queued-stays here.way m p)
-      (either-stays (is_flush m.kind) (flush_passes here m p) passed p (stays-both p q (write_flushed here asked q).state (read-stays here asked p) (write-stays here asked q)) (stays-so p))
 
   -- a put
   pub puts-served : (here : Spot) (m : Message C) (way : Way) (again : Bool) (p : Ldterm C) → IsServed way again p → IsServed way again (ldterm_puts here m p).state
