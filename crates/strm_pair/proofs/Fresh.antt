@@ -20,13 +20,13 @@ use Rattle.strm_pair.specs.Streams.{View}
 
 -- streams as new, beside a store with nothing in it
 pub record AreFresh {S : Type 0} (view : View S) (mblks dblks : ℕ) (p : Streams S) : Type 0 where
-  pub state : state_in view (empty_store mblks dblks) p ≡ opening
+  pub state : state_in view.modules (empty_store mblks dblks) p ≡ opening
   pub held : AreHeld view (empty_store mblks dblks) p
 
 pub fresh-kept : {S : Type 0} (view : View S) (s : StoreValue) (p : Streams S) (j : Journal) (limits : Config) (fates : Fates) → s ≡ empty_store limits.mblks limits.dblks → AreFresh view limits.mblks limits.dblks p
     → journal_of j ≡ [] → j.most_entries ≡ limits.journal_events → j.most_bytes ≡ limits.journal_bytes → fates ≡ no_fates → IsKept view s p j limits fates
 fresh-kept view s p j limits fates blank fresh empty events bytes none = record {
-  replayed = ap (λ v. state_in view v p) blank ∙ fresh.state ∙ sym (led-nowhere j empty);
+  replayed = ap (λ v. state_in view.modules v p) blank ∙ fresh.state ∙ sym (led-nowhere j empty);
   legal = subst (λ js. IsLegal plain opening js) (sym empty) tt;
   told = none ∙ ap (λ js. told_by plain opening js no_fates) (sym empty);
   held = subst (λ v. AreHeld view v p) (sym blank) fresh.held;

@@ -36,7 +36,7 @@ part-size (Some bytes) = refl
 
 -- what a get takes of a side's head
 abbrev pub got_at : {S : Type 0} → View S → Side → Wanted → ℕ → ℕ → StoreValue → Streams S → Got ℕ
-got_at view side wanted cmax dmax s p = head_get wanted (min cmax READ_MAX) (min dmax READ_MAX) (stream side (state_in view s p)).head.queue.messages
+got_at view side wanted cmax dmax s p = head_get wanted (min cmax READ_MAX) (min dmax READ_MAX) (stream side (state_in view.modules s p)).head.queue.messages
 
 pub gives-is : {S : Type 0} (view : View S) (side : Side) (wanted : Wanted) (cmax dmax most most_data : ℕ) (s : StoreValue) (p : Streams S) → most ≡ min cmax READ_MAX → most_data ≡ min dmax READ_MAX
     → (got : Gotten) (out : List ℕ) → Gives got out (head_get wanted most most_data (messages_on s (end_at side p).head.queue.list)) → Gives got out (got_at view side wanted cmax dmax s p)
@@ -73,10 +73,10 @@ module _ {S : Type 0} (view : View S) (got : Gotten) (out : List ℕ) (side : Si
   g = got_at view side wanted cmax dmax s p
 
   control-few : length (part g.control) ≤ min cmax READ_MAX
-  control-few = get-control wanted (min cmax READ_MAX) (min dmax READ_MAX) (stream side (state_in view s p)).head.queue.messages
+  control-few = get-control wanted (min cmax READ_MAX) (min dmax READ_MAX) (stream side (state_in view.modules s p)).head.queue.messages
 
   body-few : length (part g.body) ≤ min dmax READ_MAX
-  body-few = get-data wanted (min cmax READ_MAX) (min dmax READ_MAX) (stream side (state_in view s p)).head.queue.messages
+  body-few = get-data wanted (min cmax READ_MAX) (min dmax READ_MAX) (stream side (state_in view.modules s p)).head.queue.messages
 
   pub got-few : length out ≤ min cmax READ_MAX + min dmax READ_MAX
   got-few =

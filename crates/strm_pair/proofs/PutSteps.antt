@@ -16,7 +16,7 @@ use Rattle.strm_head.specs.Heads.{head_in}
 use Rattle.strm_queue.specs.declared.queue.Queue.{Queue}
 use Rattle.strm_queue.specs.Stored.{queue_in, HoldsReadable, Changes, FreesBlocks}
 use Rattle.strm_frame.specs.declared.modules.Acts.{Acts}
-use Rattle.strm_frame.specs.Hands.{CanPut, Hands, SamePool, Spends}
+use Rattle.strm_frame.specs.Hands.{CanPut, Handles, Hands, SamePool, Spends}
 use Rattle.strm_frame.specs.Outboxes.{sent_of}
 use Rattle.strm_frame.proofs.Shifting.{shifts-joined}
 use Rattle.strm_pty.specs.Does.{OnlyQueue, driver_cost}
@@ -27,10 +27,12 @@ use Rattle.strm_pair.proofs.Sides.{none-stand, driver-changed, driver-state, hea
 use Rattle.strm_types.specs.declared.names.Place.TheVariants as places
 use Rattle.strm_types.specs.declared.names.QueueName.{QueueName}
 use Rattle.strm_types.specs.declared.names.Side.{Side}
+use Rattle.strm_types.specs.declared.names.Side.TheVariants.{Master, Slave}
 use Rattle.strm_types.specs.declared.names.Way.TheVariants.{Up, Down}
 use Rattle.strm_types.specs.declared.rules.Fates.{Fates}
 use Rattle.strm_types.specs.declared.spots.Spot.{Spot}
 use Rattle.strm_types.specs.Deliver.{Acted, Parcel, Took, tallied, toward, Goes}
+use Rattle.strm_types.specs.Flush.{is_data_kind}
 use Rattle.strm_types.specs.Flushing.{asked_by, flush_bytes, flush_message}
 use Rattle.strm_types.specs.Heads.{head_put, is_doubled, obeyed, turned_round, waits_for_readers}
 use Rattle.strm_types.specs.Message.{Message, cells_of, has_parts}
@@ -40,6 +42,8 @@ use Rattle.strm_types.specs.Reads.{is_there}
 use Rattle.strm_types.specs.State.{Head, State, stream, with_stream, with_driver_queue}
 use Rattle.strm_blocks.specs.Blocks.{StoreValue, in_hand}
 use Rattle.strm_msg.specs.Messages.{IsChain}
+use Rattle.strm_msg.proofs.Chains.{kind-is}
+use Rattle.strm_msg.proofs.MadePlain.{parts-same}
 use Rattle.strm_head.specs.declared.putting.Down as heads_down
 use Rattle.strm_head.specs.declared.putting.Down.TheVariants as downs
 use Rattle.strm_head.specs.Heads.{down_message, notes_of, sent_down}
@@ -52,7 +56,7 @@ use Rattle.strm_pty.specs.Does.{Makes, Swaps}
 use Rattle.strm_pty.proofs.Doing.{times-one}
 use Rattle.strm_pair.specs.declared.streams.Streams.{Streams}
 use Rattle.strm_types.specs.Costs.{head_takes, below_takes, is_across, takes}
-use Rattle.strm_pair.specs.Pairs.{state_in, AreBeside}
+use Rattle.strm_pair.specs.Pairs.{state_in, AreBeside, Stays, kept_by}
 use Rattle.strm_pair.specs.Framing.{same-state, same-beside}
 use Rattle.strm_pair.specs.PutBy.{PutBy, CameBy}
 use Rattle.strm_pair.specs.Streams.{View}
@@ -106,6 +110,44 @@ down-takes side here m s down is = down-few (is_turned m) down (λ none. down-no
 pub room-less : (s t : StoreValue) (gone come : ℕ → ℕ) (n k : ℕ) → Shifts s t gone come 0 → k ≤ n → HasRoom s n → HasRoom t k
 room-less s t gone come n k hands le room = record { mblks = (let a = hands.mblks in let b = room.mblks in omega arith); dblks = (let a = hands.dblks in let b = room.dblks in omega arith) }
 
+-- what goes and comes in hand, where the stacks keep what they did
+handled : (s t : StoreValue) (m n : ℕ) (come kept keeps : ℕ → ℕ) → ((i : ℕ) → keeps i ≡ kept i) → Shifts s t (once m) come n → Handles s t (once m) kept keeps come
+handled s t m n come kept keeps same hands = record {
+  counts = λ i. omega (arith, hands.counts i, same i);
+  others = λ i none k some. hands.others i none some;
+}
+
+spent : (s t : StoreValue) (gone come : ℕ → ℕ) (n k : ℕ) → n ≤ k → Shifts s t gone come n → Spends s t k 0
+spent s t gone come n k le hands = record { mblks = omega (arith, hands.mblks, le); dblks = omega (arith, hands.dblks, le) }
+
+-- what is kept is in hand, beside the message that is put
+put-stays : (s t : StoreValue) (m n : ℕ) (come keeps : ℕ → ℕ) → IsStore s → CanPut s m keeps → Shifts s t (once m) come n → Stays s t keeps
+put-stays s t m n come keeps store can hands = record {
+  mblks = hands.pool.mblks;
+  dblks = hands.pool.dblks;
+  kept = λ i some. hands.others i (omega (arith, can.apart i, store.apart i, some)) (omega (arith, can.apart i, some));
+}
+
+-- and where more is made behind it
+made-stays : (s t u : StoreValue) (m n k : ℕ) (come more keeps : ℕ → ℕ) → CanPut s m keeps → Shifts s t (once m) come n → Shifts t u (λ _. 0) more k → Stays t u keeps
+made-stays s t u m n k come more keeps can first second = record {
+  mblks = second.pool.mblks;
+  dblks = second.pool.dblks;
+  kept = λ i some. second.others i refl (omega (arith, can.apart i, first.counts i, some));
+}
+
+can-alone : (s : StoreValue) (m : ℕ) (keeps : ℕ → ℕ) → CanPut s m keeps → CanPut s m (λ _. 0)
+can-alone s m keeps can = record { apart = λ i. omega (arith, can.apart i) }
+
+-- the stacks stay where a head changes, or a driver
+kept-head : {S : Type 0} (view : View S) (p : Streams S) (side : Side) (h : heads.Head) (i : ℕ) → kept_by view (with_end side (record (end_at side p) { head = h }) p) i ≡ kept_by view p i
+kept-head view p Master h i = refl
+kept-head view p Slave h i = refl
+
+kept-driver : {S : Type 0} (view : View S) (p : Streams S) (side : Side) (d : Queue) (i : ℕ) → kept_by view (with_end side (record (end_at side p) { driver = d }) p) i ≡ kept_by view p i
+kept-driver view p Master d i = refl
+kept-driver view p Slave d i = refl
+
 -- a waiting writer is let go where the head says so
 pub noted-room : (side : Side) (lets_go : Bool) (names : List QueueName) → noted side (Some places.Head) (by_name side places.Head) (notes_of lets_go) names ≡ cond lets_go (enable_found (before (head_of side)) names) names
 noted-room side true names = refl
@@ -138,29 +180,32 @@ module _ {S : Type 0} (view : View S) (side : Side) (s t : StoreValue) (p : Stre
   abbrev behind : Streams S
   behind = record (with_end side (record (end_at side p) { head = h }) p) { enabled = enable_some lets_go (before (head_of side)) p.enabled }
 
-  came-at : IsStore s → CanPut s i (λ _. 0) → AreBeside view s p → head_in t h ≡ Did.state → notes_of lets_go ≡ Did.notes → sent_down to down ≡ Did.sent → f' ≡ tallied Did.gone f
-      → Changes (dropped s i) t (end_at side p).head.queue h.queue → HoldsReadable (list_at t h.queue.list) → FreesBlocks s t → CameBy view s t p behind i (sent_down to down) f f' (at_head side (state_in view s p) Did)
+  came-at : IsStore s → CanPut s i (kept_by view p) → AreBeside view s p → head_in t h ≡ Did.state → notes_of lets_go ≡ Did.notes → sent_down to down ≡ Did.sent → f' ≡ tallied Did.gone f
+      → Changes (dropped s i) t (end_at side p).head.queue h.queue → HoldsReadable (list_at t h.queue.list) → FreesBlocks s t → CameBy view s t p behind i (sent_down to down) f f' (at_head side (state_in view.modules s p) Did)
   came-at store can beside state notes sent told changes readable frees =
       let only : OnlyQueue s t (end_at side p).head.queue h.queue = record { ready = changes.ready; list = changes.list; others = changes.others } in
-      let st = state_in view s p in
+      let hands = shifts-joined s t i (end_at side p).head.queue h.queue store (can-alone s i (kept_by view p) can) changes frees in
+      let stays = put-stays s t i 0 (λ _. 0) (kept_by view p) store can hands in
+      let st = state_in view.modules s p in
       record {
         state = ap (λ (x : State ℕ). record x { enabled = enable_some lets_go (before (head_of side)) p.enabled })
-            (head-state view s t p beside side h only ∙ ap (λ x. with_stream side (record (stream side st) { head = x }) st) state)
+            (head-state view s t p beside stays side h only ∙ ap (λ x. with_stream side (record (stream side st) { head = x }) st) state)
             ∙ ap (λ ns. record (with_stream side (record (stream side st) { head = Did.state }) st) { enabled = ns })
             (sym (noted-room side lets_go p.enabled) ∙ ap (λ n. noted side (Some places.Head) (by_name side places.Head) n p.enabled) notes);
         down_is = sent;
         tells = told;
-        beside = head-changed view s t p beside side h only readable;
-        hands = shifts-joined s t i (end_at side p).head.queue h.queue store can changes frees;
+        beside = head-changed view s t p beside stays side h only readable;
+        keeps = kept-head view p side h;
+        hands = hands;
       }
 
-  pub came-by : (q : Streams S) → to.side ≡ side → IsStore s → CanPut s i (λ _. 0) → AreBeside view s p → is_open (stream to.side (state_in view s p)).opened ≡ true
+  pub came-by : (q : Streams S) → to.side ≡ side → IsStore s → CanPut s i (kept_by view p) → AreBeside view s p → is_open (stream to.side (state_in view.modules s p)).opened ≡ true
       → head_in t h ≡ Did.state → notes_of lets_go ≡ Did.notes → sent_down to down ≡ Did.sent → f' ≡ tallied Did.gone f
       → Changes (dropped s i) t (end_at side p).head.queue h.queue → HoldsReadable (list_at t h.queue.list) → FreesBlocks s t
       → q ≡ record (with_end side (record (end_at side p) { head = h }) p) { enabled = enable_some lets_go (before (head_of to.side)) p.enabled }
-      → CameBy view s t p q i (sent_down to down) f f' (put_at_head to.side to m (state_in view s p))
+      → CameBy view s t p q i (sent_down to down) f f' (put_at_head to.side to m (state_in view.modules s p))
   came-by q is store can beside opened state notes sent told changes readable frees q_is =
-      let st = state_in view s p in
+      let st = state_in view.modules s p in
       let here : put_at_head to.side to m st ≡ at_head side st Did =
       open-is to.side to m st (none-stand view s p beside) opened ∙ ap (λ sd. at_head sd st (head_put to m (stream sd st).head)) is ∙ ap (λ x. at_head side st (head_put to m x)) (head-is view s p side) in
       let there : q ≡ behind = q_is ∙ ap (λ sd. record (with_end side (record (end_at side p) { head = h }) p) { enabled = enable_some lets_go (before (head_of sd)) p.enabled }) is in
@@ -175,51 +220,67 @@ at_driver side s t = record {
   gone = t.gone;
 }
 
-pub cost-low : (way : Way) (kind : MsgKind) → driver_cost way kind ≤ below_takes way true
-cost-low Down Flush = omega arith
-cost-low Down Ioctl = omega arith
-cost-low Up Flush = omega arith
-cost-low Down kind = omega arith
-cost-low Up kind = omega arith
+-- a driver takes no more than may be taken of a message of that kind
+kind-low : (way : Way) (kind : MsgKind) → driver_cost way kind ≤ below_takes way (is_data_kind kind) true
+unfolding is_data_kind
+kind-low Down Flush = omega arith
+kind-low Down Ioctl = omega arith
+kind-low Up Flush = omega arith
+kind-low Down kind = omega arith
+kind-low Up kind = omega arith
+
+cost-low : (way : Way) (s : StoreValue) (i : ℕ) → IsChain (in_hand s i) → let m = message_in s i in driver_cost way m.kind ≤ below_takes way (has_parts m) true
+cost-low way s i chain =
+    let parts : has_parts (message_in s i) ≡ is_data_kind (message_in s i).kind = parts-same (in_hand s i) chain ∙ ap is_data_kind (sym (kind-is (in_hand s i))) in
+    subst (λ b. driver_cost way (message_in s i).kind ≤ below_takes way b true) (sym parts) (kind-low way (message_in s i).kind)
+
+pub driver-room : (way : Way) (s : StoreValue) (i : ℕ) → IsChain (in_hand s i) → let m = message_in s i in HasRoom s (below_takes way (has_parts m) true) → HasRoom s (driver_cost way m.kind)
+driver-room way s i chain room =
+    let low = cost-low way s i chain in
+    record { mblks = (let a = room.mblks in omega (arith, a, low)); dblks = (let a = room.dblks in omega (arith, a, low)) }
 
 module _ {M S : Type 0} (name : M → ℕ) (view : View S) where
   -- the driver takes the message
   pub driver-by : (side : Side) (s t : StoreValue) (p q : Streams S) (d : Queue) (i : ℕ) (to : Spot) (across : Across) (acts : Acts M) (f f' : Fates)
       → let m = message_in s i in let did = driver_put to.side across (record to { at = 1 }) m (queue_in s (end_at side p).driver) in
-      to.side ≡ side → across ≡ across_of to.side (state_in view s p) → AreBeside view s p → queue_in t d ≡ did.state → acts.notes.items ≡ did.notes → parcels_in name t (sent_of acts.sent) ≡ did.sent
+      IsStore s → CanPut s i (kept_by view p) → IsChain (in_hand s i) → to.side ≡ side → across ≡ across_of to.side (state_in view.modules s p) → AreBeside view s p → queue_in t d ≡ did.state → acts.notes.items ≡ did.notes → parcels_in name t (sent_of acts.sent) ≡ did.sent
       → f' ≡ tallied did.gone f → OnlyQueue s t (end_at side p).driver d → AreChains name t (sent_of acts.sent) → Hands s t i (λ _. 0) (λ _. 0) (λ j. times_sent name j (sent_of acts.sent))
       → Spends s t (driver_cost to.way m.kind) 0 → SamePool s t
       → q ≡ record (with_end side (record (end_at side p) { driver = d }) p) { enabled = noted to.side (Some places.Driver) (by_name to.side places.Driver) acts.notes.items p.enabled }
-      → PutBy name view s t p q i (below_takes to.way true) (sent_of acts.sent) f f' (put_at_driver to.side to m (state_in view s p))
-  driver-by side s t p q d i to across acts f f' is across_is beside state notes sent told only chains hands spends pool q_is =
+      → PutBy name view s t p q i (below_takes to.way (has_parts m) true) (sent_of acts.sent) f f' (put_at_driver to.side to m (state_in view.modules s p))
+  driver-by side s t p q d i to across acts f f' store can chain is across_is beside state notes sent told only chains hands spends pool q_is =
       let m = message_in s i in
-      let st = state_in view s p in
+      let st = state_in view.modules s p in
       let did = driver_put to.side across (record to { at = 1 }) m (queue_in s (end_at side p).driver) in
       let names = noted to.side (Some places.Driver) (by_name to.side places.Driver) acts.notes.items p.enabled in
       let none = none-stand view s p beside in
-      let low = cost-low to.way m.kind in
+      let low = cost-low to.way s i chain in
+      let stays : Stays s t (kept_by view p) = record {
+        mblks = pool.mblks;
+        dblks = pool.dblks;
+        kept = λ j some. hands.others j (omega (arith, can.apart j, store.apart j, some)) refl (omega (arith, can.apart j, some));
+      } in
       let here : at_driver side st did ≡ put_at_driver to.side to m st =
       ap (λ x. at_driver side st (driver_put to.side x (record to { at = 1 }) m (queue_in s (end_at side p).driver))) (across_is ∙ across-is-alone st none to.side)
       ∙ ap (λ x. at_driver side st (driver_put to.side (across_alone to.side st) (record to { at = 1 }) m x)) (sym (driver-is view s p side))
       ∙ ap (λ sd. at_driver sd st (driver_put to.side (across_alone to.side st) (record to { at = 1 }) m (stream sd st).driver.queue)) (sym is)
       ∙ sym (driver-is-alone st none to.side to m) in
-      subst (λ w. PutBy name view s t p q i (below_takes to.way true) (sent_of acts.sent) f f' w) here
+      subst (λ w. PutBy name view s t p q i (below_takes to.way (has_parts m) true) (sent_of acts.sent) f f' w) here
       (record {
-        state = ap (λ x. state_in view t x) q_is
-            ∙ ap (λ (x : State ℕ). record x { enabled = names }) (driver-state view s t p beside side d only ∙ ap (λ x. with_stream side (with_driver_queue x (stream side st)) st) state)
+        state = ap (λ x. state_in view.modules t x) q_is
+            ∙ ap (λ (x : State ℕ). record x { enabled = names }) (driver-state view s t p beside stays side d only ∙ ap (λ x. with_stream side (with_driver_queue x (stream side st)) st) state)
             ∙ ap (λ ns. record (with_stream side (with_driver_queue did.state (stream side st)) st) { enabled = ns })
             (ap (λ n. noted to.side (Some places.Driver) (by_name to.side places.Driver) n p.enabled) notes ∙ ap (λ sd. noted sd (Some places.Driver) (by_name sd places.Driver) did.notes p.enabled) is);
         sent = sent;
         tells = told;
-        beside = subst (λ x. AreBeside view t x) (sym q_is) (driver-changed view s t p beside side d only);
+        beside = subst (λ x. AreBeside view t x) (sym q_is) (driver-changed view s t p beside stays side d only);
         chains = chains;
         hands = record {
-          counts = λ j. let a = hands.counts j in omega arith;
-          others = λ j none some. hands.others j none refl some;
-          mblks = (let a = spends.mblks in omega arith);
-          dblks = (let a = spends.dblks in omega arith);
-          pool = pool;
+          counts = λ j. omega (arith, hands.counts j, ap (λ x. kept_by view x j) q_is ∙ kept-driver view p side d j);
+          others = λ j none kept some. hands.others j none refl some;
         };
+        spends = record { mblks = omega (arith, spends.mblks, low); dblks = omega (arith, spends.dblks, low) };
+        pool = pool;
       })
 
   pub put-more : (s t : StoreValue) (p q : Streams S) (m n k : ℕ) (sent_on : List (Sent M)) (f f' : Fates) (is : Took ℕ (State ℕ)) → n ≤ k → PutBy name view s t p q m n sent_on f f' is → PutBy name view s t p q m k sent_on f f' is
@@ -229,60 +290,68 @@ module _ {M S : Type 0} (name : M → ℕ) (view : View S) where
     tells = put.tells;
     beside = put.beside;
     chains = put.chains;
-    hands = shifts-as s t (once m) (λ i. times_sent name i sent_on) (once m) (λ i. times_sent name i sent_on) n k put.hands (λ i. refl) (λ i. refl) le;
+    hands = put.hands;
+    spends = record { mblks = omega (arith, put.spends.mblks, le); dblks = omega (arith, put.spends.dblks, le) };
+    pool = put.pool;
   }
 
   -- a message goes, and the streams stay
   pub swaps-put : (s t : StoreValue) (p : Streams S) (m n k : ℕ) (made : List (Sent M)) (ps : List (Parcel ℕ)) (f f' : Fates) (is : Took ℕ (State ℕ))
-      → AreBeside view s p → Swaps name s t m n made ps → n ≤ k → state_in view s p ≡ is.state → ps ≡ is.sent → f' ≡ tallied is.gone f → PutBy name view s t p p m k made f f' is
-  swaps-put s t p m n k made ps f f' is beside swaps le stays sends tells = record {
-    state = same-state view s t swaps.lists p beside ∙ stays;
-    sent = swaps.sent ∙ sends;
-    tells = tells;
-    beside = same-beside view s t swaps.lists p beside;
-    chains = swaps.chains;
-    hands = shifts-as s t (once m) (λ i. times_sent name i made) (once m) (λ i. times_sent name i made) n k swaps.hands (λ i. refl) (λ i. refl) le;
-  }
+      → IsStore s → CanPut s m (kept_by view p) → AreBeside view s p → Swaps name s t m n made ps → n ≤ k → state_in view.modules s p ≡ is.state → ps ≡ is.sent → f' ≡ tallied is.gone f → PutBy name view s t p p m k made f f' is
+  swaps-put s t p m n k made ps f f' is store can beside swaps le stays sends tells =
+      let kept = put-stays s t m n (λ i. times_sent name i made) (kept_by view p) store can swaps.hands in
+      record {
+        state = same-state view s t swaps.lists p beside kept ∙ stays;
+        sent = swaps.sent ∙ sends;
+        tells = tells;
+        beside = same-beside view s t swaps.lists p beside kept;
+        chains = swaps.chains;
+        hands = handled s t m n (λ i. times_sent name i made) (kept_by view p) (kept_by view p) (λ i. refl) swaps.hands;
+        spends = spent s t (once m) (λ i. times_sent name i made) n k le swaps.hands;
+        pool = swaps.hands.pool;
+      }
 
   -- the message itself goes on
   pub passed-put : (s : StoreValue) (p : Streams S) (x : Sent M) (sent_on : List (Sent M)) (f : Fates) (to : Spot) → AreBeside view s p → IsChain (in_hand s (name x.message)) → x.to ≡ record to { at = 0 } → sent_on ≡ x ∷ []
-      → PutBy name view s s p p (name x.message) 0 sent_on f f (passed_up to (message_in s (name x.message)) (state_in view s p))
+      → PutBy name view s s p p (name x.message) 0 sent_on f f (passed_up to (message_in s (name x.message)) (state_in view.modules s p))
   passed-put s p x sent_on f to beside chain on one = record {
     state = refl;
     sent = one-parts name s x sent_on one ∙ ap (λ spot. record { to = spot; message = message_in s (name x.message) } ∷ []) on
-        ∙ ap (λ (t : Took ℕ (State ℕ)). t.sent) (sym (passed-is-alone (state_in view s p) (none-stand view s p beside) to (message_in s (name x.message))));
+        ∙ ap (λ (t : Took ℕ (State ℕ)). t.sent) (sym (passed-is-alone (state_in view.modules s p) (none-stand view s p beside) to (message_in s (name x.message))));
     tells = refl;
     beside = beside;
     chains = one-chains name s x sent_on one chain;
-    hands = record {
-      counts = λ i. let o = times-one name i x sent_on one in omega arith;
-      others = λ i none some. refl;
-      mblks = omega arith;
-      dblks = omega arith;
-      pool = record { mblks = refl; dblks = refl };
-    };
+    hands = record { counts = λ i. let o = times-one name i x sent_on one in omega arith; others = λ i none kept some. refl };
+    spends = record { mblks = omega arith; dblks = omega arith };
+    pool = record { mblks = refl; dblks = refl };
   }
 
   -- behind the head
   pub behind-put : (way : Way) (s t : StoreValue) (p q : Streams S) (i : ℕ) (to : Spot) (sent_on : List (Sent M)) (f f' : Fates) → let m = message_in s i in AreBeside view s p → to.way ≡ way → (to.at ≡ 0 → ⊥)
-      → PutBy name view s t p q i (below_takes way (is_across to m)) sent_on f f' (put_behind way to m (state_in view s p)) → PutBy name view s t p q i (takes to m) sent_on f f' (put_in to m (state_in view s p))
+      → PutBy name view s t p q i (below_takes way (has_parts m) (is_across to m)) sent_on f f' (put_behind way to m (state_in view.modules s p)) → PutBy name view s t p q i (takes to m) sent_on f f' (put_in to m (state_in view.modules s p))
   behind-put way s t p q i to sent_on f f' beside is inside put =
       let m = message_in s i in
-      let st = state_in view s p in
+      let st = state_in view.modules s p in
       let below : (to.at == 0) ≡ false = grind (arith, nat_tests) in
-      subst (λ b. PutBy name view s t p q i (cond b (head_takes m) (below_takes to.way (is_across to m))) sent_on f f' (cond b (put_at_head to.side to m st) (put_below to.way to m st))) (sym below)
-      (subst (λ w. PutBy name view s t p q i (below_takes to.way (is_across to m)) sent_on f f' w) (sym (below-is-behind st (none-stand view s p beside) to.way to m below))
-      (subst (λ w. PutBy name view s t p q i (below_takes w (is_across to m)) sent_on f f' (put_behind w to m st)) (sym is) put))
+      subst (λ b. PutBy name view s t p q i (cond b (head_takes m) (below_takes to.way (has_parts m) (is_across to m))) sent_on f f' (cond b (put_at_head to.side to m st) (put_below to.way to m st))) (sym below)
+      (subst (λ w. PutBy name view s t p q i (below_takes to.way (has_parts m) (is_across to m)) sent_on f f' w) (sym (below-is-behind st (none-stand view s p beside) to.way to m below))
+      (subst (λ w. PutBy name view s t p q i (below_takes w (has_parts m) (is_across to m)) sent_on f f' (put_behind w to m st)) (sym is) put))
 
   -- what a head sends down is made
   pub came-put : (s t u : StoreValue) (p q : Streams S) (m n k : ℕ) (down : List (Parcel ℕ)) (made : List (Sent M)) (f f' : Fates) (is : Took ℕ (State ℕ))
-      → CameBy view s t p q m down f f' is → Makes name t u n made down → n ≤ k → PutBy name view s u p q m k made f f' is
-  came-put s t u p q m n k down made f f' is came makes le = record {
-    state = same-state view t u makes.lists q came.beside ∙ came.state;
-    sent = makes.sent ∙ came.down_is;
-    tells = came.tells;
-    beside = same-beside view t u makes.lists q came.beside;
-    chains = makes.chains;
-    hands = shifts-as s u (λ i. once m i + 0) (λ i. 0 + times_sent name i made) (once m) (λ i. times_sent name i made) (0 + n) k
-        (shifts-both s t u (once m) (λ _. 0) (λ _. 0) (λ i. times_sent name i made) 0 n came.hands makes.hands) (λ i. omega arith) (λ i. omega arith) (omega arith);
-  }
+      → CanPut s m (kept_by view p) → CameBy view s t p q m down f f' is → Makes name t u n made down → n ≤ k → PutBy name view s u p q m k made f f' is
+  came-put s t u p q m n k down made f f' is can came makes le =
+      let can' : CanPut s m (kept_by view q) = record { apart = λ i. omega (arith, can.apart i, came.keeps i) } in
+      let stays = made-stays s t u m 0 n (λ _. 0) (λ i. times_sent name i made) (kept_by view q) can' came.hands makes.hands in
+      let all = shifts-as s u (λ i. once m i + 0) (λ i. 0 + times_sent name i made) (once m) (λ i. times_sent name i made) (0 + n) k
+      (shifts-both s t u (once m) (λ _. 0) (λ _. 0) (λ i. times_sent name i made) 0 n came.hands makes.hands) (λ i. omega arith) (λ i. omega arith) (omega arith) in
+      record {
+        state = same-state view t u makes.lists q came.beside stays ∙ came.state;
+        sent = makes.sent ∙ came.down_is;
+        tells = came.tells;
+        beside = same-beside view t u makes.lists q came.beside stays;
+        chains = makes.chains;
+        hands = handled s u m k (λ i. times_sent name i made) (kept_by view p) (kept_by view q) came.keeps all;
+        spends = spent s u (once m) (λ i. times_sent name i made) k k (omega arith) all;
+        pool = all.pool;
+      }

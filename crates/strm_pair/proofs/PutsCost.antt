@@ -28,9 +28,22 @@ use Rattle.strm_types.proofs.PutsFall.{reads-alone}
 use Rattle.strm_frame.specs.Outboxes.{cost_of}
 use Rattle.strm_types.specs.Costs.{below_cost, below_takes, cost, cost_at, takes}
 
--- what goes down from the head costs what a driver makes of it
-below-head : (here : Spot) (flush turned : Bool) → cost_at (toward Down here) flush turned ≡ 3
-below-head here flush turned = ap (λ top. cond top (cond turned 4 0) 3) (let below : (here.at + 1 == 0) ≡ false = grind (arith, nat_tests) in below)
+-- what goes down from the head costs no more than what a driver makes of it
+down-few : (parts : Bool) → cond {A = ℕ} parts 0 3 ≤ 3
+down-few true = omega arith
+down-few false = omega arith
+
+below-head : (here : Spot) (parts flush turned : Bool) → cost_at (toward Down here) parts flush turned ≤ 3
+below-head here parts flush turned =
+    let below : (here.at + 1 == 0) ≡ false = grind (arith, nat_tests) in
+    let same : cost_at (toward Down here) parts flush turned ≡ cond parts 0 3 = ap (λ top. cond top (cond turned 4 0) (cond parts 0 3)) below in
+    let few = down-few parts in
+    omega (arith, same, few)
+
+-- what a driver takes of what comes down, and what it makes of it
+down-all : (parts : Bool) → cond {A = ℕ} parts 0 2 + cond {A = ℕ} parts 0 1 ≤ cond {A = ℕ} parts 0 3
+down-all true = omega arith
+down-all false = omega arith
 
 -- what was sent across takes one
 up-some : (turned : Bool) → 1 ≤ cond turned 4 1
@@ -63,15 +76,15 @@ module _ (C : Type 0) where
   both-few few more ps qs first second = let e = both-cost ps qs in omega (arith, e, first, second)
 
   -- an M_FLUSH for readers isn't turned round
-  reads-few : (asked : FlushAsked) (goes : Bool) (to : Spot) → Few (cost_at to true false) (reader_flush goes asked to)
-  reads-few asked false to = none-few (cost_at to true false)
+  reads-few : (asked : FlushAsked) (goes : Bool) (to : Spot) → Few (cost_at to false true false) (reader_flush goes asked to)
+  reads-few asked false to = none-few (cost_at to false true false)
   reads-few asked true to =
-      one-few (cost_at to true false) to (flush_message (read_flush asked.band)) (let same = ap (cost_at to true) (reads-alone asked.band) in omega (arith, same))
+      one-few (cost_at to false true false) to (flush_message (read_flush asked.band)) (let same = ap (cost_at to false true) (reads-alone asked.band) in omega (arith, same))
 
   -- at a driver, where no module stands on the stream across
   across-few : (side : Side) (across : Across) → across.bottom ≡ 0 → (asked : FlushAsked) (goes : Bool) → Few 0 (reader_flush goes asked (bottom_across side across))
   across-few side across bottom asked goes =
-      let none = ap (λ at. cost_at (record (bottom_across side across) { at = at }) true false) bottom in
+      let none = ap (λ at. cost_at (record (bottom_across side across) { at = at }) false true false) bottom in
       let few = reads-few asked goes (bottom_across side across) in
       omega (arith, none, few)
 
@@ -93,7 +106,7 @@ module _ (C : Type 0) where
     where
       at : (crosses : Bool) → Few 1 (cond crosses (taken_in side across m q) (answered here ioc q)).sent
       at true = taken_in-few 1 side across m q
-      at false = one-few 1 (toward Up here) (nak_message ioc) (let same = ap (λ n. cost_at (toward Up (record here { at = n })) false false) first in omega (arith, same))
+      at false = one-few 1 (toward Up here) (nak_message ioc) (let same = ap (λ n. cost_at (toward Up (record here { at = n })) false false false) first in omega (arith, same))
 
   put_down-few : (side : Side) (across : Across) (here : Spot) (kind : MsgKind) (m : Message C) (q : Queue C) → across.bottom ≡ 0 → here.at ≡ 1 → Few 1 (put_down side across here kind m q).sent
   put_down-few side across here Flush m q bottom first =
@@ -110,11 +123,12 @@ module _ (C : Type 0) where
       at false = none-few 0
   put_across-few side across kind m q bottom = none-few 0
 
-  came-down-few : (side : Side) (across : Across) (here : Spot) (m : Message C) (q : Queue C) → across.bottom ≡ 0 → here.at ≡ 1 → Few 1 (driver_put side across (record here { way = Down }) m q).sent
+  came-down-few : (side : Side) (across : Across) (here : Spot) (m : Message C) (q : Queue C) → across.bottom ≡ 0 → here.at ≡ 1
+      → Few (cond (has_parts m) 0 1) (driver_put side across (record here { way = Down }) m q).sent
   came-down-few side across here m q bottom first = at (has_parts m)
     where
-      at : (parts : Bool) → Few 1 (cond parts (taken_in side across m q) (put_down side across (record here { way = Down }) m.kind m q)).sent
-      at true = taken_in-few 1 side across m q
+      at : (parts : Bool) → Few (cond parts 0 1) (cond parts (taken_in side across m q) (put_down side across (record here { way = Down }) m.kind m q)).sent
+      at true = taken_in-few 0 side across m q
       at false = put_down-few side across (record here { way = Down }) m.kind m q bottom first
 
   came-up-few : (side : Side) (across : Across) (here : Spot) (m : Message C) (q : Queue C) → across.bottom ≡ 0 → Few 0 (driver_put side across (record here { way = Up }) m q).sent
@@ -140,7 +154,7 @@ module _ (C : Type 0) where
   head-stays false sent few = few-fits 0 0 0 sent few (omega arith)
 
   head-turns : (here : Spot) (m : Message C) → FitsHead true (record { to = toward Down here; message = m } ∷ [])
-  head-turns here m = let down = below-head here (is_flush m.kind) (is_turned m) in few-fits 1 3 4 _ (one-few 3 (toward Down here) m (omega (arith, down))) (omega arith)
+  head-turns here m = let down = below-head here (has_parts m) (is_flush m.kind) (is_turned m) in few-fits 1 3 4 _ (one-few 3 (toward Down here) m (omega (arith, down))) (omega arith)
 
   round-fits : (here : Spot) (asked : FlushAsked) → FitsHead asked.for_write (turned_round here asked)
   round-fits here asked = at asked.for_write
@@ -195,15 +209,16 @@ module _ (C : Type 0) where
   up-fits here m s false last = going-up-fits here m s false
 
   below-fits : (way : Way) (here : Spot) (m : Message C) (s : State C) → let to : Spot = record here { way = way } in
-      Fits (below_takes way (is_flush m.kind && here.at == suc MODULES)) (below_alone way to m s).sent (below_cost way (is_flush m.kind) (is_turned m))
+      Fits (below_takes way (has_parts m) (is_flush m.kind && here.at == suc MODULES)) (below_alone way to m s).sent (below_cost way (has_parts m) (is_flush m.kind) (is_turned m))
   below-fits Down here m s =
-      few-fits 2 1 3 _ (came-down-few here.side (across_alone here.side s) (record here { at = 1 }) m (stream here.side s).driver.queue refl refl) (omega arith)
+      few-fits (cond (has_parts m) 0 2) (cond (has_parts m) 0 1) (cond (has_parts m) 0 3) _
+      (came-down-few here.side (across_alone here.side s) (record here { at = 1 }) m (stream here.side s).driver.queue refl refl) (down-all (has_parts m))
   below-fits Up here m s = up-fits here m s (is_flush m.kind) (here.at == suc MODULES)
 
   put-fits : (way : Way) (here : Spot) (m : Message C) (s : State C) (top : Bool) → let to : Spot = record here { way = way } in
-      Fits (cond top (cond (is_turned m) 1 0) (below_takes way (is_flush m.kind && here.at == suc MODULES)))
+      Fits (cond top (cond (is_turned m) 1 0) (below_takes way (has_parts m) (is_flush m.kind && here.at == suc MODULES)))
       (cond top (head_alone here.side to m s) (below_alone way to m s)).sent
-      (cond top (cond (is_turned m) 4 0) (below_cost way (is_flush m.kind) (is_turned m)))
+      (cond top (cond (is_turned m) 4 0) (below_cost way (has_parts m) (is_flush m.kind) (is_turned m)))
   put-fits way here m s true = reached-fits here.side (record here { way = way }) m s
   put-fits way here m s false = below-fits way here m s
 

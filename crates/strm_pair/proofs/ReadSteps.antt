@@ -16,6 +16,7 @@ use Rattle.strm_head.specs.declared.head.Head.{Head}
 use Rattle.strm_head.specs.Heads.{head_in}
 use Rattle.strm_queue.specs.Stored.{queue_in, IsHeadQueue, Keeps}
 use Rattle.strm_pair.specs.declared.streams.Streams.{Streams}
+use Rattle.strm_pair.specs.Framing.{still}
 use Rattle.strm_pair.specs.Pairs.{state_in, end_at, with_end, AreBeside}
 use Rattle.strm_pair.specs.PlainCalls.{read_plain, read_lets}
 use Rattle.strm_types.proofs.Alone.{head-lets-go}
@@ -27,12 +28,12 @@ module _ {S : Type 0} (view : View S) (side : Side) (s : StoreValue) (p : Stream
   abbrev here : plain.Head ℕ
   here = head_in s (end_at side p).head
 
-  pub read-answer : (out : List ℕ) → out ≡ (head_draw here.read_mode here.control_mode most here.queue.messages).given → Bytes out ≡ (read_plain side n (state_in view s p)).answer
+  pub read-answer : (out : List ℕ) → out ≡ (head_draw here.read_mode here.control_mode most here.queue.messages).given → Bytes out ≡ (read_plain side n (state_in view.modules s p)).answer
   read-answer out given =
       ap Bytes given ∙ ap (λ m. Bytes (head_draw here.read_mode here.control_mode m here.queue.messages).given) most_is
       ∙ ap (λ (h : plain.Head ℕ). Bytes (head_draw h.read_mode h.control_mode (min n READ_MAX) h.queue.messages).given) (sym (head-is view s p side))
 
-  pub read-told : (old new : Fates) → new ≡ tallied (read_gone (direction_of (head_of side)) here.read_mode here.control_mode most here.queue.messages) old → new ≡ tallied (read_lets side n (state_in view s p)) old
+  pub read-told : (old new : Fates) → new ≡ tallied (read_gone (direction_of (head_of side)) here.read_mode here.control_mode most here.queue.messages) old → new ≡ tallied (read_lets side n (state_in view.modules s p)) old
   read-told old new told =
       told ∙ ap (λ m. tallied (read_gone (direction_of (head_of side)) here.read_mode here.control_mode m here.queue.messages) old) most_is
       ∙ ap (λ (h : plain.Head ℕ). tallied (read_gone (direction_of (head_of side)) h.read_mode h.control_mode (min n READ_MAX) h.queue.messages) old) (sym (head-is view s p side))
@@ -43,31 +44,31 @@ module _ {S : Type 0} (view : View S) (side : Side) (s : StoreValue) (p : Stream
     behind = record (with_end side (record (end_at side p) { head = h }) p) { enabled = enable_some lets_go (before (head_of side)) p.enabled }
 
     pub read-beside : IsHeadQueue t h.queue → AreBeside view t behind
-    read-beside ready = head-changed view s t p beside side h (only-kept s t (end_at side p).head.queue h.queue keeps) ready.readable
+    read-beside ready = head-changed view s t p beside (still view s t p beside keeps.mblks keeps.dblks) side h (only-kept s t (end_at side p).head.queue h.queue keeps) ready.readable
 
     -- the state behind it, by what the head was
     abbrev led : plain.Head ℕ → ℕ → State ℕ
-    led x m = record (with_stream side (record (stream side (state_in view s p)) { head = record x { queue = read_queue x.read_mode x.control_mode m x.queue } }) (state_in view s p)) {
+    led x m = record (with_stream side (record (stream side (state_in view.modules s p)) { head = record x { queue = read_queue x.read_mode x.control_mode m x.queue } }) (state_in view.modules s p)) {
       enabled = enable_some (read_lets_go x.read_mode x.control_mode m x.queue) (before (head_of side)) p.enabled;
     }
 
     -- the same by the nearest earlier queue
     abbrev led_by : Option QueueName → State ℕ
     led_by earlier =
-        let above = stream side (state_in view s p) in
+        let above = stream side (state_in view.modules s p) in
         let x = above.head in
-        record (with_stream side (record above { head = record x { queue = read_queue x.read_mode x.control_mode (min n READ_MAX) x.queue } }) (state_in view s p)) {
+        record (with_stream side (record above { head = record x { queue = read_queue x.read_mode x.control_mode (min n READ_MAX) x.queue } }) (state_in view.modules s p)) {
           enabled = enable_some (read_lets_go x.read_mode x.control_mode (min n READ_MAX) x.queue) earlier p.enabled;
         }
 
-    pub read-state : queue_in t h.queue ≡ read_queue here.read_mode here.control_mode most here.queue → lets_go ≡ read_lets_go here.read_mode here.control_mode most here.queue → state_in view t behind ≡ (read_plain side n (state_in view s p)).state
+    pub read-state : queue_in t h.queue ≡ read_queue here.read_mode here.control_mode most here.queue → lets_go ≡ read_lets_go here.read_mode here.control_mode most here.queue → state_in view.modules t behind ≡ (read_plain side n (state_in view.modules s p)).state
     read-state queue went =
         ap (λ (x : State ℕ). record x { enabled = enable_some lets_go (before (head_of side)) p.enabled })
-        (head-state view s t p beside side h (only-kept s t (end_at side p).head.queue h.queue keeps)
-        ∙ ap (λ x. with_stream side (record (stream side (state_in view s p)) { head = x }) (state_in view s p)) (ap (head_in t) modes ∙ ap (λ q. record here { queue = q }) queue))
-        ∙ ap (λ b. record (with_stream side (record (stream side (state_in view s p)) { head = record here { queue = read_queue here.read_mode here.control_mode most here.queue } }) (state_in view s p)) {
+        (head-state view s t p beside (still view s t p beside keeps.mblks keeps.dblks) side h (only-kept s t (end_at side p).head.queue h.queue keeps)
+        ∙ ap (λ x. with_stream side (record (stream side (state_in view.modules s p)) { head = x }) (state_in view.modules s p)) (ap (head_in t) modes ∙ ap (λ q. record here { queue = q }) queue))
+        ∙ ap (λ b. record (with_stream side (record (stream side (state_in view.modules s p)) { head = record here { queue = read_queue here.read_mode here.control_mode most here.queue } }) (state_in view.modules s p)) {
           enabled = enable_some b (before (head_of side)) p.enabled;
         }) went
         ∙ ap (λ m. led here m) most_is
         ∙ ap (λ x. led x (min n READ_MAX)) (sym (head-is view s p side))
-        ∙ ap (λ earlier. led_by earlier) (sym (head-lets-go (state_in view s p) (none-stand view s p beside) side))
+        ∙ ap (λ earlier. led_by earlier) (sym (head-lets-go (state_in view.modules s p) (none-stand view s p beside) side))

@@ -30,7 +30,7 @@ ordered-map [] o = tt
 ordered-map (chain ∷ q) o = (ranks-map chain q o.0, ordered-map q o.1)
 
 -- each queue is in order
-pub ordered : {S : Type 0} (view : View S) (s : StoreValue) (p : Streams S) → AreHeld view s p → AreOrdered (state_in view s p)
+pub ordered : {S : Type 0} (view : View S) (s : StoreValue) (p : Streams S) → AreHeld view s p → AreOrdered (state_in view.modules s p)
 ordered view s p held = subst AreOrdered (sym (alone view s p held.beside)) (
   ordered-map (list_at s p.master.head.queue.list) held.beside.master.head.ready.messages.ordered,
   (
@@ -46,7 +46,7 @@ ordered view s p held = subst AreOrdered (sym (alone view s p held.beside)) (
 long : (s : StoreValue) (k n : ℕ) → k ≡ n → length (messages_on s k) ≡ length (list_at s n)
 long s k n is = length-map (list_at s k) message_of ∙ ap (λ j. length (list_at s j)) is
 
-in-use : {S : Type 0} (view : View S) (s : StoreValue) (p : Streams S) → IsStore s → AreHeld view s p → messages_in (state_in view s p) ≤ used s
+in-use : {S : Type 0} (view : View S) (s : StoreValue) (p : Streams S) → IsStore s → AreHeld view s p → messages_in (state_in view.modules s p) ≤ used s
 in-use view s p is held =
     omega (
       arith,
@@ -62,7 +62,7 @@ no-chain : (q : List (List Block)) → length q ≡ 0 → q ≡ []
 no-chain [] none = refl
 no-chain (c ∷ q) none = absurd (omega arith)
 
-bare : {S : Type 0} (view : View S) (s : StoreValue) (p : Streams S) → IsStore s → AreHeld view s p → messages_in (state_in view s p) ≡ 0 → IsBare s
+bare : {S : Type 0} (view : View S) (s : StoreValue) (p : Streams S) → IsStore s → AreHeld view s p → messages_in (state_in view.modules s p) ≡ 0 → IsBare s
 bare view s p is held none =
     let a = long s p.master.head.queue.list 0 held.beside.master.head_list in
     let b = long s p.master.driver.list 1 held.beside.master.driver_list in
@@ -74,15 +74,15 @@ bare view s p is held none =
       hand = held.hand;
       at_0 = no-chain (list_at s 0) (omega arith);
       at_1 = no-chain (list_at s 1) (omega arith);
-      at_2 = held.beside.master.spare_up;
-      at_3 = held.beside.master.spare_down;
+      at_2 = held.beside.master.spare 2 (omega arith) (omega arith) (held.beside.master.unowned 2);
+      at_3 = held.beside.master.spare 3 (omega arith) (omega arith) (held.beside.master.unowned 3);
       at_4 = no-chain (list_at s 4) (omega arith);
       at_5 = no-chain (list_at s 5) (omega arith);
-      at_6 = held.beside.slave.spare_up;
-      at_7 = held.beside.slave.spare_down;
+      at_6 = held.beside.slave.spare 6 (omega arith) (omega arith) (held.beside.slave.unowned 6);
+      at_7 = held.beside.slave.spare 7 (omega arith) (omega arith) (held.beside.slave.unowned 7);
     }
 
-pub free-shown : {S : Type 0} (view : View S) (s : StoreValue) (p : Streams S) (limits : Config) → IsStore s → AreHeld view s p → s.mblks ≡ limits.mblks → s.dblks ≡ limits.dblks → IsPoolOf (messages_in (state_in view s p)) limits (free_in s)
+pub free-shown : {S : Type 0} (view : View S) (s : StoreValue) (p : Streams S) (limits : Config) → IsStore s → AreHeld view s p → s.mblks ≡ limits.mblks → s.dblks ≡ limits.dblks → IsPoolOf (messages_in (state_in view.modules s p)) limits (free_in s)
 free-shown view s p limits is held mblks dblks = record {
   in_use = omega (arith, free_m-is s, in-use view s p is held, is.enough, mblks);
   all_free = λ none.

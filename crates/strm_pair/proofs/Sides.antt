@@ -23,9 +23,9 @@ use Rattle.strm_queue.proofs.Placed.{ready-same}
 use Rattle.strm_pty.specs.Does.{OnlyQueue}
 use Rattle.strm_pair.specs.declared.ends.End.{End}
 use Rattle.strm_pair.specs.declared.streams.Streams.{Streams}
-use Rattle.strm_pair.specs.Framing.{state_with, modules-same}
+use Rattle.strm_pair.specs.Framing.{state_with, stack-same, stays-master, stays-slave, still}
 use Rattle.strm_pair.specs.Streams.{View, stream_in, IsBlank, IsSide}
-use Rattle.strm_pair.specs.Pairs.{state_in, end_at, with_end, AreBeside}
+use Rattle.strm_pair.specs.Pairs.{state_in, end_at, with_end, AreBeside, AreHeld, Stays, kept_by}
 
 -- the driver of a side is ready, and so is the head
 pub driver-ready : {S : Type 0} (view : View S) (s : StoreValue) (p : Streams S) → AreBeside view s p → (side : Side) → IsReady s (end_at side p).driver
@@ -76,7 +76,7 @@ stream_of e h ms d = record {
   driver = record { queue = d };
 }
 
-module _ {S : Type 0} (view : View S) (s t : StoreValue) (first : ℕ) (e : End S) (is : IsSide view s first e) where
+module _ {S : Type 0} (view : View S) (s t : StoreValue) (first : ℕ) (e : End S) (is : IsSide view s first e) (stays : Stays s t (view.keeps e.stack)) where
   -- all lists of the side stay
   abbrev Stay : Type 0
   Stay = (k : ℕ) → first ≤ k → k < first + 4 → list_at t k ≡ list_at s k
@@ -87,27 +87,39 @@ module _ {S : Type 0} (view : View S) (s t : StoreValue) (first : ℕ) (e : End 
   driver-at : Stay → list_at t e.driver.list ≡ list_at s e.driver.list
   driver-at stay = stay e.driver.list (let l = is.driver_list in omega arith) (let l = is.driver_list in omega arith)
 
+  -- so do the two of the modules
+  abbrev Beside : Type 0
+  Beside = (k : ℕ) → first + 2 ≤ k → k < first + 4 → list_at t k ≡ list_at s k
+
+  within : Stay → Beside
+  within stay k low high = stay k (omega (arith, low)) high
+
   side-stays : Stay → IsSide view t first e
   side-stays stay = record {
     head_list = is.head_list;
     driver_list = is.driver_list;
     head = record { ready = ready-same s t e.head.queue (head-at stay) is.head.ready; readable = subst HoldsReadable (sym (head-at stay)) is.head.readable };
     driver = ready-same s t e.driver (driver-at stay) is.driver;
+    stack = (stack-same view s t first e is stays (within stay)).1;
+    owned = is.owned;
+    spare = λ k low high none. within stay k low high ∙ is.spare k low high none;
     no_module = is.no_module;
-    spare_up = stay (first + 2) (omega arith) (omega arith) ∙ is.spare_up;
-    spare_down = stay (first + 3) (omega arith) (omega arith) ∙ is.spare_down;
+    unowned = is.unowned;
   }
 
-  stream-stays : Stay → stream_in view t e ≡ stream_in view s e
+  stream-stays : Stay → stream_in view.modules t e ≡ stream_in view.modules s e
   stream-stays stay =
-      ap (λ h. stream_of e h (view t e.stack) (queue_in t e.driver)) (queue-same s t e.head.queue (head-at stay))
-      ∙ ap (λ ms. stream_of e (queue_in s e.head.queue) ms (queue_in t e.driver)) (modules-same view s t first e is)
-      ∙ ap (λ d. stream_of e (queue_in s e.head.queue) (view s e.stack) d) (queue-same s t e.driver (driver-at stay))
+      ap (λ h. stream_of e h (view.modules t e.stack) (queue_in t e.driver)) (queue-same s t e.head.queue (head-at stay))
+      ∙ ap (λ ms. stream_of e (queue_in s e.head.queue) ms (queue_in t e.driver)) (stack-same view s t first e is stays (within stay)).0
+      ∙ ap (λ d. stream_of e (queue_in s e.head.queue) (view.modules s e.stack) d) (queue-same s t e.driver (driver-at stay))
 
   -- the driver's queue changed
   module _ (q : Queue) (only : OnlyQueue s t e.driver q) where
     head-beside : list_at t e.head.queue.list ≡ list_at s e.head.queue.list
     head-beside = only.others e.head.queue.list (λ eq. let a = is.head_list in let b = is.driver_list in absurd (omega arith))
+
+    driver-apart : Beside
+    driver-apart k low high = only.others k (λ eq. let a = is.driver_list in absurd (omega arith))
 
     driver-side : IsSide view t first (record e { driver = q })
     driver-side = record {
@@ -115,20 +127,25 @@ module _ {S : Type 0} (view : View S) (s t : StoreValue) (first : ℕ) (e : End 
       driver_list = only.list ∙ is.driver_list;
       head = record { ready = ready-same s t e.head.queue head-beside is.head.ready; readable = subst HoldsReadable (sym head-beside) is.head.readable };
       driver = only.ready;
+      stack = (stack-same view s t first e is stays driver-apart).1;
+      owned = is.owned;
+      spare = λ k low high none. driver-apart k low high ∙ is.spare k low high none;
       no_module = is.no_module;
-      spare_up = only.others (first + 2) (λ eq. let a = is.driver_list in absurd (omega arith)) ∙ is.spare_up;
-      spare_down = only.others (first + 3) (λ eq. let a = is.driver_list in absurd (omega arith)) ∙ is.spare_down;
+      unowned = is.unowned;
     }
 
-    driver-stream : stream_in view t (record e { driver = q }) ≡ with_driver_queue (queue_in t q) (stream_in view s e)
+    driver-stream : stream_in view.modules t (record e { driver = q }) ≡ with_driver_queue (queue_in t q) (stream_in view.modules s e)
     driver-stream =
-        ap (λ h. stream_of e h (view t e.stack) (queue_in t q)) (queue-same s t e.head.queue head-beside)
-        ∙ ap (λ ms. stream_of e (queue_in s e.head.queue) ms (queue_in t q)) (modules-same view s t first e is)
+        ap (λ h. stream_of e h (view.modules t e.stack) (queue_in t q)) (queue-same s t e.head.queue head-beside)
+        ∙ ap (λ ms. stream_of e (queue_in s e.head.queue) ms (queue_in t q)) (stack-same view s t first e is stays driver-apart).0
 
   -- the head changed
   module _ (h : Head) (only : OnlyQueue s t e.head.queue h.queue) where
     driver-beside : list_at t e.driver.list ≡ list_at s e.driver.list
     driver-beside = only.others e.driver.list (λ eq. let a = is.head_list in let b = is.driver_list in absurd (omega arith))
+
+    head-apart : Beside
+    head-apart k low high = only.others k (λ eq. let a = is.head_list in absurd (omega arith))
 
     head-side : HoldsReadable (list_at t h.queue.list) → IsSide view t first (record e { head = h })
     head-side readable = record {
@@ -136,15 +153,17 @@ module _ {S : Type 0} (view : View S) (s t : StoreValue) (first : ℕ) (e : End 
       driver_list = is.driver_list;
       head = record { ready = only.ready; readable = readable };
       driver = ready-same s t e.driver driver-beside is.driver;
+      stack = (stack-same view s t first e is stays head-apart).1;
+      owned = is.owned;
+      spare = λ k low high none. head-apart k low high ∙ is.spare k low high none;
       no_module = is.no_module;
-      spare_up = only.others (first + 2) (λ eq. let a = is.head_list in absurd (omega arith)) ∙ is.spare_up;
-      spare_down = only.others (first + 3) (λ eq. let a = is.head_list in absurd (omega arith)) ∙ is.spare_down;
+      unowned = is.unowned;
     }
 
-    head-stream : stream_in view t (record e { head = h }) ≡ record (stream_in view s e) { head = head_in t h }
+    head-stream : stream_in view.modules t (record e { head = h }) ≡ record (stream_in view.modules s e) { head = head_in t h }
     head-stream =
-        ap (λ d. record { opened = e.opened; head = head_in t h; modules = view t e.stack; driver = record { queue = d } }) (queue-same s t e.driver driver-beside)
-        ∙ ap (λ ms. record { opened = e.opened; head = head_in t h; modules = ms; driver = record { queue = queue_in s e.driver } }) (modules-same view s t first e is)
+        ap (λ d. record { opened = e.opened; head = head_in t h; modules = view.modules t e.stack; driver = record { queue = d } }) (queue-same s t e.driver driver-beside)
+        ∙ ap (λ ms. record { opened = e.opened; head = head_in t h; modules = ms; driver = record { queue = queue_in s e.driver } }) (stack-same view s t first e is stays head-apart).0
 
 -- a stream that was closed has the same driver
 as-side : {S : Type 0} (view : View S) (t : StoreValue) (first : ℕ) (e e' : End S) → e'.driver ≡ e.driver → e'.stack ≡ e.stack → IsSide view t first (record e { head = e'.head }) → IsSide view t first e'
@@ -153,9 +172,11 @@ as-side view t first e e' same stays is = record {
   driver_list = ap (λ d. d.list) same ∙ is.driver_list;
   head = is.head;
   driver = subst (IsReady t) (sym same) is.driver;
-  no_module = λ s. ap (view s) stays ∙ is.no_module s;
-  spare_up = is.spare_up;
-  spare_down = is.spare_down;
+  stack = subst (view.IsHeld t) (sym stays) is.stack;
+  owned = subst (λ x. (k : ℕ) → 0 < view.owns x k → (first + 2 ≤ k) × (k < first + 4)) (sym stays) is.owned;
+  spare = subst (λ x. (k : ℕ) → first + 2 ≤ k → k < first + 4 → view.owns x k ≡ 0 → list_at t k ≡ []) (sym stays) is.spare;
+  no_module = λ s. ap (view.modules s) stays ∙ is.no_module s;
+  unowned = subst (λ x. (k : ℕ) → view.owns x k ≡ 0) (sym stays) is.unowned;
 }
 
 -- a queue from which all went has what readers may read
@@ -178,7 +199,7 @@ readable-cleared t q old is = readable-none (list_at t q.list) (no-chain (list_a
 both : {S : Type 0} (p : Streams S) (m m' sl sl' : streams.Stream ℕ) → m ≡ m' → sl ≡ sl' → state_with p m sl ≡ state_with p m' sl'
 both p m m' sl sl' a b = ap (λ v. state_with p v sl) a ∙ ap (λ v. state_with p m' v) b
 
-module _ {S : Type 0} (view : View S) (s t : StoreValue) (p : Streams S) (beside : AreBeside view s p) where
+module _ {S : Type 0} (view : View S) (s t : StoreValue) (p : Streams S) (beside : AreBeside view s p) (stays : Stays s t (kept_by view p)) where
   module _ (q : Queue) (only : OnlyQueue s t p.master.driver q) where
     across-master-driver : (k : ℕ) → 4 ≤ k → k < 4 + 4 → list_at t k ≡ list_at s k
     across-master-driver k low high = only.others k (λ eq. let a = beside.master.driver_list in absurd (omega arith))
@@ -197,53 +218,61 @@ module _ {S : Type 0} (view : View S) (s t : StoreValue) (p : Streams S) (beside
 
   -- the queue of a side's driver changed
   pub driver-changed : (side : Side) (q : Queue) → OnlyQueue s t (end_at side p).driver q → AreBeside view t (with_end side (record (end_at side p) { driver = q }) p)
-  driver-changed Master q only = record { master = driver-side view s t 0 p.master beside.master q only; slave = side-stays view s t 4 p.slave beside.slave (across-master-driver q only) }
-  driver-changed Slave q only = record { master = side-stays view s t 0 p.master beside.master (across-slave-driver q only); slave = driver-side view s t 4 p.slave beside.slave q only }
+  driver-changed Master q only = record { master = driver-side view s t 0 p.master beside.master (stays-master view s t p stays) q only; slave = side-stays view s t 4 p.slave beside.slave (stays-slave view s t p stays) (across-master-driver q only) }
+  driver-changed Slave q only = record { master = side-stays view s t 0 p.master beside.master (stays-master view s t p stays) (across-slave-driver q only); slave = driver-side view s t 4 p.slave beside.slave (stays-slave view s t p stays) q only }
 
   pub driver-state : (side : Side) (q : Queue) → OnlyQueue s t (end_at side p).driver q
-      → state_in view t (with_end side (record (end_at side p) { driver = q }) p) ≡ with_stream side (with_driver_queue (queue_in t q) (stream side (state_in view s p))) (state_in view s p)
+      → state_in view.modules t (with_end side (record (end_at side p) { driver = q }) p) ≡ with_stream side (with_driver_queue (queue_in t q) (stream side (state_in view.modules s p))) (state_in view.modules s p)
   driver-state Master q only =
-      both p (stream_in view t (record p.master { driver = q })) (with_driver_queue (queue_in t q) (stream_in view s p.master)) (stream_in view t p.slave) (stream_in view s p.slave)
-      (driver-stream view s t 0 p.master beside.master q only) (stream-stays view s t 4 p.slave beside.slave (across-master-driver q only))
+      both p (stream_in view.modules t (record p.master { driver = q })) (with_driver_queue (queue_in t q) (stream_in view.modules s p.master)) (stream_in view.modules t p.slave) (stream_in view.modules s p.slave)
+      (driver-stream view s t 0 p.master beside.master (stays-master view s t p stays) q only) (stream-stays view s t 4 p.slave beside.slave (stays-slave view s t p stays) (across-master-driver q only))
   driver-state Slave q only =
-      both p (stream_in view t p.master) (stream_in view s p.master) (stream_in view t (record p.slave { driver = q })) (with_driver_queue (queue_in t q) (stream_in view s p.slave))
-      (stream-stays view s t 0 p.master beside.master (across-slave-driver q only)) (driver-stream view s t 4 p.slave beside.slave q only)
+      both p (stream_in view.modules t p.master) (stream_in view.modules s p.master) (stream_in view.modules t (record p.slave { driver = q })) (with_driver_queue (queue_in t q) (stream_in view.modules s p.slave))
+      (stream-stays view s t 0 p.master beside.master (stays-master view s t p stays) (across-slave-driver q only)) (driver-stream view s t 4 p.slave beside.slave (stays-slave view s t p stays) q only)
 
   -- the head of a side changed
   pub head-changed : (side : Side) (h : Head) → OnlyQueue s t (end_at side p).head.queue h.queue → HoldsReadable (list_at t h.queue.list) → AreBeside view t (with_end side (record (end_at side p) { head = h }) p)
-  head-changed Master h only readable = record { master = head-side view s t 0 p.master beside.master h only readable; slave = side-stays view s t 4 p.slave beside.slave (across-master-head h only) }
-  head-changed Slave h only readable = record { master = side-stays view s t 0 p.master beside.master (across-slave-head h only); slave = head-side view s t 4 p.slave beside.slave h only readable }
+  head-changed Master h only readable = record { master = head-side view s t 0 p.master beside.master (stays-master view s t p stays) h only readable; slave = side-stays view s t 4 p.slave beside.slave (stays-slave view s t p stays) (across-master-head h only) }
+  head-changed Slave h only readable = record { master = side-stays view s t 0 p.master beside.master (stays-master view s t p stays) (across-slave-head h only); slave = head-side view s t 4 p.slave beside.slave (stays-slave view s t p stays) h only readable }
 
   pub head-state : (side : Side) (h : Head) → OnlyQueue s t (end_at side p).head.queue h.queue
-      → state_in view t (with_end side (record (end_at side p) { head = h }) p) ≡ with_stream side (record (stream side (state_in view s p)) { head = head_in t h }) (state_in view s p)
+      → state_in view.modules t (with_end side (record (end_at side p) { head = h }) p) ≡ with_stream side (record (stream side (state_in view.modules s p)) { head = head_in t h }) (state_in view.modules s p)
   head-state Master h only =
-      both p (stream_in view t (record p.master { head = h })) (record (stream_in view s p.master) { head = head_in t h }) (stream_in view t p.slave) (stream_in view s p.slave)
-      (head-stream view s t 0 p.master beside.master h only) (stream-stays view s t 4 p.slave beside.slave (across-master-head h only))
+      both p (stream_in view.modules t (record p.master { head = h })) (record (stream_in view.modules s p.master) { head = head_in t h }) (stream_in view.modules t p.slave) (stream_in view.modules s p.slave)
+      (head-stream view s t 0 p.master beside.master (stays-master view s t p stays) h only) (stream-stays view s t 4 p.slave beside.slave (stays-slave view s t p stays) (across-master-head h only))
   head-state Slave h only =
-      both p (stream_in view t p.master) (stream_in view s p.master) (stream_in view t (record p.slave { head = h })) (record (stream_in view s p.slave) { head = head_in t h })
-      (stream-stays view s t 0 p.master beside.master (across-slave-head h only)) (head-stream view s t 4 p.slave beside.slave h only)
+      both p (stream_in view.modules t p.master) (stream_in view.modules s p.master) (stream_in view.modules t (record p.slave { head = h })) (record (stream_in view.modules s p.slave) { head = head_in t h })
+      (stream-stays view s t 0 p.master beside.master (stays-master view s t p stays) (across-slave-head h only)) (head-stream view s t 4 p.slave beside.slave (stays-slave view s t p stays) h only)
+
+-- the same while nobody is in a call
+pub driver-held : {S : Type 0} (view : View S) (s t : StoreValue) (p : Streams S) (side : Side) (q : Queue) → AreHeld view s p → OnlyQueue s t (end_at side p).driver q → t.hand ≡ s.hand → t.mblks ≡ s.mblks → t.dblks ≡ s.dblks
+    → AreHeld view t (with_end side (record (end_at side p) { driver = q }) p)
+driver-held view s t p side q held only hand mblks dblks = record {
+  hand = hand ∙ held.hand;
+  beside = driver-changed view s t p held.beside (still view s t p held.beside mblks dblks) side q only;
+}
 
 -- the queue of a side's driver, as the state has it
-pub driver-is : {S : Type 0} (view : View S) (s : StoreValue) (p : Streams S) (side : Side) → (stream side (state_in view s p)).driver.queue ≡ queue_in s (end_at side p).driver
+pub driver-is : {S : Type 0} (view : View S) (s : StoreValue) (p : Streams S) (side : Side) → (stream side (state_in view.modules s p)).driver.queue ≡ queue_in s (end_at side p).driver
 driver-is view s p Master = refl
 driver-is view s p Slave = refl
 
 -- and its head
-pub head-is : {S : Type 0} (view : View S) (s : StoreValue) (p : Streams S) (side : Side) → (stream side (state_in view s p)).head ≡ head_in s (end_at side p).head
+pub head-is : {S : Type 0} (view : View S) (s : StoreValue) (p : Streams S) (side : Side) → (stream side (state_in view.modules s p)).head ≡ head_in s (end_at side p).head
 head-is view s p Master = refl
 head-is view s p Slave = refl
 
 -- a side whose head's queue was emptied, and whose driver stays
 pub master-renewed : {S : Type 0} (view : View S) (s t : StoreValue) (p : Streams S) (e : End S) → AreBeside view s p → e.driver ≡ p.master.driver → e.stack ≡ p.master.stack → Keeps s t p.master.head.queue e.head.queue → AreBeside view t (with_end Master e p)
 master-renewed view s t p e beside same stays keeps =
-    let all = head-changed view s t p beside Master e.head (only-kept s t p.master.head.queue e.head.queue keeps) (readable-kept s t p.master.head.queue e.head.queue beside.master.head keeps) in
+    let all = head-changed view s t p beside (still view s t p beside keeps.mblks keeps.dblks) Master e.head (only-kept s t p.master.head.queue e.head.queue keeps) (readable-kept s t p.master.head.queue e.head.queue beside.master.head keeps) in
     record { master = as-side view t 0 p.master e same stays all.master; slave = all.slave }
 
 pub slave-renewed : {S : Type 0} (view : View S) (s t : StoreValue) (p : Streams S) (e : End S) → AreBeside view s p → e.driver ≡ p.slave.driver → e.stack ≡ p.slave.stack → Keeps s t p.slave.head.queue e.head.queue → AreBeside view t (with_end Slave e p)
 slave-renewed view s t p e beside same stays keeps =
-    let all = head-changed view s t p beside Slave e.head (only-kept s t p.slave.head.queue e.head.queue keeps) (readable-kept s t p.slave.head.queue e.head.queue beside.slave.head keeps) in
+    let all = head-changed view s t p beside (still view s t p beside keeps.mblks keeps.dblks) Slave e.head (only-kept s t p.slave.head.queue e.head.queue keeps) (readable-kept s t p.slave.head.queue e.head.queue beside.slave.head keeps) in
     record { master = all.master; slave = as-side view t 4 p.slave e same stays all.slave }
 
 -- no module stands on a pair's streams yet
-pub none-stand : {S : Type 0} (view : View S) (s : StoreValue) (p : Streams S) → AreBeside view s p → NoModules (state_in view s p)
+pub none-stand : {S : Type 0} (view : View S) (s : StoreValue) (p : Streams S) → AreBeside view s p → NoModules (state_in view.modules s p)
 none-stand view s p beside = record { master = beside.master.no_module s; slave = beside.slave.no_module s }

@@ -22,14 +22,14 @@ pub led-nowhere : (j : Journal) → journal_of j ≡ [] → led_to j ≡ opening
 led-nowhere j empty = ap (λ js. replay plain opening js) empty
 
 -- where the journal has gained an entry, it leads to the state behind the entry
-pub led-on : {S : Type 0} (view : View S) (s : StoreValue) (p : Streams S) (j k : Journal) (limits : Config) (fates : Fates) (entry : PlainEntry) → IsKept view s p j limits fates → journal_of k ≡ journal_of j ++ entry ∷ [] → led_to k ≡ after plain (state_in view s p) entry
+pub led-on : {S : Type 0} (view : View S) (s : StoreValue) (p : Streams S) (j k : Journal) (limits : Config) (fates : Fates) (entry : PlainEntry) → IsKept view s p j limits fates → journal_of k ≡ journal_of j ++ entry ∷ [] → led_to k ≡ after plain (state_in view.modules s p) entry
 led-on view s p j k limits fates entry kept added =
     ap (λ js. replay plain opening js) added ∙ replay-append plain opening (journal_of j) (entry ∷ []) ∙ ap (λ t. after plain t entry) (sym kept.replayed)
 
 -- a step to the state behind an entry is one to what the blocks stand for
-pub step-shown : {S : Type 0} (view : View S) (s new : StoreValue) (p q : Streams S) (entry : PlainEntry) → state_in view new q ≡ after plain (state_in view s p) entry
-    → Step plain (state_in view s p) entry (after plain (state_in view s p) entry) → Step plain (state_in view s p) entry (state_in view new q)
-step-shown view s new p q entry stands step = subst (λ t. Step plain (state_in view s p) entry t) (sym stands) step
+pub step-shown : {S : Type 0} (view : View S) (s new : StoreValue) (p q : Streams S) (entry : PlainEntry) → state_in view.modules new q ≡ after plain (state_in view.modules s p) entry
+    → Step plain (state_in view.modules s p) entry (after plain (state_in view.modules s p) entry) → Step plain (state_in view.modules s p) entry (state_in view.modules new q)
+step-shown view s new p q entry stands step = subst (λ t. Step plain (state_in view.modules s p) entry t) (sym stands) step
 
 -- what the entries of a journal and one more let go
 told-on : (base : State ℕ) (es : List PlainEntry) (e : PlainEntry) (fates : Fates) → told_by plain base (es ++ e ∷ []) fates ≡ tallied (gone plain (replay plain base es) e) (told_by plain base es fates)
@@ -37,14 +37,14 @@ told-on base [] e fates = refl
 told-on base (x ∷ es) e fates = told-on (after plain base x) es e (tallied (gone plain base x) fates)
 
 pub kept-step : {S : Type 0} (view : View S) (s new : StoreValue) (p q : Streams S) (j k : Journal) (limits : Config) (fates fates' : Fates) (entry : PlainEntry) → IsKept view s p j limits fates
-    → Step plain (state_in view s p) entry (after plain (state_in view s p) entry)
-    → state_in view new q ≡ after plain (state_in view s p) entry → AreHeld view new q → SamePool s new → fates' ≡ tallied (gone plain (state_in view s p) entry) fates
+    → Step plain (state_in view.modules s p) entry (after plain (state_in view.modules s p) entry)
+    → state_in view.modules new q ≡ after plain (state_in view.modules s p) entry → AreHeld view new q → SamePool s new → fates' ≡ tallied (gone plain (state_in view.modules s p) entry) fates
     → journal_of k ≡ journal_of j ++ entry ∷ [] → k.most_entries ≡ j.most_entries → k.most_bytes ≡ j.most_bytes → IsKept view new q k limits fates'
 kept-step view s new p q j k limits fates fates' entry kept step stands held pool told added events bytes = record {
   replayed = stands ∙ sym (led-on view s p j k limits fates entry kept added);
-  legal = subst (λ js. IsLegal plain opening js) (sym added) (kept-legal plain opening (state_in view s p) (after plain (state_in view s p) entry) (journal_of j) entry kept.replayed step kept.legal);
+  legal = subst (λ js. IsLegal plain opening js) (sym added) (kept-legal plain opening (state_in view.modules s p) (after plain (state_in view.modules s p) entry) (journal_of j) entry kept.replayed step kept.legal);
   told = told
-      ∙ ap (λ f. tallied (gone plain (state_in view s p) entry) f) kept.told
+      ∙ ap (λ f. tallied (gone plain (state_in view.modules s p) entry) f) kept.told
       ∙ ap (λ t. tallied (gone plain t entry) (told_by plain opening (journal_of j) no_fates)) kept.replayed
       ∙ sym (told-on opening (journal_of j) entry no_fates)
       ∙ ap (λ js. told_by plain opening js no_fates) (sym added);

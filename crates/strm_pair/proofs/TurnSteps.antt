@@ -10,7 +10,8 @@ use Rattle.strm_types.specs.Names.{other, driver_of, before, is_open, enable_if,
 use Rattle.strm_types.specs.Queue as plain
 use Rattle.strm_types.specs.Queue.{is_full, is_none_left, left_with, relieved, relieves, with_writer_at}
 use Rattle.strm_types.specs.State.{State, stream}
-use Rattle.strm_types.specs.Turns.{is_stopped, held_back, turn_ended, with_driver, moved_across, stayed_put, driver_serves, driver_turned}
+use Rattle.strm_types.specs.TurnOutcomes.{stayed_put}
+use Rattle.strm_types.specs.Turns.{is_stopped, held_back, turn_ended, with_driver, moved_across, driver_serves, driver_turned}
 use Rattle.strm_blocks.specs.Blocks.{StoreValue, block_at}
 use Rattle.strm_blocks.specs.Outcomes.{PeekedFirst}
 use Rattle.strm_blocks.specs.declared.asked.Peek.{Peek}
@@ -21,6 +22,7 @@ use Rattle.strm_queue.proofs.Chains.{stopped-same, held-band, stopped-held}
 use Rattle.strm_pty.specs.Does.{OnlyQueue}
 use Rattle.strm_pair.specs.declared.ends.End.{End}
 use Rattle.strm_pair.specs.declared.streams.Streams.{Streams}
+use Rattle.strm_pair.specs.Framing.{still}
 use Rattle.strm_pair.specs.Pairs.{state_in, end_at, with_end, AreBeside}
 use Rattle.strm_pair.specs.Took.{settled, settling_relieves, TookFirst, waits_at_head}
 use Rattle.strm_types.proofs.Alone.{turn-ends-alone}
@@ -40,9 +42,9 @@ took-first view side s t p q i beside d =
     record {
       rest = messages_on t q.list;
       first = ap (λ (x : plain.Queue ℕ). x.messages) is ∙ d.first;
-      state = driver-state view s t p beside side q only
-          ∙ ap (λ x. with_driver side x (state_in view s p)) (d.queue ∙ ap (λ x. left_with (messages_on t q.list) x) (sym is));
-      beside = driver-changed view s t p beside side q only;
+      state = driver-state view s t p beside (still view s t p beside d.mblks d.dblks) side q only
+          ∙ ap (λ x. with_driver side x (state_in view.modules s p)) (d.queue ∙ ap (λ x. left_with (messages_on t q.list) x) (sym is));
+      beside = driver-changed view s t p beside (still view s t p beside d.mblks d.dblks) side q only;
       hand = d.hand;
       chain = d.chain;
       mblks = d.mblks;
@@ -61,12 +63,12 @@ pub ended-state : {S : Type 0} (view : View S) (s : StoreValue) (p : Streams S) 
     → queue_in s q ≡ settled size (queue_in s (end_at side p).driver)
     → room ≡ settling_relieves size (queue_in s (end_at side p).driver) → more ≡ not (is_none_left (messages_on s (end_at side p).driver.list))
     → (names : List QueueName) → names ≡ enable_if more (driver_of side) (cond room (enable_found (before (driver_of side)) p.enabled) p.enabled)
-    → state_in view s (record (with_end side (record (end_at side p) { driver = q }) p) { enabled = names }) ≡ turn_ended side size (state_in view s p)
+    → state_in view.modules s (record (with_end side (record (end_at side p) { driver = q }) p) { enabled = names }) ≡ turn_ended side size (state_in view.modules s p)
 ended-state view s p side size q room more beside only queue room_is more_is names named =
-    let st = state_in view s p in
+    let st = state_in view.modules s p in
     let d = queue_in s (end_at side p).driver in
     let same = driver-is view s p side in
-    ap (λ (x : State ℕ). record x { enabled = names }) (driver-state view s s p beside side q only ∙ ap (λ x. with_driver side x st) queue)
+    ap (λ (x : State ℕ). record x { enabled = names }) (driver-state view s s p beside (still view s s p beside refl refl) side q only ∙ ap (λ x. with_driver side x st) queue)
     ∙ ap (λ ns. record (with_driver side (settled size d) st) { enabled = ns })
     (named ∙ ap (λ r. enable_if more (driver_of side) r) (found room (before (driver_of side)) p.enabled) ∙ ap (λ m. enable_if m (driver_of side) (enable_some room (before (driver_of side)) p.enabled)) more_is
     ∙ ap (λ r. enable_if (not (is_none_left d.messages)) (driver_of side) (enable_some r (before (driver_of side)) p.enabled)) room_is)
@@ -105,33 +107,33 @@ serves-moved : (side : Side) (m : Message ℕ) (rest : List (Message ℕ)) (st :
 serves-moved side m rest st none opened goes = rw (opened, stops-alone st none side m ∙ goes) refl
 
 -- what is seen of both ends is what the state has
-opened-at : {S : Type 0} (view : View S) (s : StoreValue) (p : Streams S) (side : Side) → (stream side (state_in view s p)).opened ≡ (end_at side p).opened
+opened-at : {S : Type 0} (view : View S) (s : StoreValue) (p : Streams S) (side : Side) → (stream side (state_in view.modules s p)).opened ≡ (end_at side p).opened
 opened-at view s p Master = refl
 opened-at view s p Slave = refl
 
 module _ {S : Type 0} (view : View S) (s : StoreValue) (p : Streams S) (beside : AreBeside view s p) (side : Side) (e x : End S) (e_is : e ≡ end_at side p) (x_is : x ≡ end_at (other side) p) (opened : is_open x.opened ≡ true)
     (peek : Peek) (seen : PeekedFirst s e.driver.list peek) (stops : Bool) (asked : stops ≡ (is_held peek.kind && is_full peek.band.0 (queue_in s x.head.queue))) where
-  is-open-there : is_open (stream (other side) (state_in view s p)).opened ≡ true
+  is-open-there : is_open (stream (other side) (state_in view.modules s p)).opened ≡ true
   is-open-there = ap is_open (opened-at view s p (other side) ∙ ap (λ (y : End S). y.opened) (sym x_is)) ∙ opened
 
-  above-is : queue_in s x.head.queue ≡ (stream (other side) (state_in view s p)).head.queue
+  above-is : queue_in s x.head.queue ≡ (stream (other side) (state_in view.modules s p)).head.queue
   above-is = ap (λ (y : End S). queue_in s y.head.queue) x_is ∙ sym (ap (λ h. h.queue) (head-is view s p (other side)))
 
-  stands : (stream side (state_in view s p)).driver.queue.messages ≡ message_of seen.message ∷ map message_of seen.rest
+  stands : (stream side (state_in view.modules s p)).driver.queue.messages ≡ message_of seen.message ∷ map message_of seen.rest
   stands = ap (λ (q : plain.Queue ℕ). q.messages) (driver-is view s p side) ∙ ap (λ (y : End S). messages_on s y.driver.list) (sym e_is) ∙ seen-before s e.driver.list peek seen
 
-  stopped-is : is_stopped (message_of seen.message) (stream (other side) (state_in view s p)).head.queue ≡ stops
+  stopped-is : is_stopped (message_of seen.message) (stream (other side) (state_in view.modules s p)).head.queue ≡ stops
   stopped-is = ap (λ q. is_stopped (message_of seen.message) q) (sym above-is) ∙ sym (seen-stopped s e.driver.list peek seen (queue_in s x.head.queue)) ∙ sym asked
 
-  pub turned-stopped : stops ≡ true → driver_turned side (state_in view s p) ≡ stayed_put Blocked (kept_back side peek.band.0 (state_in view s p))
+  pub turned-stopped : stops ≡ true → driver_turned side (state_in view.modules s p) ≡ stayed_put Blocked (kept_back side peek.band.0 (state_in view.modules s p))
   turned-stopped stop =
       let held = seen-held s e.driver.list peek seen (queue_in s x.head.queue) (sym asked ∙ stop) in
-      ap (λ ms. driver_serves side ms (state_in view s p)) stands
-      ∙ serves-stopped side (message_of seen.message) (map message_of seen.rest) (state_in view s p) (none-stand view s p beside) is-open-there (stopped-is ∙ stop)
-      ∙ ap (λ b. stayed_put Blocked (kept_back side b (state_in view s p))) (held-band seen.message held ∙ sym seen.seen.band)
+      ap (λ ms. driver_serves side ms (state_in view.modules s p)) stands
+      ∙ serves-stopped side (message_of seen.message) (map message_of seen.rest) (state_in view.modules s p) (none-stand view s p beside) is-open-there (stopped-is ∙ stop)
+      ∙ ap (λ b. stayed_put Blocked (kept_back side b (state_in view.modules s p))) (held-band seen.message held ∙ sym seen.seen.band)
 
-  pub turned-moved : stops ≡ false → (m : Message ℕ) (rest : List (Message ℕ)) → (stream side (state_in view s p)).driver.queue.messages ≡ m ∷ rest → driver_turned side (state_in view s p) ≡ moved_across side m rest (state_in view s p)
+  pub turned-moved : stops ≡ false → (m : Message ℕ) (rest : List (Message ℕ)) → (stream side (state_in view.modules s p)).driver.queue.messages ≡ m ∷ rest → driver_turned side (state_in view.modules s p) ≡ moved_across side m rest (state_in view.modules s p)
   turned-moved goes m rest first =
       let same : message_of seen.message ≡ m = ap (λ ms. first_message ms m) (sym stands ∙ first) in
-      ap (λ ms. driver_serves side ms (state_in view s p)) first
-      ∙ serves-moved side m rest (state_in view s p) (none-stand view s p beside) is-open-there (ap (λ y. is_stopped y (stream (other side) (state_in view s p)).head.queue) (sym same) ∙ stopped-is ∙ goes)
+      ap (λ ms. driver_serves side ms (state_in view.modules s p)) first
+      ∙ serves-moved side m rest (state_in view.modules s p) (none-stand view s p beside) is-open-there (ap (λ y. is_stopped y (stream (other side) (state_in view.modules s p)).head.queue) (sym same) ∙ stopped-is ∙ goes)

@@ -1,6 +1,8 @@
 -- The streams stand for the same, and fit, where the lists of the store are the same.
-use Rattle.std.specs.Prelude.{ℕ, ◌≡◌, ◌+◌, List, [], slice_index_or}
-use Rattle.std.proofs.Common.{sym, ap, subst, ◌∙◌}
+use Rattle.std.specs.Prelude.{ℕ, ◌≡◌, ◌+◌, ◌≤◌, ◌<◌, List, [], slice_index_or}
+use Rattle.std.proofs.Common.{sym, ap, subst, ◌∙◌, arith}
+use Rattle.std.specs.List.{AllByRecursion}
+use Rattle.strm_types.specs.Ldterms.{IsIdle}
 use Rattle.strm_types.specs.Stacked as plain
 use Rattle.strm_types.specs.State as state
 use Rattle.strm_types.specs.State.{State}
@@ -11,7 +13,7 @@ use Rattle.strm_queue.specs.Stored.{queue_in, HoldsReadable}
 use Rattle.strm_queue.proofs.Placed.{ready-same}
 use Rattle.strm_pair.specs.declared.ends.End.{End}
 use Rattle.strm_pair.specs.declared.streams.Streams.{Streams}
-use Rattle.strm_pair.specs.Pairs.{state_in, AreBeside}
+use Rattle.strm_pair.specs.Pairs.{state_in, AreBeside, Stays, kept_by}
 use Rattle.strm_pair.specs.Streams.{View, stream_in, IsSide}
 
 -- a stream with these modules
@@ -40,40 +42,73 @@ abbrev pub alone_in : {S : Type 0} → StoreValue → Streams S → State ℕ
 alone_in s p = state_with p (stream_with s p.master []) (stream_with s p.slave [])
 
 module _ {S : Type 0} (view : View S) where
-  -- where no module stands, none changes
-  pub modules-same : (s t : StoreValue) (first : ℕ) (e : End S) → IsSide view s first e → view t e.stack ≡ view s e.stack
-  modules-same s t first e is = is.no_module t ∙ sym (is.no_module s)
+  -- where no module stands, none keeps anything
+  none-kept : (s : StoreValue) (first : ℕ) (e : End S) → IsSide view s first e → (i : ℕ) → view.keeps e.stack i ≡ 0
+  none-kept s first e is i = view.idle s e.stack is.stack (subst (AllByRecursion (λ p. IsIdle p)) (sym (is.no_module s)) tt) i
 
-  pub alone : (s : StoreValue) (p : Streams S) → AreBeside view s p → state_in view s p ≡ alone_in s p
+  pub rests : (s : StoreValue) (p : Streams S) → AreBeside view s p → (i : ℕ) → kept_by view p i ≡ 0
+  rests s p beside i = omega (arith, none-kept s 0 p.master beside.master i, none-kept s 4 p.slave beside.slave i)
+
+  -- so what is kept stays where the store has as many blocks
+  pub still : (s t : StoreValue) (p : Streams S) → AreBeside view s p → t.mblks ≡ s.mblks → t.dblks ≡ s.dblks → Stays s t (kept_by view p)
+  still s t p beside mblks dblks = record {
+    mblks = mblks;
+    dblks = dblks;
+    kept = λ i some. absurd (omega (arith, some, rests s p beside i));
+  }
+
+  pub alone : (s : StoreValue) (p : Streams S) → AreBeside view s p → state_in view.modules s p ≡ alone_in s p
   alone s p beside =
-      ap (λ ms. state_with p (stream_with s p.master ms) (stream_in view s p.slave)) (beside.master.no_module s)
+      ap (λ ms. state_with p (stream_with s p.master ms) (stream_in view.modules s p.slave)) (beside.master.no_module s)
       ∙ ap (λ ms. state_with p (stream_with s p.master []) (stream_with s p.slave ms)) (beside.slave.no_module s)
 
-  module _ (s t : StoreValue) (same : t.lists ≡ s.lists) where
-    at : (k : ℕ) → list_at t k ≡ list_at s k
-    at k = ap (λ ls. slice_index_or ls k []) same
+  module _ (s t : StoreValue) where
+    pub stays-master : (p : Streams S) → Stays s t (kept_by view p) → Stays s t (view.keeps p.master.stack)
+    stays-master p stays = record { mblks = stays.mblks; dblks = stays.dblks; kept = λ i some. stays.kept i (omega (arith, some)) }
 
-    side-fits : (first : ℕ) (e : End S) → IsSide view s first e → IsSide view t first e
-    side-fits first e is = record {
-      head_list = is.head_list;
-      driver_list = is.driver_list;
-      head = record { ready = ready-same s t e.head.queue (at e.head.queue.list) is.head.ready; readable = subst HoldsReadable (sym (at e.head.queue.list)) is.head.readable };
-      driver = ready-same s t e.driver (at e.driver.list) is.driver;
-      no_module = is.no_module;
-      spare_up = at (first + 2) ∙ is.spare_up;
-      spare_down = at (first + 3) ∙ is.spare_down;
-    }
+    pub stays-slave : (p : Streams S) → Stays s t (kept_by view p) → Stays s t (view.keeps p.slave.stack)
+    stays-slave p stays = record { mblks = stays.mblks; dblks = stays.dblks; kept = λ i some. stays.kept i (omega (arith, some)) }
 
-    side-same : (first : ℕ) (e : End S) → IsSide view s first e → stream_in view t e ≡ stream_in view s e
-    side-same first e is = ap (λ ls. stream_with (record s { lists = ls }) e (view t e.stack)) same ∙ ap (stream_with s e) (modules-same s t first e is)
+    -- a stack stands for the same, and fits, where its lists are the same and what it keeps is
+    pub stack-same : (first : ℕ) (e : End S) → IsSide view s first e → Stays s t (view.keeps e.stack) → ((k : ℕ) → first + 2 ≤ k → k < first + 4 → list_at t k ≡ list_at s k) → (view.modules t e.stack ≡ view.modules s e.stack) × view.IsHeld t e.stack
+    stack-same first e is stays same = view.frame s t e.stack (record {
+      lists = λ k some. let own = is.owned k some in same k own.0 own.1;
+      mblks = stays.mblks;
+      dblks = stays.dblks;
+      kept = stays.kept;
+    }) is.stack
 
-    pub same-state : (p : Streams S) → AreBeside view s p → state_in view t p ≡ state_in view s p
-    same-state p beside =
-        ap (λ m. state_with p m (stream_in view t p.slave)) (side-same 0 p.master beside.master)
-        ∙ ap (state_with p (stream_in view s p.master)) (side-same 4 p.slave beside.slave)
+    module _ (same : t.lists ≡ s.lists) where
+      at : (k : ℕ) → list_at t k ≡ list_at s k
+      at k = ap (λ ls. slice_index_or ls k []) same
 
-    pub same-beside : (p : Streams S) → AreBeside view s p → AreBeside view t p
-    same-beside p beside = record { master = side-fits 0 p.master beside.master; slave = side-fits 4 p.slave beside.slave }
+      side-fits : (first : ℕ) (e : End S) → IsSide view s first e → Stays s t (view.keeps e.stack) → IsSide view t first e
+      side-fits first e is stays = record {
+        head_list = is.head_list;
+        driver_list = is.driver_list;
+        head = record { ready = ready-same s t e.head.queue (at e.head.queue.list) is.head.ready; readable = subst HoldsReadable (sym (at e.head.queue.list)) is.head.readable };
+        driver = ready-same s t e.driver (at e.driver.list) is.driver;
+        stack = (stack-same first e is stays (λ k low high. at k)).1;
+        owned = is.owned;
+        spare = λ k low high none. at k ∙ is.spare k low high none;
+        no_module = is.no_module;
+        unowned = is.unowned;
+      }
 
-  pub streams-frame : (s t : StoreValue) (p : Streams S) → SameFor s t (λ i. 0) → AreBeside view s p → (state_in view t p ≡ state_in view s p) × AreBeside view t p
-  streams-frame s t p same beside = (same-state s t same.lists p beside, same-beside s t same.lists p beside)
+      side-same : (first : ℕ) (e : End S) → IsSide view s first e → Stays s t (view.keeps e.stack) → stream_in view.modules t e ≡ stream_in view.modules s e
+      side-same first e is stays =
+          ap (λ ls. stream_with (record s { lists = ls }) e (view.modules t e.stack)) same
+          ∙ ap (stream_with s e) (stack-same first e is stays (λ k low high. at k)).0
+
+      pub same-state : (p : Streams S) → AreBeside view s p → Stays s t (kept_by view p) → state_in view.modules t p ≡ state_in view.modules s p
+      same-state p beside stays =
+          ap (λ m. state_with p m (stream_in view.modules t p.slave)) (side-same 0 p.master beside.master (stays-master p stays))
+          ∙ ap (state_with p (stream_in view.modules s p.master)) (side-same 4 p.slave beside.slave (stays-slave p stays))
+
+      pub same-beside : (p : Streams S) → AreBeside view s p → Stays s t (kept_by view p) → AreBeside view t p
+      same-beside p beside stays = record { master = side-fits 0 p.master beside.master (stays-master p stays); slave = side-fits 4 p.slave beside.slave (stays-slave p stays) }
+
+  pub streams-frame : (s t : StoreValue) (p : Streams S) → SameFor s t (kept_by view p) → AreBeside view s p → (state_in view.modules t p ≡ state_in view.modules s p) × AreBeside view t p
+  streams-frame s t p same beside =
+      let stays : Stays s t (kept_by view p) = record { mblks = same.mblks; dblks = same.dblks; kept = same.kept } in
+      (same-state s t same.lists p beside stays, same-beside s t same.lists p beside stays)

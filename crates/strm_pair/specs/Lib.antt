@@ -3,6 +3,7 @@ pub mod Took
 pub mod Framing
 pub mod Streams
 pub mod Journals
+pub mod LdtermStacks
 pub mod Pairs
 pub mod PairViews
 pub mod PlainCalls

@@ -25,7 +25,7 @@ sizes_over s sizes = record sizes { mblks = s.mblks; dblks = s.dblks }
 -- the pair that the store, the streams and the journal stand for
 abbrev pub pair_of : {S : Type 0} → View S → StoreValue → Streams S → Journal → Config → Fates → PairState
 pair_of view s streams journal limits fates = record {
-  state = state_in view s streams;
+  state = state_in view.modules s streams;
   base = opening;
   journal = journal_of journal;
   limits = limits;
@@ -37,7 +37,7 @@ pair_of view s streams journal limits fates = record {
 -- numbers that are kept beside the blocks are those of the blocks, and nothing is in hand; what has gone is told by its rules; and the sizes are those that
 -- the pair was made with.
 pub record IsKept {S : Type 0} (view : View S) (s : StoreValue) (streams : Streams S) (journal : Journal) (limits : Config) (fates : Fates) : Type 0 where
-  pub replayed : state_in view s streams ≡ led_to journal
+  pub replayed : state_in view.modules s streams ≡ led_to journal
   pub legal : IsLegal plain opening (journal_of journal)
   pub told : fates ≡ told_by plain opening (journal_of journal) no_fates
   pub held : AreHeld view s streams

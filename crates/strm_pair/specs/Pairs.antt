@@ -1,21 +1,21 @@
 -- What a pair over a store stands for.
-use Rattle.std.specs.Prelude.{ℕ, ◌≡◌, List, []}
+use Rattle.std.specs.Prelude.{ℕ, ◌≡◌, ◌<◌, ◌+◌, List, []}
 use Rattle.strm_types.specs.declared.names.Side.{Side}
 use Rattle.strm_types.specs.declared.names.Side.TheVariants.{Master, Slave}
 use Rattle.strm_types.specs.State.{State}
 use Rattle.strm_types.specs.Refused.{Free}
 use Rattle.strm_types.specs.Journal.{PlainEntry, entries_in}
-use Rattle.strm_blocks.specs.Blocks.{StoreValue, free_m, free_d}
+use Rattle.strm_blocks.specs.Blocks.{StoreValue, free_m, free_d, in_hand}
 use Rattle.strm_pair.specs.declared.streams.Streams.{Streams}
 use Rattle.strm_pair.specs.declared.ends.End.{End}
 use Rattle.strm_pair.specs.declared.journal.Journal.{Journal}
-use Rattle.strm_pair.specs.Streams.{View, stream_in, AreSides}
+use Rattle.strm_pair.specs.Streams.{Modules, View, stream_in, AreSides}
 
 -- the plain state
-abbrev pub state_in : {S : Type 0} → View S → StoreValue → Streams S → State ℕ
-state_in view s p = record {
-  master = stream_in view s p.master;
-  slave = stream_in view s p.slave;
+abbrev pub state_in : {S : Type 0} → Modules S → StoreValue → Streams S → State ℕ
+state_in modules s p = record {
+  master = stream_in modules s p.master;
+  slave = stream_in modules s p.slave;
   locked = p.locked;
   enabled = p.enabled;
   next_ioctl = p.next_ioctl;
@@ -37,6 +37,10 @@ with_end Slave e p = record p { slave = e }
 abbrev pub AreBeside : {S : Type 0} → View S → StoreValue → Streams S → Type 0
 AreBeside view s p = AreSides view s p.master p.slave
 
+-- how often the stacks of both sides keep a message of a name in hand
+abbrev pub kept_by : {S : Type 0} → View S → Streams S → ℕ → ℕ
+kept_by view p i = view.keeps p.master.stack i + view.keeps p.slave.stack i
+
 -- the same while nobody is in a call: nothing is in hand
 pub record AreHeld {S : Type 0} (view : View S) (s : StoreValue) (p : Streams S) : Type 0 where
   pub hand : s.hand ≡ []
@@ -45,6 +49,12 @@ pub record AreHeld {S : Type 0} (view : View S) (s : StoreValue) (p : Streams S)
 -- how many blocks of each kind are free in the store
 abbrev pub free_in : StoreValue → Free
 free_in s = record { mblks = free_m s; dblks = free_d s }
+
+-- the store has as many blocks, and the messages that are kept in hand are as they were
+pub record Stays (old new : StoreValue) (keeps : ℕ → ℕ) : Type 0 where
+  pub mblks : new.mblks ≡ old.mblks
+  pub dblks : new.dblks ≡ old.dblks
+  pub kept : (i : ℕ) → 0 < keeps i → in_hand new i ≡ in_hand old i
 
 -- the store has as many blocks as before
 pub record SamePool (old new : StoreValue) : Type 0 where

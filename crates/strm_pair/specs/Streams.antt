@@ -1,22 +1,36 @@
 -- What the two streams stand for, beside their store.
-use Rattle.std.specs.Prelude.{ℕ, ◌≡◌, ◌+◌, List, []}
+use Rattle.std.specs.Prelude.{ℕ, ◌≡◌, ◌+◌, ◌≤◌, ◌<◌, List, []}
+use Rattle.std.specs.List.{AllByRecursion}
+use Rattle.strm_types.specs.Ldterms.{IsIdle}
 use Rattle.strm_types.specs.Stacked as plain
 use Rattle.strm_types.specs.State.{Stream}
 use Rattle.strm_blocks.specs.Blocks.{StoreValue, list_at}
+use Rattle.strm_frame.specs.Hands.{SameOwn}
 use Rattle.strm_pair.specs.declared.ends.End.{End}
 use Rattle.strm_head.specs.Heads.{head_in}
 use Rattle.strm_queue.specs.Stored.{queue_in, IsReady, IsHeadQueue}
 
--- how a stack of modules is seen beside a store: as plain modules, the one on top first
-abbrev pub View : Type 0 → Type 0
-View S = StoreValue → S → List (plain.Module ℕ)
+-- the plain modules that a stack stands for beside a store, the one on top first
+abbrev pub Modules : Type 0 → Type 0
+Modules S = StoreValue → S → List (plain.Module ℕ)
+
+-- How stacks of modules are seen: what they stand for, when they and the store fit, which lists of the store are their own, and how
+-- often they keep a message of a name in hand. A stack stands for the same, and fits, wherever its own lists are the same and what it
+-- keeps is. Where nothing of a turn is under way it keeps nothing.
+pub record View (S : Type 0) : Type 1 where
+  pub modules : Modules S
+  pub IsHeld : StoreValue → S → Type 0
+  pub owns : S → ℕ → ℕ
+  pub keeps : S → ℕ → ℕ
+  pub frame : (s t : StoreValue) (x : S) → SameOwn s t (owns x) (keeps x) → IsHeld s x → (modules t x ≡ modules s x) × IsHeld t x
+  pub idle : (s : StoreValue) (x : S) → IsHeld s x → AllByRecursion (λ p. IsIdle p) (modules s x) → (i : ℕ) → keeps x i ≡ 0
 
 -- the plain stream of a side
-abbrev pub stream_in : {S : Type 0} → View S → StoreValue → End S → Stream ℕ
-stream_in view s e = record {
+abbrev pub stream_in : {S : Type 0} → Modules S → StoreValue → End S → Stream ℕ
+stream_in modules s e = record {
   opened = e.opened;
   head = head_in s e.head;
-  modules = view s e.stack;
+  modules = modules s e.stack;
   driver = record { queue = queue_in s e.driver };
 }
 
@@ -28,16 +42,18 @@ pub record IsBlank (s : StoreValue) (first : ℕ) : Type 0 where
   pub down : list_at s (first + 3) ≡ []
 
 -- A side's queues stand on lists of their own, from a number on: the head's, which has what readers may read alone, and the
--- driver's, with their kept numbers right; two more, for the queues of a module, are empty. There is no
+-- driver's, with their kept numbers right; two more are for the queues of a module, and empty where none has them. There is no
 -- module, as none can be pushed yet.
 pub record IsSide {S : Type 0} (view : View S) (s : StoreValue) (first : ℕ) (e : End S) : Type 0 where
   pub head_list : e.head.queue.list ≡ first
   pub driver_list : e.driver.list ≡ first + 1
   pub head : IsHeadQueue s e.head.queue
   pub driver : IsReady s e.driver
-  pub no_module : (t : StoreValue) → view t e.stack ≡ []
-  pub spare_up : list_at s (first + 2) ≡ []
-  pub spare_down : list_at s (first + 3) ≡ []
+  pub stack : view.IsHeld s e.stack
+  pub owned : (k : ℕ) → 0 < view.owns e.stack k → (first + 2 ≤ k) × (k < first + 4)
+  pub spare : (k : ℕ) → first + 2 ≤ k → k < first + 4 → view.owns e.stack k ≡ 0 → list_at s k ≡ []
+  pub no_module : (t : StoreValue) → view.modules t e.stack ≡ []
+  pub unowned : (k : ℕ) → view.owns e.stack k ≡ 0
 
 -- Both sides beside their store, whatever is in hand: the master's lists are 0 to 3, the slave's 4 to 7.
 pub record AreSides {S : Type 0} (view : View S) (s : StoreValue) (m sl : End S) : Type 0 where

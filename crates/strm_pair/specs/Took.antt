@@ -25,8 +25,8 @@ settling_relieves size q = not (size == 0) && relieves (turned_queue q)
 -- It is in hand, and as many blocks are free as before.
 pub record TookFirst {S : Type 0} (view : View S) (side : Side) (old new : StoreValue) (p q : Streams S) (i : ℕ) : Type 0 where
   pub rest : List (Message ℕ)
-  pub first : (stream side (state_in view old p)).driver.queue.messages ≡ message_of (in_hand new i) ∷ rest
-  pub state : state_in view new q ≡ with_driver side (left_with rest (stream side (state_in view old p)).driver.queue) (state_in view old p)
+  pub first : (stream side (state_in view.modules old p)).driver.queue.messages ≡ message_of (in_hand new i) ∷ rest
+  pub state : state_in view.modules new q ≡ with_driver side (left_with rest (stream side (state_in view.modules old p)).driver.queue) (state_in view.modules old p)
   pub beside : AreBeside view new q
   pub hand : new.hand ≡ record { name = i; chain = in_hand new i } ∷ old.hand
   pub chain : IsChain (in_hand new i)

@@ -8,7 +8,7 @@ ghost use Rattle.strm_types.specs.Emptied.{of_all};
 ghost use Rattle.strm_types.specs.Deliver.{tallied};
 ghost use Rattle.strm_types.specs.Puts.{flushed_on};
 ghost use Rattle.strm_frame.specs.Hands.{HasRoom};
-ghost use Rattle.strm_pair.specs.Streams.{View};
+ghost use Rattle.strm_pair.specs.Streams.{Modules};
 
 use crate::stacks::Stacks;
 use crate::streams::Streams;
@@ -31,15 +31,15 @@ impl<S: Drop> Streams<S> {
         band: Option<Band>,
         told: &mut Fates,
     ) -> Answer<usize>
-        requires held { AreHeld B.modules (B.value store.old) self.old }
+        requires held { AreHeld B.view (B.value store.old) self.old }
         requires room { HasRoom (B.value store.old) 5 }
         ensures answer { result ≡ Done }
-        ensures state { state_in B.modules (B.value store.new) self.new
-            ≡ (flushed_on band side what (state_in B.modules (B.value store.old) self.old)).state }
-        ensures held { AreHeld B.modules (B.value store.new) self.new }
+        ensures state { state_in B.view.modules (B.value store.new) self.new
+            ≡ (flushed_on band side what (state_in B.view.modules (B.value store.old) self.old)).state }
+        ensures held { AreHeld B.view (B.value store.new) self.new }
         ensures pool { SamePool (B.value store.old) (B.value store.new) }
         ensures told { told.new ≡ tallied (flushed_on band side what
-            (state_in B.modules (B.value store.old) self.old)).gone told.old }
+            (state_in B.view.modules (B.value store.old) self.old)).gone told.old }
     {
         let message = make_flush(store, FlushAsked::of(what, band));
         let below = Spot {
@@ -53,11 +53,11 @@ impl<S: Drop> Streams<S> {
 
     // Lets all go that stands at a side's head.
     fn clear_head<B: Stacks<Stack = S>>(&mut self, store: &mut B, side: Side, told: &mut Fates)
-        requires { AreHeld B.modules (B.value store.old) self.old }
-        ensures state { state_in B.modules (B.value store.new) self.new
-            ≡ (head_emptied EndClosed of_all side (state_in B.modules (B.value store.old) self.old)).state }
-        ensures told { told.new ≡ tallied (head_emptied EndClosed of_all side (state_in B.modules (B.value store.old) self.old)).gone told.old }
-        ensures held { AreHeld B.modules (B.value store.new) self.new }
+        requires { AreHeld B.view (B.value store.old) self.old }
+        ensures state { state_in B.view.modules (B.value store.new) self.new
+            ≡ (head_emptied EndClosed of_all side (state_in B.view.modules (B.value store.old) self.old)).state }
+        ensures told { told.new ≡ tallied (head_emptied EndClosed of_all side (state_in B.view.modules (B.value store.old) self.old)).gone told.old }
+        ensures held { AreHeld B.view (B.value store.new) self.new }
         ensures pool { SamePool (B.value store.old) (B.value store.new) }
     {
         let name = side.head();
@@ -83,11 +83,11 @@ impl<S: Drop> Streams<S> {
 
     // Lets all go that stands at a side's driver.
     fn clear_driver<B: Stacks<Stack = S>>(&mut self, store: &mut B, side: Side, told: &mut Fates)
-        requires { AreHeld B.modules (B.value store.old) self.old }
-        ensures state { state_in B.modules (B.value store.new) self.new
-            ≡ (driver_emptied EndClosed of_all side (state_in B.modules (B.value store.old) self.old)).state }
-        ensures told { told.new ≡ tallied (driver_emptied EndClosed of_all side (state_in B.modules (B.value store.old) self.old)).gone told.old }
-        ensures held { AreHeld B.modules (B.value store.new) self.new }
+        requires { AreHeld B.view (B.value store.old) self.old }
+        ensures state { state_in B.view.modules (B.value store.new) self.new
+            ≡ (driver_emptied EndClosed of_all side (state_in B.view.modules (B.value store.old) self.old)).state }
+        ensures told { told.new ≡ tallied (driver_emptied EndClosed of_all side (state_in B.view.modules (B.value store.old) self.old)).gone told.old }
+        ensures held { AreHeld B.view (B.value store.new) self.new }
         ensures pool { SamePool (B.value store.old) (B.value store.new) }
     {
         let name = side.driver();
@@ -113,9 +113,9 @@ impl<S: Drop> Streams<S> {
 
     // A side is closed, with a head as new.
     fn end_side<B: Stacks<Stack = S>>(&mut self, store: &mut B, side: Side)
-        requires { AreHeld B.modules (B.value store.old) self.old }
-        ensures state { state_in B.modules (B.value store.new) self.new ≡ ended side (state_in B.modules (B.value store.old) self.old) }
-        ensures held { AreHeld B.modules (B.value store.new) self.new }
+        requires { AreHeld B.view (B.value store.old) self.old }
+        ensures state { state_in B.view.modules (B.value store.new) self.new ≡ ended side (state_in B.view.modules (B.value store.old) self.old) }
+        ensures held { AreHeld B.view (B.value store.new) self.new }
         ensures pool { SamePool (B.value store.old) (B.value store.new) }
     {
         match side {
@@ -125,9 +125,9 @@ impl<S: Drop> Streams<S> {
     }
 
     // An M_HANGUP goes up the slave's stream, where that is open.
-    fn hang_up(&mut self)
-        ensures state { (view : View S) (s : StoreValue) → state_in view s self.new ≡ hung_up_at Slave (state_in view s self.old) }
-        ensures held { (view : View S) (s : StoreValue) → AreHeld view s self.old → AreHeld view s self.new }
+    fn hang_up<B: Stacks<Stack = S>>(&mut self)
+        ensures state { (modules : Modules S) (s : StoreValue) → state_in modules s self.new ≡ hung_up_at Slave (state_in modules s self.old) }
+        ensures held { (s : StoreValue) → AreHeld B.view s self.old → AreHeld B.view s self.new }
     {
         if self.slave.opened.is_open() {
             self.slave.head.hung_up = true;
@@ -143,13 +143,13 @@ impl<S: Drop> Streams<S> {
         side: Side,
         told: &mut Fates,
     ) -> Answer<usize>
-        requires held { AreHeld B.modules (B.value store.old) self.old }
+        requires held { AreHeld B.view (B.value store.old) self.old }
         ensures answer { result ≡ Done }
-        ensures state { state_in B.modules (B.value store.new) self.new
-            ≡ (closed_at side (state_in B.modules (B.value store.old) self.old)).state }
-        ensures held { AreHeld B.modules (B.value store.new) self.new }
+        ensures state { state_in B.view.modules (B.value store.new) self.new
+            ≡ (closed_at side (state_in B.view.modules (B.value store.old) self.old)).state }
+        ensures held { AreHeld B.view (B.value store.new) self.new }
         ensures pool { SamePool (B.value store.old) (B.value store.new) }
-        ensures told { told.new ≡ tallied (closed_at side (state_in B.modules (B.value store.old) self.old)).gone told.old }
+        ensures told { told.new ≡ tallied (closed_at side (state_in B.view.modules (B.value store.old) self.old)).gone told.old }
     {
         self.clear_head(store, side, told);
         match side {
@@ -157,7 +157,7 @@ impl<S: Drop> Streams<S> {
                 self.clear_driver(store, Side::Master, told);
                 self.clear_driver(store, Side::Slave, told);
                 self.end_side(store, Side::Master);
-                self.hang_up();
+                self.hang_up::<B>();
                 Answer::Done
             }
             Side::Slave => {

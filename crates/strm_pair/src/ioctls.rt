@@ -9,7 +9,7 @@ ghost use Rattle.strm_types.specs.Refused.{may_ask};
 ghost use Rattle.strm_blocks.specs.Blocks.{StoreValue};
 ghost use Rattle.strm_frame.specs.Hands.{HasRoom};
 ghost use Rattle.strm_pair.specs.Parts.{longest_part};
-ghost use Rattle.strm_pair.specs.Streams.{View};
+ghost use Rattle.strm_pair.specs.Streams.{Modules};
 
 use crate::stacks::Stacks;
 use crate::streams::Streams;
@@ -21,10 +21,10 @@ impl<S: Drop> Streams<S> {
     ghost use Rattle.strm_pair.specs.Pairs.{state_in, AreHeld, SamePool};
 
     // The ioctl of the next number is under way on a side's stream, and waits for its answer.
-    fn begin_ioctl(&mut self, side: Side, command: u32)
+    fn begin_ioctl<B: Stacks<Stack = S>>(&mut self, side: Side, command: u32)
         requires { self.old.next_ioctl < IOCTL_END }
-        ensures state { (view : View S) (s : StoreValue) → state_in view s self.new ≡ ioctl_begun side command (state_in view s self.old) }
-        ensures held { (view : View S) (s : StoreValue) → AreHeld view s self.old → AreHeld view s self.new }
+        ensures state { (modules : Modules S) (s : StoreValue) → state_in modules s self.new ≡ ioctl_begun side command (state_in modules s self.old) }
+        ensures held { (s : StoreValue) → AreHeld B.view s self.old → AreHeld B.view s self.new }
     {
         let number = self.next_ioctl;
         self.next_ioctl = number + 1;
@@ -43,17 +43,17 @@ impl<S: Drop> Streams<S> {
         body: &[u8],
         told: &mut Fates,
     )
-        requires held { AreHeld B.modules (B.value store.old) self.old }
-        requires may_ask { may_ask body.now (state_in B.modules (B.value store.old) self.old) ≡ true }
+        requires held { AreHeld B.view (B.value store.old) self.old }
+        requires may_ask { may_ask body.now (state_in B.view.modules (B.value store.old) self.old) ≡ true }
         requires room { HasRoom (B.value store.old) IOCTL_BLOCKS }
-        ensures state { state_in B.modules (B.value store.new) self.new
-            ≡ (ioctl_sent side command body.now (state_in B.modules (B.value store.old) self.old)).state }
-        ensures held { AreHeld B.modules (B.value store.new) self.new }
+        ensures state { state_in B.view.modules (B.value store.new) self.new
+            ≡ (ioctl_sent side command body.now (state_in B.view.modules (B.value store.old) self.old)).state }
+        ensures held { AreHeld B.view (B.value store.new) self.new }
         ensures pool { SamePool (B.value store.old) (B.value store.new) }
-        ensures told { told.new ≡ tallied (ioctl_sent side command body.now (state_in B.modules (B.value store.old) self.old)).gone told.old }
+        ensures told { told.new ≡ tallied (ioctl_sent side command body.now (state_in B.view.modules (B.value store.old) self.old)).gone told.old }
     {
         let message = make_ioctl(store, Ioc::asking(command, self.next_ioctl), body);
-        self.begin_ioctl(side, command);
+        self.begin_ioctl::<B>(side, command);
         let below = Spot {
             side,
             at: 1,
@@ -65,13 +65,17 @@ impl<S: Drop> Streams<S> {
     /// Tells what became of the ioctl under way on a side's stream, once: its answer, with its bytes in `out`, or its number
     /// while it waits.
     #[inline(never)]
-    pub fn tell_ioctl(&mut self, side: Side, out: &mut Content) -> Answer<usize>
+    pub fn tell_ioctl<B: Stacks<Stack = S>>(
+        &mut self,
+        side: Side,
+        out: &mut Content,
+    ) -> Answer<usize>
         requires fresh { out.old.items ≡ [] }
-        ensures answer { (view : View S) (s : StoreValue) → reply_in result out.new.items ≡ (ioctl_told side (state_in view s self.old)).answer }
+        ensures answer { (modules : Modules S) (s : StoreValue) → reply_in result out.new.items ≡ (ioctl_told side (state_in modules s self.old)).answer }
         ensures filled { answer_len result ≡ length out.new.items }
         ensures content { length out.new.items ≤ IOCTL_MAX }
-        ensures state { (view : View S) (s : StoreValue) → state_in view s self.new ≡ (ioctl_told side (state_in view s self.old)).state }
-        ensures held { (view : View S) (s : StoreValue) → AreHeld view s self.old → AreHeld view s self.new }
+        ensures state { (modules : Modules S) (s : StoreValue) → state_in modules s self.new ≡ (ioctl_told side (state_in modules s self.old)).state }
+        ensures held { (s : StoreValue) → AreHeld B.view s self.old → AreHeld B.view s self.new }
     {
         match side {
             Side::Master => self.master.head.tell_ioctl(out),
@@ -91,33 +95,37 @@ impl<S: Drop> Streams<S> {
         out: &mut Content,
         told: &mut Fates,
     ) -> Answer<usize>
-        requires held { AreHeld B.modules (B.value store.old) self.old }
-        requires may_ask { may_ask body.now (state_in B.modules (B.value store.old) self.old) ≡ true }
+        requires held { AreHeld B.view (B.value store.old) self.old }
+        requires may_ask { may_ask body.now (state_in B.view.modules (B.value store.old) self.old) ≡ true }
         requires room { HasRoom (B.value store.old) IOCTL_BLOCKS }
         requires fresh { out.old.items ≡ [] }
         ensures answer { reply_in result out.new.items
-            ≡ (ioctl_told side (ioctl_sent side command body.now (state_in B.modules (B.value store.old) self.old)).state).answer }
+            ≡ (ioctl_told side (ioctl_sent side command body.now (state_in B.view.modules (B.value store.old) self.old)).state).answer }
         ensures filled { answer_len result ≡ length out.new.items }
         ensures content { length out.new.items ≤ IOCTL_MAX }
-        ensures state { state_in B.modules (B.value store.new) self.new
-            ≡ (ioctl_told side (ioctl_sent side command body.now (state_in B.modules (B.value store.old) self.old)).state).state }
-        ensures held { AreHeld B.modules (B.value store.new) self.new }
+        ensures state { state_in B.view.modules (B.value store.new) self.new
+            ≡ (ioctl_told side (ioctl_sent side command body.now (state_in B.view.modules (B.value store.old) self.old)).state).state }
+        ensures held { AreHeld B.view (B.value store.new) self.new }
         ensures pool { SamePool (B.value store.old) (B.value store.new) }
-        ensures told { told.new ≡ tallied (ioctl_sent side command body.now (state_in B.modules (B.value store.old) self.old)).gone told.old }
+        ensures told { told.new ≡ tallied (ioctl_sent side command body.now (state_in B.view.modules (B.value store.old) self.old)).gone told.old }
     {
         self.send_ioctl(store, side, command, body, told);
-        self.tell_ioctl(side, out)
+        self.tell_ioctl::<B>(side, out)
     }
 
     /// Hands out the signals that wait at a side's head, in `out`.
     #[inline(never)]
-    pub fn take_signals(&mut self, side: Side, out: &mut Content) -> Answer<usize>
+    pub fn take_signals<B: Stacks<Stack = S>>(
+        &mut self,
+        side: Side,
+        out: &mut Content,
+    ) -> Answer<usize>
         requires fresh { out.old.items ≡ [] }
-        ensures answer { (view : View S) (s : StoreValue) → reply_in result out.new.items ≡ (signals_told side (state_in view s self.old)).answer }
+        ensures answer { (modules : Modules S) (s : StoreValue) → reply_in result out.new.items ≡ (signals_told side (state_in modules s self.old)).answer }
         ensures filled { answer_len result ≡ length out.new.items }
         ensures content { length out.new.items ≤ SIGNALS_MAX }
-        ensures state { (view : View S) (s : StoreValue) → state_in view s self.new ≡ (signals_told side (state_in view s self.old)).state }
-        ensures held { (view : View S) (s : StoreValue) → AreHeld view s self.old → AreHeld view s self.new }
+        ensures state { (modules : Modules S) (s : StoreValue) → state_in modules s self.new ≡ (signals_told side (state_in modules s self.old)).state }
+        ensures held { (s : StoreValue) → AreHeld B.view s self.old → AreHeld B.view s self.new }
     {
         match side {
             Side::Master => self.master.head.take_signals(out),

@@ -47,9 +47,9 @@ impl<S: Drop> Streams<S> {
 
     /// How many bytes count in a band of a queue.
     pub fn count<B: Stacks<Stack = S>>(&self, store: &B, queue: QueueName, band: Band) -> usize
-        requires held { AreHeld B.modules (B.value store.now) self.now }
+        requires held { AreHeld B.view (B.value store.now) self.now }
         requires band { band.0 < BANDS }
-        ensures { result ≡ count_at queue band.0 (state_in B.modules (B.value store.now) self.now) }
+        ensures { result ≡ count_at queue band.0 (state_in B.view.modules (B.value store.now) self.now) }
     {
         let end = self.end(queue.side);
         match queue.place {
@@ -67,9 +67,9 @@ impl<S: Drop> Streams<S> {
 
     /// How many messages stand on a queue, and how many bytes they have.
     pub fn sizes<B: Stacks<Stack = S>>(&self, store: &B, queue: QueueName) -> (usize, usize)
-        requires { AreHeld B.modules (B.value store.now) self.now }
-        ensures messages { result.0 ≡ length (messages_at queue (state_in B.modules (B.value store.now) self.now)) }
-        ensures bytes { result.1 ≡ bytes_of (messages_at queue (state_in B.modules (B.value store.now) self.now)) }
+        requires { AreHeld B.view (B.value store.now) self.now }
+        ensures messages { result.0 ≡ length (messages_at queue (state_in B.view.modules (B.value store.now) self.now)) }
+        ensures bytes { result.1 ≡ bytes_of (messages_at queue (state_in B.view.modules (B.value store.now) self.now)) }
     {
         let end = self.end(queue.side);
         match queue.place {
@@ -87,9 +87,9 @@ impl<S: Drop> Streams<S> {
 
     /// Whether a band of a queue is full.
     pub fn is_full<B: Stacks<Stack = S>>(&self, store: &B, queue: QueueName, band: Band) -> bool
-        requires held { AreHeld B.modules (B.value store.now) self.now }
+        requires held { AreHeld B.view (B.value store.now) self.now }
         requires band { band.0 < BANDS }
-        ensures { result ≡ full_at queue band.0 (state_in B.modules (B.value store.now) self.now) }
+        ensures { result ≡ full_at queue band.0 (state_in B.view.modules (B.value store.now) self.now) }
     {
         let end = self.end(queue.side);
         match queue.place {

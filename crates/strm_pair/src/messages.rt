@@ -16,7 +16,7 @@ ghost use Rattle.strm_types.specs.Refused.{in_range};
 ghost use Rattle.strm_types.specs.State.{book, stream, with_book};
 ghost use Rattle.strm_blocks.specs.Blocks.{StoreValue, free_m, free_d};
 ghost use Rattle.strm_pair.specs.Parts.{longest_part};
-ghost use Rattle.strm_pair.specs.Streams.{View};
+ghost use Rattle.strm_pair.specs.Streams.{Modules};
 
 use crate::stacks::Stacks;
 use crate::streams::Streams;
@@ -40,9 +40,9 @@ impl<S: Drop> Streams<S> {
 
     // The book of what comes from a side, with so many more bytes written.
     fn book_with(&self, side: Side, count: usize) -> Book
-        requires in_range { (view : View S) (s : StoreValue) → in_range (state_in view s self.now) ≡ true }
+        requires in_range { (modules : Modules S) (s : StoreValue) → in_range (state_in modules s self.now) ≡ true }
         requires few { count < 2 ^ 63 }
-        ensures { (view : View S) (s : StoreValue) → result ≡ with_written count (book (direction_from side) (state_in view s self.now)) }
+        ensures { (modules : Modules S) (s : StoreValue) → result ≡ with_written count (book (direction_from side) (state_in modules s self.now)) }
     {
         let mut book = match side {
             Side::Master => self.from_master,
@@ -53,9 +53,9 @@ impl<S: Drop> Streams<S> {
     }
 
     // Keeps a book of what comes from a side.
-    fn keep_book(&mut self, side: Side, book: Book)
-        ensures state { (view : View S) (s : StoreValue) → state_in view s self.new ≡ with_book (direction_from side) book (state_in view s self.old) }
-        ensures held { (view : View S) (s : StoreValue) → AreHeld view s self.old → AreHeld view s self.new }
+    fn keep_book<B: Stacks<Stack = S>>(&mut self, side: Side, book: Book)
+        ensures state { (modules : Modules S) (s : StoreValue) → state_in modules s self.new ≡ with_book (direction_from side) book (state_in modules s self.old) }
+        ensures held { (s : StoreValue) → AreHeld B.view s self.old → AreHeld B.view s self.new }
     {
         match side {
             Side::Master => self.from_master = book,
@@ -75,18 +75,18 @@ impl<S: Drop> Streams<S> {
         body: Option<&[u8]>,
         told: &mut Fates,
     ) -> Answer<usize>
-        requires held { AreHeld B.modules (B.value store.old) self.old }
+        requires held { AreHeld B.view (B.value store.old) self.old }
         requires allowed { put_refusal prio (option_map (λ bytes. bytes.now) control) (option_map (λ bytes. bytes.now) body) ≡ None }
-        requires in_range { in_range (state_in B.modules (B.value store.old) self.old) ≡ true }
+        requires in_range { in_range (state_in B.view.modules (B.value store.old) self.old) ≡ true }
         requires room_m { WRITE_BLOCKS + put_blocks (option_map (λ bytes. bytes.now) control) (option_map (λ bytes. bytes.now) body) ≤ free_m (B.value store.old) }
         requires room_d { WRITE_BLOCKS + put_blocks (option_map (λ bytes. bytes.now) control) (option_map (λ bytes. bytes.now) body) ≤ free_d (B.value store.old) }
         ensures answer { result ≡ Done }
         ensures state { let c = option_map (λ bytes. bytes.now) control.entry in let b = option_map (λ bytes. bytes.now) body.entry in
-            state_in B.modules (B.value store.new) self.new ≡ (put_at plain side prio c b (state_in B.modules (B.value store.old) self.old)).state }
-        ensures held { AreHeld B.modules (B.value store.new) self.new }
+            state_in B.view.modules (B.value store.new) self.new ≡ (put_at plain side prio c b (state_in B.view.modules (B.value store.old) self.old)).state }
+        ensures held { AreHeld B.view (B.value store.new) self.new }
         ensures pool { SamePool (B.value store.old) (B.value store.new) }
         ensures told { let c = option_map (λ bytes. bytes.now) control.entry in let b = option_map (λ bytes. bytes.now) body.entry in
-            told.new ≡ tallied (put_at plain side prio c b (state_in B.modules (B.value store.old) self.old)).gone told.old }
+            told.new ≡ tallied (put_at plain side prio c b (state_in B.view.modules (B.value store.old) self.old)).gone told.old }
     {
         let Some(message) = make_message(store, prio, control, body) else {
             return Answer::Done;
@@ -98,7 +98,7 @@ impl<S: Drop> Streams<S> {
             way: Way::Down,
         };
         deliver(store, self, HOPS, below, message, told);
-        self.keep_book(side, book);
+        self.keep_book::<B>(side, book);
         Answer::Done
     }
 
@@ -115,18 +115,18 @@ impl<S: Drop> Streams<S> {
         out: &mut Content,
         told: &mut Fates,
     ) -> Answer<usize>
-        requires held { AreHeld B.modules (B.value store.old) self.old }
+        requires held { AreHeld B.view (B.value store.old) self.old }
         requires fresh { out.old.items ≡ [] }
-        ensures answer { reply_in result out.new.items ≡ (get_at plain side wanted cmax dmax (state_in B.modules (B.value store.old) self.old)).answer }
+        ensures answer { reply_in result out.new.items ≡ (get_at plain side wanted cmax dmax (state_in B.view.modules (B.value store.old) self.old)).answer }
         ensures filled { answer_len result ≡ length out.new.items }
         ensures parts { longest_part result ≤ READ_MAX }
         ensures most { length out.new.items ≤ min cmax READ_MAX + min dmax READ_MAX }
-        ensures state { state_in B.modules (B.value store.new) self.new
-            ≡ (get_at plain side wanted cmax dmax (state_in B.modules (B.value store.old) self.old)).state }
-        ensures held { AreHeld B.modules (B.value store.new) self.new }
+        ensures state { state_in B.view.modules (B.value store.new) self.new
+            ≡ (get_at plain side wanted cmax dmax (state_in B.view.modules (B.value store.old) self.old)).state }
+        ensures held { AreHeld B.view (B.value store.new) self.new }
         ensures pool { SamePool (B.value store.old) (B.value store.new) }
         ensures told { told.new ≡ tallied (get_gone (direction_of (head_of side)) wanted (min cmax READ_MAX) (min dmax READ_MAX)
-            (stream side (state_in B.modules (B.value store.old) self.old)).head.queue.messages) told.old }
+            (stream side (state_in B.view.modules (B.value store.old) self.old)).head.queue.messages) told.old }
     {
         let most = (cmax as usize).min(READ_MAX);
         let most_data = (dmax as usize).min(READ_MAX);
@@ -166,8 +166,8 @@ impl<S: Drop> Streams<S> {
     /// How many bytes of data the first message at a side's head has, and how many messages stand there.
     #[inline(never)]
     pub fn nread<B: Stacks<Stack = S>>(&self, store: &B, side: Side) -> Answer<usize>
-        requires { AreHeld B.modules (B.value store.now) self.now }
-        ensures answer { (out : List ℕ) → reply_in result out ≡ (sizes_at side (state_in B.modules (B.value store.now) self.now)).answer }
+        requires { AreHeld B.view (B.value store.now) self.now }
+        ensures answer { (out : List ℕ) → reply_in result out ≡ (sizes_at side (state_in B.view.modules (B.value store.now) self.now)).answer }
         ensures filled { answer_len result ≡ 0 }
         ensures parts { longest_part result ≡ 0 }
     {

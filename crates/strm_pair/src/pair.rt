@@ -4,6 +4,7 @@ ghost use Rattle.std.specs.Prelude.{◌≡◌, ◌≤◌, ◌<◌, [], length, r
 ghost use Rattle.strm_types.specs.Calls.{request, map_answer};
 ghost use Rattle.strm_types.specs.Cells.{plain};
 ghost use Rattle.strm_types.specs.declared.entries.Entry.TheVariants.{Called, Turned};
+ghost use Rattle.strm_types.specs.Earlier.{NoModules};
 ghost use Rattle.strm_types.specs.Pair.{new_pair, call_refused, queue_refused, AddsEntry};
 ghost use Rattle.strm_types.specs.Journal.{entries_in, reply_in, answer_len};
 ghost use Rattle.strm_types.specs.Refused.{enough, has_room};
@@ -54,9 +55,9 @@ impl<B: Stacks + Drop> Model for Pair<B> {
 
     ghost use Rattle.strm_pair.specs.PairViews.{pair_of, IsKept};
 
-    ghost view = { λ p. pair_of B.modules (B.value p.store) p.streams p.journal p.limits p.fates };
+    ghost view = { λ p. pair_of B.view (B.value p.store) p.streams p.journal p.limits p.fates };
 
-    ghost invariant = { λ p. IsKept B.modules (B.value p.store) p.streams p.journal p.limits p.fates };
+    ghost invariant = { λ p. IsKept B.view (B.value p.store) p.streams p.journal p.limits p.fates };
 }
 
 impl<B: Stacks + Drop> Pair<B> {
@@ -266,11 +267,13 @@ impl<B: Stacks + Drop> Pair<B> {
     /// full (ERANGE), the journal is full, or fewer than 8 blocks of a kind are free (ENOSR), and then changes nothing. Else the journal
     /// gains the turn with its answer.
     ///
-    /// The cost is that of one message. No memory is taken.
+    /// No module stands on either stream, so that a turn treats a message whole or not at all. The cost is that of one message. No
+    /// memory is taken.
     pub fn turn(&mut self, name: QueueName) -> Result<Turn, Refusal>
         ensures refused { MatchOption (queue_refused self.old name) (IsOk result)
             (λ r. (result ≡ Err r) × (self.new ≡ self.old)) }
         ensures adds { IfOk result (λ turn. AddsEntry self.old self.new (Turned name turn)) }
+        ensures alone { NoModules self.old.state }
     {
         if let Some(refusal) = self.turn_refusal(name) {
             return Err(refusal);

@@ -5,6 +5,7 @@ ghost use Rattle.std.specs.Prelude.{ℕ, ◌≡◌, ◌<◌, ◌≤◌, ◌&&◌
 ghost use Rattle.strm_types.specs.declared.limits.TheConstants.{MODULES};
 ghost use Rattle.strm_types.specs.declared.names.Way.TheVariants.{Up};
 ghost use Rattle.strm_types.specs.Flushing.{is_flush};
+ghost use Rattle.strm_types.specs.Message.{has_parts};
 ghost use Rattle.strm_types.specs.Names.{before, enable_some, is_open};
 ghost use Rattle.strm_types.specs.Puts.{noted, across_of, put_at_head, put_at_driver, passed_up, put_behind, put_in, far};
 ghost use Rattle.strm_types.specs.Earlier.{by_name};
@@ -18,7 +19,7 @@ ghost use Rattle.strm_head.specs.Heads.{down_message, sent_down};
 ghost use Rattle.strm_pty.specs.Does.{Makes, MadeOne};
 ghost use Rattle.strm_types.specs.Costs.{head_takes, is_across, below_takes, cost, takes};
 ghost use Rattle.strm_pair.specs.PutBy.{PutBy, CameBy};
-ghost use Rattle.strm_pair.specs.Streams.{View};
+ghost use Rattle.strm_pair.specs.Streams.{Modules};
 
 use crate::stacks::Stacks;
 use crate::streams::Streams;
@@ -84,7 +85,7 @@ fn note(enabled: &mut Enabled, side: Side, place: Place, notes: &[Note])
 }
 
 impl<S: Drop> Streams<S> {
-    ghost use Rattle.strm_pair.specs.Pairs.{state_in, AreBeside};
+    ghost use Rattle.strm_pair.specs.Pairs.{state_in, AreBeside, kept_by};
     ghost use Rattle.strm_blocks.specs.Blocks.{StoreValue};
 
     /// Enables the nearest earlier queue with service before one that lets a waiting writer go.
@@ -104,8 +105,8 @@ impl<S: Drop> Streams<S> {
     }
 
     // What the driver of a side is told of the other one.
-    fn across(&self, side: Side) -> Across
-        ensures { (view : View S) (s : StoreValue) → AreBeside view s self.now → result ≡ across_of side (state_in view s self.now) }
+    fn across<B: Stacks<Stack = S>>(&self, side: Side) -> Across
+        ensures { (s : StoreValue) → AreBeside B.view s self.now → result ≡ across_of side (state_in B.view.modules s self.now) }
     {
         Across {
             is_open: self.end(side.other()).opened.is_open(),
@@ -122,13 +123,13 @@ impl<S: Drop> Streams<S> {
         message: B::Mp,
         told: &mut Fates,
     ) -> Outbox<B::Mp>
-        requires beside { AreBeside B.modules (B.value store.old) self.now }
-        requires can_put { CanPut (B.value store.old) (B.name message) (λ _. 0) }
+        requires beside { AreBeside B.view (B.value store.old) self.now }
+        requires can_put { CanPut (B.value store.old) (B.name message) (kept_by B.view self.now) }
         requires chain { IsChain (in_hand (B.value store.old) (B.name message)) }
-        requires closed { is_open (stream to.side (state_in B.modules (B.value store.old) self.now)).opened ≡ false }
+        requires closed { is_open (stream to.side (state_in B.view.modules (B.value store.old) self.now)).opened ≡ false }
         ensures { let s = B.value store.old in
-            PutBy B.name B.modules s (B.value store.new) self.now self.now (B.name message) 0 (sent_of result) told.old told.new
-            (put_at_head to.side to (message_in s (B.name message)) (state_in B.modules s self.now)) }
+            PutBy B.name B.view s (B.value store.new) self.now self.now (B.name message) 0 (sent_of result) told.old told.new
+            (put_at_head to.side to (message_in s (B.name message)) (state_in B.view.modules s self.now)) }
     {
         store.audit();
         let bytes = booked_size(store, &message);
@@ -145,13 +146,13 @@ impl<S: Drop> Streams<S> {
         message: B::Mp,
         told: &mut Fates,
     ) -> Option<Down>
-        requires beside { AreBeside B.modules (B.value store.old) self.old }
-        requires can_put { CanPut (B.value store.old) (B.name message) (λ _. 0) }
+        requires beside { AreBeside B.view (B.value store.old) self.old }
+        requires can_put { CanPut (B.value store.old) (B.name message) (kept_by B.view self.old) }
         requires chain { IsChain (in_hand (B.value store.old) (B.name message)) }
-        requires opened { is_open (stream to.side (state_in B.modules (B.value store.old) self.old)).opened ≡ true }
+        requires opened { is_open (stream to.side (state_in B.view.modules (B.value store.old) self.old)).opened ≡ true }
         ensures { let s = B.value store.old in
-            CameBy B.modules s (B.value store.new) self.old self.new (B.name message) (sent_down to result) told.old told.new
-            (put_at_head to.side to (message_in s (B.name message)) (state_in B.modules s self.old)) }
+            CameBy B.view s (B.value store.new) self.old self.new (B.name message) (sent_down to result) told.old told.new
+            (put_at_head to.side to (message_in s (B.name message)) (state_in B.view.modules s self.old)) }
     {
         store.audit();
         let came = match to.side {
@@ -170,14 +171,14 @@ impl<S: Drop> Streams<S> {
         message: B::Mp,
         told: &mut Fates,
     ) -> Outbox<B::Mp>
-        requires beside { AreBeside B.modules (B.value store.old) self.old }
-        requires can_put { CanPut (B.value store.old) (B.name message) (λ _. 0) }
+        requires beside { AreBeside B.view (B.value store.old) self.old }
+        requires can_put { CanPut (B.value store.old) (B.name message) (kept_by B.view self.old) }
         requires chain { IsChain (in_hand (B.value store.old) (B.name message)) }
         requires room { HasRoom (B.value store.old) (head_takes (message_in (B.value store.old) (B.name message))) }
         requires top { to.at ≡ 0 }
         ensures { let s = B.value store.old in let m = message_in s (B.name message) in
-            PutBy B.name B.modules s (B.value store.new) self.old self.new (B.name message) (head_takes m)
-            (sent_of result) told.old told.new (put_at_head to.side to m (state_in B.modules s self.old)) }
+            PutBy B.name B.view s (B.value store.new) self.old self.new (B.name message) (head_takes m)
+            (sent_of result) told.old told.new (put_at_head to.side to m (state_in B.view.modules s self.old)) }
     {
         if !self.end(to.side).opened.is_open() {
             return self.lose(store, to, message, told);
@@ -194,16 +195,16 @@ impl<S: Drop> Streams<S> {
         message: B::Mp,
         told: &mut Fates,
     ) -> Outbox<B::Mp>
-        requires beside { AreBeside B.modules (B.value store.old) self.old }
-        requires can_put { CanPut (B.value store.old) (B.name message) (λ _. 0) }
+        requires beside { AreBeside B.view (B.value store.old) self.old }
+        requires can_put { CanPut (B.value store.old) (B.name message) (kept_by B.view self.old) }
         requires chain { IsChain (in_hand (B.value store.old) (B.name message)) }
-        requires room { HasRoom (B.value store.old) (below_takes to.way true) }
+        requires room { HasRoom (B.value store.old) (below_takes to.way (has_parts (message_in (B.value store.old) (B.name message))) true) }
         ensures { let s = B.value store.old in let m = message_in s (B.name message) in
-            PutBy B.name B.modules s (B.value store.new) self.old self.new (B.name message) (below_takes to.way true)
-            (sent_of result) told.old told.new (put_at_driver to.side to m (state_in B.modules s self.old)) }
+            PutBy B.name B.view s (B.value store.new) self.old self.new (B.name message) (below_takes to.way (has_parts m) true)
+            (sent_of result) told.old told.new (put_at_driver to.side to m (state_in B.view.modules s self.old)) }
     {
         store.audit();
-        let across = self.across(to.side);
+        let across = self.across::<B>(to.side);
         let here = Spot { at: 1, ..to };
         let acts = match to.side {
             Side::Master => put(store, &mut self.master.driver, across, here, message, told),
@@ -215,11 +216,11 @@ impl<S: Drop> Streams<S> {
 
     // A message at a place where nothing stands goes on to the head.
     fn pass_up<B: Stacks<Stack = S>>(&self, store: &B, to: Spot, message: B::Mp) -> Outbox<B::Mp>
-        requires beside { AreBeside B.modules (B.value store.now) self.now }
+        requires beside { AreBeside B.view (B.value store.now) self.now }
         requires chain { IsChain (in_hand (B.value store.now) (B.name message)) }
         ensures { (told : Fates) → let s = B.value store.now in
-            PutBy B.name B.modules s s self.now self.now (B.name message) 0 (sent_of result) told told
-            (passed_up to (message_in s (B.name message)) (state_in B.modules s self.now)) }
+            PutBy B.name B.view s s self.now self.now (B.name message) 0 (sent_of result) told told
+            (passed_up to (message_in s (B.name message)) (state_in B.view.modules s self.now)) }
     {
         let _ = store;
         Outbox::one(Sent {
@@ -236,14 +237,15 @@ impl<S: Drop> Streams<S> {
         message: B::Mp,
         told: &mut Fates,
     ) -> Outbox<B::Mp>
-        requires beside { AreBeside B.modules (B.value store.old) self.old }
-        requires can_put { CanPut (B.value store.old) (B.name message) (λ _. 0) }
+        requires beside { AreBeside B.view (B.value store.old) self.old }
+        requires can_put { CanPut (B.value store.old) (B.name message) (kept_by B.view self.old) }
         requires chain { IsChain (in_hand (B.value store.old) (B.name message)) }
-        requires room { HasRoom (B.value store.old) (below_takes Up (is_across to (message_in (B.value store.old) (B.name message)))) }
+        requires room { let m = message_in (B.value store.old) (B.name message) in
+            HasRoom (B.value store.old) (below_takes Up (has_parts m) (is_across to m)) }
         requires up { to.way ≡ Up }
         ensures { let s = B.value store.old in let m = message_in s (B.name message) in
-            PutBy B.name B.modules s (B.value store.new) self.old self.new (B.name message) (below_takes Up (is_across to m))
-            (sent_of result) told.old told.new (put_behind Up to m (state_in B.modules s self.old)) }
+            PutBy B.name B.view s (B.value store.new) self.old self.new (B.name message) (below_takes Up (has_parts m) (is_across to m))
+            (sent_of result) told.old told.new (put_behind Up to m (state_in B.view.modules s self.old)) }
     {
         store.audit();
         if to.at == MODULES + 1 && is_flush(store.kind(&message, 0)) {
@@ -260,13 +262,13 @@ impl<S: Drop> Streams<S> {
         message: B::Mp,
         told: &mut Fates,
     ) -> Outbox<B::Mp>
-        requires beside { AreBeside B.modules (B.value store.old) self.old }
-        requires can_put { CanPut (B.value store.old) (B.name message) (λ _. 0) }
+        requires beside { AreBeside B.view (B.value store.old) self.old }
+        requires can_put { CanPut (B.value store.old) (B.name message) (kept_by B.view self.old) }
         requires chain { IsChain (in_hand (B.value store.old) (B.name message)) }
         requires room { HasRoom (B.value store.old) (takes to (message_in (B.value store.old) (B.name message))) }
         ensures { let s = B.value store.old in let m = message_in s (B.name message) in
-            PutBy B.name B.modules s (B.value store.new) self.old self.new (B.name message) (takes to m)
-            (sent_of result) told.old told.new (put_in to m (state_in B.modules s self.old)) }
+            PutBy B.name B.view s (B.value store.new) self.old self.new (B.name message) (takes to m)
+            (sent_of result) told.old told.new (put_in to m (state_in B.view.modules s self.old)) }
     {
         if to.at == 0 {
             return self.put_head(store, to, message, told);
@@ -281,16 +283,16 @@ impl<S: Drop> Streams<S> {
 impl<B: Stacks> Stations<B> for Streams<B::Stack> {
     ghost use Rattle.std.specs.Prelude.{ℕ};
     ghost use Rattle.strm_types.specs.State.{State};
-    ghost use Rattle.strm_pair.specs.Pairs.{state_in, AreBeside};
+    ghost use Rattle.strm_pair.specs.Pairs.{state_in, AreBeside, kept_by};
     ghost use Rattle.strm_pair.specs.Framing.{streams-frame};
 
     ghost Plain = { State ℕ };
 
-    ghost plain = { state_in B.modules };
+    ghost plain = { state_in B.view.modules };
 
-    ghost IsHeld = { AreBeside B.modules };
+    ghost IsHeld = { AreBeside B.view };
 
-    ghost keeps = { λ p i. 0 };
+    ghost keeps = { kept_by B.view };
 
     ghost puts = { put_in };
 
@@ -308,5 +310,5 @@ impl<B: Stacks> Stations<B> for Streams<B::Stack> {
         self.put(store, to, message, told)
     }
 
-    ghost frame = { streams-frame B.modules };
+    ghost frame = { streams-frame B.view };
 }

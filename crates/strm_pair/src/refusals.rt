@@ -10,7 +10,7 @@ ghost use Rattle.strm_pair.specs.Parts.{is_held_back};
 ghost use Rattle.strm_types.specs.declared.refusals.Refusal.TheVariants.{Eagain, Einval, Enxio, Erange};
 ghost use Rattle.strm_types.specs.Names.{is_never, is_open};
 ghost use Rattle.strm_types.specs.State.{stream};
-ghost use Rattle.strm_pair.specs.Streams.{View};
+ghost use Rattle.strm_pair.specs.Streams.{Modules};
 
 use crate::ends::End;
 use crate::looking::has_no_data;
@@ -130,7 +130,7 @@ impl<S: Drop> Streams<S> {
     /// The stream of a side.
     pub(crate) fn end(&self, side: Side) -> &End<S>
         ensures end { result.now ≡ end_at side self.now }
-        ensures stream { (view : View S) (s : StoreValue) → stream_in view s result.now ≡ stream side (state_in view s self.now) }
+        ensures stream { (modules : Modules S) (s : StoreValue) → stream_in modules s result.now ≡ stream side (state_in modules s self.now) }
     {
         match side {
             Side::Master => &self.master,
@@ -140,15 +140,15 @@ impl<S: Drop> Streams<S> {
 
     // ENXIO where a side isn't open.
     fn unopened(&self, side: Side) -> Option<Refusal>
-        ensures { (view : View S) (s : StoreValue) →
-            result ≡ unless (is_open (stream side (state_in view s self.now)).opened) Enxio }
+        ensures { (modules : Modules S) (s : StoreValue) →
+            result ≡ unless (is_open (stream side (state_in modules s self.now)).opened) Enxio }
     {
         unless(self.end(side).opened.is_open(), Refusal::Enxio)
     }
 
     // ENXIO where a side isn't open, or its other end is gone.
     fn unreached(&self, side: Side) -> Option<Refusal>
-        ensures { (view : View S) (s : StoreValue) → result ≡ unless (goes_down side (state_in view s self.now)) Enxio }
+        ensures { (modules : Modules S) (s : StoreValue) → result ≡ unless (goes_down side (state_in modules s self.now)) Enxio }
     {
         let end = self.end(side);
         unless(end.opened.is_open() && !end.head.hung_up, Refusal::Enxio)
@@ -156,7 +156,7 @@ impl<S: Drop> Streams<S> {
 
     /// ERANGE where the books of a direction are full.
     pub(crate) fn beyond(&self) -> Option<Refusal>
-        ensures { (view : View S) (s : StoreValue) → result ≡ unless (in_range (state_in view s self.now)) Erange }
+        ensures { (modules : Modules S) (s : StoreValue) → result ≡ unless (in_range (state_in modules s self.now)) Erange }
     {
         unless(
             self.from_master.has_room() && self.from_slave.has_room(),
@@ -166,8 +166,8 @@ impl<S: Drop> Streams<S> {
 
     // ERANGE where an ioctl sends more than it may, there is no number left for it, or the books of a direction are full.
     fn unasked(&self, body: &[u8]) -> Option<Refusal>
-        ensures { (view : View S) (s : StoreValue) →
-            result ≡ unless (may_ask body.now (state_in view s self.now) && in_range (state_in view s self.now)) Erange }
+        ensures { (modules : Modules S) (s : StoreValue) →
+            result ≡ unless (may_ask body.now (state_in modules s self.now) && in_range (state_in modules s self.now)) Erange }
     {
         let may_ask = body.len() <= IOCTL_MAX && self.next_ioctl < IOCTL_END;
         unless(
@@ -178,7 +178,7 @@ impl<S: Drop> Streams<S> {
 
     // EINVAL where the master was opened before.
     fn opened_before(&self) -> Option<Refusal>
-        ensures { (view : View S) (s : StoreValue) → result ≡ unless (is_never (state_in view s self.now).master.opened) Einval }
+        ensures { (modules : Modules S) (s : StoreValue) → result ≡ unless (is_never (state_in modules s self.now).master.opened) Einval }
     {
         unless(
             matches!(self.master.opened, Openness::Never),
@@ -188,7 +188,7 @@ impl<S: Drop> Streams<S> {
 
     // EINVAL where the slave is open, EAGAIN where it is locked.
     fn unready(&self) -> Option<Refusal>
-        ensures { (view : View S) (s : StoreValue) → let state = state_in view s self.now in
+        ensures { (modules : Modules S) (s : StoreValue) → let state = state_in modules s self.now in
             result ≡ or_else (unless (not (is_open state.slave.opened)) Einval) (unless (not state.locked) Eagain) }
     {
         or_else(
@@ -199,8 +199,8 @@ impl<S: Drop> Streams<S> {
 
     // Whether a side's head is at the end of its input, where nothing is to be read there.
     fn is_at_end<B: Stacks<Stack = S>>(&self, store: &B, side: Side) -> bool
-        requires { AreHeld B.modules (B.value store.now) self.now }
-        ensures { result ≡ at_end side (state_in B.modules (B.value store.now) self.now) }
+        requires { AreHeld B.view (B.value store.now) self.now }
+        ensures { result ≡ at_end side (state_in B.view.modules (B.value store.now) self.now) }
     {
         match side {
             Side::Slave => self.slave.head.hung_up,
@@ -215,8 +215,8 @@ impl<S: Drop> Streams<S> {
 
     // Whether a message of this priority finds the driver's queue of a side full in its band. One of high priority waits for nothing.
     fn is_held_back<B: Stacks<Stack = S>>(&self, store: &B, side: Side, prio: Prio) -> bool
-        requires { AreHeld B.modules (B.value store.now) self.now }
-        ensures { result ≡ is_held_back prio (stream side (state_in B.modules (B.value store.now) self.now)).driver.queue }
+        requires { AreHeld B.view (B.value store.now) self.now }
+        ensures { result ≡ is_held_back prio (stream side (state_in B.view.modules (B.value store.now) self.now)).driver.queue }
     {
         match prio {
             Prio::High => false,
@@ -228,8 +228,8 @@ impl<S: Drop> Streams<S> {
 
     /// What a call is refused for before all else: its side, and then its arguments.
     pub fn refused_at_once(&self, caller: Caller, event: &Event<&[u8]>) -> Option<Refusal>
-        ensures { (view : View S) (s : StoreValue) →
-            result ≡ refused_at_once (state_in view s self.now) caller (request event.now) }
+        ensures { (modules : Modules S) (s : StoreValue) →
+            result ≡ refused_at_once (state_in modules s self.now) caller (request event.now) }
     {
         match event {
             Event::OpenMaster => None,
@@ -272,8 +272,8 @@ impl<S: Drop> Streams<S> {
         caller: Caller,
         event: &Event<&[u8]>,
     ) -> Option<Refusal>
-        requires { AreHeld B.modules (B.value store.now) self.now }
-        ensures { result ≡ refused_by_state (state_in B.modules (B.value store.now) self.now) caller (request event.now) }
+        requires { AreHeld B.view (B.value store.now) self.now }
+        ensures { result ≡ refused_by_state (state_in B.view.modules (B.value store.now) self.now) caller (request event.now) }
     {
         match event {
             Event::OpenMaster => self.opened_before(),

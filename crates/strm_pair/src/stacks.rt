@@ -1,8 +1,8 @@
 //! The modules of a side's stream, beside a store.
 
-ghost use Rattle.std.specs.Prelude.{ℕ, ◌≡◌, List, []};
-ghost use Rattle.strm_types.specs.Stacked.{Module};
+ghost use Rattle.std.specs.Prelude.{ℕ, ◌≡◌, []};
 ghost use Rattle.strm_blocks.specs.Blocks.{StoreValue};
+ghost use Rattle.strm_pair.specs.Streams.{View};
 
 use strm_blocks::{Blocks, InHand, TableStore};
 use strm_frame::Stream;
@@ -14,21 +14,22 @@ pub trait Stacks: Blocks {
     /// A stack of modules.
     type Stack: Drop;
 
-    /// The plain modules that a store and a stack stand for, the one on top first.
-    ghost modules: { StoreValue → Self.Stack → List (Module ℕ) };
+    /// How a stack is seen beside a store.
+    ghost view: { View Self.Stack };
 
     /// No module.
     fn no_module() -> Self::Stack
-        ensures { (s : StoreValue) → modules s result ≡ [] };
+        ensures held { (s : StoreValue) → view.IsHeld s result }
+        ensures modules { (s : StoreValue) → view.modules s result ≡ [] }
+        ensures unowned { (k : ℕ) → view.owns result k ≡ 0 };
 }
 
 impl Stacks for TableStore {
     type Stack = Stream<Ldterm<InHand>>;
 
-    ghost use Rattle.std.specs.Prelude.{map};
-    ghost use Rattle.strm_ldterm.specs.Stands.{ldterm_in};
+    ghost use Rattle.strm_pair.specs.LdtermStacks.{stacks_of};
 
-    ghost modules = { λ s x. map (ldterm_in ⟦<TableStore as Blocks>⟧.name s) x.modules.items };
+    ghost view = { stacks_of ⟦<TableStore as Blocks>⟧.name };
 
     fn no_module() -> Stream<Ldterm<InHand>> {
         Stream::new()

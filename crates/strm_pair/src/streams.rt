@@ -17,7 +17,7 @@ ghost use Rattle.strm_types.specs.Refused.{blocks_asked, in_range, refused_at_on
 ghost use Rattle.strm_types.specs.Write.{chunk_count};
 ghost use Rattle.strm_types.specs.Journal.{reply_in, answer_len, content_max};
 ghost use Rattle.strm_blocks.specs.Blocks.{StoreValue, free_m, free_d, empty_store};
-ghost use Rattle.strm_pair.specs.Streams.{View, IsBlank, IsSide, stream_in};
+ghost use Rattle.strm_pair.specs.Streams.{Modules, IsBlank, IsSide, stream_in};
 ghost use Rattle.strm_pair.specs.Parts.{longest_part};
 ghost use Rattle.strm_pair.specs.PlainCalls.{wrote_plain, read_plain, read_lets};
 
@@ -47,15 +47,15 @@ pub(crate) struct Streams<S> {
 
 // A stream that nobody opened, whose queues stand on the lists from a number on: the head's, the driver's, and two that
 // are kept for the queues of a module.
-fn new_end<S: Drop>(first: usize, stack: S) -> End<S>
+fn new_end<B: Stacks>(first: usize) -> End<B::Stack>
     requires { first ≤ 4 }
-    ensures side { (view : View S) (s : StoreValue) → ((t : StoreValue) → view t stack ≡ []) → IsBlank s first → IsSide view s first result }
-    ensures stream { (view : View S) (s : StoreValue) → ((t : StoreValue) → view t stack ≡ []) → IsBlank s first → stream_in view s result ≡ new_stream }
+    ensures side { (s : StoreValue) → IsBlank s first → IsSide B.view s first result }
+    ensures stream { (s : StoreValue) → IsBlank s first → stream_in B.view.modules s result ≡ new_stream }
 {
     End {
         opened: Openness::Never,
         head: Head::new(Queue::new(first, HEAD_HIGH, HEAD_LOW)),
-        stack,
+        stack: B::no_module(),
         driver: Queue::new(first + 1, OTHER_HIGH, OTHER_LOW),
     }
 }
@@ -65,12 +65,12 @@ impl<S: Drop> Streams<S> {
 
     /// The streams of a new pair.
     pub fn new<B: Stacks<Stack = S>>() -> Streams<S>
-        ensures state { (mblks dblks : ℕ) → state_in B.modules (empty_store mblks dblks) result ≡ opening }
-        ensures held { (mblks dblks : ℕ) → AreHeld B.modules (empty_store mblks dblks) result }
+        ensures state { (mblks dblks : ℕ) → state_in B.view.modules (empty_store mblks dblks) result ≡ opening }
+        ensures held { (mblks dblks : ℕ) → AreHeld B.view (empty_store mblks dblks) result }
     {
         Streams {
-            master: new_end(0, B::no_module()),
-            slave: new_end(4, B::no_module()),
+            master: new_end::<B>(0),
+            slave: new_end::<B>(4),
             locked: true,
             enabled: Enabled::new(),
             next_ioctl: 1,
@@ -100,10 +100,10 @@ impl<S: Drop> Streams<S> {
     /// Opens the slave: its head is as new, and what waits for it may come.
     #[inline(never)]
     pub fn open_slave<B: Stacks<Stack = S>>(&mut self, store: &mut B) -> Answer<usize>
-        requires { AreHeld B.modules (B.value store.old) self.old }
+        requires { AreHeld B.view (B.value store.old) self.old }
         ensures answer { result ≡ Done }
-        ensures state { state_in B.modules (B.value store.new) self.new ≡ opened_slave (state_in B.modules (B.value store.old) self.old) }
-        ensures held { AreHeld B.modules (B.value store.new) self.new }
+        ensures state { state_in B.view.modules (B.value store.new) self.new ≡ opened_slave (state_in B.view.modules (B.value store.old) self.old) }
+        ensures held { AreHeld B.view (B.value store.new) self.new }
         ensures pool { SamePool (B.value store.old) (B.value store.new) }
     {
         self.slave.open(store);
@@ -115,9 +115,9 @@ impl<S: Drop> Streams<S> {
 
     // Sets a mode of a side's head.
     #[inline(never)]
-    fn set_mode(&mut self, side: Side, mode: Mode)
-        ensures state { (view : View S) (s : StoreValue) → state_in view s self.new ≡ mode_set side mode (state_in view s self.old) }
-        ensures held { (view : View S) (s : StoreValue) → AreHeld view s self.old → AreHeld view s self.new }
+    fn set_mode<B: Stacks<Stack = S>>(&mut self, side: Side, mode: Mode)
+        ensures state { (modules : Modules S) (s : StoreValue) → state_in modules s self.new ≡ mode_set side mode (state_in modules s self.old) }
+        ensures held { (s : StoreValue) → AreHeld B.view s self.old → AreHeld B.view s self.new }
     {
         match side {
             Side::Master => self.master.head.set_mode(mode),
@@ -128,14 +128,14 @@ impl<S: Drop> Streams<S> {
     /// Writes bytes down a side's stream, and answers how many were taken: they are put on the driver's queue, which is what their
     /// deliveries come to while the master isn't closed.
     pub fn write<B: Stacks<Stack = S>>(&mut self, store: &mut B, side: Side, bytes: &[u8]) -> usize
-        requires held { AreHeld B.modules (B.value store.old) self.old }
-        requires in_range { in_range (state_in B.modules (B.value store.old) self.old) ≡ true }
+        requires held { AreHeld B.view (B.value store.old) self.old }
+        requires in_range { in_range (state_in B.view.modules (B.value store.old) self.old) ≡ true }
         requires room_m { chunk_count (length bytes.now) ≤ free_m (B.value store.old) }
         requires room_d { chunk_count (length bytes.now) ≤ free_d (B.value store.old) }
-        ensures answer { Count result ≡ (wrote_plain side bytes.now (state_in B.modules (B.value store.old) self.old)).answer }
-        ensures state { state_in B.modules (B.value store.new) self.new
-            ≡ (wrote_plain side bytes.now (state_in B.modules (B.value store.old) self.old)).state }
-        ensures held { AreHeld B.modules (B.value store.new) self.new }
+        ensures answer { Count result ≡ (wrote_plain side bytes.now (state_in B.view.modules (B.value store.old) self.old)).answer }
+        ensures state { state_in B.view.modules (B.value store.new) self.new
+            ≡ (wrote_plain side bytes.now (state_in B.view.modules (B.value store.old) self.old)).state }
+        ensures held { AreHeld B.view (B.value store.new) self.new }
         ensures pool { SamePool (B.value store.old) (B.value store.new) }
     {
         let chunks = chunk_count(bytes.len());
@@ -166,15 +166,15 @@ impl<S: Drop> Streams<S> {
         out: &mut Content,
         told: &mut Fates,
     )
-        requires held { AreHeld B.modules (B.value store.old) self.old }
+        requires held { AreHeld B.view (B.value store.old) self.old }
         requires fresh { out.old.items ≡ [] }
-        ensures answer { Bytes out.new.items ≡ (read_plain side n (state_in B.modules (B.value store.old) self.old)).answer }
+        ensures answer { Bytes out.new.items ≡ (read_plain side n (state_in B.view.modules (B.value store.old) self.old)).answer }
         ensures most { length out.new.items ≤ min n READ_MAX }
-        ensures state { state_in B.modules (B.value store.new) self.new
-            ≡ (read_plain side n (state_in B.modules (B.value store.old) self.old)).state }
-        ensures held { AreHeld B.modules (B.value store.new) self.new }
+        ensures state { state_in B.view.modules (B.value store.new) self.new
+            ≡ (read_plain side n (state_in B.view.modules (B.value store.old) self.old)).state }
+        ensures held { AreHeld B.view (B.value store.new) self.new }
         ensures pool { SamePool (B.value store.old) (B.value store.new) }
-        ensures told { told.new ≡ tallied (read_lets side n (state_in B.modules (B.value store.old) self.old)) told.old }
+        ensures told { told.new ≡ tallied (read_lets side n (state_in B.view.modules (B.value store.old) self.old)) told.old }
     {
         let wanted = (n as usize).min(READ_MAX);
         let direction = side.head().direction();
@@ -194,20 +194,20 @@ impl<S: Drop> Streams<S> {
         out: &mut Content,
         told: &mut Fates,
     ) -> Answer<usize>
-        requires held { AreHeld B.modules (B.value store.old) self.old }
-        requires allowed { refused_at_once (state_in B.modules (B.value store.old) self.old) caller (request event.now) ≡ None }
-        requires cut_off { IsCutOff (state_in B.modules (B.value store.old) self.old) }
+        requires held { AreHeld B.view (B.value store.old) self.old }
+        requires allowed { refused_at_once (state_in B.view.modules (B.value store.old) self.old) caller (request event.now) ≡ None }
+        requires cut_off { IsCutOff (state_in B.view.modules (B.value store.old) self.old) }
         requires room_m { blocks_asked (request event.now) ≤ free_m (B.value store.old) }
         requires room_d { blocks_asked (request event.now) ≤ free_d (B.value store.old) }
         ensures answer { reply_in result out.new.items
-            ≡ (called plain caller (request event.now) (state_in B.modules (B.value store.old) self.old)).answer }
+            ≡ (called plain caller (request event.now) (state_in B.view.modules (B.value store.old) self.old)).answer }
         ensures filled { answer_len result ≡ length out.new.items }
         ensures content { length out.new.items ≤ content_max (request event.now) }
         ensures parts { longest_part result ≤ READ_MAX }
-        ensures state { state_in B.modules (B.value store.new) self.new
-            ≡ (called plain caller (request event.now) (state_in B.modules (B.value store.old) self.old)).state }
-        ensures held { AreHeld B.modules (B.value store.new) self.new }
-        ensures told { (answer : Reply) → told.new ≡ tallied (gone plain (state_in B.modules (B.value store.old) self.old)
+        ensures state { state_in B.view.modules (B.value store.new) self.new
+            ≡ (called plain caller (request event.now) (state_in B.view.modules (B.value store.old) self.old)).state }
+        ensures held { AreHeld B.view (B.value store.new) self.new }
+        ensures told { (answer : Reply) → told.new ≡ tallied (gone plain (state_in B.view.modules (B.value store.old) self.old)
             (Called caller (request event.now) answer)) told.old }
         ensures pool { SamePool (B.value store.old) (B.value store.new) }
     {
@@ -234,13 +234,13 @@ impl<S: Drop> Streams<S> {
                 self.getmsg(store, side, *wanted, *cmax, *dmax, out, told)
             }
             Event::Mode { mode } => {
-                self.set_mode(side, *mode);
+                self.set_mode::<B>(side, *mode);
                 Answer::Done
             }
             Event::Nread => self.nread(store, side),
             Event::Ioctl { command, body } => self.ioctl(store, side, *command, body, out, told),
-            Event::IoctlResult { .. } => self.tell_ioctl(side, out),
-            Event::Signals => self.take_signals(side, out),
+            Event::IoctlResult { .. } => self.tell_ioctl::<B>(side, out),
+            Event::Signals => self.take_signals::<B>(side, out),
         }
     }
 
@@ -251,14 +251,14 @@ impl<S: Drop> Streams<S> {
         name: QueueName,
         told: &mut Fates,
     ) -> Turn
-        requires held { AreHeld B.modules (B.value store.old) self.old }
+        requires held { AreHeld B.view (B.value store.old) self.old }
         requires room { HasRoom (B.value store.old) TURN_BLOCKS }
-        ensures turn { result ≡ (turned plain name result (state_in B.modules (B.value store.old) self.old)).turn }
-        ensures state { state_in B.modules (B.value store.new) self.new
-            ≡ (turned plain name result (state_in B.modules (B.value store.old) self.old)).state }
-        ensures held { AreHeld B.modules (B.value store.new) self.new }
+        ensures turn { result ≡ (turned plain name result (state_in B.view.modules (B.value store.old) self.old)).turn }
+        ensures state { state_in B.view.modules (B.value store.new) self.new
+            ≡ (turned plain name result (state_in B.view.modules (B.value store.old) self.old)).state }
+        ensures held { AreHeld B.view (B.value store.new) self.new }
         ensures pool { SamePool (B.value store.old) (B.value store.new) }
-        ensures told { told.new ≡ tallied (turned plain name result (state_in B.modules (B.value store.old) self.old)).gone told.old }
+        ensures told { told.new ≡ tallied (turned plain name result (state_in B.view.modules (B.value store.old) self.old)).gone told.old }
     {
         self.enabled.remove(name);
         match name.place {

@@ -10,7 +10,7 @@ ghost use Rattle.strm_frame.specs.Hands.{HasRoom};
 ghost use Rattle.strm_queue.specs.Stored.{messages_on, queue_in, IsReady};
 ghost use Rattle.strm_pty.specs.Does.{OnlyQueue};
 ghost use Rattle.strm_pair.specs.Took.{settled, settling_relieves, TookFirst, MovesAcross, waits_at_head};
-ghost use Rattle.strm_pair.specs.Streams.{View};
+ghost use Rattle.strm_pair.specs.Streams.{Modules};
 
 use crate::stacks::Stacks;
 use crate::streams::Streams;
@@ -48,10 +48,10 @@ impl<S: Drop> Streams<S> {
 
     // Takes the first message off the queue of a side's driver.
     fn take_first<B: Stacks<Stack = S>>(&mut self, store: &mut B, side: Side) -> Option<B::Mp>
-        requires { AreHeld B.modules (B.value store.old) self.old }
+        requires { AreHeld B.view (B.value store.old) self.old }
         ensures { MatchOption result
             (messages_on (B.value store.old) (end_at side self.old).driver.list ≡ [])
-            (λ m. TookFirst B.modules side (B.value store.old) (B.value store.new) self.old self.new (B.name m)) }
+            (λ m. TookFirst B.view side (B.value store.old) (B.value store.new) self.old self.new (B.name m)) }
     {
         match side {
             Side::Master => dequeue(store, &mut self.master.driver),
@@ -61,9 +61,9 @@ impl<S: Drop> Streams<S> {
 
     // The end of a turn that took a message of this size off the queue of a side's driver.
     fn end_turn<B: Stacks<Stack = S>>(&mut self, store: &B, side: Side, size: usize)
-        requires { AreHeld B.modules (B.value store.now) self.old }
-        ensures state { state_in B.modules (B.value store.now) self.new ≡ turn_ended side size (state_in B.modules (B.value store.now) self.old) }
-        ensures held { AreHeld B.modules (B.value store.now) self.new }
+        requires { AreHeld B.view (B.value store.now) self.old }
+        ensures state { state_in B.view.modules (B.value store.now) self.new ≡ turn_ended side size (state_in B.view.modules (B.value store.now) self.old) }
+        ensures held { AreHeld B.view (B.value store.now) self.new }
     {
         let end = match side {
             Side::Master => settle(store, &mut self.master.driver, size),
@@ -80,12 +80,12 @@ impl<S: Drop> Streams<S> {
         side: Side,
         told: &mut Fates,
     ) -> Turn
-        requires held { AreHeld B.modules (B.value store.old) self.old }
+        requires held { AreHeld B.view (B.value store.old) self.old }
         requires room { HasRoom (B.value store.old) 4 }
         requires some { is_none_left (messages_on (B.value store.old) (end_at side self.old).driver.list) ≡ false }
-        ensures moves { MovesAcross side (state_in B.modules (B.value store.old) self.old) result
-            (state_in B.modules (B.value store.new) self.new) told.old told.new }
-        ensures held { AreHeld B.modules (B.value store.new) self.new }
+        ensures moves { MovesAcross side (state_in B.view.modules (B.value store.old) self.old) result
+            (state_in B.view.modules (B.value store.new) self.new) told.old told.new }
+        ensures held { AreHeld B.view (B.value store.new) self.new }
         ensures pool { SamePool (B.value store.old) (B.value store.new) }
     {
         let Some(message) = self.take_first(store, side) else {
@@ -104,10 +104,10 @@ impl<S: Drop> Streams<S> {
     }
 
     // A driver's queue keeps what it has, and wants to be read or not.
-    fn keep(&mut self, side: Side, want_read: bool)
-        ensures state { (view : View S) (s : StoreValue) → state_in view s self.new
-            ≡ with_driver side (record (stream side (state_in view s self.old)).driver.queue { want_read = want_read }) (state_in view s self.old) }
-        ensures held { (view : View S) (s : StoreValue) → AreHeld view s self.old → AreHeld view s self.new }
+    fn keep<B: Stacks<Stack = S>>(&mut self, side: Side, want_read: bool)
+        ensures state { (modules : Modules S) (s : StoreValue) → state_in modules s self.new
+            ≡ with_driver side (record (stream side (state_in modules s self.old)).driver.queue { want_read = want_read }) (state_in modules s self.old) }
+        ensures held { (s : StoreValue) → AreHeld B.view s self.old → AreHeld B.view s self.new }
     {
         match side {
             Side::Master => self.master.driver.want_read = want_read,
@@ -116,10 +116,10 @@ impl<S: Drop> Streams<S> {
     }
 
     // A writer waits for room in a band at a side's head.
-    fn wait_at_head(&mut self, side: Side, band: Band)
+    fn wait_at_head<B: Stacks<Stack = S>>(&mut self, side: Side, band: Band)
         requires { band.0 < BANDS }
-        ensures state { (view : View S) (s : StoreValue) → state_in view s self.new ≡ waits_at_head side band.0 (state_in view s self.old) }
-        ensures held { (view : View S) (s : StoreValue) → AreHeld view s self.old → AreHeld view s self.new }
+        ensures state { (modules : Modules S) (s : StoreValue) → state_in modules s self.new ≡ waits_at_head side band.0 (state_in modules s self.old) }
+        ensures held { (s : StoreValue) → AreHeld B.view s self.old → AreHeld B.view s self.new }
     {
         match side {
             Side::Master => self.master.head.queue.let_wait(band),
@@ -135,27 +135,27 @@ impl<S: Drop> Streams<S> {
         side: Side,
         told: &mut Fates,
     ) -> Turn
-        requires held { AreHeld B.modules (B.value store.old) self.old }
+        requires held { AreHeld B.view (B.value store.old) self.old }
         requires room { HasRoom (B.value store.old) 4 }
-        ensures turn { result ≡ (driver_turned side (state_in B.modules (B.value store.old) self.old)).turn }
-        ensures state { state_in B.modules (B.value store.new) self.new
-            ≡ (driver_turned side (state_in B.modules (B.value store.old) self.old)).state }
-        ensures told { told.new ≡ tallied (driver_turned side (state_in B.modules (B.value store.old) self.old)).gone told.old }
-        ensures held { AreHeld B.modules (B.value store.new) self.new }
+        ensures turn { result ≡ (driver_turned side (state_in B.view.modules (B.value store.old) self.old)).turn }
+        ensures state { state_in B.view.modules (B.value store.new) self.new
+            ≡ (driver_turned side (state_in B.view.modules (B.value store.old) self.old)).state }
+        ensures told { told.new ≡ tallied (driver_turned side (state_in B.view.modules (B.value store.old) self.old)).gone told.old }
+        ensures held { AreHeld B.view (B.value store.new) self.new }
         ensures pool { SamePool (B.value store.old) (B.value store.new) }
     {
         let Some(first) = store.peek(self.end(side).driver.list) else {
-            self.keep(side, true);
+            self.keep::<B>(side, true);
             return Turn::Idle;
         };
         let across = self.end(side.other());
         if !across.opened.is_open() {
-            self.keep(side, false);
+            self.keep::<B>(side, false);
             return Turn::Blocked;
         }
         if is_stopped(store, &across.head.queue, first.kind, first.band) {
-            self.keep(side, false);
-            self.wait_at_head(side.other(), first.band);
+            self.keep::<B>(side, false);
+            self.wait_at_head::<B>(side.other(), first.band);
             return Turn::Blocked;
         }
         self.move_across(store, side, told)

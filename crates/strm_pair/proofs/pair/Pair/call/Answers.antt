@@ -25,11 +25,11 @@ invariant_of-self g c =
     let new = g.B.Blocks.value c.carry_out-answer.new.store in
     let asked = request c.args.event.now in
     let out = c.carry_out-answer.new.out.items in
-    let old = state_in g.B.Stacks.modules s p.streams in
+    let old = state_in g.B.Stacks.view.modules s p.streams in
     let entry : PlainEntry = Called c.args.caller asked (reply_in c.carry_out-answer.result out) in
-    let allowed : call_refused (pair_of g.B.Stacks.modules s p.streams p.journal p.limits p.fates) c.args.caller asked ≡ None = ap (λ (v : PairState). call_refused v c.args.caller asked) c.self.view_is ∙ sym c.refusal.ensures ∙ c.in_default.is in
+    let allowed : call_refused (pair_of g.B.Stacks.view s p.streams p.journal p.limits p.fates) c.args.caller asked ≡ None = ap (λ (v : PairState). call_refused v c.args.caller asked) c.self.view_is ∙ sym c.refusal.ensures ∙ c.in_default.is in
     let added : journal_of c.add_call.new.self ≡ journal_of p.journal ++ entry ∷ [] = c.add_call.ensures.added ∙ ap (λ b. journal_of p.journal ++ Called c.args.caller asked (reply_in c.carry_out-answer.result b) ∷ []) c.as_slice.ensures.value in
-    kept-step g.B.Stacks.modules s new p.streams c.carry_out-answer.new.self p.journal c.add_call.new.self p.limits p.fates c.carry_out-answer.new.told entry c.self.invariant
+    kept-step g.B.Stacks.view s new p.streams c.carry_out-answer.new.self p.journal c.add_call.new.self p.limits p.fates c.carry_out-answer.new.told entry c.self.invariant
     (record {
       allowed = (call-allowed old (journal_of p.journal) p.limits (enough (blocks_asked asked) (free_in s)) c.args.caller asked allowed).0;
       answered = sym c.carry_out-answer.ensures.answer;
@@ -46,19 +46,19 @@ returns-clause-adds g c =
     let k = c.add_call.new.self in
     let asked = request c.args.event.now in
     let out = c.carry_out-answer.new.out.items in
-    let old = state_in g.B.Stacks.modules s p.streams in
+    let old = state_in g.B.Stacks.view.modules s p.streams in
     let entry : PlainEntry = Called c.args.caller asked (reply_in c.carry_out-answer.result out) in
-    let allowed : call_refused (pair_of g.B.Stacks.modules s p.streams p.journal p.limits p.fates) c.args.caller asked ≡ None = ap (λ (v : PairState). call_refused v c.args.caller asked) c.self.view_is ∙ sym c.refusal.ensures ∙ c.in_default.is in
+    let allowed : call_refused (pair_of g.B.Stacks.view s p.streams p.journal p.limits p.fates) c.args.caller asked ≡ None = ap (λ (v : PairState). call_refused v c.args.caller asked) c.self.view_is ∙ sym c.refusal.ensures ∙ c.in_default.is in
     let added : journal_of k ≡ journal_of p.journal ++ entry ∷ [] = c.add_call.ensures.added ∙ ap (λ b. journal_of p.journal ++ Called c.args.caller asked (reply_in c.carry_out-answer.result b) ∷ []) c.as_slice.ensures.value in
     let taken : IsCall plain old c.args.caller asked (reply_in c.carry_out-answer.result out) (after plain old entry) = record {
       allowed = (call-allowed old (journal_of p.journal) p.limits (enough (blocks_asked asked) (free_in s)) c.args.caller asked allowed).0;
       answered = sym c.carry_out-answer.ensures.answer;
       leads = refl;
     } in
-    subst (λ (v : PairState). AddsEntry v (pair_of g.B.Stacks.modules new q k p.limits c.carry_out-answer.new.told) entry) c.self.view_is
+    subst (λ (v : PairState). AddsEntry v (pair_of g.B.Stacks.view new q k p.limits c.carry_out-answer.new.told) entry) c.self.view_is
     (record {
       journal = added;
-      step = step-shown g.B.Stacks.modules s new p.streams q entry c.carry_out-answer.ensures.state taken;
+      step = step-shown g.B.Stacks.view s new p.streams q entry c.carry_out-answer.ensures.state taken;
       fates = c.carry_out-answer.ensures.told (reply_in c.carry_out-answer.result out);
       base = refl;
       limits = refl;
@@ -98,8 +98,8 @@ add_call-requires-clause-room g c =
     let p = c.self.inside in
     let s = g.B.Blocks.value p.store in
     let asked = request c.args.event.now in
-    let old = state_in g.B.Stacks.modules s p.streams in
-    let allowed : call_refused (pair_of g.B.Stacks.modules s p.streams p.journal p.limits p.fates) c.args.caller asked ≡ None = ap (λ (v : PairState). call_refused v c.args.caller asked) c.self.view_is ∙ sym c.refusal.ensures ∙ c.in_default.is in
+    let old = state_in g.B.Stacks.view.modules s p.streams in
+    let allowed : call_refused (pair_of g.B.Stacks.view s p.streams p.journal p.limits p.fates) c.args.caller asked ≡ None = ap (λ (v : PairState). call_refused v c.args.caller asked) c.self.view_is ∙ sym c.refusal.ensures ∙ c.in_default.is in
     let room = (call-allowed old (journal_of p.journal) p.limits (enough (blocks_asked asked) (free_in s)) c.args.caller asked allowed).1 in
     room-less (journal_of p.journal) p.limits p.journal.most_entries p.journal.most_bytes (length (payload_of asked) + content_max asked) (length (payload_of asked) + length c.as_slice.result.now)
     c.self.invariant.events c.self.invariant.bytes (omega (arith, c.carry_out-answer.ensures.content, ap length c.as_slice.ensures.value)) room

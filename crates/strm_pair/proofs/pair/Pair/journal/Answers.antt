@@ -17,13 +17,13 @@ returns-clause-entries g c =
 pub returns-clause-ordered : goal.returns-clause-ordered
 returns-clause-ordered g c =
     let p = c.self.inside in
-    subst (λ (v : PairState). AreOrdered v.state) c.self.view_is (ordered g.B.Stacks.modules (g.B.Blocks.value p.store) p.streams c.self.invariant.held)
+    subst (λ (v : PairState). AreOrdered v.state) c.self.view_is (ordered g.B.Stacks.view (g.B.Blocks.value p.store) p.streams c.self.invariant.held)
 
 pub returns-clause-blocks : goal.returns-clause-blocks
 returns-clause-blocks g c =
     let p = c.self.inside in
     subst (λ (v : PairState). IsPoolOf (messages_in v.state) v.limits v.free) c.self.view_is
-    (free-shown g.B.Stacks.modules (g.B.Blocks.value p.store) p.streams p.limits c.audit.ensures c.self.invariant.held c.self.invariant.mblks c.self.invariant.dblks)
+    (free-shown g.B.Stacks.view (g.B.Blocks.value p.store) p.streams p.limits c.audit.ensures c.self.invariant.held c.self.invariant.mblks c.self.invariant.dblks)
 
 pub returns-clause-replayed : goal.returns-clause-replayed
 returns-clause-replayed g c = search rules steps 1000000

@@ -16,7 +16,7 @@ overflow_add-first-2 g c =
     let v = c.args.self.now in
     let asked = request c.args.event.now in
     let at_once : refused_at_once v.state c.args.caller asked ≡ None =
-    ap (λ (x : PairState). refused_at_once x.state c.args.caller asked) (sym c.self.view_is) ∙ sym (c.refused_at_once.ensures g.B.Stacks.modules (g.B.Blocks.value c.self.inside.store)) ∙ c.in_default.is in
+    ap (λ (x : PairState). refused_at_once x.state c.args.caller asked) (sym c.self.view_is) ∙ sym (c.refused_at_once.ensures g.B.Stacks.view.modules (g.B.Blocks.value c.self.inside.store)) ∙ c.in_default.is in
     let all = room-small v.state c.args.caller asked at_once (length r.0.now + length r.1.now) is (omega (arith, both)) in
     omega (arith, all, c.content_most.ensures.value)
 
@@ -26,7 +26,7 @@ returns-then-not-has_room g c =
     let asked = request c.args.event.now in
     let r = c.payload.result in
     let at_once : refused_at_once v.state c.args.caller asked ≡ None =
-    ap (λ (x : PairState). refused_at_once x.state c.args.caller asked) (sym c.self.view_is) ∙ sym (c.refused_at_once.ensures g.B.Stacks.modules (g.B.Blocks.value c.self.inside.store)) ∙ c.in_default.is in
+    ap (λ (x : PairState). refused_at_once x.state c.args.caller asked) (sym c.self.view_is) ∙ sym (c.refused_at_once.ensures g.B.Stacks.view.modules (g.B.Blocks.value c.self.inside.store)) ∙ c.in_default.is in
     let n = length r.0.now + length r.1.now + c.content_most.result in
     let n_is : n ≡ length (payload_of asked) + content_max asked = omega (arith, ap length c.payload.ensures, length-append r.0.now r.1.now, c.content_most.ensures.value) in
     full-told v c.args.caller asked at_once n n_is (sym c.has_room.ensures ∙ c.if-not-has_room.true)
@@ -37,7 +37,7 @@ returns-then-not-has_blocks g c =
     let asked = request c.args.event.now in
     let r = c.payload.result in
     let at_once : refused_at_once v.state c.args.caller asked ≡ None =
-    ap (λ (x : PairState). refused_at_once x.state c.args.caller asked) (sym c.self.view_is) ∙ sym (c.refused_at_once.ensures g.B.Stacks.modules (g.B.Blocks.value c.self.inside.store)) ∙ c.in_default.is in
+    ap (λ (x : PairState). refused_at_once x.state c.args.caller asked) (sym c.self.view_is) ∙ sym (c.refused_at_once.ensures g.B.Stacks.view.modules (g.B.Blocks.value c.self.inside.store)) ∙ c.in_default.is in
     let n = length r.0.now + length r.1.now + c.content_most.result in
     let n_is : n ≡ length (payload_of asked) + content_max asked = omega (arith, ap length c.payload.ensures, length-append r.0.now r.1.now, c.content_most.ensures.value) in
     few-told v c.args.caller asked at_once n n_is (sym c.has_room.ensures ∙ c.if-not-has_room.false)
@@ -49,7 +49,7 @@ returns g c =
     let asked = request c.args.event.now in
     let r = c.payload.result in
     let at_once : refused_at_once v.state c.args.caller asked ≡ None =
-    ap (λ (x : PairState). refused_at_once x.state c.args.caller asked) (sym c.self.view_is) ∙ sym (c.refused_at_once.ensures g.B.Stacks.modules (g.B.Blocks.value c.self.inside.store)) ∙ c.in_default.is in
+    ap (λ (x : PairState). refused_at_once x.state c.args.caller asked) (sym c.self.view_is) ∙ sym (c.refused_at_once.ensures g.B.Stacks.view.modules (g.B.Blocks.value c.self.inside.store)) ∙ c.in_default.is in
     let n = length r.0.now + length r.1.now + c.content_most.result in
     let n_is : n ≡ length (payload_of asked) + content_max asked = omega (arith, ap length c.payload.ensures, length-append r.0.now r.1.now, c.content_most.ensures.value) in
     c.refused_by_state.ensures ∙ ap (λ (x : PairState). refused_by_state x.state c.args.caller asked) c.self.view_is

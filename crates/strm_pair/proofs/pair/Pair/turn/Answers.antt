@@ -4,6 +4,7 @@ use Rattle.std.specs.Prelude.{None}
 use Rattle.strm_types.specs.declared.limits.TheConstants.{TURN_BLOCKS}
 use Rattle.strm_types.specs.declared.entries.Entry.TheVariants.{Turned}
 use Rattle.strm_types.specs.Cells.{plain}
+use Rattle.strm_types.specs.Earlier.{NoModules}
 use Rattle.strm_types.specs.Journal.{PlainEntry}
 use Rattle.strm_types.specs.Step.{IsTurn, after}
 use Rattle.strm_types.specs.Refused.{enough}
@@ -11,6 +12,7 @@ use Rattle.strm_types.specs.Pair.{PairState, AddsEntry, queue_refused}
 use Rattle.strm_types.proofs.Replay.{turn-allowed}
 use Rattle.strm_pair.specs.Pairs.{state_in, journal_of, free_in}
 use Rattle.strm_pair.specs.PairViews.{pair_of}
+use Rattle.strm_pair.proofs.Sides.{none-stand}
 use Rattle.strm_pair.proofs.Steps.{kept-step, step-shown}
 use Rattle.strm_pair.proofs.pair.Pair.turn.Goals as goal
 
@@ -19,10 +21,10 @@ invariant_of-self g c =
     let p = c.self.inside in
     let s = g.B.Blocks.value p.store in
     let new = g.B.Blocks.value c.turn-turn.new.store in
-    let old = state_in g.B.Stacks.modules s p.streams in
+    let old = state_in g.B.Stacks.view.modules s p.streams in
     let entry : PlainEntry = Turned c.args.name c.turn-turn.result in
-    let allowed : queue_refused (pair_of g.B.Stacks.modules s p.streams p.journal p.limits p.fates) c.args.name ≡ None = ap (λ (v : PairState). queue_refused v c.args.name) c.self.view_is ∙ sym c.turn_refusal.ensures ∙ c.in_default.is in
-    kept-step g.B.Stacks.modules s new p.streams c.turn-turn.new.self p.journal c.add_turn.new.self p.limits p.fates c.turn-turn.new.told entry c.self.invariant
+    let allowed : queue_refused (pair_of g.B.Stacks.view s p.streams p.journal p.limits p.fates) c.args.name ≡ None = ap (λ (v : PairState). queue_refused v c.args.name) c.self.view_is ∙ sym c.turn_refusal.ensures ∙ c.in_default.is in
+    kept-step g.B.Stacks.view s new p.streams c.turn-turn.new.self p.journal c.add_turn.new.self p.limits p.fates c.turn-turn.new.told entry c.self.invariant
     (record {
       enabled = (turn-allowed old (journal_of p.journal) p.limits (enough TURN_BLOCKS (free_in s)) c.args.name allowed).0;
       in_range = (turn-allowed old (journal_of p.journal) p.limits (enough TURN_BLOCKS (free_in s)) c.args.name allowed).1;
@@ -38,23 +40,34 @@ returns-clause-adds g c =
     let new = g.B.Blocks.value c.turn-turn.new.store in
     let q = c.turn-turn.new.self in
     let k = c.add_turn.new.self in
-    let old = state_in g.B.Stacks.modules s p.streams in
+    let old = state_in g.B.Stacks.view.modules s p.streams in
     let entry : PlainEntry = Turned c.args.name c.turn-turn.result in
-    let allowed : queue_refused (pair_of g.B.Stacks.modules s p.streams p.journal p.limits p.fates) c.args.name ≡ None = ap (λ (v : PairState). queue_refused v c.args.name) c.self.view_is ∙ sym c.turn_refusal.ensures ∙ c.in_default.is in
+    let allowed : queue_refused (pair_of g.B.Stacks.view s p.streams p.journal p.limits p.fates) c.args.name ≡ None = ap (λ (v : PairState). queue_refused v c.args.name) c.self.view_is ∙ sym c.turn_refusal.ensures ∙ c.in_default.is in
     let taken : IsTurn plain old c.args.name c.turn-turn.result (after plain old entry) = record {
       enabled = (turn-allowed old (journal_of p.journal) p.limits (enough TURN_BLOCKS (free_in s)) c.args.name allowed).0;
       in_range = (turn-allowed old (journal_of p.journal) p.limits (enough TURN_BLOCKS (free_in s)) c.args.name allowed).1;
       answered = sym c.turn-turn.ensures.turn;
       leads = refl;
     } in
-    subst (λ (v : PairState). AddsEntry v (pair_of g.B.Stacks.modules new q k p.limits c.turn-turn.new.told) entry) c.self.view_is
+    subst (λ (v : PairState). AddsEntry v (pair_of g.B.Stacks.view new q k p.limits c.turn-turn.new.told) entry) c.self.view_is
     (record {
       journal = c.add_turn.ensures.added;
-      step = step-shown g.B.Stacks.modules s new p.streams q entry c.turn-turn.ensures.state taken;
+      step = step-shown g.B.Stacks.view s new p.streams q entry c.turn-turn.ensures.state taken;
       fates = c.turn-turn.ensures.told;
       base = refl;
       limits = refl;
     })
+
+-- no module stands, whether the turn is refused or not
+pub returns-clause-alone : goal.returns-clause-alone
+returns-clause-alone g c =
+    let p = c.self.inside in
+    subst (λ (v : PairState). NoModules v.state) c.self.view_is (none-stand g.B.Stacks.view (g.B.Blocks.value p.store) p.streams c.self.invariant.held.beside)
+
+pub returns-in-Some-clause-alone : goal.returns-in-Some-clause-alone
+returns-in-Some-clause-alone g c =
+    let p = c.self.inside in
+    subst (λ (v : PairState). NoModules v.state) c.self.view_is (none-stand g.B.Stacks.view (g.B.Blocks.value p.store) p.streams c.self.invariant.held.beside)
 
 pub returns-in-Some-clause-refused : goal.returns-in-Some-clause-refused
 returns-in-Some-clause-refused g c = search rules steps 300000

@@ -14,13 +14,13 @@ pub returns-clause-falls : goal.returns-clause-falls
 returns-clause-falls g c =
     let s = g.B.Blocks.value c.args.store.now in
     let m = message_in s (g.B.Blocks.name c.args.message) in
-    subst (λ ps. AreLower far (far c.args.to m) ps) (sym c.put.ensures.sent) (puts-fall ℕ c.args.to m (state_in g.B.Stacks.modules s c.args.self.now))
+    subst (λ ps. AreLower far (far c.args.to m) ps) (sym c.put.ensures.sent) (puts-fall ℕ c.args.to m (state_in g.B.Stacks.view.modules s c.args.self.now))
 
 pub returns-clause-spends : goal.returns-clause-spends
 returns-clause-spends g c =
     let s = g.B.Blocks.value c.args.store.now in
     let m = message_in s (g.B.Blocks.name c.args.message) in
-    let all = puts-cost c.args.to m (state_in g.B.Stacks.modules s c.args.self.now) (none-stand g.B.Stacks.modules s c.args.self.now c.requires.held) in
+    let all = puts-cost c.args.to m (state_in g.B.Stacks.view.modules s c.args.self.now) (none-stand g.B.Stacks.view s c.args.self.now c.requires.held) in
     let sent = ap (cost_of (cost {C = ℕ})) c.put.ensures.sent in
-    let h = c.put.ensures.hands in
+    let h = c.put.ensures.spends in
     record { mblks = (let a = h.mblks in omega (arith, a, all, sent)); dblks = (let a = h.dblks in omega (arith, a, all, sent)) }

@@ -15,25 +15,25 @@ use Rattle.strm_pair.proofs.Sides.{none-stand}
 
 pub returns-in-Write-clause-answer : goal.returns-in-Write-clause-answer
 returns-in-Write-clause-answer g c =
-    let old = state_in g.B.Stacks.modules (g.B.Blocks.value c.args.store.now) c.args.self.now in
+    let old = state_in g.B.Stacks.view.modules (g.B.Blocks.value c.args.store.now) c.args.self.now in
     let stays = write-stays old c.args.caller c.in-Write.bytes.now c.requires.cut_off (ap (λ (e : Event (Bor (List ℕ))). refused_at_once old c.args.caller (request e)) (sym c.in-Write.is) ∙ c.requires.allowed) in
-    rw c.in-Write.is (c.write.ensures.answer ∙ ap (λ (o : Outcome ℕ). o.answer) (sym (wrote-is c.args.caller.side c.in-Write.bytes.now old stays (none-stand g.B.Stacks.modules (g.B.Blocks.value c.args.store.now) c.args.self.now c.requires.held.beside))))
+    rw c.in-Write.is (c.write.ensures.answer ∙ ap (λ (o : Outcome ℕ). o.answer) (sym (wrote-is c.args.caller.side c.in-Write.bytes.now old stays (none-stand g.B.Stacks.view (g.B.Blocks.value c.args.store.now) c.args.self.now c.requires.held.beside))))
 
 pub returns-in-Write-clause-state : goal.returns-in-Write-clause-state
 returns-in-Write-clause-state g c =
-    let old = state_in g.B.Stacks.modules (g.B.Blocks.value c.args.store.now) c.args.self.now in
+    let old = state_in g.B.Stacks.view.modules (g.B.Blocks.value c.args.store.now) c.args.self.now in
     let stays = write-stays old c.args.caller c.in-Write.bytes.now c.requires.cut_off (ap (λ (e : Event (Bor (List ℕ))). refused_at_once old c.args.caller (request e)) (sym c.in-Write.is) ∙ c.requires.allowed) in
-    rw c.in-Write.is (c.write.ensures.state ∙ ap (λ (o : Outcome ℕ). o.state) (sym (wrote-is c.args.caller.side c.in-Write.bytes.now old stays (none-stand g.B.Stacks.modules (g.B.Blocks.value c.args.store.now) c.args.self.now c.requires.held.beside))))
+    rw c.in-Write.is (c.write.ensures.state ∙ ap (λ (o : Outcome ℕ). o.state) (sym (wrote-is c.args.caller.side c.in-Write.bytes.now old stays (none-stand g.B.Stacks.view (g.B.Blocks.value c.args.store.now) c.args.self.now c.requires.held.beside))))
 
 pub returns-in-Write-clause-told : goal.returns-in-Write-clause-told
 returns-in-Write-clause-told g c =
-    let old = state_in g.B.Stacks.modules (g.B.Blocks.value c.args.store.now) c.args.self.now in
+    let old = state_in g.B.Stacks.view.modules (g.B.Blocks.value c.args.store.now) c.args.self.now in
     let stays = write-stays old c.args.caller c.in-Write.bytes.now c.requires.cut_off (ap (λ (e : Event (Bor (List ℕ))). refused_at_once old c.args.caller (request e)) (sym c.in-Write.is) ∙ c.requires.allowed) in
-    λ answer. rw c.in-Write.is (ap (λ (gone : List (Fate ℕ)). tallied gone c.args.told.now) (sym (wrote-none c.args.caller.side c.in-Write.bytes.now old stays (none-stand g.B.Stacks.modules (g.B.Blocks.value c.args.store.now) c.args.self.now c.requires.held.beside))))
+    λ answer. rw c.in-Write.is (ap (λ (gone : List (Fate ℕ)). tallied gone c.args.told.now) (sym (wrote-none c.args.caller.side c.in-Write.bytes.now old stays (none-stand g.B.Stacks.view (g.B.Blocks.value c.args.store.now) c.args.self.now c.requires.held.beside))))
 
 pub returns-in-Read-clause-answer : goal.returns-in-Read-clause-answer
 returns-in-Read-clause-answer g c =
-    let old = state_in g.B.Stacks.modules (g.B.Blocks.value c.args.store.now) c.args.self.now in
+    let old = state_in g.B.Stacks.view.modules (g.B.Blocks.value c.args.store.now) c.args.self.now in
     let out = c.read.new.out.items in
     let whole : take c.len.result out ≡ out = ap (λ n. take n out) c.len.ensures.value ∙ take-length out in
     rw c.in-Read.is (ap Bytes whole ∙ c.read.ensures.answer ∙ ap (λ (o : Outcome ℕ). o.answer) (sym (read-is c.args.caller.side c.in-Read.n old)))
@@ -45,17 +45,17 @@ pub returns-in-Ioctl-clause-state : goal.returns-in-Ioctl-clause-state
 returns-in-Ioctl-clause-state g c = rw c.in-Ioctl.is c.ioctl.ensures.state
 
 pub returns-in-Mode-clause-held : goal.returns-in-Mode-clause-held
-returns-in-Mode-clause-held g c = c.set_mode.ensures.held g.B.Stacks.modules (g.B.Blocks.value c.args.store.now) c.requires.held
+returns-in-Mode-clause-held g c = c.set_mode.ensures.held (g.B.Blocks.value c.args.store.now) c.requires.held
 
 pub returns-in-IoctlResult-clause-held : goal.returns-in-IoctlResult-clause-held
-returns-in-IoctlResult-clause-held g c = c.tell_ioctl.ensures.held g.B.Stacks.modules (g.B.Blocks.value c.args.store.now) c.requires.held
+returns-in-IoctlResult-clause-held g c = c.tell_ioctl.ensures.held (g.B.Blocks.value c.args.store.now) c.requires.held
 
 pub returns-in-Signals-clause-held : goal.returns-in-Signals-clause-held
-returns-in-Signals-clause-held g c = c.take_signals.ensures.held g.B.Stacks.modules (g.B.Blocks.value c.args.store.now) c.requires.held
+returns-in-Signals-clause-held g c = c.take_signals.ensures.held (g.B.Blocks.value c.args.store.now) c.requires.held
 
 pub putmsg-requires-clause-in_range : goal.putmsg-requires-clause-in_range
 putmsg-requires-clause-in_range g c =
-    let old = state_in g.B.Stacks.modules (g.B.Blocks.value c.args.store.now) c.args.self.now in
+    let old = state_in g.B.Stacks.view.modules (g.B.Blocks.value c.args.store.now) c.args.self.now in
     let now : Bor (List ℕ) → List ℕ = λ bytes. bytes.now in
     put-in_range old c.args.caller c.in-Put.prio (option_map now c.in-Put.control) (option_map now c.in-Put.body)
     (ap (λ (e : Event (Bor (List ℕ))). refused_at_once old c.args.caller (request e)) (sym c.in-Put.is) ∙ c.requires.allowed)

@@ -6,4 +6,4 @@ use Rattle.strm_pair.proofs.Sides.{none-stand}
 use Rattle.strm_pair.proofs.streams.Streams.end_turn.Goals as goal
 
 pub returns-clause-state : goal.returns-clause-state
-returns-clause-state g c = rw (driver-lets-go (state_in g.B.Stacks.modules (g.B.Blocks.value c.args.store.now) c.args.self.now) (none-stand g.B.Stacks.modules (g.B.Blocks.value c.args.store.now) c.args.self.now c.requires.beside) c.args.side) (search rules)
+returns-clause-state g c = rw (driver-lets-go (state_in g.B.Stacks.view.modules (g.B.Blocks.value c.args.store.now) c.args.self.now) (none-stand g.B.Stacks.view (g.B.Blocks.value c.args.store.now) c.args.self.now c.requires.beside) c.args.side) (search rules)

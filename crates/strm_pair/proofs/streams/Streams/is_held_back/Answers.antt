@@ -20,6 +20,6 @@ returns-else-from-lt-BANDS g c =
     let far : 8 ≤ band = omega (arith, ge, c.from.ensures) in
     let no : nat_lt c.from.result 8 ≡ false = grind (arith, nat_tests) in
     no
-    ∙ sym (ap (λ prio. is_held_back prio (stream side (state_in g.B.Stacks.modules s p)).driver.queue) c.in-Band.is
-    ∙ ap (λ q. is_full band q) (driver-is g.B.Stacks.modules s p side)
-    ∙ full-beyond s (end_at side p).driver band (driver-ready g.B.Stacks.modules s p c.requires.beside side) far)
+    ∙ sym (ap (λ prio. is_held_back prio (stream side (state_in g.B.Stacks.view.modules s p)).driver.queue) c.in-Band.is
+    ∙ ap (λ q. is_full band q) (driver-is g.B.Stacks.view s p side)
+    ∙ full-beyond s (end_at side p).driver band (driver-ready g.B.Stacks.view s p c.requires.beside side) far)

@@ -8,10 +8,12 @@ use Rattle.strm_types.specs.Deliver.{tallied}
 use Rattle.strm_types.specs.Message.{size_of}
 use Rattle.strm_types.specs.Names.{other}
 use Rattle.strm_types.specs.Puts.{delivered}
-use Rattle.strm_types.specs.Turns.{TurnOutcome, turn_ended}
+use Rattle.strm_types.specs.TurnOutcomes.{TurnOutcome}
+use Rattle.strm_types.specs.Turns.{turn_ended}
 use Rattle.strm_types.proofs.Alone.{moves-alone}
 use Rattle.strm_msg.specs.Messages.{message_of}
-use Rattle.strm_pair.specs.Pairs.{state_in}
+use Rattle.strm_pair.specs.Framing.{rests}
+use Rattle.strm_pair.specs.Pairs.{kept_by, state_in}
 use Rattle.strm_pair.proofs.Sides.{none-stand}
 use Rattle.strm_blocks.specs.Blocks.{in_hand}
 use Rattle.strm_frame.proofs.Handing.{alone-can, none-left}
@@ -21,14 +23,14 @@ pub deliver-requires-clause-can_put : goal.deliver-requires-clause-can_put
 deliver-requires-clause-can_put g c =
     let got = g.B.Blocks.value c.take_first.new.store in
     let i = g.B.Blocks.name c.in-Some.message in
-    alone-can got i (in_hand got i) (λ j. 0) (c.in-Some.ensures.hand ∙ ap (λ h. record { name = i; chain = in_hand got i } ∷ h) c.requires.held.hand) (λ j. refl)
+    alone-can got i (in_hand got i) (kept_by g.B.Stacks.view c.take_first.new.self) (c.in-Some.ensures.hand ∙ ap (λ h. record { name = i; chain = in_hand got i } ∷ h) c.requires.held.hand) (rests g.B.Stacks.view got c.take_first.new.self c.in-Some.ensures.beside)
 
 pub end_turn-requires : goal.end_turn-requires
 end_turn-requires g c =
     let got = g.B.Blocks.value c.take_first.new.store in
     let i = g.B.Blocks.name c.in-Some.message in
     record {
-      hand = none-left got (g.B.Blocks.value c.deliver.new.store) i (in_hand got i) (λ j. 0) (λ j. 0) (c.in-Some.ensures.hand ∙ ap (λ h. record { name = i; chain = in_hand got i } ∷ h) c.requires.held.hand) (λ j. refl) c.deliver.ensures.hands;
+      hand = none-left got (g.B.Blocks.value c.deliver.new.store) i (in_hand got i) (kept_by g.B.Stacks.view c.take_first.new.self) (kept_by g.B.Stacks.view c.deliver.new.stations) (c.in-Some.ensures.hand ∙ ap (λ h. record { name = i; chain = in_hand got i } ∷ h) c.requires.held.hand) (rests g.B.Stacks.view (g.B.Blocks.value c.deliver.new.store) c.deliver.new.stations c.deliver.ensures.held) c.deliver.ensures.hands;
       beside = c.deliver.ensures.held;
     }
 
@@ -38,14 +40,14 @@ returns-clause-moves g c =
     let s = g.B.Blocks.value c.args.store.now in
     let p = c.args.self.now in
     let side = c.args.side in
-    let st = state_in g.B.Stacks.modules s p in
+    let st = state_in g.B.Stacks.view.modules s p in
     let got = g.B.Blocks.value c.take_first.new.store in
     let took = c.take_first.new.self in
     let t = g.B.Blocks.value c.deliver.new.store in
     let m = message_of (in_hand got (g.B.Blocks.name c.in-Some.message)) in
     let e = c.in-Some.ensures in
     let size_is = c.message_size-size.ensures.message e.chain in
-    let is = moves-alone side m e.rest st (none-stand g.B.Stacks.modules s p c.requires.held.beside) in
+    let is = moves-alone side m e.rest st (none-stand g.B.Stacks.view s p c.requires.held.beside) in
     let up : Side → Spot = λ sd. record { side = sd; at = 0; way = Up } in
     record {
       message = m;
@@ -53,11 +55,11 @@ returns-clause-moves g c =
       first = e.first;
       answer = ap Moved size_is;
       state = c.end_turn.ensures.state
-          ∙ ap (λ n. turn_ended side n (state_in g.B.Stacks.modules t c.deliver.new.stations)) size_is
-          ∙ ap (λ v. turn_ended side (size_of m) v) (c.deliver.ensures.state ∙ ap (λ sd. (delivered (up sd) m (state_in g.B.Stacks.modules got took)).state) c.other.ensures ∙ ap (λ v. (delivered (up (other side)) m v).state) e.state)
+          ∙ ap (λ n. turn_ended side n (state_in g.B.Stacks.view.modules t c.deliver.new.stations)) size_is
+          ∙ ap (λ v. turn_ended side (size_of m) v) (c.deliver.ensures.state ∙ ap (λ sd. (delivered (up sd) m (state_in g.B.Stacks.view.modules got took)).state) c.other.ensures ∙ ap (λ v. (delivered (up (other side)) m v).state) e.state)
           ∙ ap (λ (o : TurnOutcome ℕ). o.state) (sym is);
       tells = c.deliver.ensures.told
-          ∙ ap (λ sd. tallied (delivered (up sd) m (state_in g.B.Stacks.modules got took)).gone c.args.told.now) c.other.ensures
+          ∙ ap (λ sd. tallied (delivered (up sd) m (state_in g.B.Stacks.view.modules got took)).gone c.args.told.now) c.other.ensures
           ∙ ap (λ v. tallied (delivered (up (other side)) m v).gone c.args.told.now) e.state
           ∙ ap (λ (o : TurnOutcome ℕ). tallied o.gone c.args.told.now) (sym is);
     }

@@ -1,4 +1,4 @@
--- The lists of a store with nothing in it are empty.
+-- Streams over a store with nothing in it.
 use Rattle.std.proofs.Common.{refl}
 use Rattle.strm_blocks.specs.Blocks.{empty_store}
 use Rattle.strm_pair.proofs.Sides.{blank}
@@ -7,7 +7,7 @@ use Rattle.strm_pair.proofs.streams.Streams.new.Goals as goal
 pub returns-clause-state : goal.returns-clause-state
 returns-clause-state g c = λ mblks dblks.
     let s = empty_store mblks dblks in
-    rw (c.new_end.ensures.stream g.B.Stacks.modules s c.no_module.ensures (blank mblks dblks).0, c.new_end-2.ensures.stream g.B.Stacks.modules s c.no_module-2.ensures (blank mblks dblks).1, c.new.ensures, c.new-2.ensures, c.new-3.ensures) refl
+    rw (c.new_end.ensures.stream s (blank mblks dblks).0, c.new_end-2.ensures.stream s (blank mblks dblks).1, c.new.ensures, c.new-2.ensures, c.new-3.ensures) refl
 
 pub returns-clause-held : goal.returns-clause-held
 returns-clause-held g c = λ mblks dblks.
@@ -15,7 +15,7 @@ returns-clause-held g c = λ mblks dblks.
     record {
       hand = refl;
       beside = record {
-        master = c.new_end.ensures.side g.B.Stacks.modules s c.no_module.ensures (blank mblks dblks).0;
-        slave = c.new_end-2.ensures.side g.B.Stacks.modules s c.no_module-2.ensures (blank mblks dblks).1;
+        master = c.new_end.ensures.side s (blank mblks dblks).0;
+        slave = c.new_end-2.ensures.side s (blank mblks dblks).1;
       };
     }

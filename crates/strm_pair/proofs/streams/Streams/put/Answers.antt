@@ -2,6 +2,7 @@
 use Rattle.std.proofs.Common.{true, subst}
 use Rattle.strm_types.specs.declared.names.Way.TheVariants.{Up, Down}
 use Rattle.strm_types.specs.Costs.{below_takes}
+use Rattle.strm_types.specs.Message.{has_parts}
 use Rattle.strm_types.specs.Puts.{put_at_driver}
 use Rattle.strm_frame.specs.Outboxes.{message_in, sent_of}
 use Rattle.strm_pair.specs.Pairs.{state_in}
@@ -20,12 +21,12 @@ returns-in-Down g c =
     let to = c.args.to in
     let sent = sent_of c.put_driver.result in
     let told = c.put_driver.new.told in
-    behind-put name g.B.Stacks.modules Down s t p q i to sent c.args.told.now told c.requires.beside c.in-Down.is c.if-to-eq0.false
-    (subst (λ way. PutBy name g.B.Stacks.modules s t p q i (below_takes way true) sent c.args.told.now told (put_at_driver to.side to (message_in s i) (state_in g.B.Stacks.modules s p))) c.in-Down.is c.put_driver.ensures)
+    behind-put name g.B.Stacks.view Down s t p q i to sent c.args.told.now told c.requires.beside c.in-Down.is c.if-to-eq0.false
+    (subst (λ way. PutBy name g.B.Stacks.view s t p q i (below_takes way (has_parts (message_in s i)) true) sent c.args.told.now told (put_at_driver to.side to (message_in s i) (state_in g.B.Stacks.view.modules s p))) c.in-Down.is c.put_driver.ensures)
 
 pub returns-in-Up : goal.returns-in-Up
 returns-in-Up g c =
     let s = g.B.Blocks.value c.args.store.now in
     let i = g.B.Blocks.name c.args.message in
-    behind-put g.B.Blocks.name g.B.Stacks.modules Up s (g.B.Blocks.value c.put_up.new.store) c.args.self.now c.put_up.new.self i c.args.to (sent_of c.put_up.result) c.args.told.now c.put_up.new.told
+    behind-put g.B.Blocks.name g.B.Stacks.view Up s (g.B.Blocks.value c.put_up.new.store) c.args.self.now c.put_up.new.self i c.args.to (sent_of c.put_up.result) c.args.told.now c.put_up.new.told
     c.requires.beside c.in-Up.is c.if-to-eq0.false c.put_up.ensures

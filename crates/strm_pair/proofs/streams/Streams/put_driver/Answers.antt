@@ -7,15 +7,22 @@ use Rattle.strm_types.specs.Earlier.{by_name}
 use Rattle.strm_types.specs.Puts.{noted}
 use Rattle.strm_frame.proofs.Handing.{can-in_hand}
 use Rattle.strm_pair.specs.declared.streams.Streams.{Streams}
-use Rattle.strm_pair.proofs.PutSteps.{driver-by}
+use Rattle.strm_pair.specs.Pairs.{kept_by}
+use Rattle.strm_pair.proofs.PutSteps.{driver-by, driver-room}
 use Rattle.strm_pair.proofs.streams.Streams.put_driver.Goals as goal
 use Rattle.strm_pair.proofs.streams.Streams.put_driver.Goals.{in-Master, in-Slave}
 
 pub put-acts-requires-clause-in_hand : goal.put-acts-requires-clause-in_hand
-put-acts-requires-clause-in_hand g c = can-in_hand (g.B.Blocks.value c.args.store.now) (g.B.Blocks.name c.args.message) (λ i. 0) c.audit.ensures c.requires.can_put
+put-acts-requires-clause-in_hand g c = can-in_hand (g.B.Blocks.value c.args.store.now) (g.B.Blocks.name c.args.message) (kept_by g.B.Stacks.view c.args.self.now) c.audit.ensures c.requires.can_put
 
 pub put-acts-requires-in-Slave-clause-in_hand : goal.put-acts-requires-in-Slave-clause-in_hand
-put-acts-requires-in-Slave-clause-in_hand g c = can-in_hand (g.B.Blocks.value c.args.store.now) (g.B.Blocks.name c.args.message) (λ i. 0) c.audit.ensures c.requires.can_put
+put-acts-requires-in-Slave-clause-in_hand g c = can-in_hand (g.B.Blocks.value c.args.store.now) (g.B.Blocks.name c.args.message) (kept_by g.B.Stacks.view c.args.self.now) c.audit.ensures c.requires.can_put
+
+pub put-acts-requires-clause-room : goal.put-acts-requires-clause-room
+put-acts-requires-clause-room g c = driver-room c.args.to.way (g.B.Blocks.value c.args.store.now) (g.B.Blocks.name c.args.message) c.requires.chain c.requires.room
+
+pub put-acts-requires-in-Slave-clause-room : goal.put-acts-requires-in-Slave-clause-room
+put-acts-requires-in-Slave-clause-room g c = driver-room c.args.to.way (g.B.Blocks.value c.args.store.now) (g.B.Blocks.name c.args.message) c.requires.chain c.requires.room
 
 pub returns : goal.returns
 returns g c =
@@ -28,15 +35,15 @@ returns g c =
       | in-Master w ↦
           (let e = w.put-acts.ensures in
           rw (w.store-is, w.told-is, w.acts-is)
-          (driver-by g.B.Blocks.name g.B.Stacks.modules Master s (g.B.Blocks.value w.put-acts.new.store) p c.note.new.self w.put-acts.new.queue i to c.across-across.result w.put-acts.result c.args.told.now w.put-acts.new.told
-          w.in-Master.is (c.across-across.ensures g.B.Stacks.modules s c.requires.beside) c.requires.beside e.state e.notes e.sent e.told e.only e.chains e.hands e.spends e.pool
+          (driver-by g.B.Blocks.name g.B.Stacks.view Master s (g.B.Blocks.value w.put-acts.new.store) p c.note.new.self w.put-acts.new.queue i to c.across-across.result w.put-acts.result c.args.told.now w.put-acts.new.told
+          c.audit.ensures c.requires.can_put c.requires.chain w.in-Master.is (c.across-across.ensures s c.requires.beside) c.requires.beside e.state e.notes e.sent e.told e.only e.chains e.hands e.spends e.pool
           (q_is ∙ ap (λ ns. record c.match-to.self { enabled = noted to.side (Some Driver) (by_name to.side Driver) ns c.match-to.self.enabled }) (ap (λ x. x.notes.items) w.acts-is)
           ∙ ap (λ (x : Streams _). record x { enabled = noted to.side (Some Driver) (by_name to.side Driver) w.put-acts.result.notes.items x.enabled }) w.self-is)))
       | in-Slave w ↦
           (let e = w.put-acts-in-Slave.ensures in
           rw (w.store-is, w.told-is, w.acts-is)
-          (driver-by g.B.Blocks.name g.B.Stacks.modules Slave s (g.B.Blocks.value w.put-acts-in-Slave.new.store) p c.note.new.self w.put-acts-in-Slave.new.queue i to c.across-across.result w.put-acts-in-Slave.result c.args.told.now w.put-acts-in-Slave.new.told
-          w.in-Slave.is (c.across-across.ensures g.B.Stacks.modules s c.requires.beside) c.requires.beside e.state e.notes e.sent e.told e.only e.chains e.hands e.spends e.pool
+          (driver-by g.B.Blocks.name g.B.Stacks.view Slave s (g.B.Blocks.value w.put-acts-in-Slave.new.store) p c.note.new.self w.put-acts-in-Slave.new.queue i to c.across-across.result w.put-acts-in-Slave.result c.args.told.now w.put-acts-in-Slave.new.told
+          c.audit.ensures c.requires.can_put c.requires.chain w.in-Slave.is (c.across-across.ensures s c.requires.beside) c.requires.beside e.state e.notes e.sent e.told e.only e.chains e.hands e.spends e.pool
           (q_is ∙ ap (λ ns. record c.match-to.self { enabled = noted to.side (Some Driver) (by_name to.side Driver) ns c.match-to.self.enabled }) (ap (λ x. x.notes.items) w.acts-is)
           ∙ ap (λ (x : Streams _). record x { enabled = noted to.side (Some Driver) (by_name to.side Driver) w.put-acts-in-Slave.result.notes.items x.enabled }) w.self-is)))
     ]

@@ -17,5 +17,5 @@ returns g c =
     let m = message_in s i in
     let to = c.args.to in
     let down = c.come-down.result in
-    came-put g.B.Blocks.name g.B.Stacks.modules s (g.B.Blocks.value c.come-down.new.store) (g.B.Blocks.value c.send_down.new.store) p c.come-down.new.self i (cond (is_there down) 1 0) (head_takes m) (sent_down to down) (sent_of c.send_down.result)
-    c.args.told.now c.come-down.new.told (put_at_head to.side to m (state_in g.B.Stacks.modules s p)) c.come-down.ensures c.send_down.ensures (down-takes to.side to m (state_in g.B.Stacks.modules s p) down c.come-down.ensures.down_is)
+    came-put g.B.Blocks.name g.B.Stacks.view s (g.B.Blocks.value c.come-down.new.store) (g.B.Blocks.value c.send_down.new.store) p c.come-down.new.self i (cond (is_there down) 1 0) (head_takes m) (sent_down to down) (sent_of c.send_down.result)
+    c.args.told.now c.come-down.new.told (put_at_head to.side to m (state_in g.B.Stacks.view.modules s p)) c.requires.can_put c.come-down.ensures c.send_down.ensures (down-takes to.side to m (state_in g.B.Stacks.view.modules s p) down c.come-down.ensures.down_is)

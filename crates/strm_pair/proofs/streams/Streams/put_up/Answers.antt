@@ -4,6 +4,7 @@ use Rattle.std.proofs.lemmas.Bool.Decides.{nat_tests}
 use Rattle.std.specs.Prelude.{◌&&◌, ◌==◌}
 use Rattle.strm_types.specs.declared.names.Way.TheVariants.{Up}
 use Rattle.strm_types.specs.Flushing.{is_flush}
+use Rattle.strm_types.specs.Message.{has_parts}
 use Rattle.strm_types.specs.Puts.{passed_up, put_at_driver}
 use Rattle.strm_blocks.specs.Blocks.{in_hand}
 use Rattle.strm_msg.proofs.Chains.{kind-is}
@@ -11,7 +12,7 @@ use Rattle.strm_frame.specs.Hands.{HasRoom}
 use Rattle.strm_frame.specs.Outboxes.{message_in, sent_of}
 use Rattle.strm_frame.proofs.Handing.{can-in_hand}
 use Rattle.strm_types.specs.Costs.{below_takes, is_across}
-use Rattle.strm_pair.specs.Pairs.{state_in}
+use Rattle.strm_pair.specs.Pairs.{kept_by, state_in}
 use Rattle.strm_pair.specs.PutBy.{PutBy}
 use Rattle.strm_pair.proofs.streams.Streams.put_up.Goals as goal
 use Rattle.strm_pair.proofs.streams.Streams.put_up.Goals.{else-to-via-then-to+else-is_flush, else-to-via-else-to}
@@ -27,7 +28,7 @@ at-other : (n : ℕ) → (n ≡ 4 → ⊥) → (n == 4) ≡ false
 at-other n ne = grind (arith, nat_tests)
 
 pub kind-requires-clause-in_hand : goal.kind-requires-clause-in_hand
-kind-requires-clause-in_hand g c = can-in_hand (g.B.Blocks.value c.args.store.now) (g.B.Blocks.name c.args.message) (λ i. 0) c.audit.ensures c.requires.can_put
+kind-requires-clause-in_hand g c = can-in_hand (g.B.Blocks.value c.args.store.now) (g.B.Blocks.name c.args.message) (kept_by g.B.Stacks.view c.args.self.now) c.audit.ensures c.requires.can_put
 
 pub put_driver-requires-clause-room : goal.put_driver-requires-clause-room
 put_driver-requires-clause-room g c =
@@ -35,7 +36,8 @@ put_driver-requires-clause-room g c =
     let i = g.B.Blocks.name c.args.message in
     let flush : is_flush (message_in s i).kind ≡ true = ap is_flush (kind-is (in_hand s i) ∙ sym c.kind.ensures) ∙ sym c.is_flush.ensures ∙ c.if-is_flush.true in
     let across : is_across c.args.to (message_in s i) ≡ true = ap (λ b. b && (c.args.to.at == 4)) flush ∙ at-place c.args.to.at c.if-to.true in
-    subst (λ w. HasRoom s (below_takes w true)) (sym c.requires.up) (subst (λ b. HasRoom s (below_takes Up b)) across c.requires.room)
+    let parts = has_parts (message_in s i) in
+    subst (λ w. HasRoom s (below_takes w parts true)) (sym c.requires.up) (subst (λ b. HasRoom s (below_takes Up parts b)) across c.requires.room)
 
 pub returns-then-is_flush : goal.returns-then-is_flush
 returns-then-is_flush g c =
@@ -49,8 +51,8 @@ returns-then-is_flush g c =
     let flush : is_flush m.kind ≡ true = ap is_flush (kind-is (in_hand s i) ∙ sym c.kind.ensures) ∙ sym c.is_flush.ensures ∙ c.if-is_flush.true in
     let across : is_across to m ≡ true = ap (λ b. b && (to.at == 4)) flush ∙ at-place c.args.to.at c.if-to.true in
     let sent = sent_of c.put_driver.result in
-    subst (λ b. PutBy name g.B.Stacks.modules s t p c.put_driver.new.self i (cond b 1 0) sent c.args.told.now c.put_driver.new.told (cond b (put_at_driver to.side to m (state_in g.B.Stacks.modules s p)) (passed_up to m (state_in g.B.Stacks.modules s p)))) (sym across)
-    (subst (λ w. PutBy name g.B.Stacks.modules s t p c.put_driver.new.self i (below_takes w true) sent c.args.told.now c.put_driver.new.told (put_at_driver to.side to m (state_in g.B.Stacks.modules s p))) c.requires.up c.put_driver.ensures)
+    subst (λ b. PutBy name g.B.Stacks.view s t p c.put_driver.new.self i (cond b 1 0) sent c.args.told.now c.put_driver.new.told (cond b (put_at_driver to.side to m (state_in g.B.Stacks.view.modules s p)) (passed_up to m (state_in g.B.Stacks.view.modules s p)))) (sym across)
+    (subst (λ w. PutBy name g.B.Stacks.view s t p c.put_driver.new.self i (below_takes w (has_parts m) true) sent c.args.told.now c.put_driver.new.told (put_at_driver to.side to m (state_in g.B.Stacks.view.modules s p))) c.requires.up c.put_driver.ensures)
 
 pub returns : goal.returns
 returns g c =
@@ -68,4 +70,4 @@ returns g c =
           ap (λ b. b && (to.at == 4)) flush)
       | else-to-via-else-to w ↦ ap (λ b. is_flush m.kind && b) (at-other to.at w.if-to.false) ∙ and-false (is_flush m.kind)
     ] in
-    subst (λ b. PutBy name g.B.Stacks.modules s s p p i (cond b 1 0) sent f f (cond b (put_at_driver to.side to m (state_in g.B.Stacks.modules s p)) (passed_up to m (state_in g.B.Stacks.modules s p)))) (sym passes) (c.pass_up.ensures f)
+    subst (λ b. PutBy name g.B.Stacks.view s s p p i (cond b 1 0) sent f f (cond b (put_at_driver to.side to m (state_in g.B.Stacks.view.modules s p)) (passed_up to m (state_in g.B.Stacks.view.modules s p)))) (sym passes) (c.pass_up.ensures f)
