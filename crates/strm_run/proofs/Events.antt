@@ -8,17 +8,16 @@ use Rattle.strm_types.specs.declared.refusals.Refusal.{Refusal}
 use Rattle.strm_types.specs.declared.limits.TheConstants.{TURN_BLOCKS}
 use Rattle.strm_types.specs.declared.names.Side.{Side}
 use Rattle.strm_types.specs.declared.events.FlushQueues.{FlushQueues}
-use Rattle.strm_types.specs.declared.names.Place.{Place}
-use Rattle.strm_types.specs.declared.names.Place.TheVariants.{Head, Ldterm, Driver}
 use Rattle.strm_types.specs.declared.entries.Entry.TheVariants.{Called, Turned}
 use Rattle.strm_types.specs.Cells as cells
-use Rattle.strm_types.specs.State.{State}
-use Rattle.strm_types.specs.Turns.{TurnOutcome, turned, turned_at, whole_turn}
-use Rattle.strm_types.specs.Names.{without}
+use Rattle.strm_types.specs.Earlier.{NoModules}
+use Rattle.strm_types.specs.TurnOutcomes.{TurnOutcome}
+use Rattle.strm_types.specs.Turns.{whole_turn}
 use Rattle.strm_types.specs.Calls.{Request, Reply}
 use Rattle.strm_types.specs.Journal.{reply_in}
 use Rattle.strm_types.specs.Refused.{Free, enough, blocks_asked}
 use Rattle.strm_types.specs.Pair.{PairState, call_refused, queue_refused, AddsEntry}
+use Rattle.strm_types.proofs.AloneCalls.{turns-alone}
 use Rattle.strm_run.specs.ScriptAnswers.{Ran, reply_line, turn_line}
 use Rattle.strm_run.specs.ScriptRun as script
 use Rattle.strm_run.specs.ScriptRun.{Supply, Enough, TooFew, is_enough, PlainPair, Happened, call_refusal, turn_refusal, call_happens, turn_happens, call_of, turn_of, is_short, is_enosr, Turns, no_turns, counted, turns_of, by_call, by_flush, by_named, by_turn, by_run, by_open, unanswered, new_plain, next_of, rest_of}
@@ -97,26 +96,18 @@ CallHappens-from P old new caller asked bytes r h adds = record {
   same = rw (asked-supply (blocks_asked asked) old.free) (call_as P (call_refused old caller asked) old new caller asked bytes r h adds);
 }
 
--- a driver's turn treats its message whole or not at all
-whole-at : (place : Place) (side : Side) (a b : Turn) (s : State ℕ) → turned_at cells.plain place side a s ≡ turned_at cells.plain place side b s
-whole-at Head side a b s = refl
-whole-at Ldterm side a b s = refl
-whole-at Driver side a b s = refl
-
-turned-whole : (name : QueueName) (a b : Turn) (s : State ℕ) → turned cells.plain name a s ≡ turned cells.plain name b s
-turned-whole name a b s = whole-at name.place name.side a b (record s { enabled = without name s.enabled })
-
-turn_as : (o : Option Refusal) (old new : PairState) (name : QueueName) (r : Result Turn Refusal)
+-- where no module stands, a turn treats its message whole or not at all
+turn_as : (o : Option Refusal) (old new : PairState) (name : QueueName) (r : Result Turn Refusal) → NoModules old.state
     → MatchOption o (IsOk r) (λ x. (r ≡ Err x) × (new ≡ old))
     → IfOk r (λ turn. AddsEntry old new (Turned name turn))
     → turn_happens o (plain old) name ≡ record { answer = r; pair = plain new }
-turn_as (Some refusal) old new name r h adds = λ i. record { answer = sym h.0 i; pair = plain (sym h.1 i) }
-turn_as None old new name (Err x) h adds = cc
-turn_as None old new name (Ok turn) h adds =
+turn_as (Some refusal) old new name r none h adds = λ i. record { answer = sym h.0 i; pair = plain (sym h.1 i) }
+turn_as None old new name (Err x) none h adds = cc
+turn_as None old new name (Ok turn) none h adds =
     ap (λ (o : TurnOutcome ℕ). record {
       answer = Ok o.turn;
       pair = record { state = o.state; journal = old.journal ++ Turned name o.turn ∷ []; limits = old.limits };
-    }) (turned-whole name (whole_turn name old.state) turn old.state)
+    }) (turns-alone cells.plain name (whole_turn name old.state) turn old.state none)
     ∙ (λ i. record {
       answer = Ok (adds.step.answered i);
       pair = record {
@@ -130,14 +121,14 @@ turn_as None old new name (Ok turn) h adds =
       pair = record { state = new.state; journal = sym adds.journal i; limits = sym adds.limits i };
     })
 
-pub TurnHappens-from : (old new : PairState) (name : QueueName) (r : Result Turn Refusal)
+pub TurnHappens-from : (old new : PairState) (name : QueueName) (r : Result Turn Refusal) → NoModules old.state
     → MatchOption (queue_refused old name) (IsOk r) (λ x. (r ≡ Err x) × (new ≡ old))
     → IfOk r (λ turn. AddsEntry old new (Turned name turn))
     → TurnHappens old new name r
 unfolding turn_of
-TurnHappens-from old new name r h adds = record {
+TurnHappens-from old new name r none h adds = record {
   supply = supply_of (enough TURN_BLOCKS old.free);
-  same = rw (is_enough-supply_of (enough TURN_BLOCKS old.free)) (turn_as (queue_refused old name) old new name r h adds);
+  same = rw (is_enough-supply_of (enough TURN_BLOCKS old.free)) (turn_as (queue_refused old name) old new name r none h adds);
 }
 
 -- the answer of a command that makes a call, and of one that gives a turn

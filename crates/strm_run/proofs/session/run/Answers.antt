@@ -17,7 +17,7 @@ returns-in-Err c = λ bytes.
     let l = c.loop-taken in
     run_refused bytes c.args.turns l.taken (plain c.args.pair.now) l.pair c.turn.new.self c.in-Some.name c.in-Err.refusal c.turn.result _
     c.loop-taken-test.true l.invariant (sym c.first_enabled.ensures ∙ c.in-Some.is)
-    (TurnHappens-from l.pair c.turn.new.self c.in-Some.name c.turn.result c.turn.ensures.refused c.turn.ensures.adds)
+    (TurnHappens-from l.pair c.turn.new.self c.in-Some.name c.turn.result c.turn.ensures.alone c.turn.ensures.refused c.turn.ensures.adds)
     c.in-Err.is refl c.is_short.ensures
 
 pub loop-taken-preserved : goal.loop-taken-preserved
@@ -25,7 +25,7 @@ loop-taken-preserved c =
     let l = c.loop-taken in
     RunsTo-more c.args.turns l.taken (plain c.args.pair.now) l.pair c.turn.new.self c.in-Some.name c.in_default-turn.field-0 c.turn.result
     c.loop-taken-test.true l.invariant (sym c.first_enabled.ensures ∙ c.in-Some.is)
-    (TurnHappens-from l.pair c.turn.new.self c.in-Some.name c.turn.result c.turn.ensures.refused c.turn.ensures.adds)
+    (TurnHappens-from l.pair c.turn.new.self c.in-Some.name c.turn.result c.turn.ensures.alone c.turn.ensures.refused c.turn.ensures.adds)
     c.in_default-turn.is
 
 pub returns : goal.returns
