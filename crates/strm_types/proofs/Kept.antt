@@ -20,7 +20,6 @@ use Rattle.strm_types.specs.declared.names.Side.TheVariants.{Master, Slave}
 use Rattle.strm_types.specs.declared.refusals.Refusal.TheVariants.{Einval, Enxio}
 use Rattle.strm_types.specs.Cells.{Cells, cells_written, bytes_of}
 use Rattle.strm_types.specs.Names.{direction_from, direction_of, head_of, is_open}
-use Rattle.strm_types.specs.LdtermWeights.{IgnoresMapping}
 use Rattle.strm_types.specs.Ldterms.{IsIdle}
 use Rattle.strm_types.specs.Message.{Message}
 use Rattle.strm_types.specs.Pushes.{named_by}
@@ -35,7 +34,7 @@ use Rattle.strm_types.specs.Refused.{or_else, unless, asks_a_band, refused_at_on
 use Rattle.strm_types.specs.Step.{Step}
 use Rattle.strm_types.specs.Turns.{turned}
 use Rattle.strm_types.specs.Places.{weight_gone, weight_made}
-use Rattle.strm_types.specs.Kept.{state_weight, NothingUnread, AreIdle, cells_taken, came, gone}
+use Rattle.strm_types.specs.Kept.{state_weight, NothingUnread, AreIdle, MayTest, cells_taken, came, gone}
 use Rattle.strm_types.proofs.ClosesKeep.{closed_at-keeps, closed_at-unread, pop-unread, push-unread}
 use Rattle.strm_types.proofs.PushKeeps.{pop-keeps, push-keeps}
 use Rattle.strm_types.proofs.Deliveries.{flushed_on-keeps, flushed_on-unread, delivered-unread}
@@ -131,12 +130,12 @@ module _ {C : Type 0} where
 
     -- what stands on the queues after a step, and what it took away, is what stood there before, what it brought, and what was
     -- made on the way
-    pub step-keeps : (cells : Cells C) → IgnoresMapping cells p → (old new : State C) (entry : PlainEntry) → NothingUnread old → AreIdle old → Step cells old entry new
+    pub step-keeps : (cells : Cells C) (old new : State C) (entry : PlainEntry) → MayTest cells p entry → NothingUnread old → AreIdle old → Step cells old entry new
         → state_weight p new + weight_gone p (gone cells old entry) ≡ state_weight p old + (count_by p (came cells old entry) + weight_made p (gone cells old entry))
-    step-keeps cells ignores old new (Called caller asked answer) unread idle step =
+    step-keeps cells old new (Called caller asked answer) tests unread idle step =
         ap (λ (s : State C). state_weight p s + weight_gone p (gone cells old (Called caller asked answer))) (sym step.leads) ∙ call-keeps cells caller asked answer old unread idle step.allowed
-    step-keeps cells ignores old new (Turned name turn) unread idle step =
-        ap (λ (s : State C). state_weight p s + weight_gone p (gone cells old (Turned name turn))) (sym step.leads) ∙ turn-keeps p cells ignores name turn old idle ∙ (let same : state_weight p old + weight_made p (turned cells name turn old).gone ≡ state_weight p old + (0 + weight_made p (turned cells name turn old).gone) = omega arith in same)
+    step-keeps cells old new (Turned name turn) tests unread idle step =
+        ap (λ (s : State C). state_weight p s + weight_gone p (gone cells old (Turned name turn))) (sym step.leads) ∙ turn-keeps p cells name tests turn old idle ∙ (let same : state_weight p old + weight_made p (turned cells name turn old).gone ≡ state_weight p old + (0 + weight_made p (turned cells name turn old).gone) = omega arith in same)
 
   -- a side that isn't open has nothing for its readers, from the opening on
   pub opening-unread : NothingUnread {C = C} opening

@@ -1,6 +1,7 @@
 -- What steps and the replay of a journal are: for a short journal, and for entries that are no steps.
-use Rattle.std.proofs.Common.{ℕ, ◌≡◌, List, [], ◌∷◌, refl, ap}
+use Rattle.std.proofs.Common.{ℕ, ◌≡◌, Bool, List, [], ◌∷◌, refl, ap}
 use Rattle.strm_types.specs.declared.answers.Answer.TheVariants.{Done, Count}
+use Rattle.strm_types.specs.declared.answers.Turn.{Turn}
 use Rattle.strm_types.specs.declared.answers.Turn.TheVariants.{Idle}
 use Rattle.strm_types.specs.declared.entries.Entry.TheVariants.{Called, Turned}
 use Rattle.strm_types.specs.declared.events.Caller.{Caller}
@@ -8,14 +9,15 @@ use Rattle.strm_types.specs.declared.events.Event.TheVariants.{OpenMaster, Unloc
 use Rattle.strm_types.specs.declared.names.Dir.TheVariants.{MasterToSlave, SlaveToMaster}
 use Rattle.strm_types.specs.declared.names.Side.{Side}
 use Rattle.strm_types.specs.declared.names.Side.TheVariants.{Master}
-use Rattle.strm_types.specs.Cells.{Made, Base, plain, tagged}
+use Rattle.strm_types.specs.Cells.{Cells, Made, Base, plain, tagged}
 use Rattle.strm_types.specs.Message.{data_message, rank_of, band_of, size_of, cells_of, is_high_priority}
 use Rattle.strm_types.specs.Names.{driver_of}
 use Rattle.strm_types.specs.State.{State, opening}
 use Rattle.strm_types.specs.Write.{chunk_count}
 use Rattle.strm_types.specs.Turns.{turned}
-use Rattle.strm_types.specs.Calls.{called}
+use Rattle.strm_types.specs.Calls.{Reply, Request, called}
 use Rattle.strm_types.specs.Journal.{PlainEntry}
+use Rattle.strm_types.specs.Kept.{MayTest}
 use Rattle.strm_types.specs.Step.{Step, replay, IsLegal}
 
 abbrev caller : Side → Caller
@@ -58,3 +60,10 @@ turn-of-a-queue-that-rests-is-no-step = λ legal. let second = legal.1.0 in let 
 
 pub illegal-entry-behind-a-legal-one : IsLegal plain opening (Called (caller Master) OpenMaster Done ∷ Called (caller Master) OpenMaster Done ∷ []) → ⊥
 illegal-entry-behind-a-legal-one = λ legal. let second = legal.1.0 in let allowed = second.allowed in (cc)
+
+-- whatever a test says of a byte, it is one of calls, and of a turn of a driver
+pub any-test-of-a-call : {C : Type 0} (cells : Cells C) (p : C → Bool) (c : Caller) (asked : Request) (answer : Reply) → MayTest cells p (Called c asked answer)
+any-test-of-a-call cells p c asked answer = tt
+
+pub any-test-of-a-driver : {C : Type 0} (cells : Cells C) (p : C → Bool) (side : Side) (turn : Turn) → MayTest cells p (Turned (driver_of side) turn)
+any-test-of-a-driver cells p side turn = tt

@@ -8,8 +8,7 @@ use Rattle.strm_types.specs.declared.names.Place.{Place}
 use Rattle.strm_types.specs.declared.names.Place.TheVariants.{Head, Ldterm, Driver}
 use Rattle.strm_types.specs.declared.names.QueueName.{QueueName}
 use Rattle.strm_types.specs.Cells.{Cells}
-use Rattle.strm_types.specs.Kept.{AreIdle, NothingUnread, state_weight}
-use Rattle.strm_types.specs.LdtermWeights.{IgnoresMapping}
+use Rattle.strm_types.specs.Kept.{AreIdle, NothingUnread, state_weight, tests_at}
 use Rattle.strm_types.specs.Message.{Message, size_of, band_of}
 use Rattle.strm_types.specs.ModuleTurns.{SameButMade}
 use Rattle.strm_types.specs.Names.{is_open, other, without}
@@ -88,10 +87,10 @@ module _ {C : Type 0} (p : C → Bool) where
       (omega (arith, held-keeps side s false, blocked-keeps side m (with_driver side (held_back (stream side s).driver.queue) s)))
       (moved-keeps side m rest s is)
 
-  pub turn-keeps : (cells : Cells C) → IgnoresMapping cells p → (name : QueueName) (turn : Turn) (s : State C) → AreIdle s → Keeps (turned cells name turn s) (state_weight p s)
-  turn-keeps cells ignores name turn s idle = at name.place (record s { enabled = without name s.enabled }) (record { master = idle.master; slave = idle.slave })
+  pub turn-keeps : (cells : Cells C) (name : QueueName) → tests_at cells p name.place → (turn : Turn) (s : State C) → AreIdle s → Keeps (turned cells name turn s) (state_weight p s)
+  turn-keeps cells name tests turn s idle = at name.place tests (record s { enabled = without name s.enabled }) (record { master = idle.master; slave = idle.slave })
     where
-      at : (place : Place) (s : State C) → AreIdle s → Keeps (turned_at cells place name turn s) (state_weight p s)
-      at Driver s idle = serves-keeps name.side (stream name.side s).driver.queue.messages s refl
-      at Head s idle = omega arith
-      at Ldterm s idle = module_turned-keeps p cells ignores name turn s idle
+      at : (place : Place) → tests_at cells p place → (s : State C) → AreIdle s → Keeps (turned_at cells place name turn s) (state_weight p s)
+      at Driver tests s idle = serves-keeps name.side (stream name.side s).driver.queue.messages s refl
+      at Head tests s idle = omega arith
+      at Ldterm ignores s idle = module_turned-keeps p cells ignores name turn s idle

@@ -3,12 +3,15 @@
 use Rattle.std.specs.Prelude.{◌≡◌, ℕ, ◌+◌, min, Bool, false, List, [], ◌∷◌, take}
 use Rattle.std.specs.List.{AllByRecursion}
 use Rattle.strm_types.specs.declared.limits.TheConstants.{READ_MAX}
+use Rattle.strm_types.specs.declared.names.Place.{Place}
+use Rattle.strm_types.specs.declared.names.Place.TheVariants.{Head, Ldterm, Driver}
 use Rattle.strm_types.specs.declared.names.Side.{Side}
 use Rattle.strm_types.specs.declared.events.Event.TheVariants.{Shut, Push, Pop, Flush, Write, Read, Put, Get, Ioctl}
 use Rattle.strm_types.specs.declared.entries.Entry.TheVariants.{Called, Turned}
 use Rattle.strm_types.specs.Calls.{message_put, put_at, ioctl_sent, write_sent}
 use Rattle.strm_types.specs.Cells.{Cells, cells_written}
 use Rattle.strm_types.specs.GetQueues.{get_gone}
+use Rattle.strm_types.specs.LdtermWeights.{IgnoresMapping}
 use Rattle.strm_types.specs.Ldterms.{IsIdle}
 use Rattle.strm_types.specs.Message.{cells_of}
 use Rattle.strm_types.specs.Names.{direction_from, direction_of, head_of, is_open}
@@ -26,6 +29,17 @@ use Rattle.strm_types.specs.Turns.{turned}
 use Rattle.strm_types.specs.Journal.{PlainEntry}
 
 module _ {C : Type 0} where
+  -- A turn of a module's queue may map a byte to another one, as ICRNL does, so a test has to say the same of the two. All else leaves each
+  -- byte as it is.
+  abbrev pub tests_at : Cells C → (C → Bool) → Place → Type 0
+  tests_at cells p Head = Unit {0}
+  tests_at cells p Driver = Unit {0}
+  tests_at cells p Ldterm = IgnoresMapping cells p
+
+  abbrev pub MayTest : Cells C → (C → Bool) → PlainEntry → Type 0
+  MayTest cells p (Called caller asked answer) = Unit {0}
+  MayTest cells p (Turned name turn) = tests_at cells p name.place
+
   -- how many cells of a stream pass a test, on its queues and in what else its modules hold, and how many of a pair
   abbrev pub stream_weight : (C → Bool) → Stream C → ℕ
   stream_weight p t = weight p t.head.queue.messages + (modules_weight p t.modules + weight p t.driver.queue.messages)

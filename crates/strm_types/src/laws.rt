@@ -13,8 +13,7 @@ ghost use Rattle.strm_types.specs.declared.events.Caller.{Caller};
 ghost use Rattle.strm_types.specs.declared.limits.TheConstants.{CONTENT_MAX};
 ghost use Rattle.strm_types.specs.declared.names.QueueName.{QueueName};
 ghost use Rattle.strm_types.specs.State.{State, map_state, opening};
-ghost use Rattle.strm_types.specs.Kept.{AreIdle, NothingUnread, state_weight, came, gone};
-ghost use Rattle.strm_types.specs.LdtermWeights.{IgnoresMapping};
+ghost use Rattle.strm_types.specs.Kept.{AreIdle, MayTest, NothingUnread, state_weight, came, gone};
 ghost use Rattle.strm_types.specs.Cells.{Cells, AreCells, plain};
 ghost use Rattle.strm_types.specs.Calls.{Request, Reply, called, map_outcome, map_event, map_answer, payload_of, content_of};
 ghost use Rattle.strm_types.specs.ModuleTurns.{SameButMade};
@@ -125,11 +124,11 @@ pub fn steps_forget_origins<C>()
 /// on a pair's queues behind a call or a turn, and what has gone by a rule, as what a read(2) or getmsg(2) gave, is what stood
 /// there before, what a write(2) took or a putmsg(2) sent, and what was made on the way, as an echo is. A head that is opened is as new, so this wants that a side that isn't open has nothing for its
 /// readers; and a module that is popped goes with what it has on its queues and in its line, so this wants that between two turns
-/// it has nothing of a turn under way. Both are so in a new pair and behind each step. A turn of ldterm may map a byte to another one,
-/// as ICRNL does, so the test says the same of the two. On a queue a put adds what the message has, and a take takes
+/// it has nothing of a turn under way. Both are so in a new pair and behind each step. A turn of a module's queue may map a byte to another
+/// one, as ldterm's does under ICRNL, so there the test says the same of the two. On a queue a put adds what the message has, and a take takes
 /// it away.
 pub fn bytes_are_kept<C>()
-    ensures step { (cells : Cells C) (p : C → Bool) (old new : State C) (entry : PlainEntry) → IgnoresMapping cells p →
+    ensures step { (cells : Cells C) (p : C → Bool) (old new : State C) (entry : PlainEntry) → MayTest cells p entry →
         NothingUnread old → AreIdle old → Step cells old entry new →
         state_weight p new + weight_gone p (gone cells old entry)
         ≡ state_weight p old + (count_by p (came cells old entry) + weight_made p (gone cells old entry)) }

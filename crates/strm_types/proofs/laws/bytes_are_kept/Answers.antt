@@ -16,7 +16,7 @@ pub returns-clause-taken : goal.returns-clause-taken
 returns-clause-taken g c = λ p m q rest is. taken-weight p m q rest is
 
 pub returns-clause-step : goal.returns-clause-step
-returns-clause-step g c = λ cells p old new entry ignores unread idle step. step-keeps p cells ignores old new entry unread idle step
+returns-clause-step g c = λ cells p old new entry tests unread idle step. step-keeps p cells old new entry tests unread idle step
 
 pub returns-clause-unread : goal.returns-clause-unread
 returns-clause-unread g c = λ cells old new entry unread step. step-unread cells old new entry unread step
