@@ -33,7 +33,7 @@ use Rattle.strm_types.specs.Turns.{moved_across, turn_ended, turned_queue, up_ac
 use Rattle.strm_types.proofs.Earlier.{before-head-alone, before-driver-alone, none-among, none-on}
 
 -- what is noted goes by the nearest earlier queues alone
-noted-same : (side : Side) (place : Option Place) (one another : Way → Option QueueName) → ((way : Way) → one way ≡ another way)
+pub noted-same : (side : Side) (place : Option Place) (one another : Way → Option QueueName) → ((way : Way) → one way ≡ another way)
     → (notes : List Note) (names : List QueueName) → noted side place one notes names ≡ noted side place another notes names
 noted-same side place one another same [] names = refl
 noted-same side place one another same (Enable way ∷ notes) names = noted-same side place one another same notes (enable_found (queue_named side way place) names)

@@ -65,7 +65,7 @@ ioctl-up = refl
 pub reads-down : costs Down reads ≡ 0 ∷ 3 ∷ 3 ∷ 3 ∷ 3 ∷ []
 reads-down = refl
 
-pub reads-up : costs Up reads ≡ 0 ∷ 1 ∷ 1 ∷ 1 ∷ 1 ∷ []
+pub reads-up : costs Up reads ≡ 0 ∷ 0 ∷ 0 ∷ 0 ∷ 1 ∷ []
 reads-up = refl
 
 pub both-up : costs Up both ≡ 4 ∷ 4 ∷ 4 ∷ 4 ∷ 4 ∷ []
@@ -85,7 +85,7 @@ parted-down = refl
 pub parted-up : costs Up (parted asks) ≡ 4 ∷ 4 ∷ 4 ∷ 4 ∷ 4 ∷ []
 parted-up = refl
 
-pub parted-reads-up : costs Up (parted reads) ≡ 0 ∷ 1 ∷ 1 ∷ 1 ∷ 1 ∷ []
+pub parted-reads-up : costs Up (parted reads) ≡ 0 ∷ 0 ∷ 0 ∷ 0 ∷ 1 ∷ []
 parted-reads-up = refl
 
 pub parted-takes : own Down (parted asks) ≡ 1 ∷ 0 ∷ 0 ∷ 0 ∷ 0 ∷ []

@@ -13,18 +13,22 @@ use Rattle.strm_types.specs.Puts.{is_turned}
 -- with all that a message gives rise to, behind the head: what comes up may be turned round at the head, and then reaches a
 -- driver on its way down; an M_FLUSH may have been sent across, to the driver
 abbrev pub below_cost : Way → Bool → Bool → Bool → ℕ
-below_cost Down parts flush turned = if parts then 0 else 3
-below_cost Up parts flush turned = if turned then 4 else (if flush then 1 else 0)
+below_cost Down parts across turned = if parts then 0 else 3
+below_cost Up parts across turned = if turned then 4 else (if across then 1 else 0)
+
+-- whether an M_FLUSH stands at the driver's place, to which it was sent across
+abbrev pub across_at : Bool → ℕ → Bool
+across_at flush at = flush && at == suc MODULES
 
 abbrev pub cost_at : Spot → Bool → Bool → Bool → ℕ
-cost_at here parts flush turned = if here.at == 0 then (if turned then 4 else 0) else below_cost here.way parts flush turned
+cost_at here parts flush turned = if here.at == 0 then (if turned then 4 else 0) else below_cost here.way parts (across_at flush here.at) turned
 
 abbrev pub cost : {C : Type 0} → Spot → Message C → ℕ
 cost here m = cost_at here (has_parts m) (is_flush m.kind) (is_turned m)
 
--- whether a message on its way up was sent across, to the driver's place
+-- whether a message on its way up was sent across
 abbrev pub is_across : {C : Type 0} → Spot → Message C → Bool
-is_across here m = is_flush m.kind && here.at == suc MODULES
+is_across here m = across_at (is_flush m.kind) here.at
 
 -- what a put takes itself, behind the head, at it, and anywhere
 abbrev pub below_takes : Way → Bool → Bool → ℕ
