@@ -85,6 +85,7 @@ fn let_wait_among<B: Blocks, M: Module<B>>(modules: &mut [M], at: usize, way: Wa
     ensures state { (s : StoreValue) → map (M.plain s) modules.new ≡
         change_among (waits M.queue_of M.with_queue way band.0) at (map (M.plain s) modules.old) }
     ensures held { (s : StoreValue) → AreHeld M.IsHeld M.owns s modules.old → AreHeld M.IsHeld M.owns s modules.new }
+    ensures owns { (k : ℕ) → all_of M.owns modules.new k ≡ all_of M.owns modules.old k }
     ensures keeps { (i : ℕ) → all_of M.keeps modules.new i ≡ all_of M.keeps modules.old i }
 {
     modules[at].let_wait(way, band);
@@ -103,6 +104,7 @@ fn let_wait_at<B: Blocks, M: Module<B>>(
     ensures state { (s : StoreValue) → map (M.plain s) modules.new ≡
         waits_at M.queue_of M.with_queue way band.0 (map (M.plain s) modules.old) place }
     ensures held { (s : StoreValue) → AreHeld M.IsHeld M.owns s modules.old → AreHeld M.IsHeld M.owns s modules.new }
+    ensures owns { (k : ℕ) → all_of M.owns modules.new k ≡ all_of M.owns modules.old k }
     ensures keeps { (i : ℕ) → all_of M.keeps modules.new i ≡ all_of M.keeps modules.old i }
 {
     match place {
@@ -185,6 +187,7 @@ impl<M: Default + Drop> Stream<M> {
             waits_past M.queue_of M.with_queue way band.0 at (map (M.plain s) self.old.modules.items) }
         ensures held { (s : StoreValue) → AreHeld M.IsHeld M.owns s self.old.modules.items →
             AreHeld M.IsHeld M.owns s self.new.modules.items }
+        ensures owns { (k : ℕ) → all_of M.owns self.new.modules.items k ≡ all_of M.owns self.old.modules.items k }
         ensures keeps { (i : ℕ) → all_of M.keeps self.new.modules.items i ≡ all_of M.keeps self.old.modules.items i }
     {
         let place = self.place_past(way, at);

@@ -10,7 +10,7 @@ ghost use Rattle.strm_types.specs.Deliver.{AreLower, tallied};
 ghost use Rattle.strm_types.specs.Modules.{change_among, act_among};
 ghost use Rattle.strm_types.specs.ModuleQueues.{at_place, queue_changed};
 ghost use Rattle.strm_types.specs.Service.{Serving, turn_ended, end_relieves, has_more};
-ghost use Rattle.strm_frame.specs.Hands.{AreIn, Handles, SamePool, HasRoom};
+ghost use Rattle.strm_frame.specs.Hands.{AreIn, Handles, OnlyOwn, SamePool, HasRoom};
 ghost use Rattle.strm_frame.specs.Outboxes.{sent_of, times_sent, parcels_in, AreChains};
 ghost use Rattle.strm_frame.specs.Serves.{IsBand, least_free, stop_of, later_cost};
 ghost use Rattle.strm_frame.specs.Stacks.{all_of, AreHeld};
@@ -49,6 +49,7 @@ fn end_turn_among<B: Blocks, M: Module<B>>(
     ensures more { result.more ≡ slice_index_or (map (has_more M.queue_of way)
         (map (M.plain (B.value store.now)) modules.old)) at false }
     ensures held { AreHeld M.IsHeld M.owns (B.value store.now) modules.new }
+    ensures owns { (k : ℕ) → all_of M.owns modules.new k ≡ all_of M.owns modules.old k }
     ensures keeps { (i : ℕ) → all_of M.keeps modules.new i ≡ all_of M.keeps modules.old i }
 {
     modules[at].end_turn(store, way, took)
@@ -88,6 +89,7 @@ fn serve_among<B: Blocks, M: Module<B>>(
     ensures stopped { OnTrue result.stopped
         ((least_free (B.value store.new) < STOP_BLOCKS) × (result.again ≡ false)) }
     ensures held { AreHeld M.IsHeld M.owns (B.value store.new) modules.new }
+    ensures own { OnlyOwn (B.value store.old) (B.value store.new) (all_of M.owns modules.old) (all_of M.owns modules.new) }
     ensures chains { AreChains B.name (B.value store.new) (sent_of result.acts.sent) }
     ensures falls { AreLower M.height (M.turn_height here)
         (parcels_in B.name (B.value store.new) (sent_of result.acts.sent)) }
@@ -160,6 +162,8 @@ impl<M: Default + Drop> Stream<M> {
         ensures stopped { OnTrue result.stopped
             ((least_free (B.value store.new) < STOP_BLOCKS) × (result.again ≡ false)) }
         ensures held { AreHeld M.IsHeld M.owns (B.value store.new) self.new.modules.items }
+        ensures own { OnlyOwn (B.value store.old) (B.value store.new) (all_of M.owns self.old.modules.items)
+            (all_of M.owns self.new.modules.items) }
         ensures chains { AreChains B.name (B.value store.new) (sent_of result.acts.sent) }
         ensures falls { AreLower M.height (M.turn_height here)
             (parcels_in B.name (B.value store.new) (sent_of result.acts.sent)) }
@@ -198,6 +202,7 @@ impl<M: Default + Drop> Stream<M> {
         ensures more { result.more ≡ at_place (has_more M.queue_of way) false place
             (map (M.plain (B.value store.now)) self.old.modules.items) }
         ensures held { AreHeld M.IsHeld M.owns (B.value store.now) self.new.modules.items }
+        ensures owns { (k : ℕ) → all_of M.owns self.new.modules.items k ≡ all_of M.owns self.old.modules.items k }
         ensures keeps { (i : ℕ) → all_of M.keeps self.new.modules.items i ≡ all_of M.keeps self.old.modules.items i }
     {
         end_turn_among(store, self.modules.as_mut_slice(), place - 1, way, took)

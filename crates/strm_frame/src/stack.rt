@@ -8,7 +8,7 @@ ghost use Rattle.strm_blocks.specs.Blocks.{StoreValue, in_hand};
 ghost use Rattle.strm_msg.specs.Messages.{IsChain};
 ghost use Rattle.strm_frame.specs.Stacks.{all_of, AreHeld};
 ghost use Rattle.strm_frame.specs.Outboxes.{message_in, sent_of, times_sent, parcels_in, AreChains, cost_of};
-ghost use Rattle.strm_frame.specs.Hands.{CanPut, Hands, SamePool, HasRoom, Spends};
+ghost use Rattle.strm_frame.specs.Hands.{CanPut, Hands, OnlyOwn, SamePool, HasRoom, Spends};
 
 use crate::modules::{Acts, Module};
 use arrayvec::ArrayVec;
@@ -61,6 +61,7 @@ fn put_among<B: Blocks, M: Module<B>>(
         told.new ≡ tallied (put_among M.puts at to (message_in s (B.name message)) (map (M.plain s) modules.old)).gone
         told.old }
     ensures held { AreHeld M.IsHeld M.owns (B.value store.new) modules.new }
+    ensures own { OnlyOwn (B.value store.old) (B.value store.new) (all_of M.owns modules.old) (all_of M.owns modules.new) }
     ensures chains { AreChains B.name (B.value store.new) (sent_of result.sent) }
     ensures falls { AreLower M.height (M.height to (message_in (B.value store.old) (B.name message)))
         (parcels_in B.name (B.value store.new) (sent_of result.sent)) }
@@ -162,6 +163,8 @@ impl<M: Default + Drop> Stream<M> {
             told.new ≡ tallied (put_among M.puts (to.at - 1) to (message_in s (B.name message))
             (map (M.plain s) self.old.modules.items)).gone told.old }
         ensures held { AreHeld M.IsHeld M.owns (B.value store.new) self.new.modules.items }
+        ensures own { OnlyOwn (B.value store.old) (B.value store.new) (all_of M.owns self.old.modules.items)
+            (all_of M.owns self.new.modules.items) }
         ensures chains { AreChains B.name (B.value store.new) (sent_of result.sent) }
         ensures falls { AreLower M.height (M.height to (message_in (B.value store.old) (B.name message)))
             (parcels_in B.name (B.value store.new) (sent_of result.sent)) }

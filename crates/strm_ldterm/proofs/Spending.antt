@@ -5,11 +5,12 @@ use Rattle.std.proofs.lemmas.Bool.{false≢true}
 use Rattle.std.proofs.lemmas.Bool.Decides.{nat_tests}
 use Rattle.std.specs.Prelude.{◌==◌, ◌&&◌, Option, None, Some, is_some, option_map}
 use Rattle.strm_types.specs.declared.kinds.MsgKind.TheVariants as kinds
+use Rattle.strm_types.specs.declared.limits.TheConstants.{MODULES}
 use Rattle.strm_types.specs.declared.names.Way.{Way}
 use Rattle.strm_types.specs.declared.names.Way.TheVariants.{Up, Down}
 use Rattle.strm_types.specs.declared.spots.Spot.{Spot}
 use Rattle.strm_types.specs.Cells.{cells_made, plain}
-use Rattle.strm_types.specs.Costs.{below_cost, cost, cost_at}
+use Rattle.strm_types.specs.Costs.{across_at, below_cost, cost, cost_at}
 use Rattle.strm_types.specs.Deliver.{Acted, Parcel, toward}
 use Rattle.strm_types.specs.Flushing.{is_flush}
 use Rattle.strm_types.specs.Input.{begins_next, cells_left, left_of, made_of, next_stage, stage_at, stages, with_left}
@@ -25,26 +26,35 @@ use Rattle.strm_frame.specs.Outboxes.{cost_of}
 use Rattle.strm_ldterm.specs.Turns.{leaves, needs}
 use Rattle.strm_ldterm.proofs.Onward.{puts-send, struck-sends}
 
--- no more at the next place the same way
-up-cost : (parts flush turned top : Bool) → cond top (cond turned 4 0) (below_cost Up parts flush turned) ≤ below_cost Up parts flush turned
-up-cost parts flush true true = omega arith
+-- no more at the next place the same way, where that isn't the driver's of what comes up
+up-cost : (parts across turned top : Bool) → cond top (cond turned 4 0) (below_cost Up parts false turned) ≤ below_cost Up parts across turned
+up-cost parts across true true = omega arith
+up-cost parts across true false = omega arith
 up-cost parts true false true = omega arith
+up-cost parts true false false = omega arith
 up-cost parts false false true = omega arith
-up-cost parts flush turned false = omega arith
+up-cost parts false false false = omega arith
 
-next-below : (way : Way) (parts flush turned : Bool) (here : Spot) → cost_at (toward way here) parts flush turned ≤ below_cost way parts flush turned
-next-below Up parts flush turned here = up-cost parts flush turned (here.at - 1 == 0)
-next-below Down parts flush turned here =
+not-across : (flush : Bool) (at : ℕ) → at < MODULES → across_at flush at ≡ false
+not-across true at low = grind (arith, nat_tests)
+not-across false at low = refl
+
+next-below : (way : Way) (parts flush turned : Bool) (here : Spot) → 0 < here.at → here.at ≤ MODULES → cost_at (toward way here) parts flush turned ≤ below_cost way parts (across_at flush here.at) turned
+next-below Up parts flush turned here inside small =
+    let same : cost_at (toward Up here) parts flush turned ≡ cond (here.at - 1 == 0) (cond turned 4 0) (below_cost Up parts false turned) =
+    ap (λ across. cond (here.at - 1 == 0) (cond turned 4 0) (below_cost Up parts across turned)) (not-across flush (here.at - 1) (omega (arith, inside, small))) in
+    omega (arith, same, up-cost parts (across_at flush here.at) turned (here.at - 1 == 0))
+next-below Down parts flush turned here inside small =
     let below : (here.at + 1 == 0) ≡ false = grind (arith, nat_tests) in
     let same : cost_at (toward Down here) parts flush turned ≡ cond parts 0 3 = ap (λ top. cond top (cond turned 4 0) (cond parts 0 3)) below in
     omega (arith, same)
 
-next-cost : (parts flush turned : Bool) (here : Spot) → 0 < here.at → cost_at (toward here.way here) parts flush turned ≤ cost_at here parts flush turned
-next-cost parts flush turned here inside =
+next-cost : (parts flush turned : Bool) (here : Spot) → 0 < here.at → here.at ≤ MODULES → cost_at (toward here.way here) parts flush turned ≤ cost_at here parts flush turned
+next-cost parts flush turned here inside small =
     let behind : (here.at == 0) ≡ false = grind (arith, nat_tests) in
-    let same : cost_at here parts flush turned ≡ below_cost here.way parts flush turned = ap (λ top. cond top (cond turned 4 0) (below_cost here.way parts flush turned)) behind in
-    let low = next-below here.way parts flush turned here in
-    omega (arith, same, low)
+    let across = across_at flush here.at in
+    let same : cost_at here parts flush turned ≡ below_cost here.way parts across turned = ap (λ top. cond top (cond turned 4 0) (below_cost here.way parts across turned)) behind in
+    omega (arith, same, next-below here.way parts flush turned here inside small)
 
 pub none-cost : (C : Type 0) → cost_of (cost {C = C}) [] ≡ 0
 unfolding cost_of
@@ -62,11 +72,11 @@ module _ {C : Type 0} where
   unfolding cost_of
   more-cost way here m n ps few = let one = cost-few (toward way here) m in omega arith
 
-  pub puts-cost : (here : Spot) (m : Message C) (p : Ldterm C) → 0 < here.at → cost_of cost (ldterm_puts here m p).sent ≤ cost here m
-  puts-cost here m p inside =
+  pub puts-cost : (here : Spot) (m : Message C) (p : Ldterm C) → 0 < here.at → here.at ≤ MODULES → cost_of cost (ldterm_puts here m p).sent ≤ cost here m
+  puts-cost here m p inside small =
       let one = one-cost (toward here.way here) m in
       let none = none-cost C in
-      let low = next-cost (has_parts m) (is_flush m.kind) (is_turned m) here inside in
+      let low = next-cost (has_parts m) (is_flush m.kind) (is_turned m) here inside small in
       puts-send here (λ ps. cost_of cost ps ≤ cost here m) m p (omega (arith, none)) (omega (arith, one, low))
 
 module _ (here : Spot) where

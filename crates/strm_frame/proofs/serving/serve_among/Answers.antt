@@ -6,7 +6,7 @@ use Rattle.strm_types.specs.Deliver.{tallied}
 use Rattle.strm_frame.specs.Hands.{HasRoom}
 use Rattle.strm_frame.specs.Outboxes.{sent_of, times_sent, parcels_in}
 use Rattle.strm_frame.specs.Serves.{stop_of, later_cost}
-use Rattle.strm_frame.proofs.Beside.{act-state, act-sent, act-notes, act-gone, said-of, said-set, part-can, row-plain, row-held, row-hands}
+use Rattle.strm_frame.proofs.Beside.{act-state, act-sent, act-notes, act-gone, said-of, said-set, part-can, row-plain, row-held, row-hands, own-all}
 use Rattle.strm_frame.proofs.serving.serve_among.Goals as goal
 
 pub returns-clause-state : goal.returns-clause-state
@@ -120,3 +120,7 @@ returns-clause-room g c =
     let r = c.serve.result in
     subst (λ n. HasRoom t (later_cost w.cost r.again n (parcels_in g.B.Blocks.name t (sent_of r.acts.sent))))
     (sym (said-set (w.plain t) (w.turn_cost c.args.here true) c.args.modules.now c.args.at c.serve.new.self 0 c.requires.within)) c.serve.ensures.room
+
+pub returns-clause-own : goal.returns-clause-own
+returns-clause-own g c =
+    own-all g.M.Module.owns (g.B.Blocks.value c.args.store.now) (g.B.Blocks.value c.serve.new.store) c.args.modules.now c.args.at (get_or c.args.modules.now c.args.at c.index-modules-at.result) c.index-modules-at.result c.serve.new.self c.requires.within refl c.serve.ensures.own

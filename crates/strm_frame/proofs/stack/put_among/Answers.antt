@@ -4,7 +4,7 @@ use Rattle.std.proofs.Math.ListN.{set}
 use Rattle.strm_types.specs.Deliver.{tallied}
 use Rattle.strm_frame.specs.Hands.{once}
 use Rattle.strm_frame.specs.Outboxes.{message_in, sent_of, times_sent}
-use Rattle.strm_frame.proofs.Beside.{act-state, act-sent, act-notes, act-gone, row-plain, row-held}
+use Rattle.strm_frame.proofs.Beside.{act-state, act-sent, act-notes, act-gone, row-plain, row-held, own-all}
 use Rattle.strm_frame.proofs.stack.put_among.Goals as goal
 
 pub returns-clause-state : goal.returns-clause-state
@@ -51,3 +51,7 @@ returns-clause-held g c =
     let w = g.M.Module in
     let e = c.put.ensures in
     row-held w.plain w.IsHeld w.owns w.keeps g.met.M.Module.frame s t (once (g.B.Blocks.name c.args.message)) (get_or c.args.modules.now c.args.at c.index-modules-at.result) c.index-modules-at.result c.put.new.self (λ i. times_sent g.B.Blocks.name i (sent_of c.put.result.sent)) c.audit.ensures e.own e.hands e.pool c.args.modules.now c.args.at c.requires.within refl c.requires.held c.requires.can_put e.held
+
+pub returns-clause-own : goal.returns-clause-own
+returns-clause-own g c =
+    own-all g.M.Module.owns (g.B.Blocks.value c.args.store.now) (g.B.Blocks.value c.put.new.store) c.args.modules.now c.args.at (get_or c.args.modules.now c.args.at c.index-modules-at.result) c.index-modules-at.result c.put.new.self c.requires.within refl c.put.ensures.own

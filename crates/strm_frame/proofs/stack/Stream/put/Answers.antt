@@ -2,7 +2,7 @@
 use Rattle.std.proofs.Common.{ℕ, ◌-◌, ◌∙◌, ap, sym, subst, length, map, arith}
 use Rattle.strm_types.specs.Deliver.{tallied}
 use Rattle.strm_types.specs.Modules.{put_among}
-use Rattle.strm_frame.specs.Hands.{CanPut, Hands}
+use Rattle.strm_frame.specs.Hands.{CanPut, Hands, OnlyOwn}
 use Rattle.strm_frame.specs.Outboxes.{message_in, sent_of, times_sent}
 use Rattle.strm_frame.specs.Stacks.{all_of, AreHeld}
 use Rattle.strm_frame.proofs.Beside.{refilled}
@@ -74,3 +74,13 @@ returns-clause-hands g c =
     subst (λ xs. Hands s s' name (all_of w.keeps c.args.self.now.modules.items) (all_of w.keeps xs) sent)
     (sym (refilled c.args.self.now.modules.items c.put_among.new.modules (c.put_among.ensures.length ∙ ap length before)))
     (subst (λ xs. Hands s s' name (all_of w.keeps xs) (all_of w.keeps c.put_among.new.modules) sent) before c.put_among.ensures.hands)
+
+pub returns-clause-own : goal.returns-clause-own
+returns-clause-own g c =
+    let owns = g.M.Module.owns in
+    let s = g.B.Blocks.value c.args.store.now in
+    let t = g.B.Blocks.value c.put_among.new.store in
+    let before = c.as_mut_slice.ensures.value in
+    subst (λ xs. OnlyOwn s t (all_of owns c.args.self.now.modules.items) (all_of owns xs))
+    (sym (refilled c.args.self.now.modules.items c.put_among.new.modules (c.put_among.ensures.length ∙ ap length before)))
+    (subst (λ xs. OnlyOwn s t (all_of owns xs) (all_of owns c.put_among.new.modules)) before c.put_among.ensures.own)

@@ -21,7 +21,7 @@ returns-clause-spends g c =
     let m = message_in s (g.B.Blocks.name c.args.message) in
     let p = ldterm_in g.B.Blocks.name s c.args.self.now in
     let same = ap (λ (ps : List (Parcel ℕ)). cost_of cost ps) c.put.ensures.sent in
-    let few = puts-cost c.args.here m p c.requires.inside in
+    let few = puts-cost c.args.here m p c.requires.inside c.requires.small in
     record {
       mblks = (let f = c.put.ensures.frees.mblks in omega (arith, same, few, f));
       dblks = (let f = c.put.ensures.frees.dblks in omega (arith, same, few, f));
