@@ -21,8 +21,8 @@ use Rattle.strm_frame.specs.Outboxes.{sent_of}
 use Rattle.strm_frame.proofs.Shifting.{shifts-joined}
 use Rattle.strm_pty.specs.Does.{OnlyQueue, driver_cost}
 use Rattle.strm_pair.specs.Pairs.{end_at, with_end}
-use Rattle.strm_types.specs.Earlier.{NoModules, by_name}
-use Rattle.strm_types.proofs.Alone.{below-is-behind, across_alone, across-is-alone, driver-is-alone, head_alone, head-is-alone, passed-is-alone}
+use Rattle.strm_types.specs.Earlier.{before_head, driver_place, modules_on}
+use Rattle.strm_types.proofs.Alone.{below-is-behind}
 use Rattle.strm_pair.proofs.Sides.{none-stand, driver-changed, driver-state, head-changed, head-state, driver-is, head-is}
 use Rattle.strm_types.specs.declared.names.Place.TheVariants as places
 use Rattle.strm_types.specs.declared.names.QueueName.{QueueName}
@@ -36,8 +36,8 @@ use Rattle.strm_types.specs.Flush.{is_data_kind}
 use Rattle.strm_types.specs.Flushing.{asked_by, flush_bytes, flush_message}
 use Rattle.strm_types.specs.Heads.{head_put, is_doubled, obeyed, turned_round, waits_for_readers}
 use Rattle.strm_types.specs.Message.{Message, cells_of, has_parts}
-use Rattle.strm_types.specs.Names.{before, direction_at, enable_found, enable_some, head_of, is_open}
-use Rattle.strm_types.specs.Puts.{across_of, is_turned, turns_round, noted, passed_up, put_at_driver, put_at_head, put_behind, put_below, put_in}
+use Rattle.strm_types.specs.Names.{direction_at, enable_some, is_open}
+use Rattle.strm_types.specs.Puts.{across_of, earlier_at, is_turned, turns_round, noted, passed_up, put_at_driver, put_at_head, put_behind, put_below, put_in}
 use Rattle.strm_types.specs.Reads.{is_there}
 use Rattle.strm_types.specs.State.{Head, State, stream, with_stream, with_driver_queue}
 use Rattle.strm_blocks.specs.Blocks.{StoreValue, in_hand}
@@ -49,16 +49,17 @@ use Rattle.strm_head.specs.declared.putting.Down.TheVariants as downs
 use Rattle.strm_head.specs.Heads.{down_message, notes_of, sent_down}
 use Rattle.strm_frame.specs.declared.parcels.Sent.{Sent}
 use Rattle.strm_frame.specs.Hands.{once, HasRoom, Shifts}
-use Rattle.strm_frame.specs.Outboxes.{message_in, times_sent, parcels_in, AreChains}
+use Rattle.strm_frame.specs.Outboxes.{cost_of, message_in, times_sent, parcels_in, AreChains}
 use Rattle.strm_frame.proofs.Handing.{one-parts, one-chains}
 use Rattle.strm_frame.proofs.Shifting.{shifts-both, shifts-as}
 use Rattle.strm_pty.specs.Does.{Makes, Swaps}
 use Rattle.strm_pty.proofs.Doing.{times-one}
 use Rattle.strm_pair.specs.declared.streams.Streams.{Streams}
-use Rattle.strm_types.specs.Costs.{head_takes, below_takes, is_across, takes}
+use Rattle.strm_types.specs.Costs.{cost, head_takes, below_takes, is_across}
 use Rattle.strm_pair.specs.Pairs.{state_in, AreBeside, Stays, kept_by}
 use Rattle.strm_pair.specs.Framing.{same-state, same-beside}
-use Rattle.strm_pair.specs.PutBy.{PutBy, CameBy}
+use Rattle.strm_pair.specs.PutBy.{PutAs, PutBy, CameBy}
+use Rattle.strm_pair.proofs.PutsCost.{behind-cost, head-cost}
 use Rattle.strm_pair.specs.Streams.{View}
 
 -- what a head sends down is nothing where nothing is turned round
@@ -107,6 +108,9 @@ down-few false (Some asked) none = let e = none refl in absurd (cc)
 pub down-takes : (side : Side) (here : Spot) (m : Message ℕ) (s : State ℕ) (down : Option heads_down.Down) → sent_down here down ≡ (put_at_head side here m s).sent → cond {A = ℕ} (is_there down) 1 0 ≤ head_takes m
 down-takes side here m s down is = down-few (is_turned m) down (λ none. down-none here down (is ∙ reached-sent side here m s none))
 
+pub room-for : (s : StoreValue) (n k : ℕ) → k ≤ n → HasRoom s n → HasRoom s k
+room-for s n k le room = record { mblks = omega (arith, room.mblks, le); dblks = omega (arith, room.dblks, le) }
+
 pub room-less : (s t : StoreValue) (gone come : ℕ → ℕ) (n k : ℕ) → Shifts s t gone come 0 → k ≤ n → HasRoom s n → HasRoom t k
 room-less s t gone come n k hands le room = record { mblks = (let a = hands.mblks in let b = room.mblks in omega arith); dblks = (let a = hands.dblks in let b = room.dblks in omega arith) }
 
@@ -148,10 +152,16 @@ kept-driver : {S : Type 0} (view : View S) (p : Streams S) (side : Side) (d : Qu
 kept-driver view p Master d i = refl
 kept-driver view p Slave d i = refl
 
+-- behind the head there is room for what a put takes itself, and so for what stands there: on the way down nothing goes by what was sent across
+pub behind-room : (way : Way) (s : StoreValue) (i : ℕ) (to : Spot) (st : State ℕ) → let m = message_in s i in to.way ≡ way → (to.at ≡ 0 → ⊥) → HasRoom s (cost to m) → HasRoom s (below_takes way (has_parts m) (is_across to m))
+behind-room way s i to st is inside room =
+    let m = message_in s i in
+    subst (λ w. HasRoom s (below_takes w (has_parts m) (is_across to m))) is (room-for s (cost to m) (below_takes to.way (has_parts m) (is_across to m)) (omega (arith, behind-cost to m st inside)) room)
+
 -- a waiting writer is let go where the head says so
-pub noted-room : (side : Side) (lets_go : Bool) (names : List QueueName) → noted side (Some places.Head) (by_name side places.Head) (notes_of lets_go) names ≡ cond lets_go (enable_found (before (head_of side)) names) names
-noted-room side true names = refl
-noted-room side false names = refl
+noted-room : (side : Side) (earlier : Way → Option QueueName) (lets_go : Bool) (names : List QueueName) → noted side (Some places.Head) earlier (notes_of lets_go) names ≡ enable_some lets_go (earlier Up) names
+noted-room side earlier true names = refl
+noted-room side earlier false names = refl
 
 -- a message that comes to a side that isn't open
 pub closed-is : (side : Side) (here : Spot) (m : Message ℕ) (s : State ℕ) → is_open (stream side s).opened ≡ false
@@ -161,16 +171,13 @@ closed-is side here m s closed = rw closed refl
 -- what a put at an open head leads to, by what the head does
 abbrev at_head : Side → State ℕ → Acted ℕ (Head ℕ) → Took ℕ (State ℕ)
 at_head side s t = record {
-  state = record (with_stream side (record (stream side s) { head = t.state }) s) { enabled = noted side (Some places.Head) (by_name side places.Head) t.notes s.enabled };
+  state = record (with_stream side (record (stream side s) { head = t.state }) s) { enabled = noted side (Some places.Head) (earlier_at side 0 s) t.notes s.enabled };
   sent = t.sent;
   gone = t.gone;
 }
 
-open-alone : (side : Side) (here : Spot) (m : Message ℕ) (s : State ℕ) → is_open (stream side s).opened ≡ true → head_alone side here m s ≡ at_head side s (head_put here m (stream side s).head)
-open-alone side here m s opened = rw opened refl
-
-open-is : (side : Side) (here : Spot) (m : Message ℕ) (s : State ℕ) → NoModules s → is_open (stream side s).opened ≡ true → put_at_head side here m s ≡ at_head side s (head_put here m (stream side s).head)
-open-is side here m s none opened = head-is-alone s none side here m ∙ open-alone side here m s opened
+open-is : (side : Side) (here : Spot) (m : Message ℕ) (s : State ℕ) → is_open (stream side s).opened ≡ true → put_at_head side here m s ≡ at_head side s (head_put here m (stream side s).head)
+open-is side here m s opened = rw opened refl
 
 module _ {S : Type 0} (view : View S) (side : Side) (s t : StoreValue) (p : Streams S) (h : heads.Head) (i : ℕ) (to : Spot) (m : Message ℕ) (lets_go : Bool) (down : Option heads_down.Down) (f f' : Fates) where
   -- what the head did
@@ -178,7 +185,7 @@ module _ {S : Type 0} (view : View S) (side : Side) (s t : StoreValue) (p : Stre
   Did = head_put to m (head_in s (end_at side p).head)
 
   abbrev behind : Streams S
-  behind = record (with_end side (record (end_at side p) { head = h }) p) { enabled = enable_some lets_go (before (head_of side)) p.enabled }
+  behind = record (with_end side (record (end_at side p) { head = h }) p) { enabled = enable_some lets_go (before_head side (state_in view.modules s p)) p.enabled }
 
   came-at : IsStore s → CanPut s i (kept_by view p) → AreBeside view s p → head_in t h ≡ Did.state → notes_of lets_go ≡ Did.notes → sent_down to down ≡ Did.sent → f' ≡ tallied Did.gone f
       → Changes (dropped s i) t (end_at side p).head.queue h.queue → HoldsReadable (list_at t h.queue.list) → FreesBlocks s t → CameBy view s t p behind i (sent_down to down) f f' (at_head side (state_in view.modules s p) Did)
@@ -188,10 +195,10 @@ module _ {S : Type 0} (view : View S) (side : Side) (s t : StoreValue) (p : Stre
       let stays = put-stays s t i 0 (λ _. 0) (kept_by view p) store can hands in
       let st = state_in view.modules s p in
       record {
-        state = ap (λ (x : State ℕ). record x { enabled = enable_some lets_go (before (head_of side)) p.enabled })
+        state = ap (λ (x : State ℕ). record x { enabled = enable_some lets_go (before_head side st) p.enabled })
             (head-state view s t p beside stays side h only ∙ ap (λ x. with_stream side (record (stream side st) { head = x }) st) state)
             ∙ ap (λ ns. record (with_stream side (record (stream side st) { head = Did.state }) st) { enabled = ns })
-            (sym (noted-room side lets_go p.enabled) ∙ ap (λ n. noted side (Some places.Head) (by_name side places.Head) n p.enabled) notes);
+            (sym (noted-room side (earlier_at side 0 st) lets_go p.enabled) ∙ ap (λ n. noted side (Some places.Head) (earlier_at side 0 st) n p.enabled) notes);
         down_is = sent;
         tells = told;
         beside = head-changed view s t p beside stays side h only readable;
@@ -202,20 +209,19 @@ module _ {S : Type 0} (view : View S) (side : Side) (s t : StoreValue) (p : Stre
   pub came-by : (q : Streams S) → to.side ≡ side → IsStore s → CanPut s i (kept_by view p) → AreBeside view s p → is_open (stream to.side (state_in view.modules s p)).opened ≡ true
       → head_in t h ≡ Did.state → notes_of lets_go ≡ Did.notes → sent_down to down ≡ Did.sent → f' ≡ tallied Did.gone f
       → Changes (dropped s i) t (end_at side p).head.queue h.queue → HoldsReadable (list_at t h.queue.list) → FreesBlocks s t
-      → q ≡ record (with_end side (record (end_at side p) { head = h }) p) { enabled = enable_some lets_go (before (head_of to.side)) p.enabled }
+      → q ≡ behind
       → CameBy view s t p q i (sent_down to down) f f' (put_at_head to.side to m (state_in view.modules s p))
   came-by q is store can beside opened state notes sent told changes readable frees q_is =
       let st = state_in view.modules s p in
       let here : put_at_head to.side to m st ≡ at_head side st Did =
-      open-is to.side to m st (none-stand view s p beside) opened ∙ ap (λ sd. at_head sd st (head_put to m (stream sd st).head)) is ∙ ap (λ x. at_head side st (head_put to m x)) (head-is view s p side) in
-      let there : q ≡ behind = q_is ∙ ap (λ sd. record (with_end side (record (end_at side p) { head = h }) p) { enabled = enable_some lets_go (before (head_of sd)) p.enabled }) is in
+      open-is to.side to m st opened ∙ ap (λ sd. at_head sd st (head_put to m (stream sd st).head)) is ∙ ap (λ x. at_head side st (head_put to m x)) (head-is view s p side) in
       subst (λ w. CameBy view s t p q i (sent_down to down) f f' w) (sym here)
-      (subst (λ x. CameBy view s t p x i (sent_down to down) f f' (at_head side st Did)) (sym there) (came-at store can beside state notes sent told changes readable frees))
+      (subst (λ x. CameBy view s t p x i (sent_down to down) f f' (at_head side st Did)) (sym q_is) (came-at store can beside state notes sent told changes readable frees))
 
--- a put at a driver, by what the driver does
-abbrev at_driver : Side → State ℕ → Acted ℕ (plain.Queue ℕ) → Took ℕ (State ℕ)
-at_driver side s t = record {
-  state = record (with_stream side (with_driver_queue t.state (stream side s)) s) { enabled = noted side (Some places.Driver) (by_name side places.Driver) t.notes s.enabled };
+-- a put at a driver, by what the driver does at its place
+abbrev at_driver : Side → ℕ → State ℕ → Acted ℕ (plain.Queue ℕ) → Took ℕ (State ℕ)
+at_driver side at s t = record {
+  state = record (with_stream side (with_driver_queue t.state (stream side s)) s) { enabled = noted side (Some places.Driver) (earlier_at side at s) t.notes s.enabled };
   sent = t.sent;
   gone = t.gone;
 }
@@ -241,36 +247,37 @@ driver-room way s i chain room =
 
 module _ {M S : Type 0} (name : M → ℕ) (view : View S) where
   -- the driver takes the message
-  pub driver-by : (side : Side) (s t : StoreValue) (p q : Streams S) (d : Queue) (i : ℕ) (to : Spot) (across : Across) (acts : Acts M) (f f' : Fates)
-      → let m = message_in s i in let did = driver_put to.side across (record to { at = 1 }) m (queue_in s (end_at side p).driver) in
-      IsStore s → CanPut s i (kept_by view p) → IsChain (in_hand s i) → to.side ≡ side → across ≡ across_of to.side (state_in view.modules s p) → AreBeside view s p → queue_in t d ≡ did.state → acts.notes.items ≡ did.notes → parcels_in name t (sent_of acts.sent) ≡ did.sent
+  pub driver-by : (side : Side) (s t : StoreValue) (p q : Streams S) (d : Queue) (i : ℕ) (to : Spot) (at : ℕ) (across : Across) (acts : Acts M) (f f' : Fates)
+      → let m = message_in s i in let st = state_in view.modules s p in let did = driver_put to.side across (record to { at = at }) m (queue_in s (end_at side p).driver) in
+      IsStore s → CanPut s i (kept_by view p) → IsChain (in_hand s i) → to.side ≡ side → at ≡ driver_place to.side st → across ≡ across_of to.side st → AreBeside view s p → queue_in t d ≡ did.state → acts.notes.items ≡ did.notes → parcels_in name t (sent_of acts.sent) ≡ did.sent
       → f' ≡ tallied did.gone f → OnlyQueue s t (end_at side p).driver d → AreChains name t (sent_of acts.sent) → Hands s t i (λ _. 0) (λ _. 0) (λ j. times_sent name j (sent_of acts.sent))
       → Spends s t (driver_cost to.way m.kind) 0 → SamePool s t
-      → q ≡ record (with_end side (record (end_at side p) { driver = d }) p) { enabled = noted to.side (Some places.Driver) (by_name to.side places.Driver) acts.notes.items p.enabled }
-      → PutBy name view s t p q i (below_takes to.way (has_parts m) true) (sent_of acts.sent) f f' (put_at_driver to.side to m (state_in view.modules s p))
-  driver-by side s t p q d i to across acts f f' store can chain is across_is beside state notes sent told only chains hands spends pool q_is =
+      → q ≡ record (with_end side (record (end_at side p) { driver = d }) p) { enabled = noted side (Some places.Driver) (earlier_at side at st) acts.notes.items p.enabled }
+      → PutBy name view s t p q i (below_takes to.way (has_parts m) true) (sent_of acts.sent) f f' (put_at_driver to.side to m st)
+  driver-by side s t p q d i to at across acts f f' store can chain is at_is across_is beside state notes sent told only chains hands spends pool q_is =
       let m = message_in s i in
       let st = state_in view.modules s p in
-      let did = driver_put to.side across (record to { at = 1 }) m (queue_in s (end_at side p).driver) in
-      let names = noted to.side (Some places.Driver) (by_name to.side places.Driver) acts.notes.items p.enabled in
-      let none = none-stand view s p beside in
+      let queue = queue_in s (end_at side p).driver in
+      let did = driver_put to.side across (record to { at = at }) m queue in
+      let names = noted side (Some places.Driver) (earlier_at side at st) acts.notes.items p.enabled in
       let low = cost-low to.way s i chain in
       let stays : Stays s t (kept_by view p) = record {
         mblks = pool.mblks;
         dblks = pool.dblks;
         kept = λ j some. hands.others j (omega (arith, can.apart j, store.apart j, some)) refl (omega (arith, can.apart j, some));
       } in
-      let here : at_driver side st did ≡ put_at_driver to.side to m st =
-      ap (λ x. at_driver side st (driver_put to.side x (record to { at = 1 }) m (queue_in s (end_at side p).driver))) (across_is ∙ across-is-alone st none to.side)
-      ∙ ap (λ x. at_driver side st (driver_put to.side (across_alone to.side st) (record to { at = 1 }) m x)) (sym (driver-is view s p side))
-      ∙ ap (λ sd. at_driver sd st (driver_put to.side (across_alone to.side st) (record to { at = 1 }) m (stream sd st).driver.queue)) (sym is)
-      ∙ sym (driver-is-alone st none to.side to m) in
+      let there = driver_place to.side st in
+      let here : at_driver side at st did ≡ put_at_driver to.side to m st =
+      ap (λ n. at_driver side n st (driver_put to.side across (record to { at = n }) m queue)) at_is
+      ∙ ap (λ x. at_driver side there st (driver_put to.side x (record to { at = there }) m queue)) across_is
+      ∙ ap (λ x. at_driver side there st (driver_put to.side (across_of to.side st) (record to { at = there }) m x)) (sym (driver-is view s p side))
+      ∙ ap (λ sd. at_driver sd there st (driver_put to.side (across_of to.side st) (record to { at = there }) m (stream sd st).driver.queue)) (sym is) in
       subst (λ w. PutBy name view s t p q i (below_takes to.way (has_parts m) true) (sent_of acts.sent) f f' w) here
       (record {
         state = ap (λ x. state_in view.modules t x) q_is
             ∙ ap (λ (x : State ℕ). record x { enabled = names }) (driver-state view s t p beside stays side d only ∙ ap (λ x. with_stream side (with_driver_queue x (stream side st)) st) state)
             ∙ ap (λ ns. record (with_stream side (with_driver_queue did.state (stream side st)) st) { enabled = ns })
-            (ap (λ n. noted to.side (Some places.Driver) (by_name to.side places.Driver) n p.enabled) notes ∙ ap (λ sd. noted sd (Some places.Driver) (by_name sd places.Driver) did.notes p.enabled) is);
+            (ap (λ n. noted side (Some places.Driver) (earlier_at side at st) n p.enabled) notes);
         sent = sent;
         tells = told;
         beside = subst (λ x. AreBeside view t x) (sym q_is) (driver-changed view s t p beside stays side d only);
@@ -282,18 +289,6 @@ module _ {M S : Type 0} (name : M → ℕ) (view : View S) where
         spends = record { mblks = omega (arith, spends.mblks, low); dblks = omega (arith, spends.dblks, low) };
         pool = pool;
       })
-
-  pub put-more : (s t : StoreValue) (p q : Streams S) (m n k : ℕ) (sent_on : List (Sent M)) (f f' : Fates) (is : Took ℕ (State ℕ)) → n ≤ k → PutBy name view s t p q m n sent_on f f' is → PutBy name view s t p q m k sent_on f f' is
-  put-more s t p q m n k sent_on f f' is le put = record {
-    state = put.state;
-    sent = put.sent;
-    tells = put.tells;
-    beside = put.beside;
-    chains = put.chains;
-    hands = put.hands;
-    spends = record { mblks = omega (arith, put.spends.mblks, le); dblks = omega (arith, put.spends.dblks, le) };
-    pool = put.pool;
-  }
 
   -- a message goes, and the streams stay
   pub swaps-put : (s t : StoreValue) (p : Streams S) (m n k : ℕ) (made : List (Sent M)) (ps : List (Parcel ℕ)) (f f' : Fates) (is : Took ℕ (State ℕ))
@@ -312,12 +307,11 @@ module _ {M S : Type 0} (name : M → ℕ) (view : View S) where
       }
 
   -- the message itself goes on
-  pub passed-put : (s : StoreValue) (p : Streams S) (x : Sent M) (sent_on : List (Sent M)) (f : Fates) (to : Spot) → AreBeside view s p → IsChain (in_hand s (name x.message)) → x.to ≡ record to { at = 0 } → sent_on ≡ x ∷ []
+  pub passed-put : (s : StoreValue) (p : Streams S) (x : Sent M) (sent_on : List (Sent M)) (f : Fates) (to : Spot) → AreBeside view s p → IsChain (in_hand s (name x.message)) → x.to ≡ record to { at = modules_on to.side (state_in view.modules s p) } → sent_on ≡ x ∷ []
       → PutBy name view s s p p (name x.message) 0 sent_on f f (passed_up to (message_in s (name x.message)) (state_in view.modules s p))
   passed-put s p x sent_on f to beside chain on one = record {
     state = refl;
-    sent = one-parts name s x sent_on one ∙ ap (λ spot. record { to = spot; message = message_in s (name x.message) } ∷ []) on
-        ∙ ap (λ (t : Took ℕ (State ℕ)). t.sent) (sym (passed-is-alone (state_in view.modules s p) (none-stand view s p beside) to (message_in s (name x.message))));
+    sent = one-parts name s x sent_on one ∙ ap (λ spot. record { to = spot; message = message_in s (name x.message) } ∷ []) on;
     tells = refl;
     beside = beside;
     chains = one-chains name s x sent_on one chain;
@@ -326,16 +320,43 @@ module _ {M S : Type 0} (name : M → ℕ) (view : View S) where
     pool = record { mblks = refl; dblks = refl };
   }
 
-  -- behind the head
+  -- what a put takes, with all that it gives rise to
+  with-later : (s t : StoreValue) (p q : Streams S) (m takes all : ℕ) (sent_on : List (Sent M)) (f f' : Fates) (is : Took ℕ (State ℕ)) → takes + cost_of cost is.sent ≤ all
+      → PutBy name view s t p q m takes sent_on f f' is → PutAs name view s t p q m all (cost_of cost is.sent) sent_on f f' is
+  with-later s t p q m takes all sent_on f f' is low put = record {
+    state = put.state;
+    sent = put.sent;
+    tells = put.tells;
+    beside = put.beside;
+    chains = put.chains;
+    hands = put.hands;
+    spends = record { mblks = omega (arith, put.spends.mblks, low); dblks = omega (arith, put.spends.dblks, low) };
+    pool = put.pool;
+  }
+
+  -- at the head, and behind it
+  abbrev PutIn : (s t : StoreValue) (p q : Streams S) (i : ℕ) (to : Spot) (sent_on : List (Sent M)) (f f' : Fates) → Took ℕ (State ℕ) → Type 0
+  PutIn s t p q i to sent_on f f' is = PutAs name view s t p q i (cost to (message_in s i)) (cost_of cost is.sent) sent_on f f' is
+
+  pub head-put : (s t : StoreValue) (p q : Streams S) (i : ℕ) (to : Spot) (sent_on : List (Sent M)) (f f' : Fates) → let m = message_in s i in to.at ≡ 0
+      → PutBy name view s t p q i (head_takes m) sent_on f f' (put_at_head to.side to m (state_in view.modules s p)) → PutIn s t p q i to sent_on f f' (put_in to m (state_in view.modules s p))
+  head-put s t p q i to sent_on f f' top put =
+      let m = message_in s i in
+      let st = state_in view.modules s p in
+      let at : (to.at == 0) ≡ true = grind (arith, nat_tests) in
+      subst (λ b. PutIn s t p q i to sent_on f f' (cond b (put_at_head to.side to m st) (put_below to.way to m st))) (sym at)
+      (with-later s t p q i (head_takes m) (cost to m) sent_on f f' (put_at_head to.side to m st) (head-cost to m st top) put)
+
   pub behind-put : (way : Way) (s t : StoreValue) (p q : Streams S) (i : ℕ) (to : Spot) (sent_on : List (Sent M)) (f f' : Fates) → let m = message_in s i in AreBeside view s p → to.way ≡ way → (to.at ≡ 0 → ⊥)
-      → PutBy name view s t p q i (below_takes way (has_parts m) (is_across to m)) sent_on f f' (put_behind way to m (state_in view.modules s p)) → PutBy name view s t p q i (takes to m) sent_on f f' (put_in to m (state_in view.modules s p))
+      → PutBy name view s t p q i (below_takes way (has_parts m) (is_across to m)) sent_on f f' (put_behind way to m (state_in view.modules s p)) → PutIn s t p q i to sent_on f f' (put_in to m (state_in view.modules s p))
   behind-put way s t p q i to sent_on f f' beside is inside put =
       let m = message_in s i in
       let st = state_in view.modules s p in
       let below : (to.at == 0) ≡ false = grind (arith, nat_tests) in
-      subst (λ b. PutBy name view s t p q i (cond b (head_takes m) (below_takes to.way (has_parts m) (is_across to m))) sent_on f f' (cond b (put_at_head to.side to m st) (put_below to.way to m st))) (sym below)
-      (subst (λ w. PutBy name view s t p q i (below_takes to.way (has_parts m) (is_across to m)) sent_on f f' w) (sym (below-is-behind st (none-stand view s p beside) to.way to m below))
-      (subst (λ w. PutBy name view s t p q i (below_takes w (has_parts m) (is_across to m)) sent_on f f' (put_behind w to m st)) (sym is) put))
+      subst (λ b. PutIn s t p q i to sent_on f f' (cond b (put_at_head to.side to m st) (put_below to.way to m st))) (sym below)
+      (subst (λ w. PutIn s t p q i to sent_on f f' w) (sym (below-is-behind st (none-stand view s p beside) to.way to m below))
+      (with-later s t p q i (below_takes to.way (has_parts m) (is_across to m)) (cost to m) sent_on f f' (put_behind to.way to m st) (behind-cost to m st inside)
+      (subst (λ w. PutBy name view s t p q i (below_takes w (has_parts m) (is_across to m)) sent_on f f' (put_behind w to m st)) (sym is) put)))
 
   -- what a head sends down is made
   pub came-put : (s t u : StoreValue) (p q : Streams S) (m n k : ℕ) (down : List (Parcel ℕ)) (made : List (Sent M)) (f f' : Fates) (is : Took ℕ (State ℕ))

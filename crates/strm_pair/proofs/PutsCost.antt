@@ -1,5 +1,5 @@
 -- What a put in a pair takes, with what its messages take after it, is no more than what a delivery from there takes at most.
-use Rattle.std.proofs.Common.{ℕ, suc, ◌≡◌, ◌≤◌, ◌+◌, Bool, true, false, cond, List, [], ◌∷◌, ◌++◌, refl, sym, ap, subst, arith}
+use Rattle.std.proofs.Common.{ℕ, suc, ◌-◌, ◌≡◌, ◌≤◌, ◌+◌, Bool, true, false, cond, List, [], ◌∷◌, ◌++◌, length, refl, sym, ap, subst, arith}
 use Rattle.std.specs.Prelude.{◌==◌, ◌&&◌, ◌||◌, Option, None, Some}
 use Rattle.std.proofs.lemmas.Bool.Decides.{nat_tests}
 use Rattle.strm_types.specs.declared.flushing.FlushAsked.{FlushAsked}
@@ -18,15 +18,14 @@ use Rattle.strm_types.specs.Flushing.{is_flush, asked_by, flush_bytes, flush_mes
 use Rattle.strm_types.specs.Heads.{head_put, is_doubled, nak_down, obeyed, turned_round, waits_for_readers}
 use Rattle.strm_types.specs.Ioctls.{read_ioc, nak_message}
 use Rattle.strm_types.specs.Message.{Message, has_parts}
-use Rattle.strm_types.specs.Names.{is_master, is_open}
-use Rattle.strm_types.specs.Earlier.{NoModules}
-use Rattle.strm_types.specs.Puts.{is_turned, put_in, turns_round}
-use Rattle.strm_types.proofs.Alone.{across_alone, below_alone, driver_alone, head_alone, passed_alone, put-is-alone}
+use Rattle.strm_types.specs.Names.{is_master, is_open, other}
+use Rattle.strm_types.specs.Earlier.{driver_place, modules_on}
+use Rattle.strm_types.specs.Puts.{across_of, is_turned, passed_up, put_at_driver, put_at_head, put_behind, turns_round}
 use Rattle.strm_types.specs.Queue.{Queue}
 use Rattle.strm_types.specs.State.{Head, State, stream}
-use Rattle.strm_types.proofs.PutsFall.{reads-alone}
+use Rattle.strm_types.proofs.PutsFall.{few-stand, reads-alone}
 use Rattle.strm_frame.specs.Outboxes.{cost_of}
-use Rattle.strm_types.specs.Costs.{below_cost, below_takes, cost, cost_at, takes}
+use Rattle.strm_types.specs.Costs.{across_at, below_cost, below_takes, cost, cost_at, head_takes, is_across}
 
 -- what goes down from the head costs no more than what a driver makes of it
 down-few : (parts : Bool) → cond {A = ℕ} parts 0 3 ≤ 3
@@ -50,10 +49,22 @@ up-some : (turned : Bool) → 1 ≤ cond turned 4 1
 up-some true = omega arith
 up-some false = omega arith
 
--- what goes on to the head costs no more there
-up-more : (flush turned : Bool) → cond turned 4 0 ≤ cond turned 4 (cond flush 1 0)
-up-more flush true = omega arith
-up-more flush false = omega arith
+-- what comes up from the driver's place costs nothing more than what is turned round, at the head and at each module
+not-across : (flush : Bool) (at : ℕ) → at ≤ MODULES → across_at flush at ≡ false
+not-across true at low = grind (arith, nat_tests)
+not-across false at low = refl
+
+up-low : (at : ℕ) (flush turned : Bool) → at ≤ MODULES → cond (at == 0) (cond turned 4 0) (below_cost Up false (across_at flush at) turned) ≡ cond {A = ℕ} turned 4 0
+up-low at flush turned low = by (at == 0) turned (across_at flush at) (not-across flush at low)
+  where
+    by : (top turned across : Bool) → across ≡ false → cond top (cond turned 4 0) (below_cost Up false across turned) ≡ cond {A = ℕ} turned 4 0
+    by true turned across none = refl
+    by false true across none = refl
+    by false false across none = ap (λ b. cond {A = ℕ} b 1 0) none
+
+up-more : (across turned : Bool) → cond turned 4 0 ≤ cond turned 4 (cond across 1 0)
+up-more across true = omega arith
+up-more across false = omega arith
 
 module _ (C : Type 0) where
   abbrev Few : ℕ → List (Parcel C) → Type 0
@@ -81,12 +92,9 @@ module _ (C : Type 0) where
   reads-few asked true to =
       one-few (cost_at to false true false) to (flush_message (read_flush asked.band)) (let same = ap (cost_at to false true) (reads-alone asked.band) in omega (arith, same))
 
-  -- at a driver, where no module stands on the stream across
-  across-few : (side : Side) (across : Across) → across.bottom ≡ 0 → (asked : FlushAsked) (goes : Bool) → Few 0 (reader_flush goes asked (bottom_across side across))
-  across-few side across bottom asked goes =
-      let none = ap (λ at. cost_at (record (bottom_across side across) { at = at }) false true false) bottom in
-      let few = reads-few asked goes (bottom_across side across) in
-      omega (arith, none, few)
+  -- at a driver
+  across-few : (side : Side) (across : Across) → across.bottom ≤ MODULES → (asked : FlushAsked) (goes : Bool) → Few 0 (reader_flush goes asked (bottom_across side across))
+  across-few side across bottom asked goes = omega (arith, up-low across.bottom true false bottom, reads-few asked goes (bottom_across side across))
 
   sent-none : (most : ℕ) (S : Type 0) (b : Bool) (one another : Acted C S) → one.sent ≡ [] → another.sent ≡ [] → Few most (cond b one another).sent
   sent-none most S true one another first second = subst (λ ps. Few most ps) (sym first) (none-few most)
@@ -100,22 +108,26 @@ module _ (C : Type 0) where
   crossing-few most side across m q false = none-few most
 
   -- an answer goes to the head
-  ioctl-few : (side : Side) (across : Across) (here : Spot) (known : Option Ioc) (m : Message C) (q : Queue C) → here.at ≡ 1 → Few 1 (ioctl_put side across here known m q).sent
-  ioctl-few side across here None m q first = none-few 1
-  ioctl-few side across here (Some ioc) m q first = at (ioc.number == 0 || (is_master side && across.is_open))
+  ioctl-few : (side : Side) (across : Across) (here : Spot) (known : Option Ioc) (m : Message C) (q : Queue C) → Few 1 (ioctl_put side across here known m q).sent
+  ioctl-few side across here None m q = none-few 1
+  ioctl-few side across here (Some ioc) m q = at (ioc.number == 0 || (is_master side && across.is_open))
     where
       at : (crosses : Bool) → Few 1 (cond crosses (taken_in side across m q) (answered here ioc q)).sent
       at true = taken_in-few 1 side across m q
-      at false = one-few 1 (toward Up here) (nak_message ioc) (let same = ap (λ n. cost_at (toward Up (record here { at = n })) false false false) first in omega (arith, same))
+      at false = one-few 1 (toward Up here) (nak_message ioc) (free (here.at - 1 == 0))
+        where
+          free : (top : Bool) → cond {A = ℕ} top 0 0 ≤ 1
+          free true = omega arith
+          free false = omega arith
 
-  put_down-few : (side : Side) (across : Across) (here : Spot) (kind : MsgKind) (m : Message C) (q : Queue C) → across.bottom ≡ 0 → here.at ≡ 1 → Few 1 (put_down side across here kind m q).sent
-  put_down-few side across here Flush m q bottom first =
+  put_down-few : (side : Side) (across : Across) (here : Spot) (kind : MsgKind) (m : Message C) (q : Queue C) → across.bottom ≤ MODULES → Few 1 (put_down side across here kind m q).sent
+  put_down-few side across here Flush m q bottom =
       let asked = asked_by m.plain in
       both-few 0 1 _ _ (across-few side across bottom asked (asked.for_write && across.is_open)) (reads-few asked asked.for_read (driver_across side across))
-  put_down-few side across here Ioctl m q bottom first = ioctl-few side across here (read_ioc m.plain) m q first
-  put_down-few side across here kind m q bottom first = crossing-few 1 side across m q (crosses kind)
+  put_down-few side across here Ioctl m q bottom = ioctl-few side across here (read_ioc m.plain) m q
+  put_down-few side across here kind m q bottom = crossing-few 1 side across m q (crosses kind)
 
-  put_across-few : (side : Side) (across : Across) (kind : MsgKind) (m : Message C) (q : Queue C) → across.bottom ≡ 0 → Few 0 (put_across side across kind m q).sent
+  put_across-few : (side : Side) (across : Across) (kind : MsgKind) (m : Message C) (q : Queue C) → across.bottom ≤ MODULES → Few 0 (put_across side across kind m q).sent
   put_across-few side across Flush m q bottom = at (asked_by m.plain).for_read
     where
       at : (b : Bool) → Few 0 (cond b (record (own_flushed side (asked_by m.plain) q) { sent = reader_flush across.is_open (asked_by m.plain) (bottom_across side across) }) (freed q)).sent
@@ -123,15 +135,15 @@ module _ (C : Type 0) where
       at false = none-few 0
   put_across-few side across kind m q bottom = none-few 0
 
-  came-down-few : (side : Side) (across : Across) (here : Spot) (m : Message C) (q : Queue C) → across.bottom ≡ 0 → here.at ≡ 1
+  came-down-few : (side : Side) (across : Across) (here : Spot) (m : Message C) (q : Queue C) → across.bottom ≤ MODULES
       → Few (cond (has_parts m) 0 1) (driver_put side across (record here { way = Down }) m q).sent
-  came-down-few side across here m q bottom first = at (has_parts m)
+  came-down-few side across here m q bottom = at (has_parts m)
     where
       at : (parts : Bool) → Few (cond parts 0 1) (cond parts (taken_in side across m q) (put_down side across (record here { way = Down }) m.kind m q)).sent
       at true = taken_in-few 0 side across m q
-      at false = put_down-few side across (record here { way = Down }) m.kind m q bottom first
+      at false = put_down-few side across (record here { way = Down }) m.kind m q bottom
 
-  came-up-few : (side : Side) (across : Across) (here : Spot) (m : Message C) (q : Queue C) → across.bottom ≡ 0 → Few 0 (driver_put side across (record here { way = Up }) m q).sent
+  came-up-few : (side : Side) (across : Across) (here : Spot) (m : Message C) (q : Queue C) → across.bottom ≤ MODULES → Few 0 (driver_put side across (record here { way = Up }) m q).sent
   came-up-few side across here m q bottom = at (has_parts m)
     where
       at : (parts : Bool) → Few 0 (cond parts (taken_in side across m q) (put_across side across m.kind m q)).sent
@@ -186,42 +198,48 @@ module _ (C : Type 0) where
       at true = head-stays (is_turned m) _ (sent-none 0 (Head C) (is_doubled m h.queue.messages) _ _ refl refl)
       at false = obeyed-fits here m.kind m.plain h
 
-  -- in a pair where no module stands
+  -- in a pair
   either-fits : (own all : ℕ) (b : Bool) (one another : Took C (State C)) → Fits own one.sent all → Fits own another.sent all → Fits own (cond b one another).sent all
   either-fits own all true one another first second = first
   either-fits own all false one another first second = second
 
-  reached-fits : (side : Side) (here : Spot) (m : Message C) (s : State C) → FitsHead (is_turned m) (head_alone side here m s).sent
+  reached-fits : (side : Side) (here : Spot) (m : Message C) (s : State C) → FitsHead (is_turned m) (put_at_head side here m s).sent
   reached-fits side here m s =
       either-fits (cond (is_turned m) 1 0) (cond (is_turned m) 4 0) (is_open (stream side s).opened) _ _ (head-fits here m (stream side s).head) (head-stays (is_turned m) [] (none-few 0))
 
-  going-up-fits : (here : Spot) (m : Message C) (s : State C) (flush : Bool) → Fits 0 (passed_alone (record here { way = Up }) m s).sent (cond (is_turned m) 4 (cond flush 1 0))
-  going-up-fits here m s flush =
-      let more = up-more flush (is_turned m) in
-      few-fits 0 (cond (is_turned m) 4 0) (cond (is_turned m) 4 (cond flush 1 0)) _ (one-few (cond (is_turned m) 4 0) (record here { at = 0; way = Up }) m (omega arith)) (omega (arith, more))
+  few-on : (side : Side) (s : State C) → modules_on side s ≤ MODULES
+  few-on side s = few-stand (length (stream side s).modules)
 
-  up-fits : (here : Spot) (m : Message C) (s : State C) (flush last : Bool) →
-      Fits (cond (flush && last) 1 0) (cond (flush && last) (driver_alone here.side (record here { way = Up }) m s) (passed_alone (record here { way = Up }) m s)).sent (cond (is_turned m) 4 (cond flush 1 0))
-  up-fits here m s true true =
-      let some = up-some (is_turned m) in
-      few-fits 1 0 (cond (is_turned m) 4 1) _ (came-up-few here.side (across_alone here.side s) (record here { at = 1 }) m (stream here.side s).driver.queue refl) (omega (arith, some))
-  up-fits here m s true false = going-up-fits here m s true
-  up-fits here m s false last = going-up-fits here m s false
+  passed-fits : (here : Spot) (m : Message C) (s : State C) (across : Bool) → Fits 0 (passed_up (record here { way = Up }) m s).sent (cond (is_turned m) 4 (cond across 1 0))
+  passed-fits here m s across =
+      let at = modules_on here.side s in
+      few-fits 0 (cond (is_turned m) 4 0) (cond (is_turned m) 4 (cond across 1 0)) _
+      (one-few (cond (is_turned m) 4 0) (record here { at = at; way = Up }) m (omega (arith, up-low at (is_flush m.kind) (is_turned m) (few-on here.side s))))
+      (omega (arith, up-more across (is_turned m)))
 
-  below-fits : (way : Way) (here : Spot) (m : Message C) (s : State C) → let to : Spot = record here { way = way } in
-      Fits (below_takes way (has_parts m) (is_flush m.kind && here.at == suc MODULES)) (below_alone way to m s).sent (below_cost way (has_parts m) (is_flush m.kind) (is_turned m))
-  below-fits Down here m s =
+  up-fits : (here : Spot) (m : Message C) (s : State C) (across : Bool) →
+      Fits (cond across 1 0) (cond across (put_at_driver here.side (record here { way = Up }) m s) (passed_up (record here { way = Up }) m s)).sent (cond (is_turned m) 4 (cond across 1 0))
+  up-fits here m s true =
+      few-fits 1 0 (cond (is_turned m) 4 1) _ (came-up-few here.side (across_of here.side s) (record here { at = driver_place here.side s }) m (stream here.side s).driver.queue (few-on (other here.side) s)) (omega (arith, up-some (is_turned m)))
+  up-fits here m s false = passed-fits here m s false
+
+  behind-fits : (way : Way) (here : Spot) (m : Message C) (s : State C) → let to : Spot = record here { way = way } in
+      Fits (below_takes way (has_parts m) (is_across to m)) (put_behind way to m s).sent (below_cost way (has_parts m) (is_across to m) (is_turned m))
+  behind-fits Down here m s =
       few-fits (cond (has_parts m) 0 2) (cond (has_parts m) 0 1) (cond (has_parts m) 0 3) _
-      (came-down-few here.side (across_alone here.side s) (record here { at = 1 }) m (stream here.side s).driver.queue refl refl) (down-all (has_parts m))
-  below-fits Up here m s = up-fits here m s (is_flush m.kind) (here.at == suc MODULES)
+      (came-down-few here.side (across_of here.side s) (record here { at = driver_place here.side s }) m (stream here.side s).driver.queue (few-on (other here.side) s)) (down-all (has_parts m))
+  behind-fits Up here m s = up-fits here m s (is_across here m)
 
-  put-fits : (way : Way) (here : Spot) (m : Message C) (s : State C) (top : Bool) → let to : Spot = record here { way = way } in
-      Fits (cond top (cond (is_turned m) 1 0) (below_takes way (has_parts m) (is_flush m.kind && here.at == suc MODULES)))
-      (cond top (head_alone here.side to m s) (below_alone way to m s)).sent
-      (cond top (cond (is_turned m) 4 0) (below_cost way (has_parts m) (is_flush m.kind) (is_turned m)))
-  put-fits way here m s true = reached-fits here.side (record here { way = way }) m s
-  put-fits way here m s false = below-fits way here m s
+-- What a put takes itself, and what its messages take after it, is within what a delivery from there takes: at the head, and behind it
+-- where no module stands at the place.
+pub head-cost : {C : Type 0} (to : Spot) (m : Message C) (s : State C) → to.at ≡ 0 → head_takes m + cost_of cost (put_at_head to.side to m s).sent ≤ cost to m
+head-cost {C = C} to m s top =
+    let same : cost to m ≡ cond (is_turned m) 4 0 = ap (λ at. cost_at (record to { at = at }) (has_parts m) (is_flush m.kind) (is_turned m)) top in
+    omega (arith, same, reached-fits C to.side to m s)
 
--- what a put takes itself, and what its messages take after it, is within what a delivery from there takes
-pub puts-cost : {C : Type 0} (to : Spot) (m : Message C) (s : State C) → NoModules s → takes to m + cost_of cost (put_in to m s).sent ≤ cost to m
-puts-cost {C = C} to m s none = subst (λ (t : Took C (State C)). takes to m + cost_of cost t.sent ≤ cost to m) (sym (put-is-alone s none to m)) (put-fits C to.way to m s (to.at == 0))
+pub behind-cost : {C : Type 0} (to : Spot) (m : Message C) (s : State C) → (to.at ≡ 0 → ⊥) → below_takes to.way (has_parts m) (is_across to m) + cost_of cost (put_behind to.way to m s).sent ≤ cost to m
+behind-cost {C = C} to m s inside =
+    let below : (to.at == 0) ≡ false = grind (arith, nat_tests) in
+    let same : cost to m ≡ below_cost to.way (has_parts m) (is_across to m) (is_turned m) =
+    ap (λ top. cond top (cond (is_turned m) 4 0) (below_cost to.way (has_parts m) (is_across to m) (is_turned m))) below in
+    omega (arith, same, behind-fits C to.way to m s)

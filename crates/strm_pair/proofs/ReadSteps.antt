@@ -1,13 +1,13 @@
 -- A read of a side's head.
 use Rattle.std.proofs.Common.{ℕ, ◌≡◌, Bool, List, sym, ap, ◌∙◌}
-use Rattle.std.specs.Prelude.{min, Option}
+use Rattle.std.specs.Prelude.{min}
 use Rattle.strm_types.specs.declared.answers.Answer.TheVariants.{Bytes}
 use Rattle.strm_types.specs.declared.limits.TheConstants.{READ_MAX}
 use Rattle.strm_types.specs.declared.names.Side.{Side}
 use Rattle.strm_types.specs.declared.rules.Fates.{Fates}
 use Rattle.strm_types.specs.Deliver.{tallied}
-use Rattle.strm_types.specs.declared.names.QueueName.{QueueName}
-use Rattle.strm_types.specs.Names.{before, direction_of, enable_some, head_of}
+use Rattle.strm_types.specs.Earlier.{before_head}
+use Rattle.strm_types.specs.Names.{direction_of, enable_some, head_of}
 use Rattle.strm_types.specs.Reads.{head_draw, read_queue, read_lets_go, read_gone}
 use Rattle.strm_types.specs.State as plain
 use Rattle.strm_types.specs.State.{State, stream, with_stream}
@@ -19,8 +19,7 @@ use Rattle.strm_pair.specs.declared.streams.Streams.{Streams}
 use Rattle.strm_pair.specs.Framing.{still}
 use Rattle.strm_pair.specs.Pairs.{state_in, end_at, with_end, AreBeside}
 use Rattle.strm_pair.specs.PlainCalls.{read_plain, read_lets}
-use Rattle.strm_types.proofs.Alone.{head-lets-go}
-use Rattle.strm_pair.proofs.Sides.{none-stand, head-changed, head-state, head-is, only-kept}
+use Rattle.strm_pair.proofs.Sides.{head-changed, head-state, head-is, only-kept}
 use Rattle.strm_pair.specs.Streams.{View}
 
 module _ {S : Type 0} (view : View S) (side : Side) (s : StoreValue) (p : Streams S) (most n : ℕ) (most_is : most ≡ min n READ_MAX) where
@@ -41,7 +40,7 @@ module _ {S : Type 0} (view : View S) (side : Side) (s : StoreValue) (p : Stream
   module _ (t : StoreValue) (h : Head) (lets_go : Bool) (beside : AreBeside view s p) (keeps : Keeps s t (end_at side p).head.queue h.queue) (modes : h ≡ record (end_at side p).head { queue = h.queue }) where
     -- the streams behind it
     abbrev behind : Streams S
-    behind = record (with_end side (record (end_at side p) { head = h }) p) { enabled = enable_some lets_go (before (head_of side)) p.enabled }
+    behind = record (with_end side (record (end_at side p) { head = h }) p) { enabled = enable_some lets_go (before_head side (state_in view.modules s p)) p.enabled }
 
     pub read-beside : IsHeadQueue t h.queue → AreBeside view t behind
     read-beside ready = head-changed view s t p beside (still view s t p beside keeps.mblks keeps.dblks) side h (only-kept s t (end_at side p).head.queue h.queue keeps) ready.readable
@@ -49,26 +48,16 @@ module _ {S : Type 0} (view : View S) (side : Side) (s : StoreValue) (p : Stream
     -- the state behind it, by what the head was
     abbrev led : plain.Head ℕ → ℕ → State ℕ
     led x m = record (with_stream side (record (stream side (state_in view.modules s p)) { head = record x { queue = read_queue x.read_mode x.control_mode m x.queue } }) (state_in view.modules s p)) {
-      enabled = enable_some (read_lets_go x.read_mode x.control_mode m x.queue) (before (head_of side)) p.enabled;
+      enabled = enable_some (read_lets_go x.read_mode x.control_mode m x.queue) (before_head side (state_in view.modules s p)) p.enabled;
     }
-
-    -- the same by the nearest earlier queue
-    abbrev led_by : Option QueueName → State ℕ
-    led_by earlier =
-        let above = stream side (state_in view.modules s p) in
-        let x = above.head in
-        record (with_stream side (record above { head = record x { queue = read_queue x.read_mode x.control_mode (min n READ_MAX) x.queue } }) (state_in view.modules s p)) {
-          enabled = enable_some (read_lets_go x.read_mode x.control_mode (min n READ_MAX) x.queue) earlier p.enabled;
-        }
 
     pub read-state : queue_in t h.queue ≡ read_queue here.read_mode here.control_mode most here.queue → lets_go ≡ read_lets_go here.read_mode here.control_mode most here.queue → state_in view.modules t behind ≡ (read_plain side n (state_in view.modules s p)).state
     read-state queue went =
-        ap (λ (x : State ℕ). record x { enabled = enable_some lets_go (before (head_of side)) p.enabled })
+        ap (λ (x : State ℕ). record x { enabled = enable_some lets_go (before_head side (state_in view.modules s p)) p.enabled })
         (head-state view s t p beside (still view s t p beside keeps.mblks keeps.dblks) side h (only-kept s t (end_at side p).head.queue h.queue keeps)
         ∙ ap (λ x. with_stream side (record (stream side (state_in view.modules s p)) { head = x }) (state_in view.modules s p)) (ap (head_in t) modes ∙ ap (λ q. record here { queue = q }) queue))
         ∙ ap (λ b. record (with_stream side (record (stream side (state_in view.modules s p)) { head = record here { queue = read_queue here.read_mode here.control_mode most here.queue } }) (state_in view.modules s p)) {
-          enabled = enable_some b (before (head_of side)) p.enabled;
+          enabled = enable_some b (before_head side (state_in view.modules s p)) p.enabled;
         }) went
         ∙ ap (λ m. led here m) most_is
         ∙ ap (λ x. led x (min n READ_MAX)) (sym (head-is view s p side))
-        ∙ ap (λ earlier. led_by earlier) (sym (head-lets-go (state_in view.modules s p) (none-stand view s p beside) side))

@@ -58,29 +58,6 @@ pub took : {A S : Type 0} (view : View S) (name : A → ℕ) (side : Side) (s t 
 took view name side s t p q None beside none = none
 took view name side s t p q (Some m) beside d = took-first view side s t p q (name m) beside d
 
--- the end of a turn
-pub ended-state : {S : Type 0} (view : View S) (s : StoreValue) (p : Streams S) (side : Side) (size : ℕ) (q : Queue) (room more : Bool) → AreBeside view s p → OnlyQueue s s (end_at side p).driver q
-    → queue_in s q ≡ settled size (queue_in s (end_at side p).driver)
-    → room ≡ settling_relieves size (queue_in s (end_at side p).driver) → more ≡ not (is_none_left (messages_on s (end_at side p).driver.list))
-    → (names : List QueueName) → names ≡ enable_if more (driver_of side) (cond room (enable_found (before (driver_of side)) p.enabled) p.enabled)
-    → state_in view.modules s (record (with_end side (record (end_at side p) { driver = q }) p) { enabled = names }) ≡ turn_ended side size (state_in view.modules s p)
-ended-state view s p side size q room more beside only queue room_is more_is names named =
-    let st = state_in view.modules s p in
-    let d = queue_in s (end_at side p).driver in
-    let same = driver-is view s p side in
-    ap (λ (x : State ℕ). record x { enabled = names }) (driver-state view s s p beside (still view s s p beside refl refl) side q only ∙ ap (λ x. with_driver side x st) queue)
-    ∙ ap (λ ns. record (with_driver side (settled size d) st) { enabled = ns })
-    (named ∙ ap (λ r. enable_if more (driver_of side) r) (found room (before (driver_of side)) p.enabled) ∙ ap (λ m. enable_if m (driver_of side) (enable_some room (before (driver_of side)) p.enabled)) more_is
-    ∙ ap (λ r. enable_if (not (is_none_left d.messages)) (driver_of side) (enable_some r (before (driver_of side)) p.enabled)) room_is)
-    ∙ ap (λ (x : plain.Queue ℕ). record (with_driver side (settled size x) st) {
-      enabled = enable_if (not (is_none_left x.messages)) (driver_of side) (enable_some (settling_relieves size x) (before (driver_of side)) p.enabled);
-    }) (sym same)
-    ∙ sym (turn-ends-alone st (none-stand view s p beside) side size)
-  where
-    found : (b : Bool) (n : Option QueueName) (ns : List QueueName) → cond b (enable_found n ns) ns ≡ enable_some b n ns
-    found true n ns = refl
-    found false n ns = refl
-
 abbrev first_message : List (Message ℕ) → Message ℕ → Message ℕ
 first_message [] m = m
 first_message (x ∷ q) m = x

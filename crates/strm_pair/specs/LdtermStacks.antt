@@ -1,9 +1,13 @@
 -- Stacks on which ldterm may stand.
-use Rattle.std.specs.Prelude.{ℕ, ◌≡◌, List, [], ◌∷◌, map}
+use Rattle.std.specs.Prelude.{ℕ, zero, suc, ◌≡◌, ◌<◌, ◌≤◌, ◌-◌, List, [], ◌∷◌, length, map, slice_index_or, None}
 use Rattle.std.specs.List.{AllByRecursion}
-use Rattle.std.proofs.Common.{arith}
+use Rattle.std.proofs.Common.{arith, refl}
+use Rattle.std.proofs.lemmas.List.{length-map}
 use Rattle.std.proofs.lemmas.List.Sums.{sum_by-cons}
+use Rattle.strm_types.specs.declared.names.ModuleName.TheVariants as names
+use Rattle.strm_types.specs.Earlier.{places_of}
 use Rattle.strm_types.specs.Ldterms.{IsIdle}
+use Rattle.strm_types.specs.Names.{place_of}
 use Rattle.strm_types.specs.declared.names.Way.TheVariants.{Up}
 use Rattle.strm_blocks.specs.Blocks.{StoreValue}
 use Rattle.strm_frame.specs.StackLaws.{stack-stays}
@@ -21,6 +25,15 @@ module _ {M : Type 0} (name : M → ℕ) where
   idle-keeps s [] held idle i = omega arith
   idle-keeps s (x ∷ xs) held idle i =
       omega (arith, sum_by-cons (λ y. keeps name y i) x xs, served-rests name s x Up i held.0 idle.0, idle-keeps s xs held.1 idle.1 i)
+
+  -- the place of queues that each has
+  place-among : (s : StoreValue) (xs : List (Ldterm M)) (i : ℕ) → i < length xs → slice_index_or (places_of (map (ldterm_in name s) xs)) i None ≡ place_of names.Ldterm
+  place-among s [] i low = absurd (omega (arith, low))
+  place-among s (x ∷ xs) zero low = refl
+  place-among s (x ∷ xs) (suc i) low = place-among s xs i (omega (arith, low))
+
+  pub place-at : (s : StoreValue) (xs : List (Ldterm M)) (at : ℕ) → 0 < at → at ≤ length (map (ldterm_in name s) xs) → slice_index_or (places_of (map (ldterm_in name s) xs)) (at - 1) None ≡ place_of names.Ldterm
+  place-at s xs at inside within = place-among s xs (at - 1) (omega (arith, inside, within, length-map xs (ldterm_in name s)))
 
   abbrev pub stacks_of : View (Stream (Ldterm M))
   stacks_of = record {

@@ -4,6 +4,7 @@ pub mod Framing
 pub mod Streams
 pub mod Journals
 pub mod LdtermStacks
+pub mod Nearest
 pub mod Pairs
 pub mod PairViews
 pub mod PlainCalls

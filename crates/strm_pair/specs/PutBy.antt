@@ -12,16 +12,20 @@ use Rattle.strm_pair.specs.Pairs.{state_in, AreBeside, kept_by}
 use Rattle.strm_pair.specs.Streams.{View}
 
 -- A put did what a definition says: the message has gone, and what is sent on has come in hand, beside what the stacks keep. No more
--- blocks of each kind were taken than `takes`.
-pub record PutBy {M S : Type 0} (name : M → ℕ) (view : View S) (old new : StoreValue) (p q : Streams S) (message takes : ℕ) (sent_on : List (Sent M)) (told told' : Fates) (is : Took ℕ (State ℕ)) : Type 0 where
+-- blocks of each kind were taken than `most`, and where that many were free, `later` are free behind it.
+pub record PutAs {M S : Type 0} (name : M → ℕ) (view : View S) (old new : StoreValue) (p q : Streams S) (message most later : ℕ) (sent_on : List (Sent M)) (told told' : Fates) (is : Took ℕ (State ℕ)) : Type 0 where
   pub state : state_in view.modules new q ≡ is.state
   pub sent : parcels_in name new sent_on ≡ is.sent
   pub tells : told' ≡ tallied is.gone told
   pub beside : AreBeside view new q
   pub chains : AreChains name new sent_on
   pub hands : Handles old new (once message) (kept_by view p) (kept_by view q) (λ i. times_sent name i sent_on)
-  pub spends : Spends old new takes 0
+  pub spends : Spends old new most later
   pub pool : SamePool old new
+
+-- the same where no more were taken than `takes`
+abbrev pub PutBy : {M S : Type 0} → (M → ℕ) → View S → (old new : StoreValue) → (p q : Streams S) → (message takes : ℕ) → List (Sent M) → (told told' : Fates) → Took ℕ (State ℕ) → Type 0
+PutBy name view old new p q message takes sent_on told told' is = PutAs name view old new p q message takes 0 sent_on told told' is
 
 -- A put at an open head did what a definition says: the message has gone, and this is to be sent down. No block was taken, and the
 -- stacks keep what they did.

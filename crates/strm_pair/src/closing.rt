@@ -60,8 +60,7 @@ impl<S: Drop> Streams<S> {
         ensures held { AreHeld B.view (B.value store.new) self.new }
         ensures pool { SamePool (B.value store.old) (B.value store.new) }
     {
-        let name = side.head();
-        let direction = name.direction();
+        let direction = side.head().direction();
         let lets_go = match side {
             Side::Master => clear_queue(
                 store,
@@ -78,7 +77,7 @@ impl<S: Drop> Streams<S> {
                 told,
             ),
         };
-        self.let_go(name, lets_go);
+        self.let_go::<B>(side, Way::Up, 0, lets_go);
     }
 
     // Lets all go that stands at a side's driver.
@@ -90,8 +89,8 @@ impl<S: Drop> Streams<S> {
         ensures held { AreHeld B.view (B.value store.new) self.new }
         ensures pool { SamePool (B.value store.old) (B.value store.new) }
     {
-        let name = side.driver();
-        let direction = name.direction();
+        let direction = side.driver().direction();
+        let at = self.driver_place::<B>(side);
         let lets_go = match side {
             Side::Master => clear_queue(
                 store,
@@ -108,7 +107,7 @@ impl<S: Drop> Streams<S> {
                 told,
             ),
         };
-        self.let_go(name, lets_go);
+        self.let_go::<B>(side, Way::Down, at, lets_go);
     }
 
     // A side is closed, with a head as new.

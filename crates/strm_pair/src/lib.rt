@@ -4,6 +4,7 @@
 
 mod answers;
 mod closing;
+mod earlier;
 mod ends;
 mod ioctls;
 mod journal;

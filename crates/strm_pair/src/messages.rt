@@ -153,7 +153,7 @@ impl<S: Drop> Streams<S> {
                 told,
             ),
         };
-        self.let_go(side.head(), got.lets_go);
+        self.let_go::<B>(side, Way::Up, 0, got.lets_go);
         Answer::Msg {
             prio: got.prio,
             control: got.control,

@@ -6,31 +6,28 @@ ghost use Rattle.strm_types.specs.declared.limits.TheConstants.{MODULES};
 ghost use Rattle.strm_types.specs.declared.names.Way.TheVariants.{Up};
 ghost use Rattle.strm_types.specs.Flushing.{is_flush};
 ghost use Rattle.strm_types.specs.Message.{has_parts};
-ghost use Rattle.strm_types.specs.Names.{before, enable_some, is_open};
-ghost use Rattle.strm_types.specs.Puts.{noted, across_of, put_at_head, put_at_driver, passed_up, put_behind, put_in, far};
-ghost use Rattle.strm_types.specs.Earlier.{by_name};
+ghost use Rattle.strm_types.specs.Names.{is_open};
+ghost use Rattle.strm_types.specs.Puts.{across_of, put_at_head, put_at_driver, passed_up, put_behind, put_in, far};
 ghost use Rattle.strm_types.specs.State.{stream};
 ghost use Rattle.strm_blocks.specs.Blocks.{in_hand, block_at};
 ghost use Rattle.strm_msg.specs.Messages.{IsChain};
 ghost use Rattle.strm_frame.specs.Hands.{CanPut, HasRoom, Shifts, once};
-ghost use Rattle.strm_frame.specs.Outboxes.{message_in, sent_of, times_sent, parcels_in, AreChains};
+ghost use Rattle.strm_frame.specs.Outboxes.{cost_of, message_in, sent_of, times_sent, parcels_in, AreChains};
 ghost use Rattle.strm_types.specs.Reads.{is_there};
 ghost use Rattle.strm_head.specs.Heads.{down_message, sent_down};
 ghost use Rattle.strm_pty.specs.Does.{Makes, MadeOne};
-ghost use Rattle.strm_types.specs.Costs.{head_takes, is_across, below_takes, cost, takes};
-ghost use Rattle.strm_pair.specs.PutBy.{PutBy, CameBy};
+ghost use Rattle.strm_types.specs.Costs.{head_takes, is_across, below_takes, cost};
+ghost use Rattle.strm_pair.specs.PutBy.{PutAs, PutBy, CameBy};
 ghost use Rattle.strm_pair.specs.Streams.{Modules};
 
 use crate::stacks::Stacks;
 use crate::streams::Streams;
 use strm_blocks::Blocks;
-use strm_frame::{Enabled, Outbox, Sent, Stations};
+use strm_frame::{Outbox, Sent, Stations};
 use strm_head::{Down, make_flush};
 use strm_msg::booked_size;
 use strm_pty::{make, put};
-use strm_types::{
-    Across, Band, Fates, MODULES, MsgKind, Note, Place, QueueName, Rule, Side, Spot, Way,
-};
+use strm_types::{Across, Fates, MODULES, MsgKind, Place, Rule, Side, Spot, Way};
 
 // Makes what a head sends down, in one block of each kind.
 fn make_down<B: Blocks>(store: &mut B, down: Down) -> B::Mp
@@ -70,47 +67,18 @@ fn is_flush(kind: MsgKind) -> bool
     matches!(kind, MsgKind::Flush)
 }
 
-// Enables what a put says of the queues of a place, one note after the other.
-fn note(enabled: &mut Enabled, side: Side, place: Place, notes: &[Note])
-    ensures { enabled.new ≡ noted side (Some place) (by_name side place) notes.now enabled.old }
-{
-    let Some((first, rest)) = notes.split_first() else {
-        return;
-    };
-    match *first {
-        Note::Enable(way) => enabled.enable(QueueName { side, place, way }),
-        Note::Room(way) => enabled.enable_found(QueueName { side, place, way }.before()),
-    }
-    note(enabled, side, place, rest);
-}
-
 impl<S: Drop> Streams<S> {
     ghost use Rattle.strm_pair.specs.Pairs.{state_in, AreBeside, kept_by};
     ghost use Rattle.strm_blocks.specs.Blocks.{StoreValue};
 
-    /// Enables the nearest earlier queue with service before one that lets a waiting writer go.
-    pub(crate) fn let_go(&mut self, name: QueueName, lets_go: bool)
-        ensures { self.new ≡ record self.old { enabled = enable_some lets_go (before name) self.old.enabled } }
-    {
-        if lets_go {
-            self.enabled.enable_found(name.before());
-        }
-    }
-
-    // Does what a put says of the queues of a place.
-    fn note(&mut self, side: Side, place: Place, notes: &[Note])
-        ensures { self.new ≡ record self.old { enabled = noted side (Some place) (by_name side place) notes.now self.old.enabled } }
-    {
-        note(&mut self.enabled, side, place, notes);
-    }
-
     // What the driver of a side is told of the other one.
     fn across<B: Stacks<Stack = S>>(&self, side: Side) -> Across
-        ensures { (s : StoreValue) → AreBeside B.view s self.now → result ≡ across_of side (state_in B.view.modules s self.now) }
+        ensures { (s : StoreValue) → result ≡ across_of side (state_in B.view.modules s self.now) }
     {
+        let other = side.other();
         Across {
-            is_open: self.end(side.other()).opened.is_open(),
-            bottom: 0,
+            is_open: self.end(other).opened.is_open(),
+            bottom: self.modules_on::<B>(other),
             ended: self.master.opened.is_closed(),
         }
     }
@@ -159,7 +127,7 @@ impl<S: Drop> Streams<S> {
             Side::Master => self.master.head.put(store, to, message, told),
             Side::Slave => self.slave.head.put(store, to, message, told),
         };
-        self.let_go(to.side.head(), came.lets_go);
+        self.let_go::<B>(to.side, Way::Up, 0, came.lets_go);
         came.down
     }
 
@@ -205,16 +173,17 @@ impl<S: Drop> Streams<S> {
     {
         store.audit();
         let across = self.across::<B>(to.side);
-        let here = Spot { at: 1, ..to };
+        let at = self.driver_place::<B>(to.side);
+        let here = Spot { at, ..to };
         let acts = match to.side {
             Side::Master => put(store, &mut self.master.driver, across, here, message, told),
             Side::Slave => put(store, &mut self.slave.driver, across, here, message, told),
         };
-        self.note(to.side, Place::Driver, acts.notes.as_slice());
+        self.note::<B>(to.side, Some(Place::Driver), at, acts.notes.as_slice());
         acts.sent
     }
 
-    // A message at a place where nothing stands goes on to the head.
+    // A message at a place where nothing stands goes on to the lowest module, and where there is none to the head.
     fn pass_up<B: Stacks<Stack = S>>(&self, store: &B, to: Spot, message: B::Mp) -> Outbox<B::Mp>
         requires beside { AreBeside B.view (B.value store.now) self.now }
         requires chain { IsChain (in_hand (B.value store.now) (B.name message)) }
@@ -223,8 +192,9 @@ impl<S: Drop> Streams<S> {
             (passed_up to (message_in s (B.name message)) (state_in B.view.modules s self.now)) }
     {
         let _ = store;
+        let at = self.modules_on::<B>(to.side);
         Outbox::one(Sent {
-            to: Spot { at: 0, ..to },
+            to: Spot { at, ..to },
             message,
         })
     }
@@ -265,10 +235,11 @@ impl<S: Drop> Streams<S> {
         requires beside { AreBeside B.view (B.value store.old) self.old }
         requires can_put { CanPut (B.value store.old) (B.name message) (kept_by B.view self.old) }
         requires chain { IsChain (in_hand (B.value store.old) (B.name message)) }
-        requires room { HasRoom (B.value store.old) (takes to (message_in (B.value store.old) (B.name message))) }
+        requires room { HasRoom (B.value store.old) (cost to (message_in (B.value store.old) (B.name message))) }
         ensures { let s = B.value store.old in let m = message_in s (B.name message) in
-            PutBy B.name B.view s (B.value store.new) self.old self.new (B.name message) (takes to m)
-            (sent_of result) told.old told.new (put_in to m (state_in B.view.modules s self.old)) }
+            let is = put_in to m (state_in B.view.modules s self.old) in
+            PutAs B.name B.view s (B.value store.new) self.old self.new (B.name message) (cost to m) (cost_of cost is.sent)
+            (sent_of result) told.old told.new is }
     {
         if to.at == 0 {
             return self.put_head(store, to, message, told);

@@ -1,12 +1,33 @@
-//! The modules of a side's stream, beside a store.
+//! The modules of a side's stream, beside a store (streamio(7I): I_PUSH, I_POP, I_LOOK; STREAMS Programming Guide, "Modules"). Places count
+//! from 1 for the module on top.
 
-ghost use Rattle.std.specs.Prelude.{ℕ, ◌≡◌, []};
-ghost use Rattle.strm_blocks.specs.Blocks.{StoreValue};
+ghost use Rattle.std.specs.Prelude.{ℕ, ◌≡◌, ◌<◌, ◌≤◌, ◌-◌, true, false, [], length, slice_index_or, HoldsAt, None};
+ghost use Rattle.std.specs.Bool.{OnTrue};
+ghost use Rattle.strm_types.specs.declared.limits.TheConstants.{BANDS, STOP_BLOCKS};
+ghost use Rattle.strm_types.specs.declared.spots.Asks.TheVariants.{Empty};
+ghost use Rattle.strm_types.specs.Cells as cells;
+ghost use Rattle.strm_types.specs.Costs.{cost};
+ghost use Rattle.strm_types.specs.Deliver.{tallied};
+ghost use Rattle.strm_types.specs.Earlier.{places_of};
+ghost use Rattle.strm_types.specs.ModuleQueues.{at_place, can_pass, messages_at, place_before, queue_changed, waits_past};
+ghost use Rattle.strm_types.specs.Modules.{act_among, change_among, put_among, top_name};
+ghost use Rattle.strm_types.specs.Queue.{bytes_of};
+ghost use Rattle.strm_types.specs.Service.{end_relieves, has_more, turn_ended};
+ghost use Rattle.strm_types.specs.Stacked.{module_asks, module_name, module_puts, module_queue, module_serves, with_module_queue};
+ghost use Rattle.strm_blocks.specs.Blocks.{StoreValue, in_hand};
+ghost use Rattle.strm_msg.specs.Messages.{IsChain};
+ghost use Rattle.strm_frame.specs.Hands.{AreIn, CanPut, Handles, Hands, HasRoom, OnlyOwn, SamePool, Spends};
+ghost use Rattle.strm_frame.specs.Outboxes.{AreChains, cost_of, message_in, parcels_in, sent_of, times_sent};
+ghost use Rattle.strm_frame.specs.Serves.{IsBand, later_cost, least_free, stop_of};
+ghost use Rattle.strm_frame.specs.Stacks.{IsPlace};
+ghost use Rattle.strm_ldterm.specs.Bounds.{turn_cost};
+ghost use Rattle.strm_ldterm.specs.Served.{IsServed};
 ghost use Rattle.strm_pair.specs.Streams.{View};
 
 use strm_blocks::{Blocks, InHand, TableStore};
-use strm_frame::Stream;
+use strm_frame::{Acts, Served, Stream, TurnEnd};
 use strm_ldterm::Ldterm;
+use strm_types::{Asks, Band, Fates, ModuleName, Place, Spot, Way};
 
 /// A store with the stacks of modules whose messages stand in it. A stack's type is known where the store's is, and nowhere
 /// else, so that its size is looked into there alone.
@@ -22,6 +43,141 @@ pub trait Stacks: Blocks {
         ensures held { (s : StoreValue) → view.IsHeld s result }
         ensures modules { (s : StoreValue) → view.modules s result ≡ [] }
         ensures unowned { (k : ℕ) → view.owns result k ≡ 0 };
+
+    /// How many modules stand on a stack.
+    fn count(stack: &Self::Stack) -> usize
+        ensures { (s : StoreValue) → result ≡ length (view.modules s stack.now) };
+
+    /// The name of the module on top, if there is one.
+    fn look(stack: &Self::Stack) -> Option<ModuleName>
+        ensures { (s : StoreValue) → result ≡ top_name module_name (view.modules s stack.now) };
+
+    /// The place of queues that the module of a place has, if it has queues.
+    fn place(stack: &Self::Stack, at: usize) -> Option<Place>
+        requires inside { 0 < at }
+        requires within { (s : StoreValue) → at ≤ length (view.modules s stack.now) }
+        ensures { (s : StoreValue) → result ≡ slice_index_or (places_of (view.modules s stack.now)) (at - 1) None };
+
+    /// The place of the nearest module before a place that has a queue, as messages of a way go.
+    fn place_before(stack: &Self::Stack, way: Way, at: usize) -> Option<usize>
+        ensures place { (s : StoreValue) → result ≡ place_before module_queue way at (view.modules s stack.now) }
+        ensures inside { (s : StoreValue) → IsPlace (length (view.modules s stack.now)) result };
+
+    /// Whether a message of a band may go on past a place, as messages of a way go: whether the nearest queue there has room
+    /// (canputnext(9F), bcanput(9F)). None where no module there has a queue.
+    fn can_pass(stack: &Self::Stack, store: &Self, way: Way, band: Band, at: usize) -> Option<bool>
+        requires held { view.IsHeld (Self.value store.now) stack.now }
+        requires band { band.0 < BANDS }
+        ensures { result ≡ can_pass module_queue way band.0 at (view.modules (Self.value store.now) stack.now) };
+
+    /// Has a writer wait for room in a band of the nearest queue past a place, as messages of a way go. Nothing where no module
+    /// there has a queue.
+    fn let_wait_past(stack: &mut Self::Stack, way: Way, band: Band, at: usize)
+        requires { band.0 < BANDS }
+        ensures state { (s : StoreValue) → view.modules s stack.new
+            ≡ waits_past module_queue with_module_queue way band.0 at (view.modules s stack.old) }
+        ensures held { (s : StoreValue) → view.IsHeld s stack.old → view.IsHeld s stack.new }
+        ensures owns { (k : ℕ) → view.owns stack.new k ≡ view.owns stack.old k }
+        ensures keeps { (i : ℕ) → view.keeps stack.new i ≡ view.keeps stack.old i };
+
+    /// How many messages stand on a queue of the module of a place, and how many bytes they have; nothing without one.
+    fn sizes(stack: &Self::Stack, store: &Self, at: usize, way: Way) -> (usize, usize)
+        requires inside { 0 < at }
+        requires within { at ≤ length (view.modules (Self.value store.now) stack.now) }
+        requires held { view.IsHeld (Self.value store.now) stack.now }
+        ensures messages { result.0 ≡ length (at_place (messages_at module_queue way) [] at (view.modules (Self.value store.now) stack.now)) }
+        ensures bytes { result.1 ≡ bytes_of (at_place (messages_at module_queue way) [] at (view.modules (Self.value store.now) stack.now)) };
+
+    /// Puts a message in hand at the module of a place, and says what it does: `put(9E)`.
+    fn put(
+        stack: &mut Self::Stack,
+        store: &mut Self,
+        to: Spot,
+        message: Self::Mp,
+        told: &mut Fates,
+    ) -> Acts<Self::Mp>
+        requires inside { 0 < to.at }
+        requires within { to.at ≤ length (view.modules (Self.value store.old) stack.old) }
+        requires held { view.IsHeld (Self.value store.old) stack.old }
+        requires can_put { CanPut (Self.value store.old) (Self.name message) (view.keeps stack.old) }
+        requires chain { IsChain (in_hand (Self.value store.old) (Self.name message)) }
+        requires room { HasRoom (Self.value store.old) (cost to (message_in (Self.value store.old) (Self.name message))) }
+        ensures state { let s = Self.value store.old in view.modules (Self.value store.new) stack.new
+            ≡ (put_among module_puts (to.at - 1) to (message_in s (Self.name message)) (view.modules s stack.old)).state }
+        ensures notes { let s = Self.value store.old in result.notes.items
+            ≡ (put_among module_puts (to.at - 1) to (message_in s (Self.name message)) (view.modules s stack.old)).notes }
+        ensures sent { let s = Self.value store.old in parcels_in Self.name (Self.value store.new) (sent_of result.sent)
+            ≡ (put_among module_puts (to.at - 1) to (message_in s (Self.name message)) (view.modules s stack.old)).sent }
+        ensures told { let s = Self.value store.old in told.new
+            ≡ tallied (put_among module_puts (to.at - 1) to (message_in s (Self.name message)) (view.modules s stack.old)).gone told.old }
+        ensures held { view.IsHeld (Self.value store.new) stack.new }
+        ensures own { OnlyOwn (Self.value store.old) (Self.value store.new) (view.owns stack.old) (view.owns stack.new) }
+        ensures chains { AreChains Self.name (Self.value store.new) (sent_of result.sent) }
+        ensures hands { Hands (Self.value store.old) (Self.value store.new) (Self.name message) (view.keeps stack.old) (view.keeps stack.new)
+            (λ i. times_sent Self.name i (sent_of result.sent)) }
+        ensures spends { Spends (Self.value store.old) (Self.value store.new) (cost to (message_in (Self.value store.old) (Self.name message)))
+            (cost_of cost (parcels_in Self.name (Self.value store.new) (sent_of result.sent))) }
+        ensures pool { SamePool (Self.value store.old) (Self.value store.new) };
+
+    /// What the first message asks of a queue of the module of a place, before it goes on.
+    fn asks(stack: &Self::Stack, store: &Self, at: usize, way: Way) -> Asks
+        requires inside { 0 < at }
+        requires within { at ≤ length (view.modules (Self.value store.now) stack.now) }
+        requires held { view.IsHeld (Self.value store.now) stack.now }
+        ensures asks { result ≡ at_place (module_asks way) Empty at (view.modules (Self.value store.now) stack.now) }
+        ensures band { IsBand result };
+
+    /// Calls the service procedure of a queue of the module of a place: `srv(9E)`. `again` is for one more call in the same turn,
+    /// once all is delivered that the last one sent. It may stop within its message only where fewer than `STOP_BLOCKS` blocks of some kind
+    /// are left.
+    fn serve(
+        stack: &mut Self::Stack,
+        store: &mut Self,
+        here: Spot,
+        again: bool,
+        told: &mut Fates,
+    ) -> Served<Self::Mp>
+        requires inside { 0 < here.at }
+        requires within { here.at ≤ length (view.modules (Self.value store.old) stack.old) }
+        requires held { view.IsHeld (Self.value store.old) stack.old }
+        requires turn { HoldsAt (IsServed here.way again) (view.modules (Self.value store.old) stack.old) (here.at - 1) }
+        requires kept { AreIn (Self.value store.old) (λ _. 0) (view.keeps stack.old) }
+        requires room { HasRoom (Self.value store.old) (at_place (turn_cost here again) 0 here.at (view.modules (Self.value store.old) stack.old)) }
+        ensures state { let s = Self.value store.old in view.modules (Self.value store.new) stack.new
+            ≡ (act_among (λ p. (module_serves cells.plain here 0 again (stop_of result) p).acted) (here.at - 1) (view.modules s stack.old)).state }
+        ensures notes { let s = Self.value store.old in result.acts.notes.items
+            ≡ (act_among (λ p. (module_serves cells.plain here 0 again (stop_of result) p).acted) (here.at - 1) (view.modules s stack.old)).notes }
+        ensures sent { let s = Self.value store.old in parcels_in Self.name (Self.value store.new) (sent_of result.acts.sent)
+            ≡ (act_among (λ p. (module_serves cells.plain here 0 again (stop_of result) p).acted) (here.at - 1) (view.modules s stack.old)).sent }
+        ensures told { let s = Self.value store.old in told.new ≡ tallied
+            (act_among (λ p. (module_serves cells.plain here 0 again (stop_of result) p).acted) (here.at - 1) (view.modules s stack.old)).gone told.old }
+        ensures bytes { let s = Self.value store.old in
+            result.bytes ≡ at_place (λ p. (module_serves cells.plain here 0 again (stop_of result) p).bytes) 0 here.at (view.modules s stack.old) }
+        ensures again { let s = Self.value store.old in
+            result.again ≡ at_place (λ p. (module_serves cells.plain here 0 again (stop_of result) p).again) false here.at (view.modules s stack.old) }
+        ensures stopped { OnTrue result.stopped ((least_free (Self.value store.new) < STOP_BLOCKS) × (result.again ≡ false)) }
+        ensures held { view.IsHeld (Self.value store.new) stack.new }
+        ensures own { OnlyOwn (Self.value store.old) (Self.value store.new) (view.owns stack.old) (view.owns stack.new) }
+        ensures chains { AreChains Self.name (Self.value store.new) (sent_of result.acts.sent) }
+        ensures hands { Handles (Self.value store.old) (Self.value store.new) (λ _. 0) (view.keeps stack.old) (view.keeps stack.new)
+            (λ i. times_sent Self.name i (sent_of result.acts.sent)) }
+        ensures room { HasRoom (Self.value store.new) (later_cost cost result.again
+            (at_place (turn_cost here true) 0 here.at (view.modules (Self.value store.new) stack.new))
+            (parcels_in Self.name (Self.value store.new) (sent_of result.acts.sent))) }
+        ensures pool { SamePool (Self.value store.old) (Self.value store.new) };
+
+    /// Ends a turn of a queue of the module of a place, when all is delivered that was sent. `took` says whether bytes were taken from it.
+    fn end_turn(stack: &mut Self::Stack, store: &Self, at: usize, way: Way, took: bool) -> TurnEnd
+        requires inside { 0 < at }
+        requires within { at ≤ length (view.modules (Self.value store.now) stack.old) }
+        requires held { view.IsHeld (Self.value store.now) stack.old }
+        ensures state { let s = Self.value store.now in view.modules s stack.new
+            ≡ change_among (queue_changed module_queue with_module_queue way (turn_ended took)) (at - 1) (view.modules s stack.old) }
+        ensures room { result.room ≡ at_place (end_relieves module_queue took way) false at (view.modules (Self.value store.now) stack.old) }
+        ensures more { result.more ≡ at_place (has_more module_queue way) false at (view.modules (Self.value store.now) stack.old) }
+        ensures held { view.IsHeld (Self.value store.now) stack.new }
+        ensures owns { (k : ℕ) → view.owns stack.new k ≡ view.owns stack.old k }
+        ensures keeps { (i : ℕ) → view.keeps stack.new i ≡ view.keeps stack.old i };
 }
 
 impl Stacks for TableStore {
@@ -33,5 +189,81 @@ impl Stacks for TableStore {
 
     fn no_module() -> Stream<Ldterm<InHand>> {
         Stream::new()
+    }
+
+    fn count(stack: &Stream<Ldterm<InHand>>) -> usize {
+        stack.modules.len()
+    }
+
+    fn look(stack: &Stream<Ldterm<InHand>>) -> Option<ModuleName> {
+        stack.look::<TableStore>()
+    }
+
+    // Each module of such a stack is an ldterm.
+    fn place(stack: &Stream<Ldterm<InHand>>, at: usize) -> Option<Place> {
+        let _ = stack;
+        let _ = at;
+        ModuleName::Ldterm.place()
+    }
+
+    fn place_before(stack: &Stream<Ldterm<InHand>>, way: Way, at: usize) -> Option<usize> {
+        stack.place_before::<TableStore>(way, at)
+    }
+
+    fn can_pass(
+        stack: &Stream<Ldterm<InHand>>,
+        store: &TableStore,
+        way: Way,
+        band: Band,
+        at: usize,
+    ) -> Option<bool> {
+        stack.can_pass(store, way, band, at)
+    }
+
+    fn let_wait_past(stack: &mut Stream<Ldterm<InHand>>, way: Way, band: Band, at: usize) {
+        stack.let_wait_past::<TableStore>(way, band, at);
+    }
+
+    fn sizes(
+        stack: &Stream<Ldterm<InHand>>,
+        store: &TableStore,
+        at: usize,
+        way: Way,
+    ) -> (usize, usize) {
+        stack.sizes(store, at, way)
+    }
+
+    fn put(
+        stack: &mut Stream<Ldterm<InHand>>,
+        store: &mut TableStore,
+        to: Spot,
+        message: InHand,
+        told: &mut Fates,
+    ) -> Acts<InHand> {
+        stack.put(store, to, message, told)
+    }
+
+    fn asks(stack: &Stream<Ldterm<InHand>>, store: &TableStore, at: usize, way: Way) -> Asks {
+        stack.asks(store, at, way)
+    }
+
+    fn serve(
+        stack: &mut Stream<Ldterm<InHand>>,
+        store: &mut TableStore,
+        here: Spot,
+        again: bool,
+        told: &mut Fates,
+    ) -> Served<InHand> {
+        stack.serve(store, here, again, told)
+    }
+
+    fn end_turn(
+        stack: &mut Stream<Ldterm<InHand>>,
+        store: &TableStore,
+        at: usize,
+        way: Way,
+        took: bool,
+    ) -> TurnEnd {
+        stack.end_turn(store, at, way, took)
     }
 }

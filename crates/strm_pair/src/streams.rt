@@ -29,7 +29,7 @@ use strm_head::Head;
 use strm_queue::{HEAD_HIGH, HEAD_LOW, OTHER_HIGH, OTHER_LOW, Queue};
 use strm_types::{
     Answer, Book, Caller, Content, Event, Fates, Mode, Openness, Place, QueueName, READ_MAX, Side,
-    Turn, chunk_count,
+    Turn, Way, chunk_count,
 };
 
 /// The streams of a pair, whether its slave is locked, the queues that are enabled, the number that the next ioctl gets,
@@ -182,7 +182,7 @@ impl<S: Drop> Streams<S> {
             Side::Master => self.master.head.read(store, wanted, out, direction, told),
             Side::Slave => self.slave.head.read(store, wanted, out, direction, told),
         };
-        self.let_go(side.head(), goes);
+        self.let_go::<B>(side, Way::Up, 0, goes);
     }
 
     /// Carries out a call that nothing refuses. What a read or a get gives stands in `out`, which is empty else.

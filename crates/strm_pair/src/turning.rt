@@ -69,7 +69,8 @@ impl<S: Drop> Streams<S> {
             Side::Master => settle(store, &mut self.master.driver, size),
             Side::Slave => settle(store, &mut self.slave.driver, size),
         };
-        self.let_go(side.driver(), end.room);
+        let at = self.driver_place::<B>(side);
+        self.let_go::<B>(side, Way::Down, at, end.room);
         self.enabled.enable_if(end.more, side.driver());
     }
 

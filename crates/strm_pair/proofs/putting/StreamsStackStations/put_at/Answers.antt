@@ -1,13 +1,12 @@
 -- Puts fall, and take no more than they may.
-use Rattle.std.proofs.Common.{ℕ, sym, ap, subst, arith}
+use Rattle.std.proofs.Common.{ℕ, sym, ap, subst}
 use Rattle.strm_types.specs.Deliver.{AreLower}
 use Rattle.strm_types.specs.Puts.{far}
 use Rattle.strm_types.proofs.PutsFall.{puts-fall}
+use Rattle.strm_frame.specs.Hands.{Spends}
 use Rattle.strm_frame.specs.Outboxes.{message_in, cost_of}
 use Rattle.strm_types.specs.Costs.{cost}
 use Rattle.strm_pair.specs.Pairs.{state_in}
-use Rattle.strm_pair.proofs.Sides.{none-stand}
-use Rattle.strm_pair.proofs.PutsCost.{puts-cost}
 use Rattle.strm_pair.proofs.putting.StreamsStackStations.put_at.Goals as goal
 
 pub returns-clause-falls : goal.returns-clause-falls
@@ -19,8 +18,4 @@ returns-clause-falls g c =
 pub returns-clause-spends : goal.returns-clause-spends
 returns-clause-spends g c =
     let s = g.B.Blocks.value c.args.store.now in
-    let m = message_in s (g.B.Blocks.name c.args.message) in
-    let all = puts-cost c.args.to m (state_in g.B.Stacks.view.modules s c.args.self.now) (none-stand g.B.Stacks.view s c.args.self.now c.requires.held) in
-    let sent = ap (cost_of (cost {C = ℕ})) c.put.ensures.sent in
-    let h = c.put.ensures.spends in
-    record { mblks = (let a = h.mblks in omega (arith, a, all, sent)); dblks = (let a = h.dblks in omega (arith, a, all, sent)) }
+    subst (λ n. Spends s (g.B.Blocks.value c.put.new.store) (cost c.args.to (message_in s (g.B.Blocks.name c.args.message))) n) (sym (ap (cost_of (cost {C = ℕ})) c.put.ensures.sent)) c.put.ensures.spends

@@ -1,17 +1,18 @@
--- No module stands on the other side.
-use Rattle.std.proofs.Common.{ℕ, Bool, sym, ap, ◌∙◌}
-use Rattle.strm_types.specs.Names.{is_open}
+-- What stands across.
+use Rattle.std.proofs.Common.{ℕ, Bool, ap, ◌∙◌}
+use Rattle.strm_types.specs.Earlier.{modules_on}
+use Rattle.strm_types.specs.Names.{is_open, other}
 use Rattle.strm_types.specs.State.{Stream, stream}
-use Rattle.strm_types.proofs.Alone.{across_alone, across-is-alone}
+use Rattle.strm_types.specs.Puts.{across_of}
 use Rattle.strm_pair.specs.Pairs.{state_in}
-use Rattle.strm_pair.proofs.Sides.{none-stand}
 use Rattle.strm_pair.proofs.streams.Streams.across.Goals as goal
 
 pub returns : goal.returns
-returns g c = λ s beside.
-    let view = g.B.Stacks.view in
-    let st = state_in view.modules s c.args.self.now in
-    ap (λ (b : Bool). record { is_open = b; bottom = 0; ended = c.is_closed.result })
-    (c.is_open.ensures ∙ ap (λ (t : Stream ℕ). is_open t.opened) (c.end.ensures.stream view.modules s ∙ ap (λ sd. stream sd st) c.other.ensures))
-    ∙ ap (λ (b : Bool). record (across_alone c.args.side st) { ended = b }) c.is_closed.ensures
-    ∙ sym (across-is-alone st (none-stand view s c.args.self.now beside) c.args.side)
+returns g c = λ s.
+    let V = g.B.Stacks.view.modules in
+    let st = state_in V s c.args.self.now in
+    let side = c.args.side in
+    ap (λ (b : Bool). record { is_open = b; bottom = c.modules_on.result; ended = c.is_closed.result })
+    (c.is_open.ensures ∙ ap (λ (t : Stream ℕ). is_open t.opened) (c.end.ensures.stream V s ∙ ap (λ sd. stream sd st) c.other-other.ensures))
+    ∙ ap (λ (n : ℕ). record { is_open = is_open (stream (other side) st).opened; bottom = n; ended = c.is_closed.result }) (c.modules_on.ensures.on s ∙ ap (λ sd. modules_on sd st) c.other-other.ensures)
+    ∙ ap (λ (b : Bool). record (across_of side st) { ended = b }) c.is_closed.ensures

@@ -1,14 +1,13 @@
--- Nothing is left on the queue that was cleared, and no module stands before the driver.
+-- Nothing is left on the queue that was cleared.
 use Rattle.std.proofs.Common.{rules}
-use Rattle.strm_types.proofs.Alone.{driver-lets-go}
 use Rattle.strm_pair.specs.Pairs.{state_in}
-use Rattle.strm_pair.proofs.Sides.{none-stand, driver-held, only-changed}
+use Rattle.strm_pair.proofs.Sides.{driver-held, only-changed}
 use Rattle.strm_types.specs.declared.names.Side.TheVariants.{Master, Slave}
 use Rattle.strm_pair.proofs.streams.Streams.clear_driver.Goals as goal
 use Rattle.strm_pair.proofs.streams.Streams.clear_driver.Goals.{in-Master, in-Slave}
 
 pub returns-clause-state : goal.returns-clause-state
-returns-clause-state g c = rw (driver-lets-go (state_in g.B.Stacks.view.modules (g.B.Blocks.value c.args.store.now) c.args.self.now) (none-stand g.B.Stacks.view (g.B.Blocks.value c.args.store.now) c.args.self.now c.requires.beside) c.args.side) (search rules)
+returns-clause-state g c = rw (c.let_go.ensures (g.B.Blocks.value c.args.store.now)) (search rules)
 
 pub returns-clause-held : goal.returns-clause-held
 returns-clause-held g c =
@@ -20,11 +19,11 @@ returns-clause-held g c =
           let t = g.B.Blocks.value w.clear_queue-lets_go.new.store in
           let q = w.clear_queue-lets_go.new.queue in
           let h = driver-held g.B.Stacks.view s t p Master q c.requires (only-changed s t p.master.driver q e) e.hand e.mblks e.dblks in
-          rw (w.store-is, c.let_go.ensures, w.self-is) (record { hand = h.hand; beside = h.beside }))
+          rw (w.store-is, c.let_go.ensures s, w.self-is) (record { hand = h.hand; beside = h.beside }))
       | in-Slave w ↦
           (let e = w.clear_queue-lets_go-in-Slave.ensures.changes in
           let t = g.B.Blocks.value w.clear_queue-lets_go-in-Slave.new.store in
           let q = w.clear_queue-lets_go-in-Slave.new.queue in
           let h = driver-held g.B.Stacks.view s t p Slave q c.requires (only-changed s t p.slave.driver q e) e.hand e.mblks e.dblks in
-          rw (w.store-is, c.let_go.ensures, w.self-is) (record { hand = h.hand; beside = h.beside }))
+          rw (w.store-is, c.let_go.ensures s, w.self-is) (record { hand = h.hand; beside = h.beside }))
     ]

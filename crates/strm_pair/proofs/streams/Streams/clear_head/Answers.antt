@@ -1,11 +1,10 @@
 -- Nothing is left on the queue that was cleared.
 use Rattle.std.proofs.Common.{◌∙◌, rules}
-use Rattle.strm_types.proofs.Alone.{head-lets-go}
 use Rattle.strm_types.specs.declared.names.Side.TheVariants.{Master, Slave}
 use Rattle.strm_queue.specs.Stored.{queue_in}
 use Rattle.strm_pair.specs.Framing.{still}
 use Rattle.strm_pair.specs.Pairs.{state_in}
-use Rattle.strm_pair.proofs.Sides.{none-stand, head-changed, only-changed, readable-cleared}
+use Rattle.strm_pair.proofs.Sides.{head-changed, only-changed, readable-cleared}
 use Rattle.strm_pair.proofs.streams.Streams.clear_head.Goals as goal
 use Rattle.strm_pair.proofs.streams.Streams.clear_head.Goals.{in-Master, in-Slave}
 
@@ -18,7 +17,7 @@ returns-clause-held g c =
           (let e = w.clear_queue-lets_go.ensures in
           let t = g.B.Blocks.value w.clear_queue-lets_go.new.store in
           let q = w.clear_queue-lets_go.new.queue in
-          rw (w.store-is, c.let_go.ensures, w.self-is)
+          rw (w.store-is, c.let_go.ensures s, w.self-is)
           (record {
             hand = e.changes.hand ∙ c.requires.hand;
             beside = head-changed g.B.Stacks.view s t p c.requires.beside (still g.B.Stacks.view s t p c.requires.beside e.changes.mblks e.changes.dblks) Master (record p.master.head { queue = q }) (only-changed s t p.master.head.queue q e.changes) (readable-cleared t q (queue_in s p.master.head.queue) e.queue);
@@ -27,7 +26,7 @@ returns-clause-held g c =
           (let e = w.clear_queue-lets_go-in-Slave.ensures in
           let t = g.B.Blocks.value w.clear_queue-lets_go-in-Slave.new.store in
           let q = w.clear_queue-lets_go-in-Slave.new.queue in
-          rw (w.store-is, c.let_go.ensures, w.self-is)
+          rw (w.store-is, c.let_go.ensures s, w.self-is)
           (record {
             hand = e.changes.hand ∙ c.requires.hand;
             beside = head-changed g.B.Stacks.view s t p c.requires.beside (still g.B.Stacks.view s t p c.requires.beside e.changes.mblks e.changes.dblks) Slave (record p.slave.head { queue = q }) (only-changed s t p.slave.head.queue q e.changes) (readable-cleared t q (queue_in s p.slave.head.queue) e.queue);
@@ -35,4 +34,4 @@ returns-clause-held g c =
     ]
 
 pub returns-clause-state : goal.returns-clause-state
-returns-clause-state g c = rw (head-lets-go (state_in g.B.Stacks.view.modules (g.B.Blocks.value c.args.store.now) c.args.self.now) (none-stand g.B.Stacks.view (g.B.Blocks.value c.args.store.now) c.args.self.now c.requires.beside) c.args.side) (search rules)
+returns-clause-state g c = rw (c.let_go.ensures (g.B.Blocks.value c.args.store.now)) (search rules)

@@ -1,8 +1,6 @@
 -- What the head of either side gives.
 use Rattle.std.proofs.Common.{sym, subst, ◌∙◌, refl, rules}
-use Rattle.strm_types.proofs.Alone.{head-lets-go}
 use Rattle.strm_pair.specs.Pairs.{state_in}
-use Rattle.strm_pair.proofs.Sides.{none-stand}
 use Rattle.strm_types.specs.declared.names.Side.TheVariants.{Master, Slave}
 use Rattle.strm_head.specs.Getting.{Gives}
 use Rattle.strm_pair.proofs.GetSteps.{got_at, gives-is, got-answer, got-filled, got-few, got-parts}
@@ -83,12 +81,12 @@ returns-clause-held g c =
       | in-Master w ↦
           (let e = w.getmsg-got.ensures in
           let t = g.B.Blocks.value w.getmsg-got.new.store in
-          rw (w.store-is, c.let_go.ensures, w.self-is) (record { hand = e.keeps.hand ∙ c.requires.held.hand; beside = read-beside g.B.Stacks.view Master s p c.min-most.result c.args.cmax c.min-most.ensures t (record p.master.head { queue = w.getmsg-got.new.queue }) w.getmsg-got.result.lets_go b e.keeps refl e.ready }))
+          rw (w.store-is, c.let_go.ensures s, w.self-is) (record { hand = e.keeps.hand ∙ c.requires.held.hand; beside = read-beside g.B.Stacks.view Master s p c.min-most.result c.args.cmax c.min-most.ensures t (record p.master.head { queue = w.getmsg-got.new.queue }) w.getmsg-got.result.lets_go b e.keeps refl e.ready }))
       | in-Slave w ↦
           (let e = w.getmsg-got-in-Slave.ensures in
           let t = g.B.Blocks.value w.getmsg-got-in-Slave.new.store in
-          rw (w.store-is, c.let_go.ensures, w.self-is) (record { hand = e.keeps.hand ∙ c.requires.held.hand; beside = read-beside g.B.Stacks.view Slave s p c.min-most.result c.args.cmax c.min-most.ensures t (record p.slave.head { queue = w.getmsg-got-in-Slave.new.queue }) w.getmsg-got-in-Slave.result.lets_go b e.keeps refl e.ready }))
+          rw (w.store-is, c.let_go.ensures s, w.self-is) (record { hand = e.keeps.hand ∙ c.requires.held.hand; beside = read-beside g.B.Stacks.view Slave s p c.min-most.result c.args.cmax c.min-most.ensures t (record p.slave.head { queue = w.getmsg-got-in-Slave.new.queue }) w.getmsg-got-in-Slave.result.lets_go b e.keeps refl e.ready }))
     ]
 
 pub returns-clause-state : goal.returns-clause-state
-returns-clause-state g c = rw (head-lets-go (state_in g.B.Stacks.view.modules (g.B.Blocks.value c.args.store.now) c.args.self.now) (none-stand g.B.Stacks.view (g.B.Blocks.value c.args.store.now) c.args.self.now c.requires.held.beside) c.args.side) (search rules)
+returns-clause-state g c = rw (c.let_go.ensures (g.B.Blocks.value c.args.store.now)) (search rules)

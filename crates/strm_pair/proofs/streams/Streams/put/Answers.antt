@@ -1,14 +1,39 @@
 -- What stands at a place takes the message: behind the head the driver, as no module stands there.
-use Rattle.std.proofs.Common.{true, subst}
+use Rattle.std.proofs.Common.{true, sym, subst, arith}
 use Rattle.strm_types.specs.declared.names.Way.TheVariants.{Up, Down}
-use Rattle.strm_types.specs.Costs.{below_takes}
+use Rattle.strm_types.specs.Costs.{below_takes, cost, head_takes, is_across}
 use Rattle.strm_types.specs.Message.{has_parts}
 use Rattle.strm_types.specs.Puts.{put_at_driver}
-use Rattle.strm_frame.specs.Outboxes.{message_in, sent_of}
+use Rattle.strm_frame.specs.Hands.{HasRoom}
+use Rattle.strm_frame.specs.Outboxes.{cost_of, message_in, sent_of}
 use Rattle.strm_pair.specs.Pairs.{state_in}
 use Rattle.strm_pair.specs.PutBy.{PutBy}
-use Rattle.strm_pair.proofs.PutSteps.{behind-put}
+use Rattle.strm_pair.proofs.PutSteps.{behind-put, behind-room, head-put, room-for}
+use Rattle.strm_pair.proofs.PutsCost.{head-cost}
 use Rattle.strm_pair.proofs.streams.Streams.put.Goals as goal
+
+pub put_head-requires-clause-room : goal.put_head-requires-clause-room
+put_head-requires-clause-room g c =
+    let s = g.B.Blocks.value c.args.store.now in
+    let m = message_in s (g.B.Blocks.name c.args.message) in
+    room-for s (cost c.args.to m) (head_takes m) (omega (arith, head-cost c.args.to m (state_in g.B.Stacks.view.modules s c.args.self.now) c.if-to-eq0.true)) c.requires.room
+
+pub put_driver-requires-clause-room : goal.put_driver-requires-clause-room
+put_driver-requires-clause-room g c =
+    let s = g.B.Blocks.value c.args.store.now in
+    let i = g.B.Blocks.name c.args.message in
+    subst (λ way. HasRoom s (below_takes way (has_parts (message_in s i)) true)) (sym c.in-Down.is) (behind-room Down s i c.args.to (state_in g.B.Stacks.view.modules s c.args.self.now) c.in-Down.is c.if-to-eq0.false c.requires.room)
+
+pub put_up-requires-clause-room : goal.put_up-requires-clause-room
+put_up-requires-clause-room g c =
+    let s = g.B.Blocks.value c.args.store.now in
+    behind-room Up s (g.B.Blocks.name c.args.message) c.args.to (state_in g.B.Stacks.view.modules s c.args.self.now) c.in-Up.is c.if-to-eq0.false c.requires.room
+
+pub returns-then-to-eq0 : goal.returns-then-to-eq0
+returns-then-to-eq0 g c =
+    let s = g.B.Blocks.value c.args.store.now in
+    head-put g.B.Blocks.name g.B.Stacks.view s (g.B.Blocks.value c.put_head.new.store) c.args.self.now c.put_head.new.self (g.B.Blocks.name c.args.message) c.args.to (sent_of c.put_head.result) c.args.told.now c.put_head.new.told
+    c.if-to-eq0.true c.put_head.ensures
 
 pub returns-in-Down : goal.returns-in-Down
 returns-in-Down g c =

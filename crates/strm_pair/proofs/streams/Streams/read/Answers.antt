@@ -1,10 +1,11 @@
 -- What the head of either side gives.
 use Rattle.std.proofs.Common.{◌≡◌, sym, ap, subst, ◌∙◌}
 use Rattle.strm_types.specs.declared.answers.Answer.TheVariants.{Bytes}
-use Rattle.strm_types.specs.declared.names.QueueName.{QueueName}
 use Rattle.strm_types.specs.declared.names.Side.TheVariants.{Master, Slave}
 use Rattle.strm_types.specs.Deliver.{tallied}
-use Rattle.strm_types.specs.Names.{before, direction_of, enable_some, head_of}
+use Rattle.strm_types.specs.declared.names.Way.TheVariants.{Up}
+use Rattle.strm_types.specs.Earlier.{before_at}
+use Rattle.strm_types.specs.Names.{direction_of, enable_some, head_of}
 use Rattle.strm_types.specs.Reads.{read_gone}
 use Rattle.strm_queue.specs.Stored.{messages_on}
 use Rattle.strm_pair.specs.declared.streams.Streams.{Streams}
@@ -40,25 +41,27 @@ returns-clause-told g c =
 
 pub returns-clause-state : goal.returns-clause-state
 returns-clause-state g c =
+    let V = g.B.Stacks.view.modules in
     let s = g.B.Blocks.value c.args.store.now in
     let p = c.args.self.now in
     let most = c.min-wanted.result in
     let b = c.requires.held.beside in
-    let name = c.let_go.ensures ∙ ap (λ (n : QueueName). record c.match-side.self { enabled = enable_some c.match-side.goes (before n) c.match-side.self.enabled }) c.head-2.ensures in
     elim c.match-side.branch [
       | in-Master w ↦
           (let e = w.read-goes.ensures in
           let t = g.B.Blocks.value w.read-goes.new.store in
-          let q_is = name ∙ ap (λ sd. record c.match-side.self { enabled = enable_some c.match-side.goes (before (head_of sd)) c.match-side.self.enabled }) w.in-Master.is
-          ∙ ap (λ x. record c.match-side.self { enabled = enable_some x (before (head_of Master)) c.match-side.self.enabled }) w.goes-is
-          ∙ ap (λ (x : Streams _). record x { enabled = enable_some w.read-goes.result (before (head_of Master)) x.enabled }) w.self-is in
+          let q_is = c.let_go.ensures s
+          ∙ ap (λ x. record c.match-side.self { enabled = enable_some x (before_at c.args.side Up 0 (state_in V s c.match-side.self)) c.match-side.self.enabled }) w.goes-is
+          ∙ ap (λ (x : Streams _). record x { enabled = enable_some w.read-goes.result (before_at c.args.side Up 0 (state_in V s x)) x.enabled }) w.self-is
+          ∙ ap (λ sd. record p { master = record p.master { head = w.read-goes.new.self }; enabled = enable_some w.read-goes.result (before_at sd Up 0 (state_in V s (record p { master = record p.master { head = w.read-goes.new.self } }))) p.enabled }) w.in-Master.is in
           rw (w.store-is, q_is) (read-state g.B.Stacks.view Master s p most c.args.n c.min-wanted.ensures t w.read-goes.new.self w.read-goes.result b e.keeps e.modes e.queue e.went ∙ ap (λ sd. (read_plain sd c.args.n (state_in g.B.Stacks.view.modules s p)).state) (sym w.in-Master.is)))
       | in-Slave w ↦
           (let e = w.read-goes-in-Slave.ensures in
           let t = g.B.Blocks.value w.read-goes-in-Slave.new.store in
-          let q_is = name ∙ ap (λ sd. record c.match-side.self { enabled = enable_some c.match-side.goes (before (head_of sd)) c.match-side.self.enabled }) w.in-Slave.is
-          ∙ ap (λ x. record c.match-side.self { enabled = enable_some x (before (head_of Slave)) c.match-side.self.enabled }) w.goes-is
-          ∙ ap (λ (x : Streams _). record x { enabled = enable_some w.read-goes-in-Slave.result (before (head_of Slave)) x.enabled }) w.self-is in
+          let q_is = c.let_go.ensures s
+          ∙ ap (λ x. record c.match-side.self { enabled = enable_some x (before_at c.args.side Up 0 (state_in V s c.match-side.self)) c.match-side.self.enabled }) w.goes-is
+          ∙ ap (λ (x : Streams _). record x { enabled = enable_some w.read-goes-in-Slave.result (before_at c.args.side Up 0 (state_in V s x)) x.enabled }) w.self-is
+          ∙ ap (λ sd. record p { slave = record p.slave { head = w.read-goes-in-Slave.new.self }; enabled = enable_some w.read-goes-in-Slave.result (before_at sd Up 0 (state_in V s (record p { slave = record p.slave { head = w.read-goes-in-Slave.new.self } }))) p.enabled }) w.in-Slave.is in
           rw (w.store-is, q_is) (read-state g.B.Stacks.view Slave s p most c.args.n c.min-wanted.ensures t w.read-goes-in-Slave.new.self w.read-goes-in-Slave.result b e.keeps e.modes e.queue e.went ∙ ap (λ sd. (read_plain sd c.args.n (state_in g.B.Stacks.view.modules s p)).state) (sym w.in-Slave.is)))
     ]
 
@@ -68,14 +71,13 @@ returns-clause-held g c =
     let p = c.args.self.now in
     let most = c.min-wanted.result in
     let b = c.requires.held.beside in
-    let name = c.let_go.ensures ∙ ap (λ (n : QueueName). record c.match-side.self { enabled = enable_some c.match-side.goes (before n) c.match-side.self.enabled }) c.head-2.ensures in
     elim c.match-side.branch [
       | in-Master w ↦
           (let e = w.read-goes.ensures in
           let t = g.B.Blocks.value w.read-goes.new.store in
-          rw (w.store-is, c.let_go.ensures, w.self-is) (record { hand = e.keeps.hand ∙ c.requires.held.hand; beside = read-beside g.B.Stacks.view Master s p most c.args.n c.min-wanted.ensures t w.read-goes.new.self w.read-goes.result b e.keeps e.modes e.ready }))
+          rw (w.store-is, c.let_go.ensures s, w.self-is) (record { hand = e.keeps.hand ∙ c.requires.held.hand; beside = read-beside g.B.Stacks.view Master s p most c.args.n c.min-wanted.ensures t w.read-goes.new.self w.read-goes.result b e.keeps e.modes e.ready }))
       | in-Slave w ↦
           (let e = w.read-goes-in-Slave.ensures in
           let t = g.B.Blocks.value w.read-goes-in-Slave.new.store in
-          rw (w.store-is, c.let_go.ensures, w.self-is) (record { hand = e.keeps.hand ∙ c.requires.held.hand; beside = read-beside g.B.Stacks.view Slave s p most c.args.n c.min-wanted.ensures t w.read-goes-in-Slave.new.self w.read-goes-in-Slave.result b e.keeps e.modes e.ready }))
+          rw (w.store-is, c.let_go.ensures s, w.self-is) (record { hand = e.keeps.hand ∙ c.requires.held.hand; beside = read-beside g.B.Stacks.view Slave s p most c.args.n c.min-wanted.ensures t w.read-goes-in-Slave.new.self w.read-goes-in-Slave.result b e.keeps e.modes e.ready }))
     ]

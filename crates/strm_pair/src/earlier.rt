@@ -1,0 +1,151 @@
+//! The nearest earlier queue of a place on a side's stream: the one that is enabled where there is room again (STREAMS Programming
+//! Guide, "Flow Control"). Places count from the head's, 0, over the modules from the top, to the driver's.
+
+ghost use Rattle.std.specs.Prelude.{◌≡◌, ◌≤◌, ◌<◌, ◌+◌};
+ghost use Rattle.strm_types.specs.declared.limits.TheConstants.{MODULES};
+ghost use Rattle.strm_types.specs.declared.names.Way.{Way};
+ghost use Rattle.strm_types.specs.Earlier.{before_at, before_modules, driver_place, modules_on, queue_named};
+ghost use Rattle.strm_types.specs.Names.{enable_some};
+ghost use Rattle.strm_types.specs.Puts.{earlier_at, noted};
+ghost use Rattle.strm_pair.specs.Nearest.{earlier_of};
+
+use crate::stacks::Stacks;
+use crate::streams::Streams;
+use strm_frame::Enabled;
+use strm_types::{MODULES, Note, Place, QueueName, Side, Way};
+
+// The queue of a way at a place of a side's stream, where it has queues.
+fn queue_named(side: Side, way: Way, place: Option<Place>) -> Option<QueueName>
+    ensures { result ≡ queue_named side way place }
+{
+    let place = place?;
+    Some(QueueName { side, place, way })
+}
+
+/// The nearest earlier queues of a place, on the way up and on the way down.
+#[derive(Clone, Copy)]
+pub(crate) struct Earlier {
+    pub up: Option<QueueName>,
+    pub down: Option<QueueName>,
+}
+
+impl Earlier {
+    // That of a way.
+    fn of(self, way: Way) -> Option<QueueName>
+        ensures { result ≡ earlier_of self way }
+    {
+        match way {
+            Way::Up => self.up,
+            Way::Down => self.down,
+        }
+    }
+}
+
+// Enables what a put says of the queues of a place, one note after the other.
+fn note(enabled: &mut Enabled, side: Side, place: Option<Place>, earlier: Earlier, notes: &[Note])
+    ensures { enabled.new ≡ noted side place (earlier_of earlier) notes.now enabled.old }
+{
+    let Some((first, rest)) = notes.split_first() else {
+        return;
+    };
+    match *first {
+        Note::Enable(way) => enabled.enable_found(queue_named(side, way, place)),
+        Note::Room(way) => enabled.enable_found(earlier.of(way)),
+    }
+    note(enabled, side, place, earlier, rest);
+}
+
+// Before all modules of a stream with so many, what comes up was sent by the other side's driver, and nothing with service
+// stands before what goes down.
+fn before_modules(side: Side, way: Way, count: usize, at: usize) -> Option<QueueName>
+    ensures { result ≡ before_modules side way count at }
+{
+    match way {
+        Way::Down => None,
+        Way::Up if at <= count => Some(side.other().driver()),
+        Way::Up => None,
+    }
+}
+
+impl<S: Drop> Streams<S> {
+    ghost use Rattle.strm_blocks.specs.Blocks.{StoreValue};
+    ghost use Rattle.strm_pair.specs.Pairs.{state_in};
+
+    /// How many modules have a place on a side's stream.
+    pub(crate) fn modules_on<B: Stacks<Stack = S>>(&self, side: Side) -> usize
+        ensures on { (s : StoreValue) → result ≡ modules_on side (state_in B.view.modules s self.now) }
+        ensures few { result ≤ MODULES }
+    {
+        B::count(&self.end(side).stack).min(MODULES)
+    }
+
+    /// The place of a side's driver, behind the modules.
+    pub(crate) fn driver_place<B: Stacks<Stack = S>>(&self, side: Side) -> usize
+        ensures place { (s : StoreValue) → result ≡ driver_place side (state_in B.view.modules s self.now) }
+        ensures inside { 0 < result }
+        ensures small { result ≤ MODULES + 1 }
+    {
+        self.modules_on::<B>(side) + 1
+    }
+
+    /// The nearest earlier queue with service before a place of a side's stream, as messages of a way go.
+    pub(crate) fn before<B: Stacks<Stack = S>>(
+        &self,
+        side: Side,
+        way: Way,
+        at: usize,
+    ) -> Option<QueueName>
+        ensures { (s : StoreValue) → result ≡ before_at side way at (state_in B.view.modules s self.now) }
+    {
+        let stack = &self.end(side).stack;
+        match B::place_before(stack, way, at) {
+            Some(place) => queue_named(side, way, B::place(stack, place)),
+            None => before_modules(side, way, B::count(stack).min(MODULES), at),
+        }
+    }
+
+    /// Enables that queue, where a waiting writer is let go.
+    pub(crate) fn let_go<B: Stacks<Stack = S>>(
+        &mut self,
+        side: Side,
+        way: Way,
+        at: usize,
+        lets_go: bool,
+    )
+        ensures { (s : StoreValue) → self.new ≡ record self.old {
+          enabled =
+              enable_some lets_go (before_at side way at (state_in B.view.modules s self.old)) self.old.enabled;
+        } }
+    {
+        if lets_go {
+            let earlier = self.before::<B>(side, way, at);
+            self.enabled.enable_found(earlier);
+        }
+    }
+
+    // The nearest earlier queues of a place.
+    fn earlier<B: Stacks<Stack = S>>(&self, side: Side, at: usize) -> Earlier
+        ensures { (s : StoreValue) (way : Way) → earlier_of result way ≡ before_at side way at (state_in B.view.modules s self.now) }
+    {
+        Earlier {
+            up: self.before::<B>(side, Way::Up, at),
+            down: self.before::<B>(side, Way::Down, at),
+        }
+    }
+
+    /// Does what a put says of the queues of a place of a side's stream.
+    pub(crate) fn note<B: Stacks<Stack = S>>(
+        &mut self,
+        side: Side,
+        place: Option<Place>,
+        at: usize,
+        notes: &[Note],
+    )
+        ensures { (s : StoreValue) → self.new ≡ record self.old {
+          enabled = noted side place (earlier_at side at (state_in B.view.modules s self.old)) notes.now self.old.enabled;
+        } }
+    {
+        let earlier = self.earlier::<B>(side, at);
+        note(&mut self.enabled, side, place, earlier, notes);
+    }
+}
