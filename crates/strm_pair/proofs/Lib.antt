@@ -1,4 +1,5 @@
 pub mod Peeked
+pub mod InHand
 pub mod Sides
 pub mod PutsCost
 pub mod PutSteps

@@ -17,7 +17,7 @@ use Rattle.strm_head.specs.Heads.{head_in}
 use Rattle.strm_queue.specs.Stored.{queue_in, IsHeadQueue, Keeps}
 use Rattle.strm_pair.specs.declared.streams.Streams.{Streams}
 use Rattle.strm_pair.specs.Framing.{still}
-use Rattle.strm_pair.specs.Pairs.{state_in, end_at, with_end, AreBeside}
+use Rattle.strm_pair.specs.Pairs.{state_in, end_at, with_end, AreBeside, kept_by}
 use Rattle.strm_pair.specs.PlainCalls.{read_plain, read_lets}
 use Rattle.strm_pair.proofs.Sides.{head-changed, head-state, head-is, only-kept}
 use Rattle.strm_pair.specs.Streams.{View}
@@ -43,7 +43,7 @@ module _ {S : Type 0} (view : View S) (side : Side) (s : StoreValue) (p : Stream
     behind = record (with_end side (record (end_at side p) { head = h }) p) { enabled = enable_some lets_go (before_head side (state_in view.modules s p)) p.enabled }
 
     pub read-beside : IsHeadQueue t h.queue → AreBeside view t behind
-    read-beside ready = head-changed view s t p beside (still view s t p beside keeps.mblks keeps.dblks) side h (only-kept s t (end_at side p).head.queue h.queue keeps) ready.readable
+    read-beside ready = head-changed view s t p beside (still s t (kept_by view p) keeps.hand keeps.mblks keeps.dblks) side h (only-kept s t (end_at side p).head.queue h.queue keeps) ready.readable
 
     -- the state behind it, by what the head was
     abbrev led : plain.Head ℕ → ℕ → State ℕ
@@ -54,7 +54,7 @@ module _ {S : Type 0} (view : View S) (side : Side) (s : StoreValue) (p : Stream
     pub read-state : queue_in t h.queue ≡ read_queue here.read_mode here.control_mode most here.queue → lets_go ≡ read_lets_go here.read_mode here.control_mode most here.queue → state_in view.modules t behind ≡ (read_plain side n (state_in view.modules s p)).state
     read-state queue went =
         ap (λ (x : State ℕ). record x { enabled = enable_some lets_go (before_head side (state_in view.modules s p)) p.enabled })
-        (head-state view s t p beside (still view s t p beside keeps.mblks keeps.dblks) side h (only-kept s t (end_at side p).head.queue h.queue keeps)
+        (head-state view s t p beside (still s t (kept_by view p) keeps.hand keeps.mblks keeps.dblks) side h (only-kept s t (end_at side p).head.queue h.queue keeps)
         ∙ ap (λ x. with_stream side (record (stream side (state_in view.modules s p)) { head = x }) (state_in view.modules s p)) (ap (head_in t) modes ∙ ap (λ q. record here { queue = q }) queue))
         ∙ ap (λ b. record (with_stream side (record (stream side (state_in view.modules s p)) { head = record here { queue = read_queue here.read_mode here.control_mode most here.queue } }) (state_in view.modules s p)) {
           enabled = enable_some b (before_head side (state_in view.modules s p)) p.enabled;

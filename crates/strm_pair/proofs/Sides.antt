@@ -249,7 +249,7 @@ pub driver-held : {S : Type 0} (view : View S) (s t : StoreValue) (p : Streams S
     → AreHeld view t (with_end side (record (end_at side p) { driver = q }) p)
 driver-held view s t p side q held only hand mblks dblks = record {
   hand = hand ∙ held.hand;
-  beside = driver-changed view s t p held.beside (still view s t p held.beside mblks dblks) side q only;
+  beside = driver-changed view s t p held.beside (still s t (kept_by view p) hand mblks dblks) side q only;
 }
 
 -- the queue of a side's driver, as the state has it
@@ -265,12 +265,12 @@ head-is view s p Slave = refl
 -- a side whose head's queue was emptied, and whose driver stays
 pub master-renewed : {S : Type 0} (view : View S) (s t : StoreValue) (p : Streams S) (e : End S) → AreBeside view s p → e.driver ≡ p.master.driver → e.stack ≡ p.master.stack → Keeps s t p.master.head.queue e.head.queue → AreBeside view t (with_end Master e p)
 master-renewed view s t p e beside same stays keeps =
-    let all = head-changed view s t p beside (still view s t p beside keeps.mblks keeps.dblks) Master e.head (only-kept s t p.master.head.queue e.head.queue keeps) (readable-kept s t p.master.head.queue e.head.queue beside.master.head keeps) in
+    let all = head-changed view s t p beside (still s t (kept_by view p) keeps.hand keeps.mblks keeps.dblks) Master e.head (only-kept s t p.master.head.queue e.head.queue keeps) (readable-kept s t p.master.head.queue e.head.queue beside.master.head keeps) in
     record { master = as-side view t 0 p.master e same stays all.master; slave = all.slave }
 
 pub slave-renewed : {S : Type 0} (view : View S) (s t : StoreValue) (p : Streams S) (e : End S) → AreBeside view s p → e.driver ≡ p.slave.driver → e.stack ≡ p.slave.stack → Keeps s t p.slave.head.queue e.head.queue → AreBeside view t (with_end Slave e p)
 slave-renewed view s t p e beside same stays keeps =
-    let all = head-changed view s t p beside (still view s t p beside keeps.mblks keeps.dblks) Slave e.head (only-kept s t p.slave.head.queue e.head.queue keeps) (readable-kept s t p.slave.head.queue e.head.queue beside.slave.head keeps) in
+    let all = head-changed view s t p beside (still s t (kept_by view p) keeps.hand keeps.mblks keeps.dblks) Slave e.head (only-kept s t p.slave.head.queue e.head.queue keeps) (readable-kept s t p.slave.head.queue e.head.queue beside.slave.head keeps) in
     record { master = all.master; slave = as-side view t 4 p.slave e same stays all.slave }
 
 -- no module stands on a pair's streams yet

@@ -1,17 +1,17 @@
 -- A turn of a driver, step by step.
-use Rattle.std.proofs.Common.{ℕ, ◌≡◌, Bool, true, false, cond, List, [], ◌∷◌, map, refl, sym, ap, ◌∙◌}
-use Rattle.std.specs.Prelude.{not, ◌&&◌, Option, None, Some, MatchOption}
+use Rattle.std.proofs.Common.{ℕ, ◌≡◌, Bool, true, false, List, [], ◌∷◌, map, refl, sym, ap, ◌∙◌, arith}
+use Rattle.std.specs.Prelude.{◌&&◌, Option, None, Some, MatchOption}
 use Rattle.strm_types.specs.declared.answers.Turn.TheVariants.{Blocked}
-use Rattle.strm_types.specs.declared.names.QueueName.{QueueName}
 use Rattle.strm_types.specs.declared.names.Side.{Side}
 use Rattle.strm_types.specs.declared.names.Side.TheVariants.{Master, Slave}
+use Rattle.strm_types.specs.Kept.{AreIdle}
 use Rattle.strm_types.specs.Message.{Message, band_of, is_held}
-use Rattle.strm_types.specs.Names.{other, driver_of, before, is_open, enable_if, enable_found, enable_some}
+use Rattle.strm_types.specs.Names.{other, is_open}
 use Rattle.strm_types.specs.Queue as plain
 use Rattle.strm_types.specs.Queue.{is_full, is_none_left, left_with, relieved, relieves, with_writer_at}
 use Rattle.strm_types.specs.State.{State, stream}
 use Rattle.strm_types.specs.TurnOutcomes.{stayed_put}
-use Rattle.strm_types.specs.Turns.{is_stopped, held_back, turn_ended, with_driver, moved_across, driver_serves, driver_turned}
+use Rattle.strm_types.specs.Turns.{is_stopped, held_back, with_driver, moved_across, driver_serves, driver_turned}
 use Rattle.strm_blocks.specs.Blocks.{StoreValue, block_at}
 use Rattle.strm_blocks.specs.Outcomes.{PeekedFirst}
 use Rattle.strm_blocks.specs.declared.asked.Peek.{Peek}
@@ -22,10 +22,9 @@ use Rattle.strm_queue.proofs.Chains.{stopped-same, held-band, stopped-held}
 use Rattle.strm_pty.specs.Does.{OnlyQueue}
 use Rattle.strm_pair.specs.declared.ends.End.{End}
 use Rattle.strm_pair.specs.declared.streams.Streams.{Streams}
-use Rattle.strm_pair.specs.Framing.{still}
-use Rattle.strm_pair.specs.Pairs.{state_in, end_at, with_end, AreBeside}
-use Rattle.strm_pair.specs.Took.{settled, settling_relieves, TookFirst, waits_at_head}
-use Rattle.strm_types.proofs.Alone.{turn-ends-alone}
+use Rattle.strm_pair.specs.Framing.{rests}
+use Rattle.strm_pair.specs.Pairs.{state_in, end_at, with_end, AreBeside, Stays, kept_by}
+use Rattle.strm_pair.specs.Took.{TookFirst, waits_at_head}
 use Rattle.strm_pair.proofs.Sides.{none-stand, driver-changed, driver-state, driver-is, head-is}
 use Rattle.strm_pair.proofs.Peeked.{seen-before}
 use Rattle.strm_types.specs.Earlier.{NoModules}
@@ -35,16 +34,17 @@ use Rattle.strm_pair.specs.Streams.{View}
 pub only-dequeued : (s t : StoreValue) (q q' : Queue) (i : ℕ) → Dequeued s t q q' i → OnlyQueue s t q q'
 only-dequeued s t q q' i d = record { ready = d.ready; list = d.list; others = d.others }
 
-took-first : {S : Type 0} (view : View S) (side : Side) (s t : StoreValue) (p : Streams S) (q : Queue) (i : ℕ) → AreBeside view s p → Dequeued s t (end_at side p).driver q i → TookFirst view side s t p (with_end side (record (end_at side p) { driver = q }) p) i
-took-first view side s t p q i beside d =
+took-first : {S : Type 0} (view : View S) (side : Side) (s t : StoreValue) (p : Streams S) (q : Queue) (i : ℕ) → AreBeside view s p → AreIdle (state_in view.modules s p) → Dequeued s t (end_at side p).driver q i → TookFirst view side s t p (with_end side (record (end_at side p) { driver = q }) p) i
+took-first view side s t p q i beside idle d =
+    let stays : Stays s t (kept_by view p) = record { mblks = d.mblks; dblks = d.dblks; kept = λ j some. absurd (omega (arith, some, rests view s p beside idle j)) } in
     let only = only-dequeued s t (end_at side p).driver q i d in
     let is = driver-is view s p side in
     record {
       rest = messages_on t q.list;
       first = ap (λ (x : plain.Queue ℕ). x.messages) is ∙ d.first;
-      state = driver-state view s t p beside (still view s t p beside d.mblks d.dblks) side q only
+      state = driver-state view s t p beside stays side q only
           ∙ ap (λ x. with_driver side x (state_in view.modules s p)) (d.queue ∙ ap (λ x. left_with (messages_on t q.list) x) (sym is));
-      beside = driver-changed view s t p beside (still view s t p beside d.mblks d.dblks) side q only;
+      beside = driver-changed view s t p beside stays side q only;
       hand = d.hand;
       chain = d.chain;
       mblks = d.mblks;
@@ -52,11 +52,16 @@ took-first view side s t p q i beside d =
       frees = d.frees;
     }
 
-pub took : {A S : Type 0} (view : View S) (name : A → ℕ) (side : Side) (s t : StoreValue) (p : Streams S) (q : Queue) (result : Option A) → AreBeside view s p
+-- nothing of a turn is under way where a message was taken off a driver's queue
+pub taken-idle : (side : Side) (q : plain.Queue ℕ) (s : State ℕ) → AreIdle s → AreIdle (with_driver side q s)
+taken-idle Master q s idle = record { master = idle.master; slave = idle.slave }
+taken-idle Slave q s idle = record { master = idle.master; slave = idle.slave }
+
+pub took : {A S : Type 0} (view : View S) (name : A → ℕ) (side : Side) (s t : StoreValue) (p : Streams S) (q : Queue) (result : Option A) → AreBeside view s p → AreIdle (state_in view.modules s p)
     → MatchOption result (messages_on s (end_at side p).driver.list ≡ []) (λ m. Dequeued s t (end_at side p).driver q (name m))
     → MatchOption result (messages_on s (end_at side p).driver.list ≡ []) (λ m. TookFirst view side s t p (with_end side (record (end_at side p) { driver = q }) p) (name m))
-took view name side s t p q None beside none = none
-took view name side s t p q (Some m) beside d = took-first view side s t p q (name m) beside d
+took view name side s t p q None beside idle none = none
+took view name side s t p q (Some m) beside idle d = took-first view side s t p q (name m) beside idle d
 
 abbrev first_message : List (Message ℕ) → Message ℕ → Message ℕ
 first_message [] m = m

@@ -2,11 +2,12 @@
 use Rattle.std.specs.Prelude.{ℕ, ◌≡◌, ◌+◌, ◌≤◌, ◌<◌, List, [], slice_index_or}
 use Rattle.std.proofs.Common.{sym, ap, subst, ◌∙◌, arith}
 use Rattle.std.specs.List.{AllByRecursion}
+use Rattle.strm_types.specs.Kept.{AreIdle}
 use Rattle.strm_types.specs.Ldterms.{IsIdle}
 use Rattle.strm_types.specs.Stacked as plain
 use Rattle.strm_types.specs.State as state
 use Rattle.strm_types.specs.State.{State}
-use Rattle.strm_blocks.specs.Blocks.{StoreValue, list_at}
+use Rattle.strm_blocks.specs.Blocks.{StoreValue, in_hand, list_at}
 use Rattle.strm_frame.specs.Hands.{SameFor}
 use Rattle.strm_head.specs.Heads.{head_in}
 use Rattle.strm_queue.specs.Stored.{queue_in, HoldsReadable}
@@ -15,6 +16,10 @@ use Rattle.strm_pair.specs.declared.ends.End.{End}
 use Rattle.strm_pair.specs.declared.streams.Streams.{Streams}
 use Rattle.strm_pair.specs.Pairs.{state_in, AreBeside, Stays, kept_by}
 use Rattle.strm_pair.specs.Streams.{View, stream_in, IsSide}
+
+-- what is kept stays where all in hand does
+pub still : (s t : StoreValue) (keeps : ℕ → ℕ) → t.hand ≡ s.hand → t.mblks ≡ s.mblks → t.dblks ≡ s.dblks → Stays s t keeps
+still s t keeps hand mblks dblks = record { mblks = mblks; dblks = dblks; kept = λ i some. ap (λ h. in_hand (record s { hand = h }) i) hand }
 
 -- a stream with these modules
 abbrev pub stream_with : {S : Type 0} → StoreValue → End S → List (plain.Module ℕ) → state.Stream ℕ
@@ -42,20 +47,12 @@ abbrev pub alone_in : {S : Type 0} → StoreValue → Streams S → State ℕ
 alone_in s p = state_with p (stream_with s p.master []) (stream_with s p.slave [])
 
 module _ {S : Type 0} (view : View S) where
-  -- where no module stands, none keeps anything
-  none-kept : (s : StoreValue) (first : ℕ) (e : End S) → IsSide view s first e → (i : ℕ) → view.keeps e.stack i ≡ 0
-  none-kept s first e is i = view.idle s e.stack is.stack (subst (AllByRecursion (λ p. IsIdle p)) (sym (is.no_module s)) tt) i
+  -- a stack that rests keeps nothing
+  none-kept : (s : StoreValue) (first : ℕ) (e : End S) → IsSide view s first e → AllByRecursion (λ p. IsIdle p) (view.modules s e.stack) → (i : ℕ) → view.keeps e.stack i ≡ 0
+  none-kept s first e is idle i = view.idle s e.stack is.stack idle i
 
-  pub rests : (s : StoreValue) (p : Streams S) → AreBeside view s p → (i : ℕ) → kept_by view p i ≡ 0
-  rests s p beside i = omega (arith, none-kept s 0 p.master beside.master i, none-kept s 4 p.slave beside.slave i)
-
-  -- so what is kept stays where the store has as many blocks
-  pub still : (s t : StoreValue) (p : Streams S) → AreBeside view s p → t.mblks ≡ s.mblks → t.dblks ≡ s.dblks → Stays s t (kept_by view p)
-  still s t p beside mblks dblks = record {
-    mblks = mblks;
-    dblks = dblks;
-    kept = λ i some. absurd (omega (arith, some, rests s p beside i));
-  }
+  pub rests : (s : StoreValue) (p : Streams S) → AreBeside view s p → AreIdle (state_in view.modules s p) → (i : ℕ) → kept_by view p i ≡ 0
+  rests s p beside idle i = omega (arith, none-kept s 0 p.master beside.master idle.master i, none-kept s 4 p.slave beside.slave idle.slave i)
 
   pub alone : (s : StoreValue) (p : Streams S) → AreBeside view s p → state_in view.modules s p ≡ alone_in s p
   alone s p beside =

@@ -1,3 +1,4 @@
+pub mod Alone
 pub mod PutBy
 pub mod Took
 pub mod Framing

@@ -6,15 +6,16 @@ ghost use Rattle.strm_types.specs.declared.rules.Rule.TheVariants.{EndClosed};
 ghost use Rattle.strm_types.specs.Closes.{head_emptied, driver_emptied, ended, hung_up_at, closed_at};
 ghost use Rattle.strm_types.specs.Emptied.{of_all};
 ghost use Rattle.strm_types.specs.Deliver.{tallied};
+ghost use Rattle.strm_types.specs.Kept.{AreIdle};
 ghost use Rattle.strm_types.specs.Puts.{flushed_on};
 ghost use Rattle.strm_frame.specs.Hands.{HasRoom};
 ghost use Rattle.strm_pair.specs.Streams.{Modules};
 
 use crate::stacks::Stacks;
 use crate::streams::Streams;
-use strm_frame::{clear_queue, deliver};
+use strm_frame::clear_queue;
 use strm_head::make_flush;
-use strm_types::{Answer, Band, Fates, FlushAsked, FlushQueues, HOPS, Rule, Side, Spot, Way};
+use strm_types::{Answer, Band, Fates, FlushAsked, FlushQueues, Rule, Side, Spot, Way};
 
 impl<S: Drop> Streams<S> {
     ghost use Rattle.strm_blocks.specs.Blocks.{StoreValue};
@@ -32,6 +33,7 @@ impl<S: Drop> Streams<S> {
         told: &mut Fates,
     ) -> Answer<usize>
         requires held { AreHeld B.view (B.value store.old) self.old }
+        requires idle { AreIdle (state_in B.view.modules (B.value store.old) self.old) }
         requires room { HasRoom (B.value store.old) 5 }
         ensures answer { result ≡ Done }
         ensures state { state_in B.view.modules (B.value store.new) self.new
@@ -47,7 +49,7 @@ impl<S: Drop> Streams<S> {
             at: 1,
             way: Way::Down,
         };
-        deliver(store, self, HOPS, below, message, told);
+        self.deliver_alone(store, below, message, told);
         Answer::Done
     }
 

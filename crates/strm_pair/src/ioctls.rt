@@ -5,6 +5,7 @@ ghost use Rattle.strm_types.specs.declared.limits.TheConstants.{IOCTL_BLOCKS, IO
 ghost use Rattle.strm_types.specs.Calls.{ioctl_begun, ioctl_sent, ioctl_told, signals_told};
 ghost use Rattle.strm_types.specs.Deliver.{tallied};
 ghost use Rattle.strm_types.specs.Journal.{answer_len, reply_in};
+ghost use Rattle.strm_types.specs.Kept.{AreIdle};
 ghost use Rattle.strm_types.specs.Refused.{may_ask};
 ghost use Rattle.strm_blocks.specs.Blocks.{StoreValue};
 ghost use Rattle.strm_frame.specs.Hands.{HasRoom};
@@ -13,9 +14,8 @@ ghost use Rattle.strm_pair.specs.Streams.{Modules};
 
 use crate::stacks::Stacks;
 use crate::streams::Streams;
-use strm_frame::deliver;
 use strm_head::make_ioctl;
-use strm_types::{Answer, Content, Fates, HOPS, Ioc, Side, Spot, Way};
+use strm_types::{Answer, Content, Fates, Ioc, Side, Spot, Way};
 
 impl<S: Drop> Streams<S> {
     ghost use Rattle.strm_pair.specs.Pairs.{state_in, AreHeld, SamePool};
@@ -44,6 +44,7 @@ impl<S: Drop> Streams<S> {
         told: &mut Fates,
     )
         requires held { AreHeld B.view (B.value store.old) self.old }
+        requires idle { AreIdle (state_in B.view.modules (B.value store.old) self.old) }
         requires may_ask { may_ask body.now (state_in B.view.modules (B.value store.old) self.old) ≡ true }
         requires room { HasRoom (B.value store.old) IOCTL_BLOCKS }
         ensures state { state_in B.view.modules (B.value store.new) self.new
@@ -59,7 +60,7 @@ impl<S: Drop> Streams<S> {
             at: 1,
             way: Way::Down,
         };
-        deliver(store, self, HOPS, below, message, told);
+        self.deliver_alone(store, below, message, told);
     }
 
     /// Tells what became of the ioctl under way on a side's stream, once: its answer, with its bytes in `out`, or its number
@@ -96,6 +97,7 @@ impl<S: Drop> Streams<S> {
         told: &mut Fates,
     ) -> Answer<usize>
         requires held { AreHeld B.view (B.value store.old) self.old }
+        requires idle { AreIdle (state_in B.view.modules (B.value store.old) self.old) }
         requires may_ask { may_ask body.now (state_in B.view.modules (B.value store.old) self.old) ≡ true }
         requires room { HasRoom (B.value store.old) IOCTL_BLOCKS }
         requires fresh { out.old.items ≡ [] }

@@ -4,6 +4,7 @@
 
 mod answers;
 mod closing;
+mod delivering;
 mod earlier;
 mod ends;
 mod ioctls;

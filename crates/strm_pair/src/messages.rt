@@ -9,6 +9,7 @@ ghost use Rattle.strm_types.specs.Cells.{plain};
 ghost use Rattle.strm_types.specs.Deliver.{tallied};
 ghost use Rattle.strm_types.specs.GetQueues.{get_gone};
 ghost use Rattle.strm_types.specs.Journal.{answer_len, reply_in};
+ghost use Rattle.strm_types.specs.Kept.{AreIdle};
 ghost use Rattle.strm_types.specs.Message.{part};
 ghost use Rattle.strm_types.specs.Names.{direction_from, direction_of, head_of};
 ghost use Rattle.strm_types.specs.PutMsg.{put_blocks, put_refusal};
@@ -20,9 +21,8 @@ ghost use Rattle.strm_pair.specs.Streams.{Modules};
 
 use crate::stacks::Stacks;
 use crate::streams::Streams;
-use strm_frame::deliver;
 use strm_head::{getmsg, make_message};
-use strm_types::{Answer, Book, Content, Fates, HOPS, Prio, READ_MAX, Side, Spot, Wanted, Way};
+use strm_types::{Answer, Book, Content, Fates, Prio, READ_MAX, Side, Spot, Wanted, Way};
 
 // How many bytes a part has, none where it is absent.
 fn len_of(lent: Option<&[u8]>) -> usize
@@ -76,6 +76,7 @@ impl<S: Drop> Streams<S> {
         told: &mut Fates,
     ) -> Answer<usize>
         requires held { AreHeld B.view (B.value store.old) self.old }
+        requires idle { AreIdle (state_in B.view.modules (B.value store.old) self.old) }
         requires allowed { put_refusal prio (option_map (λ bytes. bytes.now) control) (option_map (λ bytes. bytes.now) body) ≡ None }
         requires in_range { in_range (state_in B.view.modules (B.value store.old) self.old) ≡ true }
         requires room_m { WRITE_BLOCKS + put_blocks (option_map (λ bytes. bytes.now) control) (option_map (λ bytes. bytes.now) body) ≤ free_m (B.value store.old) }
@@ -97,7 +98,7 @@ impl<S: Drop> Streams<S> {
             at: 1,
             way: Way::Down,
         };
-        deliver(store, self, HOPS, below, message, told);
+        self.deliver_alone(store, below, message, told);
         self.keep_book::<B>(side, book);
         Answer::Done
     }

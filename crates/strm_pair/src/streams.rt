@@ -9,7 +9,7 @@ ghost use Rattle.strm_types.specs.Calls.{Reply, called, mode_set, request, opene
 ghost use Rattle.strm_types.specs.CutOff.{IsCutOff};
 ghost use Rattle.strm_types.specs.declared.entries.Entry.TheVariants.{Called};
 ghost use Rattle.strm_types.specs.Deliver.{tallied};
-ghost use Rattle.strm_types.specs.Kept.{gone};
+ghost use Rattle.strm_types.specs.Kept.{AreIdle, gone};
 ghost use Rattle.strm_types.specs.Turns.{turned};
 ghost use Rattle.strm_types.specs.declared.limits.TheConstants.{READ_MAX, TURN_BLOCKS};
 ghost use Rattle.strm_frame.specs.Hands.{HasRoom};
@@ -196,6 +196,7 @@ impl<S: Drop> Streams<S> {
     ) -> Answer<usize>
         requires held { AreHeld B.view (B.value store.old) self.old }
         requires allowed { refused_at_once (state_in B.view.modules (B.value store.old) self.old) caller (request event.now) ≡ None }
+        requires idle { AreIdle (state_in B.view.modules (B.value store.old) self.old) }
         requires cut_off { IsCutOff (state_in B.view.modules (B.value store.old) self.old) }
         requires room_m { blocks_asked (request event.now) ≤ free_m (B.value store.old) }
         requires room_d { blocks_asked (request event.now) ≤ free_d (B.value store.old) }
@@ -252,6 +253,7 @@ impl<S: Drop> Streams<S> {
         told: &mut Fates,
     ) -> Turn
         requires held { AreHeld B.view (B.value store.old) self.old }
+        requires idle { AreIdle (state_in B.view.modules (B.value store.old) self.old) }
         requires room { HasRoom (B.value store.old) TURN_BLOCKS }
         ensures turn { result ≡ (turned plain name result (state_in B.view.modules (B.value store.old) self.old)).turn }
         ensures state { state_in B.view.modules (B.value store.new) self.new

@@ -3,6 +3,7 @@
 ghost use Rattle.std.specs.Prelude.{ℕ, ◌≡◌, ◌<◌, [], not, false, MatchOption};
 ghost use Rattle.strm_types.specs.declared.limits.TheConstants.{BANDS};
 ghost use Rattle.strm_types.specs.Deliver.{tallied};
+ghost use Rattle.strm_types.specs.Kept.{AreIdle};
 ghost use Rattle.strm_types.specs.Turns.{driver_turned, turn_ended, with_driver};
 ghost use Rattle.strm_types.specs.Queue.{is_none_left};
 ghost use Rattle.strm_types.specs.State.{stream};
@@ -15,11 +16,11 @@ ghost use Rattle.strm_pair.specs.Streams.{Modules};
 use crate::stacks::Stacks;
 use crate::streams::Streams;
 use strm_blocks::Blocks;
-use strm_frame::{TurnEnd, deliver};
+use strm_frame::TurnEnd;
 use strm_msg::message_size;
 use strm_queue::Queue;
 use strm_queue::standing::{dequeue, is_stopped, relieve};
-use strm_types::{Band, Fates, HOPS, Side, Spot, Turn, Way};
+use strm_types::{Band, Fates, Side, Spot, Turn, Way};
 
 // A queue from which a turn took a message of this size, once what came of that is done: it wants to be read where nothing is
 // left, and where bytes went its waiting writers are let go.
@@ -48,7 +49,8 @@ impl<S: Drop> Streams<S> {
 
     // Takes the first message off the queue of a side's driver.
     fn take_first<B: Stacks<Stack = S>>(&mut self, store: &mut B, side: Side) -> Option<B::Mp>
-        requires { AreHeld B.view (B.value store.old) self.old }
+        requires held { AreHeld B.view (B.value store.old) self.old }
+        requires idle { AreIdle (state_in B.view.modules (B.value store.old) self.old) }
         ensures { MatchOption result
             (messages_on (B.value store.old) (end_at side self.old).driver.list ≡ [])
             (λ m. TookFirst B.view side (B.value store.old) (B.value store.new) self.old self.new (B.name m)) }
@@ -82,6 +84,7 @@ impl<S: Drop> Streams<S> {
         told: &mut Fates,
     ) -> Turn
         requires held { AreHeld B.view (B.value store.old) self.old }
+        requires idle { AreIdle (state_in B.view.modules (B.value store.old) self.old) }
         requires room { HasRoom (B.value store.old) 4 }
         requires some { is_none_left (messages_on (B.value store.old) (end_at side self.old).driver.list) ≡ false }
         ensures moves { MovesAcross side (state_in B.view.modules (B.value store.old) self.old) result
@@ -99,7 +102,7 @@ impl<S: Drop> Streams<S> {
             at: 0,
             way: Way::Up,
         };
-        deliver(store, self, HOPS, up, message, told);
+        self.deliver_alone(store, up, message, told);
         self.end_turn(store, side, size);
         Turn::Moved(size)
     }
@@ -137,6 +140,7 @@ impl<S: Drop> Streams<S> {
         told: &mut Fates,
     ) -> Turn
         requires held { AreHeld B.view (B.value store.old) self.old }
+        requires idle { AreIdle (state_in B.view.modules (B.value store.old) self.old) }
         requires room { HasRoom (B.value store.old) 4 }
         ensures turn { result ≡ (driver_turned side (state_in B.view.modules (B.value store.old) self.old)).turn }
         ensures state { state_in B.view.modules (B.value store.new) self.new

@@ -15,7 +15,7 @@ use Rattle.strm_types.proofs.Replay.{call-allowed}
 use Rattle.strm_pair.specs.Pairs.{state_in, journal_of, free_in}
 use Rattle.strm_pair.specs.PairViews.{pair_of}
 use Rattle.strm_pair.proofs.JournalLemmas.{room-less}
-use Rattle.strm_pair.proofs.Steps.{kept-step, step-shown}
+use Rattle.strm_pair.proofs.Steps.{kept-step, led-idle, step-shown}
 use Rattle.strm_pair.proofs.pair.Pair.call.Goals as goal
 
 pub invariant_of-self : goal.invariant_of-self
@@ -80,6 +80,9 @@ pub carry_out-answer-requires-clause-cut_off : goal.carry_out-answer-requires-cl
 carry_out-answer-requires-clause-cut_off g c =
     let kept = c.self.invariant in
     subst (λ t. IsCutOff t) (sym kept.replayed) (journal-cut plain opening (journal_of c.self.inside.journal) opening-cut kept.legal)
+
+pub carry_out-answer-requires-clause-idle : goal.carry_out-answer-requires-clause-idle
+carry_out-answer-requires-clause-idle g c = led-idle g.B.Stacks.view (g.B.Blocks.value c.self.inside.store) c.self.inside.streams c.self.inside.journal c.self.inside.limits c.self.inside.fates c.self.invariant
 
 pub carry_out-answer-requires-clause-room_m : goal.carry_out-answer-requires-clause-room_m
 carry_out-answer-requires-clause-room_m g c = search rules steps 1000000

@@ -13,7 +13,7 @@ use Rattle.strm_types.proofs.Replay.{turn-allowed}
 use Rattle.strm_pair.specs.Pairs.{state_in, journal_of, free_in}
 use Rattle.strm_pair.specs.PairViews.{pair_of}
 use Rattle.strm_pair.proofs.Sides.{none-stand}
-use Rattle.strm_pair.proofs.Steps.{kept-step, step-shown}
+use Rattle.strm_pair.proofs.Steps.{kept-step, led-idle, step-shown}
 use Rattle.strm_pair.proofs.pair.Pair.turn.Goals as goal
 
 pub invariant_of-self : goal.invariant_of-self
@@ -80,3 +80,6 @@ add_turn-requires g c = search rules steps 300000
 
 pub returns-clause-refused : goal.returns-clause-refused
 returns-clause-refused g c = search rules steps 1000000
+
+pub turn-turn-requires-clause-idle : goal.turn-turn-requires-clause-idle
+turn-turn-requires-clause-idle g c = led-idle g.B.Stacks.view (g.B.Blocks.value c.self.inside.store) c.self.inside.streams c.self.inside.journal c.self.inside.limits c.self.inside.fates c.self.invariant

@@ -1,6 +1,5 @@
 -- Nothing is left on the queue that was cleared.
 use Rattle.std.proofs.Common.{rules}
-use Rattle.strm_pair.specs.Pairs.{state_in}
 use Rattle.strm_pair.proofs.Sides.{driver-held, only-changed}
 use Rattle.strm_types.specs.declared.names.Side.TheVariants.{Master, Slave}
 use Rattle.strm_pair.proofs.streams.Streams.clear_driver.Goals as goal

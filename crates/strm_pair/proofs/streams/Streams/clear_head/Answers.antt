@@ -3,7 +3,7 @@ use Rattle.std.proofs.Common.{◌∙◌, rules}
 use Rattle.strm_types.specs.declared.names.Side.TheVariants.{Master, Slave}
 use Rattle.strm_queue.specs.Stored.{queue_in}
 use Rattle.strm_pair.specs.Framing.{still}
-use Rattle.strm_pair.specs.Pairs.{state_in}
+use Rattle.strm_pair.specs.Pairs.{kept_by}
 use Rattle.strm_pair.proofs.Sides.{head-changed, only-changed, readable-cleared}
 use Rattle.strm_pair.proofs.streams.Streams.clear_head.Goals as goal
 use Rattle.strm_pair.proofs.streams.Streams.clear_head.Goals.{in-Master, in-Slave}
@@ -20,7 +20,7 @@ returns-clause-held g c =
           rw (w.store-is, c.let_go.ensures s, w.self-is)
           (record {
             hand = e.changes.hand ∙ c.requires.hand;
-            beside = head-changed g.B.Stacks.view s t p c.requires.beside (still g.B.Stacks.view s t p c.requires.beside e.changes.mblks e.changes.dblks) Master (record p.master.head { queue = q }) (only-changed s t p.master.head.queue q e.changes) (readable-cleared t q (queue_in s p.master.head.queue) e.queue);
+            beside = head-changed g.B.Stacks.view s t p c.requires.beside (still s t (kept_by g.B.Stacks.view p) e.changes.hand e.changes.mblks e.changes.dblks) Master (record p.master.head { queue = q }) (only-changed s t p.master.head.queue q e.changes) (readable-cleared t q (queue_in s p.master.head.queue) e.queue);
           }))
       | in-Slave w ↦
           (let e = w.clear_queue-lets_go-in-Slave.ensures in
@@ -29,7 +29,7 @@ returns-clause-held g c =
           rw (w.store-is, c.let_go.ensures s, w.self-is)
           (record {
             hand = e.changes.hand ∙ c.requires.hand;
-            beside = head-changed g.B.Stacks.view s t p c.requires.beside (still g.B.Stacks.view s t p c.requires.beside e.changes.mblks e.changes.dblks) Slave (record p.slave.head { queue = q }) (only-changed s t p.slave.head.queue q e.changes) (readable-cleared t q (queue_in s p.slave.head.queue) e.queue);
+            beside = head-changed g.B.Stacks.view s t p c.requires.beside (still s t (kept_by g.B.Stacks.view p) e.changes.hand e.changes.mblks e.changes.dblks) Slave (record p.slave.head { queue = q }) (only-changed s t p.slave.head.queue q e.changes) (readable-cleared t q (queue_in s p.slave.head.queue) e.queue);
           }))
     ]
 

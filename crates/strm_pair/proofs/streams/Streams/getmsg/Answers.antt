@@ -1,6 +1,5 @@
 -- What the head of either side gives.
 use Rattle.std.proofs.Common.{sym, subst, ◌∙◌, refl, rules}
-use Rattle.strm_pair.specs.Pairs.{state_in}
 use Rattle.strm_types.specs.declared.names.Side.TheVariants.{Master, Slave}
 use Rattle.strm_head.specs.Getting.{Gives}
 use Rattle.strm_pair.proofs.GetSteps.{got_at, gives-is, got-answer, got-filled, got-few, got-parts}

@@ -1,11 +1,11 @@
 -- What stands at a place takes the message: behind the head the driver, as no module stands there.
 use Rattle.std.proofs.Common.{true, sym, subst, arith}
 use Rattle.strm_types.specs.declared.names.Way.TheVariants.{Up, Down}
-use Rattle.strm_types.specs.Costs.{below_takes, cost, head_takes, is_across}
+use Rattle.strm_types.specs.Costs.{below_takes, cost, head_takes}
 use Rattle.strm_types.specs.Message.{has_parts}
 use Rattle.strm_types.specs.Puts.{put_at_driver}
 use Rattle.strm_frame.specs.Hands.{HasRoom}
-use Rattle.strm_frame.specs.Outboxes.{cost_of, message_in, sent_of}
+use Rattle.strm_frame.specs.Outboxes.{message_in, sent_of}
 use Rattle.strm_pair.specs.Pairs.{state_in}
 use Rattle.strm_pair.specs.PutBy.{PutBy}
 use Rattle.strm_pair.proofs.PutSteps.{behind-put, behind-room, head-put, room-for}

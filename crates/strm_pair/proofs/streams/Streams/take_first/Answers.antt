@@ -15,7 +15,7 @@ returns-in-Master g c =
     let p = c.args.self.now in
     let q = with_end Master (record p.master { driver = c.dequeue.new.queue }) p in
     subst (λ sd. MatchOption c.dequeue.result (messages_on s (end_at sd p).driver.list ≡ []) (λ m. TookFirst g.B.Stacks.view sd s t p q (g.B.Blocks.name m))) (sym c.in-Master.is)
-    (took g.B.Stacks.view g.B.Blocks.name Master s t p c.dequeue.new.queue c.dequeue.result c.requires.beside c.dequeue.ensures)
+    (took g.B.Stacks.view g.B.Blocks.name Master s t p c.dequeue.new.queue c.dequeue.result c.requires.held.beside c.requires.idle c.dequeue.ensures)
 
 pub returns-in-Slave : goal.returns-in-Slave
 returns-in-Slave g c =
@@ -24,4 +24,4 @@ returns-in-Slave g c =
     let p = c.args.self.now in
     let q = with_end Slave (record p.slave { driver = c.dequeue-in-Slave.new.queue }) p in
     subst (λ sd. MatchOption c.dequeue-in-Slave.result (messages_on s (end_at sd p).driver.list ≡ []) (λ m. TookFirst g.B.Stacks.view sd s t p q (g.B.Blocks.name m))) (sym c.in-Slave.is)
-    (took g.B.Stacks.view g.B.Blocks.name Slave s t p c.dequeue-in-Slave.new.queue c.dequeue-in-Slave.result c.requires.beside c.dequeue-in-Slave.ensures)
+    (took g.B.Stacks.view g.B.Blocks.name Slave s t p c.dequeue-in-Slave.new.queue c.dequeue-in-Slave.result c.requires.held.beside c.requires.idle c.dequeue-in-Slave.ensures)

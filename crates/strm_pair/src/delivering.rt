@@ -1,0 +1,40 @@
+//! Messages that calls and turns send (STREAMS Programming Guide, "Put Procedures").
+
+ghost use Rattle.std.specs.Prelude.{◌≡◌, ◌<◌};
+ghost use Rattle.strm_types.specs.Costs.{cost};
+ghost use Rattle.strm_types.specs.declared.limits.TheConstants.{HOPS};
+ghost use Rattle.strm_types.specs.Deliver.{tallied};
+ghost use Rattle.strm_types.specs.Puts.{delivered, far};
+ghost use Rattle.strm_frame.specs.Hands.{HasRoom};
+ghost use Rattle.strm_frame.specs.Outboxes.{message_in};
+ghost use Rattle.strm_pair.specs.Alone.{IsAlone};
+
+use crate::stacks::Stacks;
+use crate::streams::Streams;
+use strm_frame::deliver;
+use strm_types::{Fates, HOPS, Spot};
+
+impl<S: Drop> Streams<S> {
+    ghost use Rattle.strm_pair.specs.Pairs.{state_in, AreHeld, SamePool};
+
+    /// Delivers the one message in hand to a spot, with all that it gives rise to. Nothing is in hand behind it.
+    pub(crate) fn deliver_alone<B: Stacks<Stack = S>>(
+        &mut self,
+        store: &mut B,
+        to: Spot,
+        message: B::Mp,
+        told: &mut Fates,
+    )
+        requires alone { IsAlone B.view (B.value store.old) self.old (B.name message) }
+        requires low { far to (message_in (B.value store.old) (B.name message)) < HOPS }
+        requires room { HasRoom (B.value store.old) (cost to (message_in (B.value store.old) (B.name message))) }
+        ensures state { let s = B.value store.old in state_in B.view.modules (B.value store.new) self.new
+            ≡ (delivered to (message_in s (B.name message)) (state_in B.view.modules s self.old)).state }
+        ensures told { let s = B.value store.old in told.new
+            ≡ tallied (delivered to (message_in s (B.name message)) (state_in B.view.modules s self.old)).gone told.old }
+        ensures held { AreHeld B.view (B.value store.new) self.new }
+        ensures pool { SamePool (B.value store.old) (B.value store.new) }
+    {
+        deliver(store, self, HOPS, to, message, told);
+    }
+}
