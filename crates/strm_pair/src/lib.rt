@@ -13,6 +13,7 @@ mod messages;
 mod pair;
 mod putting;
 mod refusals;
+mod room;
 mod sending;
 mod stacks;
 mod streams;
