@@ -8,6 +8,7 @@ ghost use Rattle.strm_types.specs.ModuleQueues.{place_past, with_waiting};
 ghost use Rattle.strm_types.specs.Past.{end_queue, has_room_past, may_pass, waits_on, with_end_queue, writer_waits};
 ghost use Rattle.strm_types.specs.Queue.{is_full};
 ghost use Rattle.strm_types.specs.Stacked.{module_queue};
+ghost use Rattle.strm_types.specs.Writes.{is_full_below};
 ghost use Rattle.strm_blocks.specs.Blocks.{StoreValue};
 ghost use Rattle.strm_queue.specs.Stored.{IsReady};
 ghost use Rattle.strm_pair.specs.Streams.{IsSide, stream_in};
@@ -93,6 +94,20 @@ impl<S: Drop> Streams<S> {
             Side::Master => self.master.may_pass(store, way, at, band),
             Side::Slave => self.slave.may_pass(store, way, at, band),
         }
+    }
+
+    /// Whether a band is full of the first queue below a side's head (canput(9F)).
+    pub(crate) fn is_full_below<B: Stacks<Stack = S>>(
+        &self,
+        store: &B,
+        side: Side,
+        band: Band,
+    ) -> bool
+        requires beside { AreBeside B.view (B.value store.now) self.now }
+        requires band { band.0 < BANDS }
+        ensures { result ≡ is_full_below band.0 side (state_in B.view.modules (B.value store.now) self.now) }
+    {
+        !self.has_room_past(store, side, Way::Down, 0, band)
     }
 
     /// Has a writer wait for room in a band past a place of a side's stream, as messages of a way go: want-write is set on the nearest
