@@ -18,6 +18,7 @@ mod sending;
 mod stacks;
 mod streams;
 mod turning;
+mod writing;
 
 pub use pair::{Pair, Recorded};
 pub use stacks::Stacks;
