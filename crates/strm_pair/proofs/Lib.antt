@@ -15,5 +15,6 @@ pub mod DataLemmas
 pub mod Sends
 pub mod JournalLemmas
 mod PlainWrites
+pub mod ChunkSteps
 mod Refusing
 mod Fresh

@@ -1,33 +1,36 @@
 -- Writes and reads over plain cells are those of plain bytes. A write is put on the driver's queue, where the master isn't closed, as it
 -- is where nothing refuses a write; nothing goes on its way.
-use Rattle.std.proofs.Common.{ℕ, ◌≡◌, false, true, List, [], length, refl, ap, ◌∙◌}
-use Rattle.std.specs.Prelude.{min, None, Option}
+use Rattle.std.proofs.Common.{ℕ, ◌≡◌, ◌<◌, ◌+◌, Bool, false, true, cond, List, [], ◌∷◌, length, refl, sym, ap, ◌∙◌, arith}
+use Rattle.std.specs.Prelude.{min, nat_le, None, Some, Option}
+use Rattle.std.proofs.lemmas.Bool.Decides.{nat_tests}
 use Rattle.strm_types.specs.declared.answers.Answer.TheVariants.{Bytes, Count}
 use Rattle.strm_types.specs.declared.events.Caller.{Caller}
 use Rattle.strm_types.specs.declared.events.Event.TheVariants.{Put, Write}
 use Rattle.strm_types.specs.declared.limits.TheConstants.{READ_MAX}
 use Rattle.strm_types.specs.declared.modes.Prio.{Prio}
+use Rattle.strm_types.specs.declared.modes.Prio.TheVariants.{High, Band}
 use Rattle.strm_types.specs.declared.names.Side.{Side}
 use Rattle.strm_types.specs.declared.names.Side.TheVariants.{Master, Slave}
-use Rattle.strm_types.specs.declared.refusals.Refusal.TheVariants.{Enxio, Erange}
+use Rattle.strm_types.specs.declared.refusals.Refusal.TheVariants.{Einval, Enxio, Erange}
 use Rattle.strm_types.specs.Books.{with_written}
 use Rattle.strm_types.specs.Names.{direction_from, is_closed}
 use Rattle.strm_types.specs.Cells.{plain}
 use Rattle.strm_types.specs.CutOff.{IsCutOff}
 use Rattle.strm_types.specs.PutEffect.{write_effect}
-use Rattle.strm_types.specs.PutMsg.{put_refusal}
+use Rattle.strm_types.specs.PutMsg.{is_too_long, put_refusal}
 use Rattle.strm_types.specs.Refused.{goes_down, in_range, refused_at_once, unless}
 use Rattle.strm_types.specs.State.{State, stream, book, with_book}
 use Rattle.strm_types.specs.Reads.{head_draw}
 use Rattle.strm_types.specs.Calls.{Outcome, wrote, write_sent, read_at}
 use Rattle.strm_types.specs.Write.{chunk_count, chunks_of}
-use Rattle.strm_types.specs.Writes.{Wrote, cells_sent}
+use Rattle.strm_types.specs.Writes.{Wrote, cells_sent, chunks_sent}
 use Rattle.strm_types.proofs.CutOff.{goes-stays}
 use Rattle.strm_types.proofs.PlainCells.{written-plain, bytes-plain}
 use Rattle.strm_types.proofs.Replay.{or_else-none, unless-none}
 use Rattle.strm_types.proofs.WritesStand.{chunks-stand}
+use Rattle.strm_types.specs.Earlier.{NoModules, modules_on}
+use Rattle.strm_pair.specs.Parts.{IsLow}
 use Rattle.strm_pair.specs.PlainCalls.{wrote_plain, read_plain}
-use Rattle.strm_types.specs.Earlier.{NoModules}
 
 -- where nothing refuses a write at once, the master isn't closed
 pub write-stays : (s : State ℕ) (caller : Caller) (bytes : List ℕ) → IsCutOff s → refused_at_once s caller (Write bytes) ≡ None → is_closed s.master.opened ≡ false
@@ -39,6 +42,28 @@ pub put-in_range : (s : State ℕ) (caller : Caller) (prio : Prio) (control body
 put-in_range s caller prio control body at_once =
     let later = (or_else-none (unless (goes_down caller.side s) Enxio) _ at_once).1 in
     unless-none (in_range s) Erange (or_else-none (put_refusal prio control body) (unless (in_range s) Erange) later).1
+
+-- and the band of its message is one of those that queues have
+low-band : (prio : Prio) (control body : Option (List ℕ)) → put_refusal prio control body ≡ None → IsLow prio
+low-band High control body goes = tt
+low-band (Band band) control body goes = by (nat_le 8 band.0) refl goes
+  where
+    by : (v : Bool) → nat_le 8 band.0 ≡ v → cond v (Some Einval) (cond (is_too_long control body) (Some Erange) None) ≡ None → band.0 < 8
+    by true e told = absurd (cc)
+    by false e told = grind (arith, nat_tests)
+
+pub put-low : (s : State ℕ) (caller : Caller) (prio : Prio) (control body : Option (List ℕ)) → refused_at_once s caller (Put prio control body) ≡ None → IsLow prio
+put-low s caller prio control body at_once =
+    let later = (or_else-none (unless (goes_down caller.side s) Enxio) _ at_once).1 in
+    low-band prio control body (or_else-none (put_refusal prio control body) (unless (in_range s) Erange) later).0
+
+-- where none is counted, no module stands
+none-there : {A : Type 0} (xs : List A) → min 3 (length xs) ≡ 0 → xs ≡ []
+none-there [] none = refl
+none-there (x ∷ xs) none = absurd (omega (arith, none))
+
+pub none-counted : (s : State ℕ) → modules_on Master s + modules_on Slave s ≡ 0 → NoModules s
+none-counted s none = record { master = none-there s.master.modules (omega (arith, none)); slave = none-there s.slave.modules (omega (arith, none)) }
 
 module _ (side : Side) (bytes : List ℕ) (s : State ℕ) (stays : is_closed s.master.opened ≡ false) (none : NoModules s) where
   -- what stands at the driver
@@ -63,6 +88,19 @@ booked-stands Slave bytes s = refl
 
 pub wrote-is : (side : Side) (bytes : List ℕ) (s : State ℕ) → is_closed s.master.opened ≡ false → NoModules s → wrote plain side bytes s ≡ wrote_plain side bytes s
 wrote-is side bytes s stays none = ap (λ (t : Wrote ℕ). booked side s t) (sent-stands side bytes s stays none) ∙ booked-stands side bytes s
+
+-- the chunks of a write
+abbrev pub chunks-written : Side → ℕ → List ℕ → State ℕ → Wrote ℕ
+chunks-written side n bytes s = chunks_sent side (chunks_of n bytes) s
+
+module _ (side : Side) (bytes : List ℕ) (s : State ℕ) (n : ℕ) (count : n ≡ chunk_count (length bytes)) where
+  pub chunks-are : write_sent plain side bytes s ≡ chunks-written side n bytes s
+  chunks-are =
+      ap (λ (xs : List ℕ). cells_sent side xs s) (written-plain (direction_from side) (book (direction_from side) s).written bytes)
+      ∙ ap (λ k. chunks-written side k bytes s) (sym count)
+
+  pub wrote-chunks : wrote plain side bytes s ≡ booked side s (chunks-written side n bytes s)
+  wrote-chunks = ap (λ (t : Wrote ℕ). booked side s t) chunks-are
 
 pub read-is : (side : Side) (n : ℕ) (s : State ℕ) → read_at plain side n s ≡ read_plain side n s
 read-is side n s =

@@ -7,6 +7,7 @@ use Rattle.strm_types.specs.declared.books.TheConstants.{BOOK_MAX}
 use Rattle.strm_types.specs.declared.modes.Prio.{Prio}
 use Rattle.strm_types.specs.declared.names.Dir.{Dir}
 use Rattle.strm_types.specs.declared.names.Side.{Side}
+use Rattle.strm_types.specs.declared.names.Side.TheVariants.{Master, Slave}
 use Rattle.strm_types.specs.declared.names.Way.TheVariants.{Down}
 use Rattle.strm_types.specs.declared.rules.Fates.{Fates}
 use Rattle.strm_types.specs.Books as books
@@ -18,6 +19,7 @@ use Rattle.strm_types.specs.Message.{Message, part}
 use Rattle.strm_types.specs.Names.{direction_from}
 use Rattle.strm_types.specs.PutMsg.{no_parts, put_message}
 use Rattle.strm_types.specs.Puts.{delivered}
+use Rattle.strm_types.specs.Refused.{in_range}
 use Rattle.strm_types.specs.State.{State, book, with_book}
 use Rattle.strm_types.proofs.PlainCells.{written-plain}
 
@@ -32,6 +34,10 @@ room-low b h = let lt = (both-true (nat_lt b.written BOOK_MAX) (nat_lt b.made BO
 
 pub written-low : (a b : Book) → (books.has_room a && books.has_room b) ≡ true → (a.written < BOOK_MAX) × (b.written < BOOK_MAX)
 written-low a b h = let parts = both-true (books.has_room a) (books.has_room b) h in (room-low a parts.0, room-low b parts.1)
+
+pub book-low : (side : Side) (s : State ℕ) → in_range s ≡ true → (book (direction_from side) s).written < BOOK_MAX
+book-low Master s room = (written-low s.from_master s.from_slave room).0
+book-low Slave s room = (written-low s.from_master s.from_slave room).1
 
 -- plain bytes have no origin
 part-plain : (dir : Dir) (n : ℕ) (o : Option (List ℕ)) → option_map (cells_written plain dir n) o ≡ o

@@ -1,11 +1,11 @@
 -- How long the parts of an answer are, and what holds a message of a priority back.
-use Rattle.std.specs.Prelude.{ℕ, Bool, false, max}
+use Rattle.std.specs.Prelude.{ℕ, ◌<◌, Bool, false, max}
 use Rattle.strm_types.specs.declared.answers.Answer.{Answer}
 use Rattle.strm_types.specs.declared.answers.Answer.TheVariants.{Bytes, Msg, Signals}
+use Rattle.strm_types.specs.declared.limits.TheConstants.{BANDS}
 use Rattle.strm_types.specs.declared.modes.Prio.{Prio}
 use Rattle.strm_types.specs.declared.modes.Prio.TheVariants.{High, Band}
 use Rattle.strm_types.specs.Journal.{part_len}
-use Rattle.strm_types.specs.Queue.{Queue, is_full}
 
 -- how many bytes the longest part of an answer has: what a read gives is one part, what a getmsg gives two
 abbrev pub longest_part : Answer ℕ → ℕ
@@ -14,7 +14,12 @@ longest_part (Signals len) = len
 longest_part (Msg prio control body more_control more_data) = max (part_len control) (part_len body)
 longest_part _ = 0
 
--- whether a message of this priority finds a queue full in its band: one of high priority waits for nothing
-abbrev pub is_held_back : Prio → Queue ℕ → Bool
-is_held_back High q = false
-is_held_back (Band band) q = is_full band.0 q
+-- whether a message of this priority has to wait, as the bands are full or not: one of high priority waits for nothing
+abbrev pub is_held_back : Prio → (ℕ → Bool) → Bool
+is_held_back High full = false
+is_held_back (Band band) full = full band.0
+
+-- the band of a priority is one of those that queues have
+abbrev pub IsLow : Prio → Type 0
+IsLow High = Unit {0}
+IsLow (Band band) = band.0 < BANDS

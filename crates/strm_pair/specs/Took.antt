@@ -5,8 +5,8 @@ use Rattle.strm_types.specs.declared.names.Side.{Side}
 use Rattle.strm_types.specs.declared.rules.Fates.{Fates}
 use Rattle.strm_types.specs.Deliver.{tallied}
 use Rattle.strm_types.specs.Message.{Message}
-use Rattle.strm_types.specs.Queue.{Queue, left_with, relieved, relieves, with_writer_at}
-use Rattle.strm_types.specs.State.{State, stream, with_stream, with_head_queue}
+use Rattle.strm_types.specs.Queue.{Queue, left_with, relieved, relieves}
+use Rattle.strm_types.specs.State.{State, stream}
 use Rattle.strm_types.specs.Turns.{turned_queue, with_driver, moved_across}
 use Rattle.strm_blocks.specs.Blocks.{StoreValue, in_hand}
 use Rattle.strm_msg.specs.Messages.{message_of, IsChain}
@@ -42,10 +42,3 @@ pub record MovesAcross (side : Side) (old : State ℕ) (turn : Turn) (new : Stat
   pub answer : turn ≡ (moved_across side message rest old).turn
   pub state : new ≡ (moved_across side message rest old).state
   pub tells : told' ≡ tallied (moved_across side message rest old).gone told
-
--- a writer of a band waits at a side's head
-abbrev pub waits_at_head : Side → ℕ → State ℕ → State ℕ
-waits_at_head side band s =
-    let above = stream side s in
-    let q = above.head.queue in
-    with_stream side (with_head_queue (record q { flows = with_writer_at band q.flows }) above) s

@@ -5,7 +5,7 @@ ghost use Rattle.strm_types.specs.Costs.{cost};
 ghost use Rattle.strm_types.specs.declared.limits.TheConstants.{HOPS};
 ghost use Rattle.strm_types.specs.Deliver.{tallied};
 ghost use Rattle.strm_types.specs.Puts.{delivered, far};
-ghost use Rattle.strm_frame.specs.Hands.{HasRoom};
+ghost use Rattle.strm_frame.specs.Hands.{HasRoom, Spends};
 ghost use Rattle.strm_frame.specs.Outboxes.{message_in};
 ghost use Rattle.strm_pair.specs.Alone.{IsAlone};
 
@@ -33,6 +33,7 @@ impl<S: Drop> Streams<S> {
         ensures told { let s = B.value store.old in told.new
             ≡ tallied (delivered to (message_in s (B.name message)) (state_in B.view.modules s self.old)).gone told.old }
         ensures held { AreHeld B.view (B.value store.new) self.new }
+        ensures spends { let s = B.value store.old in Spends s (B.value store.new) (cost to (message_in s (B.name message))) 0 }
         ensures pool { SamePool (B.value store.old) (B.value store.new) }
     {
         deliver(store, self, HOPS, to, message, told);

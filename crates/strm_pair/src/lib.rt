@@ -14,10 +14,12 @@ mod messages;
 mod pair;
 mod putting;
 mod refusals;
+mod room;
 mod sending;
 mod stacks;
 mod streams;
 mod turning;
+mod writing;
 
 pub use pair::{Pair, Recorded};
 pub use stacks::Stacks;

@@ -52,8 +52,8 @@ impl<S: Drop> Streams<S> {
         book
     }
 
-    // Keeps a book of what comes from a side.
-    fn keep_book<B: Stacks<Stack = S>>(&mut self, side: Side, book: Book)
+    /// Keeps a book of what comes from a side.
+    pub(crate) fn keep_book<B: Stacks<Stack = S>>(&mut self, side: Side, book: Book)
         ensures state { (modules : Modules S) (s : StoreValue) → state_in modules s self.new ≡ with_book (direction_from side) book (state_in modules s self.old) }
         ensures held { (s : StoreValue) → AreHeld B.view s self.old → AreHeld B.view s self.new }
     {

@@ -1,12 +1,13 @@
 //! What a call is refused for, by the streams alone.
 
-ghost use Rattle.std.specs.Prelude.{ℕ, ◌≡◌, ◌+◌, ◌≤◌, ◌<◌, ◌^◌, ◌&&◌, not, option_map, []};
+ghost use Rattle.std.specs.Prelude.{ℕ, ◌≡◌, ◌+◌, ◌≤◌, ◌<◌, ◌^◌, ◌&&◌, not, option_map, [], None};
 ghost use Rattle.strm_types.specs.Calls.{request};
 ghost use Rattle.strm_types.specs.Journal.{content_max};
 ghost use Rattle.strm_types.specs.Pushes.{may_stand, named_by};
 ghost use Rattle.strm_types.specs.Refused.{refused_at_once, refused_by_state, blocks_asked, unless, or_else, in_range, goes_down, at_end, is_known, is_a_band, asks_a_band, may_ask};
 ghost use Rattle.strm_types.specs.PutMsg.{part_blocks};
-ghost use Rattle.strm_pair.specs.Parts.{is_held_back};
+ghost use Rattle.strm_types.specs.Writes.{is_full_below};
+ghost use Rattle.strm_pair.specs.Parts.{IsLow, is_held_back};
 ghost use Rattle.strm_types.specs.declared.refusals.Refusal.TheVariants.{Eagain, Einval, Enxio, Erange};
 ghost use Rattle.strm_types.specs.Names.{is_never, is_open};
 ghost use Rattle.strm_types.specs.State.{stream};
@@ -17,7 +18,6 @@ use crate::looking::has_no_data;
 use crate::stacks::Stacks;
 use crate::streams::Streams;
 use strm_head::put_refusal;
-use strm_queue::standing::is_full;
 use strm_types::{
     BANDS, Band, CHANGE_BLOCKS, CLOSE_BLOCKS, Caller, Event, IOCTL_BLOCKS, IOCTL_END, IOCTL_MAX,
     ModuleName, Openness, Prio, READ_MAX, Refusal, SIGNALS_MAX, Side, WRITE_BLOCKS, Wanted,
@@ -213,16 +213,17 @@ impl<S: Drop> Streams<S> {
         }
     }
 
-    // Whether a message of this priority finds the driver's queue of a side full in its band. One of high priority waits for nothing.
+    // Whether a message of this priority finds the first queue below a side's head full in its band. One of high priority waits for
+    // nothing.
     fn is_held_back<B: Stacks<Stack = S>>(&self, store: &B, side: Side, prio: Prio) -> bool
-        requires { AreHeld B.view (B.value store.now) self.now }
-        ensures { result ≡ is_held_back prio (stream side (state_in B.view.modules (B.value store.now) self.now)).driver.queue }
+        requires held { AreHeld B.view (B.value store.now) self.now }
+        requires low { IsLow prio }
+        ensures { let state = state_in B.view.modules (B.value store.now) self.now in
+            result ≡ is_held_back prio (λ band. is_full_below band side state) }
     {
         match prio {
             Prio::High => false,
-            Prio::Band(band) => {
-                usize::from(band.0) < BANDS && is_full(store, &self.end(side).driver, band)
-            }
+            Prio::Band(band) => self.is_full_below(store, side, band),
         }
     }
 
@@ -265,21 +266,22 @@ impl<S: Drop> Streams<S> {
         }
     }
 
-    /// What a call is refused for after all else: what the state says.
+    /// What a call that isn't refused at once is refused for after all else: what the state says.
     pub fn refused_by_state<B: Stacks<Stack = S>>(
         &self,
         store: &B,
         caller: Caller,
         event: &Event<&[u8]>,
     ) -> Option<Refusal>
-        requires { AreHeld B.view (B.value store.now) self.now }
+        requires held { AreHeld B.view (B.value store.now) self.now }
+        requires allowed { refused_at_once (state_in B.view.modules (B.value store.now) self.now) caller (request event.now) ≡ None }
         ensures { result ≡ refused_by_state (state_in B.view.modules (B.value store.now) self.now) caller (request event.now) }
     {
         match event {
             Event::OpenMaster => self.opened_before(),
             Event::OpenSlave => self.unready(),
             Event::Write { .. } => {
-                let is_full = is_full(store, &self.end(caller.side).driver, Band(0));
+                let is_full = self.is_full_below(store, caller.side, Band(0));
                 unless(!is_full, Refusal::Eagain)
             }
             Event::Read { n } => {

@@ -3,7 +3,7 @@
 ghost use Rattle.std.specs.Prelude.{ℕ, ◌≡◌, ◌+◌, ◌≤◌, ◌<◌, true, false, [], length, min, None};
 ghost use Rattle.strm_types.specs.Cells.{plain};
 ghost use Rattle.strm_types.specs.State.{opening, new_stream};
-ghost use Rattle.strm_types.specs.declared.answers.Answer.TheVariants.{Done, Count, Bytes};
+ghost use Rattle.strm_types.specs.declared.answers.Answer.TheVariants.{Done, Bytes};
 ghost use Rattle.strm_types.specs.declared.names.Openness.TheVariants.{Open};
 ghost use Rattle.strm_types.specs.Calls.{Reply, called, mode_set, request, opened_slave};
 ghost use Rattle.strm_types.specs.CutOff.{IsCutOff};
@@ -13,23 +13,21 @@ ghost use Rattle.strm_types.specs.Kept.{AreIdle, gone};
 ghost use Rattle.strm_types.specs.Turns.{turned};
 ghost use Rattle.strm_types.specs.declared.limits.TheConstants.{READ_MAX, TURN_BLOCKS};
 ghost use Rattle.strm_frame.specs.Hands.{HasRoom};
-ghost use Rattle.strm_types.specs.Refused.{blocks_asked, in_range, refused_at_once};
-ghost use Rattle.strm_types.specs.Write.{chunk_count};
+ghost use Rattle.strm_types.specs.Refused.{blocks_asked, refused_at_once};
 ghost use Rattle.strm_types.specs.Journal.{reply_in, answer_len, content_max};
 ghost use Rattle.strm_blocks.specs.Blocks.{StoreValue, free_m, free_d, empty_store};
 ghost use Rattle.strm_pair.specs.Streams.{Modules, IsBlank, IsSide, stream_in};
 ghost use Rattle.strm_pair.specs.Parts.{longest_part};
-ghost use Rattle.strm_pair.specs.PlainCalls.{wrote_plain, read_plain, read_lets};
+ghost use Rattle.strm_pair.specs.PlainCalls.{read_plain, read_lets};
 
 use crate::ends::End;
-use crate::sending::send;
 use crate::stacks::Stacks;
 use strm_frame::Enabled;
 use strm_head::Head;
 use strm_queue::{HEAD_HIGH, HEAD_LOW, OTHER_HIGH, OTHER_LOW, Queue};
 use strm_types::{
     Answer, Book, Caller, Content, Event, Fates, Mode, Openness, Place, QueueName, READ_MAX, Side,
-    Turn, Way, chunk_count,
+    Turn, Way,
 };
 
 /// The streams of a pair, whether its slave is locked, the queues that are enabled, the number that the next ioctl gets,
@@ -125,38 +123,6 @@ impl<S: Drop> Streams<S> {
         }
     }
 
-    /// Writes bytes down a side's stream, and answers how many were taken: they are put on the driver's queue, which is what their
-    /// deliveries come to while the master isn't closed.
-    pub fn write<B: Stacks<Stack = S>>(&mut self, store: &mut B, side: Side, bytes: &[u8]) -> usize
-        requires held { AreHeld B.view (B.value store.old) self.old }
-        requires in_range { in_range (state_in B.view.modules (B.value store.old) self.old) ≡ true }
-        requires room_m { chunk_count (length bytes.now) ≤ free_m (B.value store.old) }
-        requires room_d { chunk_count (length bytes.now) ≤ free_d (B.value store.old) }
-        ensures answer { Count result ≡ (wrote_plain side bytes.now (state_in B.view.modules (B.value store.old) self.old)).answer }
-        ensures state { state_in B.view.modules (B.value store.new) self.new
-            ≡ (wrote_plain side bytes.now (state_in B.view.modules (B.value store.old) self.old)).state }
-        ensures held { AreHeld B.view (B.value store.new) self.new }
-        ensures pool { SamePool (B.value store.old) (B.value store.new) }
-    {
-        let chunks = chunk_count(bytes.len());
-        let down = match side {
-            Side::Master => {
-                let down = send(store, &mut self.master.driver, bytes, chunks);
-                self.from_master.written += down.taken as u64;
-                down
-            }
-            Side::Slave => {
-                let down = send(store, &mut self.slave.driver, bytes, chunks);
-                self.from_slave.written += down.taken as u64;
-                down
-            }
-        };
-        if down.enables {
-            self.enabled.enable(side.driver());
-        }
-        down.taken
-    }
-
     /// Reads up to `n` bytes from a side's head into `out`, as its modes say.
     pub fn read<B: Stacks<Stack = S>>(
         &mut self,
@@ -221,7 +187,7 @@ impl<S: Drop> Streams<S> {
             Event::Shut => self.shut(store, side, told),
             Event::Flush { what, band } => self.flush(store, side, *what, *band, told),
             Event::Push { .. } | Event::Pop | Event::Look => Answer::Done,
-            Event::Write { bytes } => Answer::Count(self.write(store, side, bytes)),
+            Event::Write { bytes } => Answer::Count(self.write(store, side, bytes, told)),
             Event::Read { n } => {
                 self.read(store, side, *n, out, told);
                 Answer::Bytes(out.len())

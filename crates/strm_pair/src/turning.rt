@@ -1,16 +1,20 @@
 //! A turn of a driver: what goes from it up the other side's stream (STREAMS Programming Guide, "Service Procedures").
 
-ghost use Rattle.std.specs.Prelude.{ℕ, ◌≡◌, ◌<◌, [], not, false, MatchOption};
+ghost use Rattle.std.specs.Prelude.{ℕ, ◌≡◌, ◌<◌, ◌&&◌, [], not, false, MatchOption};
 ghost use Rattle.strm_types.specs.declared.limits.TheConstants.{BANDS};
+ghost use Rattle.strm_types.specs.declared.names.Way.TheVariants.{Up};
 ghost use Rattle.strm_types.specs.Deliver.{tallied};
+ghost use Rattle.strm_types.specs.Earlier.{driver_place};
 ghost use Rattle.strm_types.specs.Kept.{AreIdle};
+ghost use Rattle.strm_types.specs.Message.{is_held};
+ghost use Rattle.strm_types.specs.Past.{has_room_past};
 ghost use Rattle.strm_types.specs.Turns.{driver_turned, turn_ended, with_driver};
 ghost use Rattle.strm_types.specs.Queue.{is_none_left};
 ghost use Rattle.strm_types.specs.State.{stream};
 ghost use Rattle.strm_frame.specs.Hands.{HasRoom};
 ghost use Rattle.strm_queue.specs.Stored.{messages_on, queue_in, IsReady};
 ghost use Rattle.strm_pty.specs.Does.{OnlyQueue};
-ghost use Rattle.strm_pair.specs.Took.{settled, settling_relieves, TookFirst, MovesAcross, waits_at_head};
+ghost use Rattle.strm_pair.specs.Took.{settled, settling_relieves, TookFirst, MovesAcross};
 ghost use Rattle.strm_pair.specs.Streams.{Modules};
 
 use crate::stacks::Stacks;
@@ -19,8 +23,8 @@ use strm_blocks::Blocks;
 use strm_frame::TurnEnd;
 use strm_msg::message_size;
 use strm_queue::Queue;
-use strm_queue::standing::{dequeue, is_stopped, relieve};
-use strm_types::{Band, Fates, Side, Spot, Turn, Way};
+use strm_queue::standing::{dequeue, relieve};
+use strm_types::{Band, Fates, MsgKind, Side, Spot, Turn, Way};
 
 // A queue from which a turn took a message of this size, once what came of that is done: it wants to be read where nothing is
 // left, and where bytes went its waiting writers are let go.
@@ -45,7 +49,7 @@ fn settle<B: Blocks>(store: &B, queue: &mut Queue, size: usize) -> TurnEnd
 
 impl<S: Drop> Streams<S> {
     ghost use Rattle.strm_blocks.specs.Blocks.{StoreValue};
-    ghost use Rattle.strm_pair.specs.Pairs.{state_in, end_at, AreHeld, SamePool};
+    ghost use Rattle.strm_pair.specs.Pairs.{state_in, end_at, AreBeside, AreHeld, SamePool};
 
     // Takes the first message off the queue of a side's driver.
     fn take_first<B: Stacks<Stack = S>>(&mut self, store: &mut B, side: Side) -> Option<B::Mp>
@@ -97,9 +101,11 @@ impl<S: Drop> Streams<S> {
         };
         store.audit();
         let size = message_size(store, &message);
+        let above = side.other();
+        let at = self.modules_on::<B>(above);
         let up = Spot {
-            side: side.other(),
-            at: 0,
+            side: above,
+            at,
             way: Way::Up,
         };
         self.deliver_alone(store, up, message, told);
@@ -119,20 +125,25 @@ impl<S: Drop> Streams<S> {
         }
     }
 
-    // A writer waits for room in a band at a side's head.
-    fn wait_at_head<B: Stacks<Stack = S>>(&mut self, side: Side, band: Band)
-        requires { band.0 < BANDS }
-        ensures state { (modules : Modules S) (s : StoreValue) → state_in modules s self.new ≡ waits_at_head side band.0 (state_in modules s self.old) }
-        ensures held { (s : StoreValue) → AreHeld B.view s self.old → AreHeld B.view s self.new }
+    // Whether flow control stops a message of this kind and band at the nearest queue past a side's driver, on the way up.
+    fn is_stopped<B: Stacks<Stack = S>>(
+        &self,
+        store: &B,
+        side: Side,
+        kind: MsgKind,
+        band: Band,
+    ) -> bool
+        requires beside { AreBeside B.view (B.value store.now) self.now }
+        requires band { band.0 < BANDS }
+        ensures { let st = state_in B.view.modules (B.value store.now) self.now in
+            result ≡ (is_held kind && not (has_room_past side Up (driver_place side st) band.0 st)) }
     {
-        match side {
-            Side::Master => self.master.head.queue.let_wait(band),
-            Side::Slave => self.slave.head.queue.let_wait(band),
-        }
+        let at = self.driver_place::<B>(side);
+        kind.is_held() && !self.has_room_past(store, side, Way::Up, at, band)
     }
 
     /// A turn of a side's driver, which is off the list of enabled queues: its first message goes up the other side's stream,
-    /// unless that isn't open or its head is full.
+    /// unless that isn't open or the next queue there is full.
     pub(crate) fn turn_driver<B: Stacks<Stack = S>>(
         &mut self,
         store: &mut B,
@@ -153,14 +164,16 @@ impl<S: Drop> Streams<S> {
             self.keep::<B>(side, true);
             return Turn::Idle;
         };
-        let across = self.end(side.other());
+        let above = side.other();
+        let across = self.end(above);
         if !across.opened.is_open() {
             self.keep::<B>(side, false);
             return Turn::Blocked;
         }
-        if is_stopped(store, &across.head.queue, first.kind, first.band) {
+        if self.is_stopped(store, above, first.kind, first.band) {
             self.keep::<B>(side, false);
-            self.wait_at_head::<B>(side.other(), first.band);
+            let at = self.driver_place::<B>(above);
+            self.wait_past::<B>(above, Way::Up, at, first.band);
             return Turn::Blocked;
         }
         self.move_across(store, side, told)

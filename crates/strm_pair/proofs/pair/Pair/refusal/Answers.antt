@@ -55,3 +55,6 @@ returns g c =
     c.refused_by_state.ensures ∙ ap (λ (x : PairState). refused_by_state x.state c.args.caller asked) c.self.view_is
     ∙ state-told v c.args.caller asked at_once n n_is (sym c.has_room.ensures ∙ c.if-not-has_room.false)
     (ap (λ k. enough k v.free) (sym c.blocks_asked.ensures) ∙ sym c.has_blocks.ensures ∙ c.if-not-has_blocks.false)
+
+pub refused_by_state-requires-clause-allowed : goal.refused_by_state-requires-clause-allowed
+refused_by_state-requires-clause-allowed g c = sym (c.refused_at_once.ensures g.B.Stacks.view.modules (g.B.Blocks.value c.self.inside.store)) ∙ c.in_default.is

@@ -1,4 +1,4 @@
--- Plain bytes have no origin: what goes down and what comes up are the bytes themselves. A write that isn't refused stands at the driver.
+-- Plain bytes have no origin: what goes down and what comes up are the bytes themselves. A write that isn't refused is one while the master isn't closed.
 use Rattle.std.proofs.Common.{ℕ, ◌≡◌, List, ◌∙◌, sym, ap, take}
 use Rattle.std.proofs.Math.Seq.{take-length}
 use denote.Ref.{Bor}
@@ -6,30 +6,24 @@ use Rattle.std.specs.Prelude.{option_map}
 use Rattle.strm_types.specs.declared.answers.Answer.TheVariants.{Bytes}
 use Rattle.strm_types.specs.declared.events.Event.{Event}
 use Rattle.strm_types.specs.Calls.{Outcome, request}
-use Rattle.strm_types.specs.Deliver.{Fate, tallied}
 use Rattle.strm_types.specs.Refused.{refused_at_once}
 use Rattle.strm_pair.specs.Pairs.{state_in}
-use Rattle.strm_pair.proofs.PlainWrites.{put-in_range, write-stays, wrote-is, wrote-none, read-is}
+use Rattle.strm_pair.proofs.PlainWrites.{put-in_range, write-stays, read-is}
 use Rattle.strm_pair.proofs.streams.Streams.carry_out.Goals as goal
-use Rattle.strm_pair.proofs.Sides.{none-stand}
+
+pub write-requires-clause-stays : goal.write-requires-clause-stays
+write-requires-clause-stays g c =
+    let old = state_in g.B.Stacks.view.modules (g.B.Blocks.value c.args.store.now) c.args.self.now in
+    write-stays old c.args.caller c.in-Write.bytes.now c.requires.cut_off (ap (λ (e : Event (Bor (List ℕ))). refused_at_once old c.args.caller (request e)) (sym c.in-Write.is) ∙ c.requires.allowed)
 
 pub returns-in-Write-clause-answer : goal.returns-in-Write-clause-answer
-returns-in-Write-clause-answer g c =
-    let old = state_in g.B.Stacks.view.modules (g.B.Blocks.value c.args.store.now) c.args.self.now in
-    let stays = write-stays old c.args.caller c.in-Write.bytes.now c.requires.cut_off (ap (λ (e : Event (Bor (List ℕ))). refused_at_once old c.args.caller (request e)) (sym c.in-Write.is) ∙ c.requires.allowed) in
-    rw c.in-Write.is (c.write.ensures.answer ∙ ap (λ (o : Outcome ℕ). o.answer) (sym (wrote-is c.args.caller.side c.in-Write.bytes.now old stays (none-stand g.B.Stacks.view (g.B.Blocks.value c.args.store.now) c.args.self.now c.requires.held.beside))))
+returns-in-Write-clause-answer g c = rw c.in-Write.is c.write.ensures.answer
 
 pub returns-in-Write-clause-state : goal.returns-in-Write-clause-state
-returns-in-Write-clause-state g c =
-    let old = state_in g.B.Stacks.view.modules (g.B.Blocks.value c.args.store.now) c.args.self.now in
-    let stays = write-stays old c.args.caller c.in-Write.bytes.now c.requires.cut_off (ap (λ (e : Event (Bor (List ℕ))). refused_at_once old c.args.caller (request e)) (sym c.in-Write.is) ∙ c.requires.allowed) in
-    rw c.in-Write.is (c.write.ensures.state ∙ ap (λ (o : Outcome ℕ). o.state) (sym (wrote-is c.args.caller.side c.in-Write.bytes.now old stays (none-stand g.B.Stacks.view (g.B.Blocks.value c.args.store.now) c.args.self.now c.requires.held.beside))))
+returns-in-Write-clause-state g c = rw c.in-Write.is c.write.ensures.state
 
 pub returns-in-Write-clause-told : goal.returns-in-Write-clause-told
-returns-in-Write-clause-told g c =
-    let old = state_in g.B.Stacks.view.modules (g.B.Blocks.value c.args.store.now) c.args.self.now in
-    let stays = write-stays old c.args.caller c.in-Write.bytes.now c.requires.cut_off (ap (λ (e : Event (Bor (List ℕ))). refused_at_once old c.args.caller (request e)) (sym c.in-Write.is) ∙ c.requires.allowed) in
-    λ answer. rw c.in-Write.is (ap (λ (gone : List (Fate ℕ)). tallied gone c.args.told.now) (sym (wrote-none c.args.caller.side c.in-Write.bytes.now old stays (none-stand g.B.Stacks.view (g.B.Blocks.value c.args.store.now) c.args.self.now c.requires.held.beside))))
+returns-in-Write-clause-told g c = λ answer. rw c.in-Write.is c.write.ensures.told
 
 pub returns-in-Read-clause-answer : goal.returns-in-Read-clause-answer
 returns-in-Read-clause-answer g c =

@@ -1,13 +1,13 @@
-use Rattle.std.proofs.Common.{subst, sym, rules}
-use Rattle.strm_pair.specs.declared.ends.End.{End}
-use Rattle.strm_queue.specs.Stored.{IsReady}
-use Rattle.strm_pair.proofs.Sides.{driver-ready}
+-- A putmsg that isn't refused at once names a band that queues have.
+use Rattle.std.proofs.Common.{List, rules, sym, ap, ◌∙◌}
+use denote.Ref.{Bor}
+use Rattle.std.specs.Prelude.{ℕ, option_map}
+use Rattle.strm_types.specs.declared.events.Event.{Event}
+use Rattle.strm_types.specs.Calls.{request}
+use Rattle.strm_types.specs.Refused.{refused_at_once}
+use Rattle.strm_pair.specs.Pairs.{state_in}
+use Rattle.strm_pair.proofs.PlainWrites.{put-low}
 use Rattle.strm_pair.proofs.streams.Streams.refused_by_state.Goals as goal
-
-pub is_full-is_full-requires-clause-ready : goal.is_full-is_full-requires-clause-ready
-is_full-is_full-requires-clause-ready g c =
-    let s = g.B.Blocks.value c.args.store.now in
-    subst (λ (e : End _). IsReady s e.driver) (sym c.end.ensures.end) (driver-ready g.B.Stacks.view s c.args.self.now c.requires.beside c.args.caller.side)
 
 pub returns-in-Unlock : goal.returns-in-Unlock
 returns-in-Unlock g c = search rules steps 100000
@@ -18,8 +18,15 @@ returns-in-OpenSlave g c = rw c.in-OpenSlave.is (c.unready.ensures g.B.Stacks.vi
 pub returns-in-Write : goal.returns-in-Write
 returns-in-Write g c = search rules steps 300000
 
-pub is_full-is_full-requires-clause-band : goal.is_full-is_full-requires-clause-band
-is_full-is_full-requires-clause-band g c = search rules steps 100000
+pub is_full_below-is_full-requires-clause-band : goal.is_full_below-is_full-requires-clause-band
+is_full_below-is_full-requires-clause-band g c = search rules steps 100000
+
+pub is_held_back-requires-clause-low : goal.is_held_back-requires-clause-low
+is_held_back-requires-clause-low g c =
+    let old = state_in g.B.Stacks.view.modules (g.B.Blocks.value c.args.store.now) c.args.self.now in
+    let now : Bor (List ℕ) → List ℕ = λ bytes. bytes.now in
+    put-low old c.args.caller c.in-Put.prio (option_map now c.in-Put.control) (option_map now c.in-Put.body)
+    (ap (λ (e : Event (Bor (List ℕ))). refused_at_once old c.args.caller (request e)) (sym c.in-Put.is) ∙ c.requires.allowed)
 
 pub returns-in-OpenMaster : goal.returns-in-OpenMaster
 returns-in-OpenMaster g c = rw c.in-OpenMaster.is (c.opened_before.ensures g.B.Stacks.view.modules (g.B.Blocks.value c.args.store.now))

@@ -1,10 +1,14 @@
 -- What is seen of the first message says what becomes of it.
 use Rattle.std.proofs.Common.{ℕ, ap, sym, ◌∙◌}
+use Rattle.std.specs.Prelude.{not, ◌&&◌}
+use Rattle.strm_types.specs.declared.names.Way.TheVariants.{Up}
 use Rattle.strm_types.specs.Deliver.{tallied}
+use Rattle.strm_types.specs.Earlier.{driver_place}
+use Rattle.strm_types.specs.Message.{is_held}
 use Rattle.strm_types.specs.Names.{other}
+use Rattle.strm_types.specs.Past.{has_room_past, writer_waits}
 use Rattle.strm_types.specs.TurnOutcomes.{TurnOutcome}
 use Rattle.strm_pair.specs.Pairs.{state_in, end_at}
-use Rattle.strm_pair.specs.Took.{waits_at_head}
 use Rattle.strm_pair.proofs.TurnSteps.{turned-stopped, turned-moved}
 use Rattle.strm_pair.proofs.streams.Streams.turn_driver.Goals as goal
 
@@ -14,9 +18,10 @@ returns-then-is_stopped-clause-turn g c =
     let p = c.args.self.now in
     let side = c.args.side in
     let st = state_in g.B.Stacks.view.modules s p in
-    let x_is = c.end-across.ensures.end ∙ ap (λ sd. end_at sd p) c.other.ensures in
+    let x_is = c.end-across.ensures.end ∙ ap (λ sd. end_at sd p) c.other-above.ensures in
     let opened = sym c.is_open.ensures ∙ c.if-not-is_open.false in
-    let is = turned-stopped g.B.Stacks.view s p c.requires.held.beside side c.end.result.now c.end-across.result.now c.end.ensures.end x_is opened c.in-Some.first c.in-Some.ensures c.is_stopped.result c.is_stopped.ensures c.if-is_stopped.true in
+    let asked = c.is_stopped.ensures ∙ ap (λ sd. is_held c.in-Some.first.kind && not (has_room_past sd Up (driver_place sd st) c.in-Some.first.band.0 st)) c.other-above.ensures in
+    let is = turned-stopped g.B.Stacks.view s p side c.end.result.now c.end-across.result.now c.end.ensures.end x_is opened c.in-Some.first c.in-Some.ensures c.is_stopped.result asked c.if-is_stopped.true in
     ap (λ (o : TurnOutcome ℕ). o.turn) (sym is)
 
 pub returns-then-is_stopped-clause-state : goal.returns-then-is_stopped-clause-state
@@ -25,12 +30,16 @@ returns-then-is_stopped-clause-state g c =
     let p = c.args.self.now in
     let side = c.args.side in
     let st = state_in g.B.Stacks.view.modules s p in
-    let x_is = c.end-across.ensures.end ∙ ap (λ sd. end_at sd p) c.other.ensures in
+    let x_is = c.end-across.ensures.end ∙ ap (λ sd. end_at sd p) c.other-above.ensures in
     let opened = sym c.is_open.ensures ∙ c.if-not-is_open.false in
-    let is = turned-stopped g.B.Stacks.view s p c.requires.held.beside side c.end.result.now c.end-across.result.now c.end.ensures.end x_is opened c.in-Some.first c.in-Some.ensures c.is_stopped.result c.is_stopped.ensures c.if-is_stopped.true in
-    c.wait_at_head.ensures.state g.B.Stacks.view.modules s
-    ∙ ap (λ sd. waits_at_head sd c.in-Some.first.band.0 (state_in g.B.Stacks.view.modules s c.keep-then-is_stopped.new.self)) c.other-then-is_stopped.ensures
-    ∙ ap (λ v. waits_at_head (other side) c.in-Some.first.band.0 v) (c.keep-then-is_stopped.ensures.state g.B.Stacks.view.modules s)
+    let asked = c.is_stopped.ensures ∙ ap (λ sd. is_held c.in-Some.first.kind && not (has_room_past sd Up (driver_place sd st) c.in-Some.first.band.0 st)) c.other-above.ensures in
+    let is = turned-stopped g.B.Stacks.view s p side c.end.result.now c.end-across.result.now c.end.ensures.end x_is opened c.in-Some.first c.in-Some.ensures c.is_stopped.result asked c.if-is_stopped.true in
+    let kept = state_in g.B.Stacks.view.modules s c.keep-then-is_stopped.new.self in
+    let band = c.in-Some.first.band.0 in
+    c.wait_past.ensures.state s
+    ∙ ap (λ n. writer_waits c.other-above.result Up n band kept) (c.driver_place-at.ensures.place s)
+    ∙ ap (λ sd. writer_waits sd Up (driver_place sd kept) band kept) c.other-above.ensures
+    ∙ ap (λ v. writer_waits (other side) Up (driver_place (other side) v) band v) (c.keep-then-is_stopped.ensures.state g.B.Stacks.view.modules s)
     ∙ ap (λ (o : TurnOutcome ℕ). o.state) (sym is)
 
 pub returns-then-is_stopped-clause-told : goal.returns-then-is_stopped-clause-told
@@ -39,9 +48,10 @@ returns-then-is_stopped-clause-told g c =
     let p = c.args.self.now in
     let side = c.args.side in
     let st = state_in g.B.Stacks.view.modules s p in
-    let x_is = c.end-across.ensures.end ∙ ap (λ sd. end_at sd p) c.other.ensures in
+    let x_is = c.end-across.ensures.end ∙ ap (λ sd. end_at sd p) c.other-above.ensures in
     let opened = sym c.is_open.ensures ∙ c.if-not-is_open.false in
-    let is = turned-stopped g.B.Stacks.view s p c.requires.held.beside side c.end.result.now c.end-across.result.now c.end.ensures.end x_is opened c.in-Some.first c.in-Some.ensures c.is_stopped.result c.is_stopped.ensures c.if-is_stopped.true in
+    let asked = c.is_stopped.ensures ∙ ap (λ sd. is_held c.in-Some.first.kind && not (has_room_past sd Up (driver_place sd st) c.in-Some.first.band.0 st)) c.other-above.ensures in
+    let is = turned-stopped g.B.Stacks.view s p side c.end.result.now c.end-across.result.now c.end.ensures.end x_is opened c.in-Some.first c.in-Some.ensures c.is_stopped.result asked c.if-is_stopped.true in
     ap (λ (o : TurnOutcome ℕ). tallied o.gone c.args.told.now) (sym is)
 
 pub returns-clause-turn : goal.returns-clause-turn
@@ -50,10 +60,11 @@ returns-clause-turn g c =
     let p = c.args.self.now in
     let side = c.args.side in
     let st = state_in g.B.Stacks.view.modules s p in
-    let x_is = c.end-across.ensures.end ∙ ap (λ sd. end_at sd p) c.other.ensures in
+    let x_is = c.end-across.ensures.end ∙ ap (λ sd. end_at sd p) c.other-above.ensures in
     let opened = sym c.is_open.ensures ∙ c.if-not-is_open.false in
     let w = c.move_across.ensures.moves in
-    let is = turned-moved g.B.Stacks.view s p c.requires.held.beside side c.end.result.now c.end-across.result.now c.end.ensures.end x_is opened c.in-Some.first c.in-Some.ensures c.is_stopped.result c.is_stopped.ensures c.if-is_stopped.false w.message w.rest w.first in
+    let asked = c.is_stopped.ensures ∙ ap (λ sd. is_held c.in-Some.first.kind && not (has_room_past sd Up (driver_place sd st) c.in-Some.first.band.0 st)) c.other-above.ensures in
+    let is = turned-moved g.B.Stacks.view s p side c.end.result.now c.end-across.result.now c.end.ensures.end x_is opened c.in-Some.first c.in-Some.ensures c.is_stopped.result asked c.if-is_stopped.false w.message w.rest w.first in
     w.answer ∙ ap (λ (o : TurnOutcome ℕ). o.turn) (sym is)
 
 pub returns-clause-state : goal.returns-clause-state
@@ -62,10 +73,11 @@ returns-clause-state g c =
     let p = c.args.self.now in
     let side = c.args.side in
     let st = state_in g.B.Stacks.view.modules s p in
-    let x_is = c.end-across.ensures.end ∙ ap (λ sd. end_at sd p) c.other.ensures in
+    let x_is = c.end-across.ensures.end ∙ ap (λ sd. end_at sd p) c.other-above.ensures in
     let opened = sym c.is_open.ensures ∙ c.if-not-is_open.false in
     let w = c.move_across.ensures.moves in
-    let is = turned-moved g.B.Stacks.view s p c.requires.held.beside side c.end.result.now c.end-across.result.now c.end.ensures.end x_is opened c.in-Some.first c.in-Some.ensures c.is_stopped.result c.is_stopped.ensures c.if-is_stopped.false w.message w.rest w.first in
+    let asked = c.is_stopped.ensures ∙ ap (λ sd. is_held c.in-Some.first.kind && not (has_room_past sd Up (driver_place sd st) c.in-Some.first.band.0 st)) c.other-above.ensures in
+    let is = turned-moved g.B.Stacks.view s p side c.end.result.now c.end-across.result.now c.end.ensures.end x_is opened c.in-Some.first c.in-Some.ensures c.is_stopped.result asked c.if-is_stopped.false w.message w.rest w.first in
     w.state ∙ ap (λ (o : TurnOutcome ℕ). o.state) (sym is)
 
 pub returns-clause-told : goal.returns-clause-told
@@ -74,10 +86,11 @@ returns-clause-told g c =
     let p = c.args.self.now in
     let side = c.args.side in
     let st = state_in g.B.Stacks.view.modules s p in
-    let x_is = c.end-across.ensures.end ∙ ap (λ sd. end_at sd p) c.other.ensures in
+    let x_is = c.end-across.ensures.end ∙ ap (λ sd. end_at sd p) c.other-above.ensures in
     let opened = sym c.is_open.ensures ∙ c.if-not-is_open.false in
     let w = c.move_across.ensures.moves in
-    let is = turned-moved g.B.Stacks.view s p c.requires.held.beside side c.end.result.now c.end-across.result.now c.end.ensures.end x_is opened c.in-Some.first c.in-Some.ensures c.is_stopped.result c.is_stopped.ensures c.if-is_stopped.false w.message w.rest w.first in
+    let asked = c.is_stopped.ensures ∙ ap (λ sd. is_held c.in-Some.first.kind && not (has_room_past sd Up (driver_place sd st) c.in-Some.first.band.0 st)) c.other-above.ensures in
+    let is = turned-moved g.B.Stacks.view s p side c.end.result.now c.end-across.result.now c.end.ensures.end x_is opened c.in-Some.first c.in-Some.ensures c.is_stopped.result asked c.if-is_stopped.false w.message w.rest w.first in
     w.tells ∙ ap (λ (o : TurnOutcome ℕ). tallied o.gone c.args.told.now) (sym is)
 
 pub returns-in_default-clause-held : goal.returns-in_default-clause-held
@@ -89,4 +102,4 @@ returns-then-not-is_open-clause-held g c = c.keep-then-not-is_open.ensures.held 
 pub returns-then-is_stopped-clause-held : goal.returns-then-is_stopped-clause-held
 returns-then-is_stopped-clause-held g c =
     let s = g.B.Blocks.value c.args.store.now in
-    c.wait_at_head.ensures.held s (c.keep-then-is_stopped.ensures.held s c.requires.held)
+    c.wait_past.ensures.held s (c.keep-then-is_stopped.ensures.held s c.requires.held)

@@ -1,43 +1,74 @@
--- The queue of the driver of either side.
-use Rattle.strm_types.specs.declared.names.Side.TheVariants.{Master, Slave}
-use Rattle.strm_pair.proofs.Sides.{driver-held, only-kept}
+-- A write by whether a module stands.
+use Rattle.std.proofs.Common.{ℕ, List, sym, ap, ◌∙◌, arith}
+use Rattle.strm_types.specs.declared.answers.Answer.TheVariants.{Count}
+use Rattle.strm_types.specs.declared.books.Book.{Book}
+use Rattle.strm_types.specs.Books.{with_written}
+use Rattle.strm_types.specs.Calls.{Outcome}
+use Rattle.strm_types.specs.Deliver.{Fate, tallied}
+use Rattle.strm_types.specs.Names.{direction_from}
+use Rattle.strm_types.specs.State.{State, book, with_book}
+use Rattle.strm_types.specs.Writes.{Wrote}
+use Rattle.strm_pair.specs.Pairs.{state_in}
+use Rattle.strm_pair.proofs.PlainWrites.{none-counted, wrote-is, wrote-none, chunks-are, chunks-written, wrote-chunks}
+use Rattle.strm_pair.proofs.PutBooks.{book-low}
 use Rattle.strm_pair.proofs.streams.Streams.write.Goals as goal
-use Rattle.strm_pair.proofs.streams.Streams.write.Goals.{in-Master, in-Slave}
 
-pub returns-then-down-clause-held : goal.returns-then-down-clause-held
-returns-then-down-clause-held g c =
+pub returns-then-modules-eq0-clause-answer : goal.returns-then-modules-eq0-clause-answer
+returns-then-modules-eq0-clause-answer g c =
     let s = g.B.Blocks.value c.args.store.now in
-    let p = c.args.self.now in
-    elim c.match-side.branch [
-      | in-Master w ↦
-          (let e = w.send-down.ensures.keeps in
-          let t = g.B.Blocks.value w.send-down.new.store in
-          let q = w.send-down.new.queue in
-          let h = driver-held g.B.Stacks.view s t p Master q c.requires.held (only-kept s t p.master.driver q e) e.hand e.mblks e.dblks in
-          rw (w.store-is, w.self-is) (record { hand = h.hand; beside = h.beside }))
-      | in-Slave w ↦
-          (let e = w.send-down-in-Slave.ensures.keeps in
-          let t = g.B.Blocks.value w.send-down-in-Slave.new.store in
-          let q = w.send-down-in-Slave.new.queue in
-          let h = driver-held g.B.Stacks.view s t p Slave q c.requires.held (only-kept s t p.slave.driver q e) e.hand e.mblks e.dblks in
-          rw (w.store-is, w.self-is) (record { hand = h.hand; beside = h.beside }))
-    ]
+    let old = state_in g.B.Stacks.view.modules s c.args.self.now in
+    let none = none-counted old (omega (arith, c.modules_on.ensures.on s, c.modules_on-2.ensures.on s, c.if-modules-eq0.true)) in
+    c.write_alone.ensures.answer ∙ ap (λ (o : Outcome ℕ). o.answer) (sym (wrote-is c.args.side c.args.bytes.now old c.requires.stays none))
 
-pub returns-else-down-clause-held : goal.returns-else-down-clause-held
-returns-else-down-clause-held g c =
+pub returns-then-modules-eq0-clause-state : goal.returns-then-modules-eq0-clause-state
+returns-then-modules-eq0-clause-state g c =
     let s = g.B.Blocks.value c.args.store.now in
-    let p = c.args.self.now in
-    elim c.match-side.branch [
-      | in-Master w ↦
-          (let e = w.send-down.ensures.keeps in
-          let t = g.B.Blocks.value w.send-down.new.store in
-          let q = w.send-down.new.queue in
-          let h = driver-held g.B.Stacks.view s t p Master q c.requires.held (only-kept s t p.master.driver q e) e.hand e.mblks e.dblks in
-          rw (w.store-is, w.self-is) (record { hand = h.hand; beside = h.beside }))
-      | in-Slave w ↦
-          (let e = w.send-down-in-Slave.ensures.keeps in
-          let t = g.B.Blocks.value w.send-down-in-Slave.new.store in
-          let q = w.send-down-in-Slave.new.queue in
-          let h = driver-held g.B.Stacks.view s t p Slave q c.requires.held (only-kept s t p.slave.driver q e) e.hand e.mblks e.dblks in
-          rw (w.store-is, w.self-is) (record { hand = h.hand; beside = h.beside }))
-    ]
+    let old = state_in g.B.Stacks.view.modules s c.args.self.now in
+    let none = none-counted old (omega (arith, c.modules_on.ensures.on s, c.modules_on-2.ensures.on s, c.if-modules-eq0.true)) in
+    c.write_alone.ensures.state ∙ ap (λ (o : Outcome ℕ). o.state) (sym (wrote-is c.args.side c.args.bytes.now old c.requires.stays none))
+
+pub returns-then-modules-eq0-clause-told : goal.returns-then-modules-eq0-clause-told
+returns-then-modules-eq0-clause-told g c =
+    let s = g.B.Blocks.value c.args.store.now in
+    let old = state_in g.B.Stacks.view.modules s c.args.self.now in
+    let none = none-counted old (omega (arith, c.modules_on.ensures.on s, c.modules_on-2.ensures.on s, c.if-modules-eq0.true)) in
+    ap (λ (gone : List (Fate ℕ)). tallied gone c.args.told.now) (sym (wrote-none c.args.side c.args.bytes.now old c.requires.stays none))
+
+pub with_written-book-requires : goal.with_written-book-requires
+with_written-book-requires g c =
+    let s = g.B.Blocks.value c.args.store.now in
+    let old = state_in g.B.Stacks.view.modules s c.args.self.now in
+    let is = ap (λ (b : Book). b.written) (c.book_of-old.ensures g.B.Stacks.view.modules s) in
+    omega (arith, book-low c.args.side old c.requires.in_range, is, c.send_chunks-taken.ensures.fits)
+
+pub returns-clause-answer : goal.returns-clause-answer
+returns-clause-answer g c =
+    let s = g.B.Blocks.value c.args.store.now in
+    let old = state_in g.B.Stacks.view.modules s c.args.self.now in
+    let e = wrote-chunks c.args.side c.args.bytes.now old c.chunk_count-chunks.result c.chunk_count-chunks.ensures.value in
+    ap Count c.send_chunks-taken.ensures.taken ∙ ap (λ (o : Outcome ℕ). o.answer) (sym e)
+
+pub returns-clause-state : goal.returns-clause-state
+returns-clause-state g c =
+    let s = g.B.Blocks.value c.args.store.now in
+    let t = g.B.Blocks.value c.send_chunks-taken.new.store in
+    let side = c.args.side in
+    let old = state_in g.B.Stacks.view.modules s c.args.self.now in
+    let sent = state_in g.B.Stacks.view.modules t c.send_chunks-taken.new.self in
+    let dir = direction_from side in
+    let e = wrote-chunks side c.args.bytes.now old c.chunk_count-chunks.result c.chunk_count-chunks.ensures.value in
+    c.keep_book.ensures.state g.B.Stacks.view.modules t
+    ∙ ap (λ (b : Book). with_book dir b sent) c.with_written-book.ensures
+    ∙ ap (λ (b : Book). with_book dir (with_written c.send_chunks-taken.result b) sent) (c.book_of-old.ensures g.B.Stacks.view.modules s)
+    ∙ ap (λ n. with_book dir (with_written n (book dir old)) sent) c.send_chunks-taken.ensures.taken
+    ∙ ap (λ (v : State ℕ). with_book dir (with_written (chunks-written side c.chunk_count-chunks.result c.args.bytes.now old).taken (book dir old)) v) c.send_chunks-taken.ensures.state
+    ∙ ap (λ (o : Outcome ℕ). o.state) (sym e)
+
+pub returns-clause-told : goal.returns-clause-told
+returns-clause-told g c =
+    let s = g.B.Blocks.value c.args.store.now in
+    let old = state_in g.B.Stacks.view.modules s c.args.self.now in
+    c.send_chunks-taken.ensures.told ∙ ap (λ (t : Wrote ℕ). tallied t.gone c.args.told.now) (sym (chunks-are c.args.side c.args.bytes.now old c.chunk_count-chunks.result c.chunk_count-chunks.ensures.value))
+
+pub returns-clause-held : goal.returns-clause-held
+returns-clause-held g c = c.keep_book.ensures.held (g.B.Blocks.value c.send_chunks-taken.new.store) c.send_chunks-taken.ensures.held

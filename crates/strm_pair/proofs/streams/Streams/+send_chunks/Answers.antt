@@ -1,0 +1,79 @@
+-- A chunk goes, and the rest is a write of the other chunks.
+use Rattle.std.proofs.Common.{◌≡◌, ◌-◌, ◌+◌, ℕ, suc, length, sym, ap, subst, ◌∙◌, arith}
+use Rattle.strm_types.specs.Deliver.{tallied}
+use Rattle.strm_types.specs.Kept.{AreIdle}
+use Rattle.strm_types.specs.Message.{data_message}
+use Rattle.strm_types.specs.Write.{chunks_of}
+use Rattle.strm_types.specs.Writes.{Wrote, below_head, chunks_sent}
+use Rattle.strm_types.proofs.ModulesIdle.{delivered-idle}
+use Rattle.strm_pair.specs.Pairs.{state_in}
+use Rattle.strm_pair.proofs.ChunkSteps.{chunks-none, chunks-full, chunks-more, chunks-told}
+use Rattle.strm_pair.proofs.DataLemmas.{front-256, back-256}
+use Rattle.strm_pair.proofs.streams.Streams.+send_chunks.Goals as goal
+
+pub returns-then-chunks-eq0-clause-taken : goal.returns-then-chunks-eq0-clause-taken
+returns-then-chunks-eq0-clause-taken g t c =
+    let old = state_in g.B.Stacks.view.modules (g.B.Blocks.value c.args.store.now) c.args.self.now in
+    ap (λ (w : Wrote ℕ). w.taken) (sym (chunks-none c.args.side old c.args.chunks c.args.bytes.now c.if-chunks-eq0.true))
+
+pub returns-then-chunks-eq0-clause-state : goal.returns-then-chunks-eq0-clause-state
+returns-then-chunks-eq0-clause-state g t c =
+    let old = state_in g.B.Stacks.view.modules (g.B.Blocks.value c.args.store.now) c.args.self.now in
+    ap (λ (w : Wrote ℕ). w.state) (sym (chunks-none c.args.side old c.args.chunks c.args.bytes.now c.if-chunks-eq0.true))
+
+pub returns-then-chunks-eq0-clause-told : goal.returns-then-chunks-eq0-clause-told
+returns-then-chunks-eq0-clause-told g t c =
+    let old = state_in g.B.Stacks.view.modules (g.B.Blocks.value c.args.store.now) c.args.self.now in
+    ap (λ (w : Wrote ℕ). tallied w.gone c.args.told.now) (sym (chunks-none c.args.side old c.args.chunks c.args.bytes.now c.if-chunks-eq0.true))
+
+pub returns-then-is_full_below-clause-taken : goal.returns-then-is_full_below-clause-taken
+returns-then-is_full_below-clause-taken g t c =
+    let old = state_in g.B.Stacks.view.modules (g.B.Blocks.value c.args.store.now) c.args.self.now in
+    ap (λ (w : Wrote ℕ). w.taken) (sym (chunks-full c.args.side old c.args.chunks c.args.bytes.now (sym c.is_full_below.ensures ∙ c.if-is_full_below.true)))
+
+pub returns-then-is_full_below-clause-state : goal.returns-then-is_full_below-clause-state
+returns-then-is_full_below-clause-state g t c =
+    let old = state_in g.B.Stacks.view.modules (g.B.Blocks.value c.args.store.now) c.args.self.now in
+    ap (λ (w : Wrote ℕ). w.state) (sym (chunks-full c.args.side old c.args.chunks c.args.bytes.now (sym c.is_full_below.ensures ∙ c.if-is_full_below.true)))
+
+pub returns-then-is_full_below-clause-told : goal.returns-then-is_full_below-clause-told
+returns-then-is_full_below-clause-told g t c =
+    let old = state_in g.B.Stacks.view.modules (g.B.Blocks.value c.args.store.now) c.args.self.now in
+    ap (λ (w : Wrote ℕ). tallied w.gone c.args.told.now) (sym (chunks-full c.args.side old c.args.chunks c.args.bytes.now (sym c.is_full_below.ensures ∙ c.if-is_full_below.true)))
+
+pub returns-clause-taken : goal.returns-clause-taken
+returns-clause-taken g t c =
+    let old = state_in g.B.Stacks.view.modules (g.B.Blocks.value c.args.store.now) c.args.self.now in
+    let mid = state_in g.B.Stacks.view.modules (g.B.Blocks.value c.send_chunk.new.store) c.send_chunk.new.self in
+    let chunk = c.split_at.result.0.now in
+    let count : c.args.chunks ≡ suc (c.args.chunks - 1) = omega arith in
+    let e = chunks-more c.args.side old c.args.chunks (c.args.chunks - 1) c.args.bytes.now chunk c.split_at.result.1.now mid count (sym c.is_full_below.ensures ∙ c.if-is_full_below.false)
+    (c.split_at.ensures.front ∙ front-256 _ _ c.min.ensures) (c.split_at.ensures.back ∙ back-256 _ _ c.min.ensures) c.send_chunk.ensures.state in
+    ap (λ n. length chunk + n) c.send_chunks-more.ensures.taken ∙ sym (ap (λ (w : Wrote ℕ). w.taken) e)
+
+pub returns-clause-state : goal.returns-clause-state
+returns-clause-state g t c =
+    let old = state_in g.B.Stacks.view.modules (g.B.Blocks.value c.args.store.now) c.args.self.now in
+    let mid = state_in g.B.Stacks.view.modules (g.B.Blocks.value c.send_chunk.new.store) c.send_chunk.new.self in
+    let chunk = c.split_at.result.0.now in
+    let count : c.args.chunks ≡ suc (c.args.chunks - 1) = omega arith in
+    let e = chunks-more c.args.side old c.args.chunks (c.args.chunks - 1) c.args.bytes.now chunk c.split_at.result.1.now mid count (sym c.is_full_below.ensures ∙ c.if-is_full_below.false)
+    (c.split_at.ensures.front ∙ front-256 _ _ c.min.ensures) (c.split_at.ensures.back ∙ back-256 _ _ c.min.ensures) c.send_chunk.ensures.state in
+    c.send_chunks-more.ensures.state ∙ sym (ap (λ (w : Wrote ℕ). w.state) e)
+
+pub returns-clause-told : goal.returns-clause-told
+returns-clause-told g t c =
+    let old = state_in g.B.Stacks.view.modules (g.B.Blocks.value c.args.store.now) c.args.self.now in
+    let mid = state_in g.B.Stacks.view.modules (g.B.Blocks.value c.send_chunk.new.store) c.send_chunk.new.self in
+    let chunk = c.split_at.result.0.now in
+    let rest = c.split_at.result.1.now in
+    let count : c.args.chunks ≡ suc (c.args.chunks - 1) = omega arith in
+    let e = chunks-more c.args.side old c.args.chunks (c.args.chunks - 1) c.args.bytes.now chunk rest mid count (sym c.is_full_below.ensures ∙ c.if-is_full_below.false)
+    (c.split_at.ensures.front ∙ front-256 _ _ c.min.ensures) (c.split_at.ensures.back ∙ back-256 _ _ c.min.ensures) c.send_chunk.ensures.state in
+    chunks-told c.args.side old chunk (chunks_sent c.args.side (chunks_of (c.args.chunks - 1) rest) mid) c.args.told.now c.send_chunk.new.told c.send_chunks-more.new.told c.send_chunk.ensures.told c.send_chunks-more.ensures.told
+    ∙ sym (ap (λ (w : Wrote ℕ). tallied w.gone c.args.told.now) e)
+
+-- nothing of a turn is under way behind a chunk
+pub send_chunks-more-requires-clause-idle : goal.send_chunks-more-requires-clause-idle
+send_chunks-more-requires-clause-idle g t c =
+    subst AreIdle (sym c.send_chunk.ensures.state) (delivered-idle (below_head c.args.side) (data_message c.split_at.result.0.now) (state_in g.B.Stacks.view.modules (g.B.Blocks.value c.args.store.now) c.args.self.now) c.requires.idle)

@@ -1,0 +1,191 @@
+//! Writes on a side's stream, chunk by chunk (write(2), streamio(7I)).
+
+ghost use Rattle.std.specs.Prelude.{ℕ, ◌≡◌, ◌+◌, ◌≤◌, ◌<◌, ◌^◌, true, false, length};
+ghost use Rattle.strm_types.specs.declared.answers.Answer.TheVariants.{Count};
+ghost use Rattle.strm_types.specs.Books.{with_written};
+ghost use Rattle.strm_types.specs.Calls.{wrote, write_sent};
+ghost use Rattle.strm_types.specs.Cells.{plain};
+ghost use Rattle.strm_types.specs.Deliver.{tallied};
+ghost use Rattle.strm_types.specs.Earlier.{NoModules};
+ghost use Rattle.strm_types.specs.Kept.{AreIdle};
+ghost use Rattle.strm_types.specs.Message.{data_message};
+ghost use Rattle.strm_types.specs.Names.{direction_from, is_closed};
+ghost use Rattle.strm_types.specs.Puts.{delivered};
+ghost use Rattle.strm_types.specs.Refused.{in_range};
+ghost use Rattle.strm_types.specs.State.{book};
+ghost use Rattle.strm_types.specs.Write.{chunk_count, chunks_of};
+ghost use Rattle.strm_types.specs.Writes.{below_head, chunks_sent};
+ghost use Rattle.strm_blocks.specs.Blocks.{StoreValue, free_m, free_d};
+ghost use Rattle.strm_pair.specs.PlainCalls.{wrote_plain};
+ghost use Rattle.strm_pair.specs.Streams.{Modules};
+
+use crate::sending::send;
+use crate::stacks::Stacks;
+use crate::streams::Streams;
+use strm_head::write;
+use strm_types::{Band, Book, Fates, Side, Spot, Way, chunk_count};
+
+// A book with so many more bytes written.
+fn with_written(book: Book, count: usize) -> Book
+    requires { book.written + count < 2 ^ 64 }
+    ensures { result ≡ with_written count book }
+{
+    Book {
+        written: book.written + count as u64,
+        ..book
+    }
+}
+
+impl<S: Drop> Streams<S> {
+    ghost use Rattle.strm_pair.specs.Pairs.{state_in, AreHeld, SamePool};
+
+    // The book of what comes from a side.
+    fn book_of(&self, side: Side) -> Book
+        ensures { (modules : Modules S) (s : StoreValue) → result ≡ book (direction_from side) (state_in modules s self.now) }
+    {
+        match side {
+            Side::Master => self.from_master,
+            Side::Slave => self.from_slave,
+        }
+    }
+
+    // Makes an ordinary message of bytes, and delivers it from below a side's head.
+    fn send_chunk<B: Stacks<Stack = S>>(
+        &mut self,
+        store: &mut B,
+        side: Side,
+        chunk: &[u8],
+        told: &mut Fates,
+    )
+        requires held { AreHeld B.view (B.value store.old) self.old }
+        requires idle { AreIdle (state_in B.view.modules (B.value store.old) self.old) }
+        requires small { length chunk.now ≤ 256 }
+        requires room_m { 0 < free_m (B.value store.old) }
+        requires room_d { 0 < free_d (B.value store.old) }
+        ensures state { state_in B.view.modules (B.value store.new) self.new
+            ≡ (delivered (below_head side) (data_message chunk.now) (state_in B.view.modules (B.value store.old) self.old)).state }
+        ensures told { told.new
+            ≡ tallied (delivered (below_head side) (data_message chunk.now) (state_in B.view.modules (B.value store.old) self.old)).gone told.old }
+        ensures takes_m { free_m (B.value store.old) ≤ free_m (B.value store.new) + 1 }
+        ensures takes_d { free_d (B.value store.old) ≤ free_d (B.value store.new) + 1 }
+        ensures held { AreHeld B.view (B.value store.new) self.new }
+        ensures pool { SamePool (B.value store.old) (B.value store.new) }
+    {
+        let Ok(message) = write(store, true, chunk) else {
+            unreachable!()
+        };
+        let below = Spot {
+            side,
+            at: 1,
+            way: Way::Down,
+        };
+        self.deliver_alone(store, below, message, told);
+    }
+
+    // Sends so many chunks of the bytes, of at most 256 each, while band 0 of the first queue below the head isn't full, and says how
+    // many bytes have gone. Each takes one block of each kind.
+    fn send_chunks<B: Stacks<Stack = S>>(
+        &mut self,
+        store: &mut B,
+        side: Side,
+        bytes: &[u8],
+        chunks: usize,
+        told: &mut Fates,
+    ) -> usize
+        requires held { AreHeld B.view (B.value store.old) self.old }
+        requires idle { AreIdle (state_in B.view.modules (B.value store.old) self.old) }
+        requires room_m { chunks ≤ free_m (B.value store.old) }
+        requires room_d { chunks ≤ free_d (B.value store.old) }
+        ensures taken { result
+            ≡ (chunks_sent side (chunks_of chunks bytes.now) (state_in B.view.modules (B.value store.old) self.old)).taken }
+        ensures state { state_in B.view.modules (B.value store.new) self.new
+            ≡ (chunks_sent side (chunks_of chunks bytes.now) (state_in B.view.modules (B.value store.old) self.old)).state }
+        ensures told { told.new
+            ≡ tallied (chunks_sent side (chunks_of chunks bytes.now) (state_in B.view.modules (B.value store.old) self.old)).gone told.old }
+        ensures fits { result ≤ length bytes.now }
+        ensures held { AreHeld B.view (B.value store.new) self.new }
+        ensures pool { SamePool (B.value store.old) (B.value store.new) }
+    {
+        if chunks == 0 {
+            return 0;
+        }
+        if self.is_full_below(store, side, Band(0)) {
+            return 0;
+        }
+        let (chunk, rest) = bytes.split_at(bytes.len().min(256));
+        self.send_chunk(store, side, chunk, told);
+        let more = self.send_chunks(store, side, rest, chunks - 1, told);
+        chunk.len() + more
+    }
+
+    // A write where no module stands: the chunks are put on the driver's queue, which is what their deliveries come to while the
+    // master isn't closed.
+    fn write_alone<B: Stacks<Stack = S>>(
+        &mut self,
+        store: &mut B,
+        side: Side,
+        bytes: &[u8],
+    ) -> usize
+        requires held { AreHeld B.view (B.value store.old) self.old }
+        requires in_range { in_range (state_in B.view.modules (B.value store.old) self.old) ≡ true }
+        requires room_m { chunk_count (length bytes.now) ≤ free_m (B.value store.old) }
+        requires room_d { chunk_count (length bytes.now) ≤ free_d (B.value store.old) }
+        ensures answer { Count result ≡ (wrote_plain side bytes.now (state_in B.view.modules (B.value store.old) self.old)).answer }
+        ensures state { state_in B.view.modules (B.value store.new) self.new
+            ≡ (wrote_plain side bytes.now (state_in B.view.modules (B.value store.old) self.old)).state }
+        ensures held { AreHeld B.view (B.value store.new) self.new }
+        ensures pool { SamePool (B.value store.old) (B.value store.new) }
+    {
+        let chunks = chunk_count(bytes.len());
+        let down = match side {
+            Side::Master => {
+                let down = send(store, &mut self.master.driver, bytes, chunks);
+                self.from_master.written += down.taken as u64;
+                down
+            }
+            Side::Slave => {
+                let down = send(store, &mut self.slave.driver, bytes, chunks);
+                self.from_slave.written += down.taken as u64;
+                down
+            }
+        };
+        if down.enables {
+            self.enabled.enable(side.driver());
+        }
+        down.taken
+    }
+
+    /// Writes bytes down a side's stream, and answers how many were taken: they go down from the head in chunks of at most 256,
+    /// each an ordinary message, while band 0 of the first queue below has room.
+    pub fn write<B: Stacks<Stack = S>>(
+        &mut self,
+        store: &mut B,
+        side: Side,
+        bytes: &[u8],
+        told: &mut Fates,
+    ) -> usize
+        requires held { AreHeld B.view (B.value store.old) self.old }
+        requires in_range { in_range (state_in B.view.modules (B.value store.old) self.old) ≡ true }
+        requires idle { AreIdle (state_in B.view.modules (B.value store.old) self.old) }
+        requires stays { is_closed (state_in B.view.modules (B.value store.old) self.old).master.opened ≡ false }
+        requires room_m { chunk_count (length bytes.now) ≤ free_m (B.value store.old) }
+        requires room_d { chunk_count (length bytes.now) ≤ free_d (B.value store.old) }
+        ensures answer { Count result ≡ (wrote plain side bytes.now (state_in B.view.modules (B.value store.old) self.old)).answer }
+        ensures state { state_in B.view.modules (B.value store.new) self.new
+            ≡ (wrote plain side bytes.now (state_in B.view.modules (B.value store.old) self.old)).state }
+        ensures told { told.new ≡ tallied (write_sent plain side bytes.now (state_in B.view.modules (B.value store.old) self.old)).gone told.old }
+        ensures held { AreHeld B.view (B.value store.new) self.new }
+        ensures pool { SamePool (B.value store.old) (B.value store.new) }
+    {
+        let modules = self.modules_on::<B>(Side::Master) + self.modules_on::<B>(Side::Slave);
+        if modules == 0 {
+            return self.write_alone(store, side, bytes);
+        }
+        let old = self.book_of(side);
+        let chunks = chunk_count(bytes.len());
+        let taken = self.send_chunks(store, side, bytes, chunks, told);
+        let book = with_written(old, taken);
+        self.keep_book::<B>(side, book);
+        taken
+    }
+}
