@@ -16,3 +16,4 @@ pub mod JournalLemmas
 mod PlainWrites
 mod Refusing
 mod Fresh
+mod Tried

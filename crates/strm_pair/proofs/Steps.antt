@@ -5,11 +5,12 @@ use Rattle.strm_types.specs.Cells.{plain}
 use Rattle.strm_types.specs.State.{State, opening}
 use Rattle.strm_types.specs.declared.rules.Fates.{Fates}
 use Rattle.strm_types.specs.Deliver.{tallied}
-use Rattle.strm_types.specs.Kept.{gone, told_by}
+use Rattle.strm_types.specs.Kept.{AreIdle, gone, told_by}
 use Rattle.strm_types.specs.Rules.{no_fates}
 use Rattle.strm_types.specs.Journal.{PlainEntry}
 use Rattle.strm_types.specs.Step.{Step, after, replay, IsLegal}
 use Rattle.strm_types.proofs.Replay.{kept-legal, replay-append}
+use Rattle.strm_types.proofs.StepsIdle.{opening-idle, step-idle}
 use Rattle.strm_blocks.specs.Blocks.{StoreValue}
 use Rattle.strm_pair.specs.declared.streams.Streams.{Streams}
 use Rattle.strm_pair.specs.declared.journal.Journal.{Journal}
@@ -54,3 +55,11 @@ kept-step view s new p q j k limits fates fates' entry kept step stands held poo
   events = events ∙ kept.events;
   bytes = bytes ∙ kept.bytes;
 }
+
+-- nothing of a turn is under way at any module behind the steps of a journal, and so between calls
+journal-idle : (s : State ℕ) (es : List PlainEntry) → AreIdle s → IsLegal plain s es → AreIdle (replay plain s es)
+journal-idle s [] idle legal = idle
+journal-idle s (e ∷ es) idle legal = journal-idle (after plain s e) es (step-idle plain s (after plain s e) e idle legal.0) legal.1
+
+pub led-idle : {S : Type 0} (view : View S) (s : StoreValue) (p : Streams S) (j : Journal) (limits : Config) (fates : Fates) → IsKept view s p j limits fates → AreIdle (state_in view.modules s p)
+led-idle view s p j limits fates kept = subst AreIdle (sym kept.replayed) (journal-idle opening (journal_of j) opening-idle kept.legal)

@@ -10,6 +10,7 @@ mod ioctls;
 mod journal;
 mod looking;
 mod messages;
+mod naming;
 mod pair;
 mod putting;
 mod refusals;
