@@ -1,5 +1,5 @@
 -- What the state of a pair shows of its store.
-use Rattle.std.proofs.Common.{◌≡◌, ◌∙◌, ◌≤◌, ◌+◌, ℕ, List, [], ◌∷◌, ◌++◌, length, refl, sym, ap, subst, arith}
+use Rattle.std.proofs.Common.{◌≡◌, ◌≤◌, ◌+◌, ℕ, List, [], ◌∷◌, ◌++◌, length, refl, ap, arith}
 use Rattle.std.specs.Prelude.{sum_by}
 use Rattle.std.specs.List.{AllByRecursion}
 use Rattle.std.proofs.lemmas.List.{length-map}
@@ -10,7 +10,7 @@ use Rattle.strm_types.specs.Ldterms.{IsIdle}
 use Rattle.strm_types.specs.Queue.{IsOrdered, Queue}
 use Rattle.strm_types.specs.State.{AreOrdered, messages_in, stream_queues}
 use Rattle.strm_types.specs.Stacked.{queues_of_modules}
-use Rattle.strm_blocks.specs.Blocks.{Block, StoreValue, IsStore, list_at, empty_store, used, free_m, free_d}
+use Rattle.strm_blocks.specs.Blocks.{Block, StoreValue, IsStore, list_at, empty_store, used}
 use Rattle.strm_blocks.proofs.Laws.{free_m-is}
 use Rattle.strm_msg.specs.Messages.{message_of}
 use Rattle.strm_queue.specs.Stored.{queue_in}
@@ -41,7 +41,7 @@ module _ {S : Type 0} (view : View S) (s : StoreValue) (first : ℕ) (e : End S)
   stream-ordered = (
     ordered-map (list_at s e.head.queue.list) is.head.ready.messages.ordered,
     all-joined (λ (q : Queue ℕ). IsOrdered q.messages) (queues_of_modules (view.modules s e.stack)) (queue_in s e.driver ∷ []) modules-shown.ordered
-    (ordered-map (list_at s e.driver.list) is.driver.messages.ordered, tt),
+        (ordered-map (list_at s e.driver.list) is.driver.messages.ordered, tt),
   )
 
   pub stream-many : sum_by (λ (q : Queue ℕ). length q.messages) (stream_queues (stream_in view.modules s e))

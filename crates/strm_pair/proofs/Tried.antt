@@ -6,7 +6,7 @@ use Rattle.strm_types.specs.declared.limits.TheConstants.{MODULES}
 use Rattle.strm_types.specs.declared.names.Place.{Place}
 use Rattle.strm_types.specs.Earlier.{places_of}
 use Rattle.strm_types.specs.Names.{place_of}
-use Rattle.strm_types.specs.ModuleTurns.{named_from, place_named}
+use Rattle.strm_types.specs.ModuleTurns.{named_from}
 use Rattle.strm_types.specs.Pushes.{is_there}
 use Rattle.strm_types.specs.Stacked.{Module, module_name}
 

@@ -1,5 +1,5 @@
 -- What the two lists of a stack of ldterms show: they are of one ldterm at most, the read queue's first.
-use Rattle.std.specs.Prelude.{ℕ, zero, suc, ◌≡◌, ◌<◌, ◌≤◌, ◌+◌, ◌==◌, Bool, true, false, List, [], ◌∷◌, ◌++◌, length, map, sum_by, Option, None, Some, is_some}
+use Rattle.std.specs.Prelude.{ℕ, ◌≡◌, ◌<◌, ◌≤◌, ◌+◌, ◌==◌, Bool, true, false, List, [], ◌∷◌, ◌++◌, length, map, Option, None, Some, is_some}
 use Rattle.std.specs.List.{AllByRecursion}
 use Rattle.std.specs.Option.{option_to_list}
 use Rattle.std.proofs.Common.{append-nil, arith, cond, refl, ap, sym, subst, ◌∙◌}
@@ -8,14 +8,14 @@ use Rattle.std.proofs.lemmas.Bool.Decides.{nat_tests}
 use Rattle.std.proofs.lemmas.List.{length-map}
 use Rattle.std.proofs.lemmas.List.Sums.{sum_by-cons}
 use Rattle.strm_types.specs.Ldterms.{IsIdle}
-use Rattle.strm_types.specs.Message.{Message, rank_of}
+use Rattle.strm_types.specs.Message.{rank_of}
 use Rattle.strm_types.specs.Queue.{IsOrdered}
 use Rattle.strm_types.specs.Ranked as ranked
 use Rattle.strm_blocks.specs.Blocks as blocks
 use Rattle.strm_blocks.specs.Blocks.{Block, StoreValue, list_at}
 use Rattle.strm_msg.specs.Messages.{message_of}
 use Rattle.strm_msg.proofs.Chains.{rank-same}
-use Rattle.strm_queue.specs.Stored.{messages_on, queue_in}
+use Rattle.strm_queue.specs.Stored.{messages_on}
 use Rattle.strm_frame.proofs.Handing.{once-self}
 use Rattle.strm_frame.specs.Hands.{once}
 use Rattle.strm_frame.specs.Stacks.{all_of, AreHeld}

@@ -3,7 +3,7 @@ use Rattle.std.proofs.Common.{◌≡◌, ◌+◌, ◌<◌, ◌++◌, ap, sym, �
 use Rattle.std.specs.Option.{option_to_list}
 use Rattle.strm_types.specs.Ldterms.{queue_at}
 use Rattle.strm_types.specs.Queue.{count_of}
-use Rattle.strm_queue.specs.Stored.{messages_on, queue_in}
+use Rattle.strm_queue.specs.Stored.{messages_on}
 use Rattle.strm_ldterm.specs.Stands.{ldterm_in, kept_in}
 use Rattle.strm_ldterm.proofs.Last.{bytes-few, count-last, count-within, count-zero, count-other}
 use Rattle.strm_ldterm.proofs.queues.count.Goals as goal

@@ -1,5 +1,5 @@
 -- Its lists are empty, and it keeps nothing.
-use Rattle.std.proofs.Common.{refl, ◌∙◌, sym, arith}
+use Rattle.std.proofs.Common.{refl, arith}
 use Rattle.strm_ldterm.specs.Stands.{times_kept}
 use Rattle.strm_ldterm.proofs.Fresh.{empty-ready}
 use Rattle.strm_ldterm.proofs.ldterm.Ldterm.new.Goals as goal
