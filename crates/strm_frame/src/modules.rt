@@ -9,7 +9,7 @@ ghost use Rattle.strm_types.specs.declared.spots.Asks.{Asks};
 ghost use Rattle.strm_types.specs.Message.{Message};
 ghost use Rattle.strm_types.specs.declared.limits.TheConstants.{BANDS, MODULES, STOP_BLOCKS};
 ghost use Rattle.strm_types.specs.Deliver.{Acted, AreLower, tallied};
-ghost use Rattle.strm_types.specs.Queue.{Queue, bytes_of};
+ghost use Rattle.strm_types.specs.Queue.{Queue, bytes_of, count_of};
 ghost use Rattle.strm_types.specs.ModuleQueues.{has_queue, messages_at, full_at, waits, queue_changed};
 ghost use Rattle.strm_types.specs.Service.{Serving, turn_ended, end_relieves, has_more, cleared};
 ghost use Rattle.strm_blocks.specs.Blocks.{StoreValue, in_hand};
@@ -133,6 +133,12 @@ pub trait Module<B: Blocks>: Drop {
         requires held { IsHeld (B.value store.now) self.now }
         requires band { band.0 < BANDS }
         ensures { result ≡ full_at queue_of way band.0 (plain (B.value store.now) self.now) };
+
+    /// How many bytes count in a band of its queue of a way; none without such a queue.
+    fn count(&self, store: &B, way: Way, band: Band) -> usize
+        requires held { IsHeld (B.value store.now) self.now }
+        requires band { band.0 < BANDS }
+        ensures { result ≡ count_of band.0 (messages_at queue_of way (plain (B.value store.now) self.now)) };
 
     /// How many messages stand on its queue of a way, and how many bytes they have; nothing without such a queue.
     fn sizes(&self, store: &B, way: Way) -> (usize, usize)

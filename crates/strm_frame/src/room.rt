@@ -3,7 +3,7 @@
 
 ghost use Rattle.std.specs.Prelude.{ℕ, ◌≡◌, ◌<◌, ◌≤◌, ◌-◌, false, [], length, map, slice_index_or};
 ghost use Rattle.strm_types.specs.declared.limits.TheConstants.{BANDS};
-ghost use Rattle.strm_types.specs.Queue.{bytes_of};
+ghost use Rattle.strm_types.specs.Queue.{bytes_of, count_of};
 ghost use Rattle.strm_types.specs.Modules.{change_among};
 ghost use Rattle.strm_types.specs.ModuleQueues.{at_place, messages_at, full_at, waits, place_below, place_above, place_past, place_before, can_pass, room_at, waits_at, waits_past};
 ghost use Rattle.strm_blocks.specs.Blocks.{StoreValue};
@@ -113,6 +113,23 @@ fn let_wait_at<B: Blocks, M: Module<B>>(
     }
 }
 
+// How many bytes count in a band of a queue, of one of several modules, counted from 0.
+fn count_among<B: Blocks, M: Module<B>>(
+    store: &B,
+    modules: &[M],
+    at: usize,
+    way: Way,
+    band: Band,
+) -> usize
+    requires within { at < length modules.now }
+    requires held { AreHeld M.IsHeld M.owns (B.value store.now) modules.now }
+    requires band { band.0 < BANDS }
+    ensures { result ≡ count_of band.0 (slice_index_or (map (messages_at M.queue_of way)
+        (map (M.plain (B.value store.now)) modules.now)) at []) }
+{
+    modules[at].count(store, way, band)
+}
+
 // How much stands on a queue of one of several modules, counted from 0.
 fn sizes_among<B: Blocks, M: Module<B>>(
     store: &B,
@@ -207,5 +224,33 @@ impl<M: Default + Drop> Stream<M> {
             (map (M.plain (B.value store.now)) self.now.modules.items)) }
     {
         sizes_among(store, self.modules.as_slice(), place - 1, way)
+    }
+
+    /// How many bytes count in a band of a queue of the module at a place; none without one.
+    pub fn count<B: Blocks>(&self, store: &B, place: usize, way: Way, band: Band) -> usize
+    where
+        M: Module<B>,
+        requires inside { 0 < place }
+        requires within { place ≤ length self.now.modules.items }
+        requires held { AreHeld M.IsHeld M.owns (B.value store.now) self.now.modules.items }
+        requires band { band.0 < BANDS }
+        ensures { result ≡ count_of band.0 (at_place (messages_at M.queue_of way) [] place
+            (map (M.plain (B.value store.now)) self.now.modules.items)) }
+    {
+        count_among(store, self.modules.as_slice(), place - 1, way, band)
+    }
+
+    /// Whether a band of a queue of the module at a place is full; not without one.
+    pub fn is_full<B: Blocks>(&self, store: &B, place: usize, way: Way, band: Band) -> bool
+    where
+        M: Module<B>,
+        requires inside { 0 < place }
+        requires within { place ≤ length self.now.modules.items }
+        requires held { AreHeld M.IsHeld M.owns (B.value store.now) self.now.modules.items }
+        requires band { band.0 < BANDS }
+        ensures { result ≡ at_place (full_at M.queue_of way band.0) false place
+            (map (M.plain (B.value store.now)) self.now.modules.items) }
+    {
+        is_full_among(store, self.modules.as_slice(), place - 1, way, band)
     }
 }

@@ -39,7 +39,7 @@ module _ {M : Type 0} (name : M → ℕ) where
     chains-up i = ap (λ h. chain_in i h) changes.hand
 
     pub writes-stay : list_at t x.write_queue.list ≡ list_at s x.write_queue.list
-    writes-stay = changes.others x.write_queue.list (λ e. held.apart (sym e))
+    writes-stay = changes.others x.write_queue.list (λ e. let a = held.apart in absurd (omega arith))
 
     pub read-plain : ldterm_in name t (record x { read_queue = q' }) ≡ record (ldterm_in name s x) { read_queue = queue_in t q' }
     read-plain =
@@ -50,7 +50,7 @@ module _ {M : Type 0} (name : M → ℕ) where
     read-held = record {
       read = changes.ready;
       write = list-ready s t x.write_queue writes-stay held.write;
-      apart = λ e. held.apart (sym changes.list ∙ e);
+      apart = (let a = held.apart in let e = changes.list in omega arith);
       work = each-same name s t IsData (data-same s t) x.in_work (λ i some. chains-up i) held.work;
       gathers = each-same name s t IsGathered (gathered-same s t) x.gathered (λ i some. chains-up i) held.gathers;
       echoes = each-same name s t IsOrdinary (ordinary-same s t) x.echo (λ i some. chains-up i) held.echoes;
@@ -79,7 +79,7 @@ module _ {M : Type 0} (name : M → ℕ) where
     chains-down i = ap (λ h. chain_in i h) changes.hand
 
     reads-stay : list_at t x.read_queue.list ≡ list_at s x.read_queue.list
-    reads-stay = changes.others x.read_queue.list held.apart
+    reads-stay = changes.others x.read_queue.list (λ e. let a = held.apart in absurd (omega arith))
 
     pub write-plain : ldterm_in name t (record x { write_queue = q' }) ≡ record (ldterm_in name s x) { write_queue = with_last (kept_in name s x.echo) (queue_in t q') }
     write-plain =
@@ -90,7 +90,7 @@ module _ {M : Type 0} (name : M → ℕ) where
     write-held = record {
       read = list-ready s t x.read_queue reads-stay held.read;
       write = changes.ready;
-      apart = λ e. held.apart (e ∙ changes.list);
+      apart = (let a = held.apart in let e = changes.list in omega arith);
       work = each-same name s t IsData (data-same s t) x.in_work (λ i some. chains-down i) held.work;
       gathers = each-same name s t IsGathered (gathered-same s t) x.gathered (λ i some. chains-down i) held.gathers;
       echoes = each-same name s t IsOrdinary (ordinary-same s t) x.echo (λ i some. chains-down i) held.echoes;

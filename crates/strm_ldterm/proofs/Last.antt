@@ -69,6 +69,15 @@ count-last band ms ls = sum_by-append _ ms ls
 pub bytes-last : (ms ls : List (Message ℕ)) → plain.bytes_of (ms ++ ls) ≡ plain.bytes_of ms + plain.bytes_of ls
 bytes-last ms ls = sum_by-append size_of ms ls
 
+-- no more counts in a band than all have
+pub count-within : (band : ℕ) (ms : List (Message ℕ)) → plain.count_of band ms ≤ plain.bytes_of ms
+count-within band [] = omega arith
+count-within band (m ∷ ms) = omega (arith, one (band_of m == band), count-within band ms, sum_by-cons (λ x. cond {A = ℕ} (band_of x == band) (size_of x) 0) m ms, sum_by-cons size_of m ms)
+  where
+    one : (v : Bool) → cond {A = ℕ} v (size_of m) 0 ≤ size_of m
+    one true = omega arith
+    one false = omega arith
+
 module _ {M : Type 0} (name : M → ℕ) (s : StoreValue) where
   -- in band 0 its bytes, and none in another band
   pub count-zero : (o : Option M) → IfSome o (λ m. IsOrdinary s (name m)) → plain.count_of 0 (option_to_list (kept_in name s o)) ≡ plain.bytes_of (option_to_list (kept_in name s o))

@@ -118,7 +118,7 @@ module _ {M : Type 0} (name : M → ℕ) where
   -- off the write queue
   module _ (s t : StoreValue) (x : Ldterm M) (q' : Queue) (z : Sent M) (held : IsHeld name s (at_rest x)) (is : Dequeued s t x.write_queue q' (name z.message)) where
     reads-stay : list_at t x.read_queue.list ≡ list_at s x.read_queue.list
-    reads-stay = is.others x.read_queue.list held.apart
+    reads-stay = is.others x.read_queue.list (λ e. let a = held.apart in absurd (omega arith))
 
     down-plain : ldterm_in name t (record (at_rest x) { write_queue = q' })
         ≡ record (ldterm_in name s (at_rest x)) { write_queue = left_with (messages_on t q'.list ++ []) (ldterm_in name s (at_rest x)).write_queue }
@@ -137,7 +137,7 @@ module _ {M : Type 0} (name : M → ℕ) where
       held = record {
         read = list-ready s t x.read_queue reads-stay held.read;
         write = is.ready;
-        apart = λ e. held.apart (e ∙ is.list);
+        apart = (let a = held.apart in let e = is.list in omega arith);
         work = tt;
         gathers = tt;
         echoes = tt;
@@ -173,7 +173,7 @@ module _ {M : Type 0} (name : M → ℕ) where
   -- off the read queue
   module _ (s t : StoreValue) (x : Ldterm M) (q' : Queue) (m : M) (held : IsHeld name s (at_rest x)) (is : Dequeued s t x.read_queue q' (name m)) where
     writes-stay : list_at t x.write_queue.list ≡ list_at s x.write_queue.list
-    writes-stay = is.others x.write_queue.list (λ e. held.apart (sym e))
+    writes-stay = is.others x.write_queue.list (λ e. let a = held.apart in absurd (omega arith))
 
     up-plain : ldterm_in name t (record (at_rest x) { read_queue = q' })
         ≡ record (ldterm_in name s (at_rest x)) { read_queue = left_with (messages_on t q'.list) (ldterm_in name s (at_rest x)).read_queue }
@@ -199,7 +199,7 @@ module _ {M : Type 0} (name : M → ℕ) where
       held = record {
         read = is.ready;
         write = list-ready s t x.write_queue writes-stay held.write;
-        apart = λ e. held.apart (sym is.list ∙ e);
+        apart = (let a = held.apart in let e = is.list in omega arith);
         work = tt;
         gathers = tt;
         echoes = tt;
@@ -233,7 +233,7 @@ module _ {M : Type 0} (name : M → ℕ) where
       held = record {
         read = is.ready;
         write = list-ready s t x.write_queue writes-stay held.write;
-        apart = λ e. held.apart (sym is.list ∙ e);
+        apart = (let a = held.apart in let e = is.list in omega arith);
         work = record { chain = is.chain; kind = kind };
         gathers = tt;
         echoes = tt;

@@ -1,5 +1,5 @@
 -- What the module ldterm stands for beside a store, and what holds of both.
-use Rattle.std.specs.Prelude.{ℕ, ◌≡◌, ◌≢◌, ◌≤◌, ◌<◌, ◌+◌, List, [], ◌++◌, length, Option, None, Some, is_some, IfSome}
+use Rattle.std.specs.Prelude.{ℕ, ◌≡◌, ◌≤◌, ◌<◌, ◌+◌, List, [], ◌++◌, length, Option, None, Some, is_some, IfSome}
 use Rattle.std.specs.Option.{option_to_list}
 use Rattle.strm_types.specs.declared.kinds.MsgKind.TheVariants as kinds
 use Rattle.strm_types.specs.Ldterms as plain
@@ -79,12 +79,12 @@ module _ {M : Type 0} (name : M → ℕ) where
     stage = stage_in x.stage;
   }
 
-  -- Its queues are ready, each on a list of its own. The message in work is M_DATA, what is gathered and the turn's echo are M_DATA
+  -- Its queues are ready, each on a list of its own, the read queue's first. The message in work is M_DATA, what is gathered and the turn's echo are M_DATA
   -- of band 0, what is gathered has bytes, and each of them is another message.
   pub record IsHeld (s : StoreValue) (x : Ldterm M) : Type 0 where
     pub read : IsReady s x.read_queue
     pub write : IsReady s x.write_queue
-    pub apart : x.read_queue.list ≢ x.write_queue.list
+    pub apart : x.read_queue.list < x.write_queue.list
     pub work : IfSome x.in_work (λ m. IsData s (name m))
     pub gathers : IfSome x.gathered (λ m. IsGathered s (name m))
     pub echoes : IfSome x.echo (λ m. IsOrdinary s (name m))

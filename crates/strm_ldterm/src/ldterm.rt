@@ -1,7 +1,7 @@
 //! The module ldterm beside a store: what it is set to, its unfinished line, its two queues, and what it has in hand in a turn of
 //! its read queue.
 
-ghost use Rattle.std.specs.Prelude.{ℕ, ◌≡◌, ◌≢◌, ◌<◌, ◌+◌, []};
+ghost use Rattle.std.specs.Prelude.{ℕ, ◌≡◌, ◌<◌, ◌+◌, []};
 ghost use Rattle.strm_types.specs.Ldterms.{new_ldterm};
 ghost use Rattle.strm_types.specs.declared.names.ModuleName.TheVariants as names;
 ghost use Rattle.strm_blocks.specs.Blocks.{StoreValue, list_at};
@@ -43,11 +43,12 @@ pub struct Ldterm<Mp> {
 }
 
 impl<Mp: Drop> Ldterm<Mp> {
-    /// One as it is pushed, with these lists of its own, on which nothing stands.
+    /// One as it is pushed, with these lists of its own, on which nothing stands. The read queue's comes first, so that who sees a
+    /// store's lists knows which is which.
     pub fn new(read_list: usize, write_list: usize) -> Ldterm<Mp>
         requires read { read_list < 8 }
         requires write { write_list < 8 }
-        requires apart { read_list ≢ write_list }
+        requires apart { read_list < write_list }
         ensures state { (name : Mp → ℕ) (s : StoreValue) → list_at s read_list ≡ [] → list_at s write_list ≡ [] →
             ldterm_in name s result ≡ new_ldterm }
         ensures held { (name : Mp → ℕ) (s : StoreValue) → list_at s read_list ≡ [] → list_at s write_list ≡ [] →

@@ -80,6 +80,10 @@ impl<B: Blocks> Module<B> for Ldterm<B::Mp> {
         queues::is_full(self, store, way, band)
     }
 
+    fn count(&self, store: &B, way: Way, band: Band) -> usize {
+        queues::count(self, store, way, band)
+    }
+
     fn sizes(&self, store: &B, way: Way) -> (usize, usize) {
         queues::sizes(self, store, way)
     }

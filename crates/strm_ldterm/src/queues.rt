@@ -58,6 +58,23 @@ pub fn is_full<B: Blocks>(ldterm: &Ldterm<B::Mp>, store: &B, way: Way, band: Ban
     }
 }
 
+/// How many bytes count in a band of its queue of a way. The turn's echo counts in band 0 of the write queue.
+pub fn count<B: Blocks>(ldterm: &Ldterm<B::Mp>, store: &B, way: Way, band: Band) -> usize
+    requires held { IsHeld B.name (B.value store.now) ldterm.now }
+    requires band { band.0 < BANDS }
+    ensures { result ≡ count_of band.0 (messages_at queue_of way (ldterm_in B.name (B.value store.now) ldterm.now)) }
+{
+    match way {
+        Way::Up => standing::count(store, &ldterm.read_queue, band),
+        Way::Down if band.0 == 0 => {
+            store.audit();
+            let echo = echo_size(store, &ldterm.echo);
+            standing::count(store, &ldterm.write_queue, band) + echo
+        }
+        Way::Down => standing::count(store, &ldterm.write_queue, band),
+    }
+}
+
 /// How many messages stand on its queue of a way, and how many bytes they have. The turn's echo stands on the write queue.
 pub fn sizes<B: Blocks>(ldterm: &Ldterm<B::Mp>, store: &B, way: Way) -> (usize, usize)
     requires held { IsHeld B.name (B.value store.now) ldterm.now }

@@ -18,3 +18,4 @@ mod PlainWrites
 pub mod ChunkSteps
 mod Refusing
 mod Fresh
+mod Tried

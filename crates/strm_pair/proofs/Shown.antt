@@ -1,94 +1,113 @@
 -- What the state of a pair shows of its store.
-use Rattle.std.proofs.Common.{◌≡◌, ◌∙◌, ◌≤◌, ℕ, List, [], ◌∷◌, length, map, refl, sym, ap, subst, arith}
+use Rattle.std.proofs.Common.{◌≡◌, ◌≤◌, ◌+◌, ℕ, List, [], ◌∷◌, ◌++◌, length, refl, ap, arith}
+use Rattle.std.specs.Prelude.{sum_by}
 use Rattle.std.specs.List.{AllByRecursion}
 use Rattle.std.proofs.lemmas.List.{length-map}
+use Rattle.std.proofs.lemmas.List.Sums.{sum_by-append, sum_by-cons}
 use Rattle.strm_types.specs.declared.limits.Config.{Config}
-use Rattle.strm_types.specs.Message.{rank_of}
-use Rattle.strm_types.specs.Queue.{IsOrdered}
-use Rattle.strm_types.specs.Ranked as ranked
-use Rattle.strm_types.specs.State.{AreOrdered, messages_in}
-use Rattle.strm_blocks.specs.Blocks as blocks
-use Rattle.strm_blocks.specs.Blocks.{Block, StoreValue, IsStore, list_at, empty_store, used, free_m, free_d}
+use Rattle.strm_types.specs.Kept.{AreIdle}
+use Rattle.strm_types.specs.Ldterms.{IsIdle}
+use Rattle.strm_types.specs.Queue.{IsOrdered, Queue}
+use Rattle.strm_types.specs.State.{AreOrdered, messages_in, stream_queues}
+use Rattle.strm_types.specs.Stacked.{queues_of_modules}
+use Rattle.strm_blocks.specs.Blocks.{Block, StoreValue, IsStore, list_at, empty_store, used}
 use Rattle.strm_blocks.proofs.Laws.{free_m-is}
 use Rattle.strm_msg.specs.Messages.{message_of}
-use Rattle.strm_msg.proofs.Chains.{rank-same}
+use Rattle.strm_queue.specs.Stored.{queue_in}
+use Rattle.strm_pair.specs.declared.ends.End.{End}
 use Rattle.strm_pair.specs.declared.streams.Streams.{Streams}
-use Rattle.strm_queue.specs.Stored.{messages_on}
-use Rattle.strm_pair.specs.Framing.{alone}
+use Rattle.strm_pair.specs.LdtermLists.{ordered-map}
 use Rattle.strm_pair.specs.Pairs.{state_in, free_in, AreHeld}
 use Rattle.strm_pair.specs.Pool.{IsPoolOf}
+use Rattle.strm_pair.specs.Streams.{AreFor, AreShown, IsSide, View, stream_in}
 use Rattle.strm_pair.proofs.FreeBlocks.{IsBare, used-enough, bare-free_m, bare-free_d}
-use Rattle.strm_pair.specs.Streams.{View}
 
--- chains in order are messages in order
-ranks-map : (chain : List Block) (q : List (List Block)) → AllByRecursion (λ later. blocks.rank_of later ≤ blocks.rank_of chain) q → AllByRecursion (λ m. rank_of m ≤ rank_of (message_of chain)) (map message_of q)
-ranks-map chain [] all = tt
-ranks-map chain (later ∷ q) all = (omega (arith, rank-same later, rank-same chain, all.0), ranks-map chain q all.1)
+all-joined : {A : Type 0} (P : A → Type 0) (xs ys : List A) → AllByRecursion P xs → AllByRecursion P ys → AllByRecursion P (xs ++ ys)
+all-joined P [] ys all more = more
+all-joined P (x ∷ xs) ys all more = (all.0, all-joined P xs ys all.1 more)
 
-ordered-map : (q : List (List Block)) → ranked.IsOrdered blocks.rank_of q → IsOrdered (map message_of q)
-ordered-map [] o = tt
-ordered-map (chain ∷ q) o = (ranks-map chain q o.0, ordered-map q o.1)
+-- what a side's lists show of its stream, while nothing of a turn is under way
+module _ {S : Type 0} (view : View S) (s : StoreValue) (first : ℕ) (e : End S) (is : IsSide view s first e) (idle : AllByRecursion (λ p. IsIdle p) (view.modules s e.stack)) where
+  lists-for : AreFor s (first + 2) (view.owns e.stack)
+  lists-for = record {
+    owned = λ k some. let own = is.owned k some in (own.0, omega (arith, own.1));
+    spare = λ k low high none. is.spare k low (omega (arith, high)) none;
+  }
 
--- each queue is in order
-pub ordered : {S : Type 0} (view : View S) (s : StoreValue) (p : Streams S) → AreHeld view s p → AreOrdered (state_in view.modules s p)
-ordered view s p held = subst AreOrdered (sym (alone view s p held.beside)) (
-  ordered-map (list_at s p.master.head.queue.list) held.beside.master.head.ready.messages.ordered,
-  (
-    ordered-map (list_at s p.master.driver.list) held.beside.master.driver.messages.ordered,
-    (
-      ordered-map (list_at s p.slave.head.queue.list) held.beside.slave.head.ready.messages.ordered,
-      (ordered-map (list_at s p.slave.driver.list) held.beside.slave.driver.messages.ordered, tt),
-    ),
-  ),
-)
+  pub modules-shown : AreShown s (first + 2) (view.modules s e.stack)
+  modules-shown = view.shown s e.stack (first + 2) is.stack idle lists-for
 
--- how many messages stand on the queues
-long : (s : StoreValue) (k n : ℕ) → k ≡ n → length (messages_on s k) ≡ length (list_at s n)
-long s k n is = length-map (list_at s k) message_of ∙ ap (λ j. length (list_at s j)) is
+  pub stream-ordered : AllByRecursion (λ q. IsOrdered q.messages) (stream_queues (stream_in view.modules s e))
+  stream-ordered = (
+    ordered-map (list_at s e.head.queue.list) is.head.ready.messages.ordered,
+    all-joined (λ (q : Queue ℕ). IsOrdered q.messages) (queues_of_modules (view.modules s e.stack)) (queue_in s e.driver ∷ []) modules-shown.ordered
+        (ordered-map (list_at s e.driver.list) is.driver.messages.ordered, tt),
+  )
 
-in-use : {S : Type 0} (view : View S) (s : StoreValue) (p : Streams S) → IsStore s → AreHeld view s p → messages_in (state_in view.modules s p) ≤ used s
-in-use view s p is held =
-    omega (
-      arith,
-      used-enough s is,
-      long s p.master.head.queue.list 0 held.beside.master.head_list,
-      long s p.master.driver.list 1 held.beside.master.driver_list,
-      long s p.slave.head.queue.list 4 held.beside.slave.head_list,
-      long s p.slave.driver.list 5 held.beside.slave.driver_list,
-      ap messages_in (alone view s p held.beside),
-    )
+  pub stream-many : sum_by (λ (q : Queue ℕ). length q.messages) (stream_queues (stream_in view.modules s e))
+      ≡ length (list_at s first) + (length (list_at s (first + 1)) + (length (list_at s (first + 2)) + length (list_at s (first + 2 + 1))))
+  stream-many =
+      let qs = queues_of_modules (view.modules s e.stack) in
+      let h = queue_in s e.head.queue in
+      let d = queue_in s e.driver in
+      omega (
+        arith,
+        sum_by-cons (λ (q : Queue ℕ). length q.messages) h (qs ++ d ∷ []),
+        sum_by-append (λ (q : Queue ℕ). length q.messages) qs (d ∷ []),
+        sum_by-cons (λ (q : Queue ℕ). length q.messages) d [],
+        modules-shown.many,
+        length-map (list_at s e.head.queue.list) message_of,
+        length-map (list_at s e.driver.list) message_of,
+        ap (λ k. length (list_at s k)) is.head_list,
+        ap (λ k. length (list_at s k)) is.driver_list,
+      )
 
 no-chain : (q : List (List Block)) → length q ≡ 0 → q ≡ []
 no-chain [] none = refl
 no-chain (c ∷ q) none = absurd (omega arith)
 
-bare : {S : Type 0} (view : View S) (s : StoreValue) (p : Streams S) → IsStore s → AreHeld view s p → messages_in (state_in view.modules s p) ≡ 0 → IsBare s
-bare view s p is held none =
-    let a = long s p.master.head.queue.list 0 held.beside.master.head_list in
-    let b = long s p.master.driver.list 1 held.beside.master.driver_list in
-    let c = long s p.slave.head.queue.list 4 held.beside.slave.head_list in
-    let d = long s p.slave.driver.list 5 held.beside.slave.driver_list in
-    let all = ap messages_in (alone view s p held.beside) in
-    record {
-      eight = is.eight;
-      hand = held.hand;
-      at_0 = no-chain (list_at s 0) (omega arith);
-      at_1 = no-chain (list_at s 1) (omega arith);
-      at_2 = held.beside.master.spare 2 (omega arith) (omega arith) (held.beside.master.unowned 2);
-      at_3 = held.beside.master.spare 3 (omega arith) (omega arith) (held.beside.master.unowned 3);
-      at_4 = no-chain (list_at s 4) (omega arith);
-      at_5 = no-chain (list_at s 5) (omega arith);
-      at_6 = held.beside.slave.spare 6 (omega arith) (omega arith) (held.beside.slave.unowned 6);
-      at_7 = held.beside.slave.spare 7 (omega arith) (omega arith) (held.beside.slave.unowned 7);
-    }
+module _ {S : Type 0} (view : View S) (s : StoreValue) (p : Streams S) (held : AreHeld view s p) (idle : AreIdle (state_in view.modules s p)) where
+  -- each queue is in order
+  pub ordered : AreOrdered (state_in view.modules s p)
+  ordered = all-joined (λ (q : Queue ℕ). IsOrdered q.messages) (stream_queues (stream_in view.modules s p.master)) (stream_queues (stream_in view.modules s p.slave))
+      (stream-ordered view s 0 p.master held.beside.master idle.master) (stream-ordered view s 4 p.slave held.beside.slave idle.slave)
 
-pub free-shown : {S : Type 0} (view : View S) (s : StoreValue) (p : Streams S) (limits : Config) → IsStore s → AreHeld view s p → s.mblks ≡ limits.mblks → s.dblks ≡ limits.dblks → IsPoolOf (messages_in (state_in view.modules s p)) limits (free_in s)
-free-shown view s p limits is held mblks dblks = record {
-  in_use = omega (arith, free_m-is s, in-use view s p is held, is.enough, mblks);
-  all_free = λ none.
-      let empty = bare view s p is held none in
-      rw (bare-free_m s empty, bare-free_d s empty, mblks, dblks) refl;
-}
+  -- how many messages stand on the queues
+  many : messages_in (state_in view.modules s p)
+      ≡ length (list_at s 0) + (length (list_at s 1) + (length (list_at s 2) + length (list_at s 3))) + (length (list_at s 4) + (length (list_at s 5) + (length (list_at s 6) + length (list_at s 7))))
+  many = omega (
+    arith,
+    sum_by-append (λ (q : Queue ℕ). length q.messages) (stream_queues (stream_in view.modules s p.master)) (stream_queues (stream_in view.modules s p.slave)),
+    stream-many view s 0 p.master held.beside.master idle.master,
+    stream-many view s 4 p.slave held.beside.slave idle.slave,
+  )
+
+  in-use : IsStore s → messages_in (state_in view.modules s p) ≤ used s
+  in-use is = omega (arith, used-enough s is, many)
+
+  bare : IsStore s → messages_in (state_in view.modules s p) ≡ 0 → IsBare s
+  bare is none =
+      let all = many in
+      record {
+        eight = is.eight;
+        hand = held.hand;
+        at_0 = no-chain (list_at s 0) (omega arith);
+        at_1 = no-chain (list_at s 1) (omega arith);
+        at_2 = no-chain (list_at s 2) (omega arith);
+        at_3 = no-chain (list_at s 3) (omega arith);
+        at_4 = no-chain (list_at s 4) (omega arith);
+        at_5 = no-chain (list_at s 5) (omega arith);
+        at_6 = no-chain (list_at s 6) (omega arith);
+        at_7 = no-chain (list_at s 7) (omega arith);
+      }
+
+  pub free-shown : (limits : Config) → IsStore s → s.mblks ≡ limits.mblks → s.dblks ≡ limits.dblks → IsPoolOf (messages_in (state_in view.modules s p)) limits (free_in s)
+  free-shown limits is mblks dblks = record {
+    in_use = omega (arith, free_m-is s, in-use is, is.enough, mblks);
+    all_free = λ none.
+        let empty = bare is none in
+        rw (bare-free_m s empty, bare-free_d s empty, mblks, dblks) refl;
+  }
 
 -- a store with nothing in it has all blocks free
 pub free-empty : (mblks dblks : ℕ) → free_in (empty_store mblks dblks) ≡ record { mblks = mblks; dblks = dblks }

@@ -17,6 +17,7 @@ use Rattle.strm_ldterm.specs.declared.ldterm.Ldterm.{Ldterm}
 use Rattle.strm_ldterm.specs.Frames.{ldterm-frame}
 use Rattle.strm_ldterm.specs.Resting.{served-rests}
 use Rattle.strm_ldterm.specs.Stands.{IsHeld, keeps, ldterm_in, owns}
+use Rattle.strm_pair.specs.LdtermLists.{none-own, stack-shown}
 use Rattle.strm_pair.specs.Streams.{View}
 
 module _ {M : Type 0} (name : M → ℕ) where
@@ -43,4 +44,6 @@ module _ {M : Type 0} (name : M → ℕ) where
     keeps = λ x. all_of (keeps name) x.modules.items;
     frame = λ s t x same held. stack-stays (ldterm_in name) (IsHeld name) owns (keeps name) (ldterm-frame name) s t x.modules.items same held;
     idle = λ s x held idle. idle-keeps s x.modules.items held.each idle;
+    shown = λ s x first held idle are. stack-shown name s first x.modules.items held idle are;
+    bare = λ s x held none. none-own name s x.modules.items none;
   }

@@ -4,7 +4,9 @@ pub mod Took
 pub mod Framing
 pub mod Streams
 pub mod Journals
+pub mod LdtermLists
 pub mod LdtermStacks
+pub mod Named
 pub mod Nearest
 pub mod Pairs
 pub mod PairViews

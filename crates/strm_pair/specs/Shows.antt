@@ -2,41 +2,48 @@
 use Rattle.std.specs.Prelude.{ℕ, ◌≡◌, Bool, false, List, []}
 use Rattle.strm_types.specs.Message.{Message}
 use Rattle.strm_types.specs.declared.names.Place.{Place}
-use Rattle.strm_types.specs.declared.names.Place.TheVariants.{Head, Driver}
+use Rattle.strm_types.specs.declared.names.Place.TheVariants.{Head, Ldterm, Driver}
 use Rattle.strm_types.specs.declared.names.Way.{Way}
 use Rattle.strm_types.specs.declared.names.Way.TheVariants.{Up, Down}
 use Rattle.strm_types.specs.declared.names.QueueName.{QueueName}
+use Rattle.strm_types.specs.ModuleQueues as modules
 use Rattle.strm_types.specs.Queue.{count_of, is_full}
+use Rattle.strm_types.specs.Stacked.{module_queue}
 use Rattle.strm_types.specs.State.{State, Stream, stream}
 use Rattle.strm_blocks.specs.Blocks.{StoreValue}
 use Rattle.strm_queue.specs.Stored.{messages_on}
+use Rattle.strm_pair.specs.Named.{at_named, messages_named}
 
 -- Each list of the store, read along its chains, is the state's queue: the master's head and driver on the lists 0
--- and 1, the slave's on 4 and 5. Nothing is in hand.
+-- and 1, and the read and the write queue of the ldterm that stands on its stream on 2 and 3, which are empty where none stands; the
+-- slave's on 4 to 7. Nothing is in hand.
 pub record Shows (s : StoreValue) (state : State ℕ) : Type 0 where
   pub hand : s.hand ≡ []
   pub master_head : messages_on s 0 ≡ state.master.head.queue.messages
   pub master_driver : messages_on s 1 ≡ state.master.driver.queue.messages
+  pub master_up : messages_on s 2 ≡ messages_named Ldterm Up state.master.modules
+  pub master_down : messages_on s 3 ≡ messages_named Ldterm Down state.master.modules
   pub slave_head : messages_on s 4 ≡ state.slave.head.queue.messages
   pub slave_driver : messages_on s 5 ≡ state.slave.driver.queue.messages
+  pub slave_up : messages_on s 6 ≡ messages_named Ldterm Up state.slave.modules
+  pub slave_down : messages_on s 7 ≡ messages_named Ldterm Down state.slave.modules
 
--- the messages of a stream's queue: the head's read queue or the driver's write queue, as no other exists
+-- the messages of a stream's queue: the head's read queue, the driver's write queue, or one of a module that stands there
 abbrev pub messages_in : Place → Way → Stream ℕ → List (Message ℕ)
 messages_in Head Up t = t.head.queue.messages
 messages_in Driver Down t = t.driver.queue.messages
+messages_in Ldterm way t = messages_named Ldterm way t.modules
 messages_in _ _ t = []
 
--- how many bytes count in a band of a stream's queue: the head's read queue or the driver's write queue, as no other
--- exists
+-- how many bytes count in a band of it
 abbrev pub count_in : Place → Way → ℕ → Stream ℕ → ℕ
-count_in Head Up band t = count_of band t.head.queue.messages
-count_in Driver Down band t = count_of band t.driver.queue.messages
-count_in _ _ band t = 0
+count_in place way band t = count_of band (messages_in place way t)
 
 -- whether a band of it is full
 abbrev pub full_in : Place → Way → ℕ → Stream ℕ → Bool
 full_in Head Up band t = is_full band t.head.queue
 full_in Driver Down band t = is_full band t.driver.queue
+full_in Ldterm way band t = at_named Ldterm (modules.full_at module_queue way band) false t.modules
 full_in _ _ band t = false
 
 -- how many bytes count in a band of a queue: none in one that doesn't exist

@@ -1,22 +1,39 @@
 -- What the two streams stand for, beside their store.
-use Rattle.std.specs.Prelude.{ℕ, ◌≡◌, ◌+◌, ◌≤◌, ◌<◌, List, []}
+use Rattle.std.specs.Prelude.{ℕ, ◌≡◌, ◌+◌, ◌≤◌, ◌<◌, List, [], length, sum_by}
 use Rattle.std.specs.List.{AllByRecursion}
+use Rattle.strm_types.specs.declared.names.Place.TheVariants.{Ldterm}
+use Rattle.strm_types.specs.declared.names.Way.TheVariants.{Up, Down}
 use Rattle.strm_types.specs.Ldterms.{IsIdle}
+use Rattle.strm_types.specs.Queue.{IsOrdered}
 use Rattle.strm_types.specs.Stacked as plain
 use Rattle.strm_types.specs.State.{Stream}
 use Rattle.strm_blocks.specs.Blocks.{StoreValue, list_at}
 use Rattle.strm_frame.specs.Hands.{SameOwn}
 use Rattle.strm_pair.specs.declared.ends.End.{End}
 use Rattle.strm_head.specs.Heads.{head_in}
-use Rattle.strm_queue.specs.Stored.{queue_in, IsReady, IsHeadQueue}
+use Rattle.strm_queue.specs.Stored.{messages_on, queue_in, IsReady, IsHeadQueue}
+use Rattle.strm_pair.specs.Named.{messages_named}
 
 -- the plain modules that a stack stands for beside a store, the one on top first
 abbrev pub Modules : Type 0 → Type 0
 Modules S = StoreValue → S → List (plain.Module ℕ)
 
+-- Two lists of a store, from a number on, are for a stack: no other one is its own, and what isn't its own is empty.
+pub record AreFor (s : StoreValue) (first : ℕ) (owns : ℕ → ℕ) : Type 0 where
+  pub owned : (k : ℕ) → 0 < owns k → (first ≤ k) × (k < first + 2)
+  pub spare : (k : ℕ) → first ≤ k → k < first + 2 → owns k ≡ 0 → list_at s k ≡ []
+
+-- What the two lists show of modules: their read queue and their write queue, which are in order, and no other message stands on a queue.
+pub record AreShown (s : StoreValue) (first : ℕ) (ps : List (plain.Module ℕ)) : Type 0 where
+  pub up : messages_on s first ≡ messages_named Ldterm Up ps
+  pub down : messages_on s (first + 1) ≡ messages_named Ldterm Down ps
+  pub ordered : AllByRecursion (λ q. IsOrdered q.messages) (plain.queues_of_modules ps)
+  pub many : sum_by (λ q. length q.messages) (plain.queues_of_modules ps) ≡ length (list_at s first) + length (list_at s (first + 1))
+
 -- How stacks of modules are seen: what they stand for, when they and the store fit, which lists of the store are their own, and how
 -- often they keep a message of a name in hand. A stack stands for the same, and fits, wherever its own lists are the same and what it
--- keeps is. Where nothing of a turn is under way it keeps nothing.
+-- keeps is. Where nothing of a turn is under way it keeps nothing, and the two lists that are for it show its queues. Without a
+-- module it owns no list.
 pub record View (S : Type 0) : Type 1 where
   pub modules : Modules S
   pub IsHeld : StoreValue → S → Type 0
@@ -24,6 +41,8 @@ pub record View (S : Type 0) : Type 1 where
   pub keeps : S → ℕ → ℕ
   pub frame : (s t : StoreValue) (x : S) → SameOwn s t (owns x) (keeps x) → IsHeld s x → (modules t x ≡ modules s x) × IsHeld t x
   pub idle : (s : StoreValue) (x : S) → IsHeld s x → AllByRecursion (λ p. IsIdle p) (modules s x) → (i : ℕ) → keeps x i ≡ 0
+  pub shown : (s : StoreValue) (x : S) (first : ℕ) → IsHeld s x → AllByRecursion (λ p. IsIdle p) (modules s x) → AreFor s first (owns x) → AreShown s first (modules s x)
+  pub bare : (s : StoreValue) (x : S) → IsHeld s x → modules s x ≡ [] → (k : ℕ) → owns x k ≡ 0
 
 -- the plain stream of a side
 abbrev pub stream_in : {S : Type 0} → Modules S → StoreValue → End S → Stream ℕ

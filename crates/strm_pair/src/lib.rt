@@ -11,6 +11,7 @@ mod ioctls;
 mod journal;
 mod looking;
 mod messages;
+mod naming;
 mod pair;
 mod putting;
 mod refusals;

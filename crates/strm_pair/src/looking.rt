@@ -7,6 +7,7 @@ ghost use Rattle.strm_types.specs.Refused.{has_no_data};
 ghost use Rattle.strm_queue.specs.Stored.{messages_on};
 ghost use Rattle.strm_pair.specs.Shows.{count_at, full_at, messages_at};
 
+use crate::naming::{count_named, is_full_named, sizes_named};
 use crate::stacks::Stacks;
 use crate::streams::Streams;
 use strm_blocks::{Blocks, Peek, Visitor};
@@ -61,7 +62,7 @@ impl<S: Drop> Streams<S> {
                 Way::Up => 0,
                 Way::Down => count(store, &end.driver, band),
             },
-            Place::Ldterm => 0,
+            Place::Ldterm => count_named::<B>(&end.stack, store, queue.place, queue.way, band),
         }
     }
 
@@ -81,7 +82,7 @@ impl<S: Drop> Streams<S> {
                 Way::Up => (0, 0),
                 Way::Down => sizes(store, &end.driver),
             },
-            Place::Ldterm => (0, 0),
+            Place::Ldterm => sizes_named::<B>(&end.stack, store, queue.place, queue.way),
         }
     }
 
@@ -101,7 +102,7 @@ impl<S: Drop> Streams<S> {
                 Way::Up => false,
                 Way::Down => is_full(store, &end.driver, band),
             },
-            Place::Ldterm => false,
+            Place::Ldterm => is_full_named::<B>(&end.stack, store, queue.place, queue.way, band),
         }
     }
 }

@@ -9,9 +9,9 @@ ghost use Rattle.strm_types.specs.Cells as cells;
 ghost use Rattle.strm_types.specs.Costs.{cost};
 ghost use Rattle.strm_types.specs.Deliver.{tallied};
 ghost use Rattle.strm_types.specs.Earlier.{places_of};
-ghost use Rattle.strm_types.specs.ModuleQueues.{at_place, can_pass, messages_at, place_before, place_past, queue_changed, waits_past};
+ghost use Rattle.strm_types.specs.ModuleQueues.{at_place, can_pass, full_at, messages_at, place_before, place_past, queue_changed, waits_past};
 ghost use Rattle.strm_types.specs.Modules.{act_among, change_among, put_among, top_name};
-ghost use Rattle.strm_types.specs.Queue.{bytes_of};
+ghost use Rattle.strm_types.specs.Queue.{bytes_of, count_of};
 ghost use Rattle.strm_types.specs.Service.{end_relieves, has_more, turn_ended};
 ghost use Rattle.strm_types.specs.Stacked.{module_asks, module_name, module_puts, module_queue, module_serves, with_module_queue};
 ghost use Rattle.strm_blocks.specs.Blocks.{StoreValue, in_hand};
@@ -91,6 +91,22 @@ pub trait Stacks: Blocks {
         requires held { view.IsHeld (Self.value store.now) stack.now }
         ensures messages { result.0 ≡ length (at_place (messages_at module_queue way) [] at (view.modules (Self.value store.now) stack.now)) }
         ensures bytes { result.1 ≡ bytes_of (at_place (messages_at module_queue way) [] at (view.modules (Self.value store.now) stack.now)) };
+
+    /// How many bytes count in a band of a queue of the module of a place; none without one.
+    fn count_in_band(stack: &Self::Stack, store: &Self, at: usize, way: Way, band: Band) -> usize
+        requires inside { 0 < at }
+        requires within { at ≤ length (view.modules (Self.value store.now) stack.now) }
+        requires held { view.IsHeld (Self.value store.now) stack.now }
+        requires band { band.0 < BANDS }
+        ensures { result ≡ count_of band.0 (at_place (messages_at module_queue way) [] at (view.modules (Self.value store.now) stack.now)) };
+
+    /// Whether a band of a queue of the module of a place is full; not without one.
+    fn is_full(stack: &Self::Stack, store: &Self, at: usize, way: Way, band: Band) -> bool
+        requires inside { 0 < at }
+        requires within { at ≤ length (view.modules (Self.value store.now) stack.now) }
+        requires held { view.IsHeld (Self.value store.now) stack.now }
+        requires band { band.0 < BANDS }
+        ensures { result ≡ at_place (full_at module_queue way band.0) false at (view.modules (Self.value store.now) stack.now) };
 
     /// Puts a message in hand at the module of a place, and says what it does: `put(9E)`.
     fn put(
@@ -239,6 +255,26 @@ impl Stacks for TableStore {
         way: Way,
     ) -> (usize, usize) {
         stack.sizes(store, at, way)
+    }
+
+    fn count_in_band(
+        stack: &Stream<Ldterm<InHand>>,
+        store: &TableStore,
+        at: usize,
+        way: Way,
+        band: Band,
+    ) -> usize {
+        stack.count(store, at, way, band)
+    }
+
+    fn is_full(
+        stack: &Stream<Ldterm<InHand>>,
+        store: &TableStore,
+        at: usize,
+        way: Way,
+        band: Band,
+    ) -> bool {
+        stack.is_full(store, at, way, band)
     }
 
     fn put(

@@ -11,7 +11,7 @@ use arrayvec::ArrayVec;
 use strm_blocks::Blocks;
 use strm_msg::message_size;
 use strm_queue::Queue;
-use strm_queue::standing::{dequeue, enqueue, is_full, sizes};
+use strm_queue::standing::{count, dequeue, enqueue, is_full, sizes};
 use strm_types::{Asks, Band, Fates, ModuleName, MsgKind, Note, Rule, Side, Spot, Way};
 
 #[derive(Drop)]
@@ -124,6 +124,13 @@ impl<B: Blocks> Module<B> for Stock {
         match way {
             Way::Up => false,
             Way::Down => is_full(store, &self.queue, band),
+        }
+    }
+
+    fn count(&self, store: &B, way: Way, band: Band) -> usize {
+        match way {
+            Way::Up => 0,
+            Way::Down => count(store, &self.queue, band),
         }
     }
 

@@ -105,6 +105,10 @@ impl<B: Blocks> Module<B> for Turner {
         false
     }
 
+    fn count(&self, _store: &B, _way: Way, _band: Band) -> usize {
+        0
+    }
+
     fn sizes(&self, _store: &B, _way: Way) -> (usize, usize) {
         (0, 0)
     }

@@ -1,5 +1,5 @@
 -- Its lists are empty, and it keeps nothing.
-use Rattle.std.proofs.Common.{refl, ◌∙◌, sym, arith}
+use Rattle.std.proofs.Common.{refl, arith}
 use Rattle.strm_ldterm.specs.Stands.{times_kept}
 use Rattle.strm_ldterm.proofs.Fresh.{empty-ready}
 use Rattle.strm_ldterm.proofs.ldterm.Ldterm.new.Goals as goal
@@ -9,7 +9,7 @@ unfolding times_kept
 returns-clause-held g c = λ name s read write. record {
   read = empty-ready s c.new-3.result c.args.read_list c.new-3.ensures.list c.new-3.ensures.counted read;
   write = empty-ready s c.new-4.result c.args.write_list c.new-4.ensures.list c.new-4.ensures.counted write;
-  apart = λ same. c.requires.apart (sym c.new-3.ensures.list ∙ same ∙ c.new-4.ensures.list);
+  apart = omega (arith, c.requires.apart, c.new-3.ensures.list, c.new-4.ensures.list);
   work = tt;
   gathers = tt;
   echoes = tt;

@@ -1,0 +1,21 @@
+-- The module of a stream whose queues have a name, and what is said of it. Places count from 1 for the module on top.
+use Rattle.std.specs.Prelude.{ℕ, List, [], Option, None, Some}
+use Rattle.strm_types.specs.declared.names.Place.{Place}
+use Rattle.strm_types.specs.declared.names.Way.{Way}
+use Rattle.strm_types.specs.Message.{Message}
+use Rattle.strm_types.specs.ModuleQueues.{at_place, messages_at}
+use Rattle.strm_types.specs.ModuleTurns.{place_named}
+use Rattle.strm_types.specs.Stacked.{Module, module_queue}
+
+-- what is said of the module at a place, where there is one
+abbrev pub at_found : {A : Type 0} → (Module ℕ → A) → A → List (Module ℕ) → Option ℕ → A
+at_found say otherwise ps None = otherwise
+at_found say otherwise ps (Some at) = at_place say otherwise at ps
+
+-- what is said of the one whose queues have a name, where one stands there
+abbrev pub at_named : {A : Type 0} → Place → (Module ℕ → A) → A → List (Module ℕ) → A
+at_named place say otherwise ps = at_found say otherwise ps (place_named place ps)
+
+-- the messages on its queue of a way
+abbrev pub messages_named : Place → Way → List (Module ℕ) → List (Message ℕ)
+messages_named place way ps = at_named place (messages_at module_queue way) [] ps

@@ -1,0 +1,94 @@
+//! The module of a stack whose queues have a name, and what stands on them. Places count from 1 for the module on top.
+
+ghost use Rattle.std.specs.Prelude.{ℕ, ◌≡◌, ◌<◌, false, length};
+ghost use Rattle.strm_types.specs.declared.limits.TheConstants.{BANDS};
+ghost use Rattle.strm_types.specs.ModuleQueues.{full_at};
+ghost use Rattle.strm_types.specs.ModuleTurns.{place_named};
+ghost use Rattle.strm_types.specs.Pushes.{is_there};
+ghost use Rattle.strm_types.specs.Queue.{bytes_of, count_of};
+ghost use Rattle.strm_types.specs.Stacked.{module_queue};
+ghost use Rattle.strm_blocks.specs.Blocks.{StoreValue};
+ghost use Rattle.strm_frame.specs.Stacks.{IsPlace};
+ghost use Rattle.strm_pair.specs.Named.{at_named, messages_named};
+
+use crate::stacks::Stacks;
+use strm_types::{Band, MODULES, Place, Way};
+
+// Whether queues of a place are these.
+fn is_there(place: Place, found: Option<Place>) -> bool
+    ensures { result ≡ is_there place found }
+{
+    matches!(
+        (found, place),
+        (Some(Place::Head), Place::Head)
+            | (Some(Place::Ldterm), Place::Ldterm)
+            | (Some(Place::Driver), Place::Driver)
+    )
+}
+
+/// The place of the module of a stack whose queues have a name, where one stands there.
+pub(crate) fn place_named<B: Stacks>(stack: &B::Stack, place: Place) -> Option<usize>
+    ensures place { (s : StoreValue) → result ≡ place_named place (B.view.modules s stack.now) }
+    ensures inside { (s : StoreValue) → IsPlace (length (B.view.modules s stack.now)) result }
+{
+    let count = B::count(stack).min(MODULES);
+    for index in 0..count {
+        if is_there(place, B::place(stack, index + 1)) {
+            return Some(index + 1);
+        }
+    }
+    None
+}
+
+/// How many messages stand on a queue of that module, and how many bytes they have.
+pub(crate) fn sizes_named<B: Stacks>(
+    stack: &B::Stack,
+    store: &B,
+    place: Place,
+    way: Way,
+) -> (usize, usize)
+    requires { B.view.IsHeld (B.value store.now) stack.now }
+    ensures messages { result.0 ≡ length (messages_named place way (B.view.modules (B.value store.now) stack.now)) }
+    ensures bytes { result.1 ≡ bytes_of (messages_named place way (B.view.modules (B.value store.now) stack.now)) }
+{
+    match place_named::<B>(stack, place) {
+        Some(at) => B::sizes(stack, store, at, way),
+        None => (0, 0),
+    }
+}
+
+/// How many bytes count in a band of a queue of that module.
+pub(crate) fn count_named<B: Stacks>(
+    stack: &B::Stack,
+    store: &B,
+    place: Place,
+    way: Way,
+    band: Band,
+) -> usize
+    requires held { B.view.IsHeld (B.value store.now) stack.now }
+    requires band { band.0 < BANDS }
+    ensures { result ≡ count_of band.0 (messages_named place way (B.view.modules (B.value store.now) stack.now)) }
+{
+    match place_named::<B>(stack, place) {
+        Some(at) => B::count_in_band(stack, store, at, way, band),
+        None => 0,
+    }
+}
+
+/// Whether a band of a queue of that module is full.
+pub(crate) fn is_full_named<B: Stacks>(
+    stack: &B::Stack,
+    store: &B,
+    place: Place,
+    way: Way,
+    band: Band,
+) -> bool
+    requires held { B.view.IsHeld (B.value store.now) stack.now }
+    requires band { band.0 < BANDS }
+    ensures { result ≡ at_named place (full_at module_queue way band.0) false (B.view.modules (B.value store.now) stack.now) }
+{
+    match place_named::<B>(stack, place) {
+        Some(at) => B::is_full(stack, store, at, way, band),
+        None => false,
+    }
+}
