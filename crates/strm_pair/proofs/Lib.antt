@@ -2,6 +2,7 @@ pub mod Peeked
 pub mod Sides
 pub mod PutsCost
 pub mod PutSteps
+pub mod ModuleSteps
 pub mod TurnSteps
 pub mod ReadSteps
 pub mod GetSteps
