@@ -3,6 +3,7 @@ pub mod InHand
 pub mod Sides
 pub mod PutsCost
 pub mod PutSteps
+pub mod ModuleSteps
 pub mod TurnSteps
 pub mod ReadSteps
 pub mod GetSteps

@@ -1,6 +1,6 @@
 -- Puts at the heads and the drivers of a pair, step by step.
 use Rattle.std.proofs.Common.{ℕ, ◌≡◌, ◌≤◌, ◌+◌, Bool, true, false, cond, List, [], ◌∷◌, refl, sym, ap, subst, ◌∙◌, arith}
-use Rattle.std.specs.Prelude.{◌==◌, Option, None, Some}
+use Rattle.std.specs.Prelude.{◌==◌, nat_le, Option, None, Some}
 use Rattle.std.proofs.lemmas.Bool.Decides.{nat_tests}
 use Rattle.strm_types.specs.declared.flushing.FlushAsked.{FlushAsked}
 use Rattle.strm_types.specs.declared.kinds.MsgKind.{MsgKind}
@@ -22,8 +22,7 @@ use Rattle.strm_frame.proofs.Shifting.{shifts-joined}
 use Rattle.strm_pty.specs.Does.{OnlyQueue, driver_cost}
 use Rattle.strm_pair.specs.Pairs.{end_at, with_end}
 use Rattle.strm_types.specs.Earlier.{before_head, driver_place, modules_on}
-use Rattle.strm_types.proofs.Alone.{below-is-behind}
-use Rattle.strm_pair.proofs.Sides.{none-stand, driver-changed, driver-state, head-changed, head-state, driver-is, head-is}
+use Rattle.strm_pair.proofs.Sides.{driver-changed, driver-state, head-changed, head-state, driver-is, head-is}
 use Rattle.strm_types.specs.declared.names.Place.TheVariants as places
 use Rattle.strm_types.specs.declared.names.QueueName.{QueueName}
 use Rattle.strm_types.specs.declared.names.Side.{Side}
@@ -37,7 +36,7 @@ use Rattle.strm_types.specs.Flushing.{asked_by, flush_bytes, flush_message}
 use Rattle.strm_types.specs.Heads.{head_put, is_doubled, obeyed, turned_round, waits_for_readers}
 use Rattle.strm_types.specs.Message.{Message, cells_of, has_parts}
 use Rattle.strm_types.specs.Names.{direction_at, enable_some, is_open}
-use Rattle.strm_types.specs.Puts.{across_of, earlier_at, is_turned, turns_round, noted, passed_up, put_at_driver, put_at_head, put_behind, put_below, put_in}
+use Rattle.strm_types.specs.Puts.{across_of, earlier_at, is_turned, turns_round, noted, passed_up, put_at_driver, put_at_head, put_at_module, put_behind, put_below, put_in}
 use Rattle.strm_types.specs.Reads.{is_there}
 use Rattle.strm_types.specs.State.{Head, State, stream, with_stream, with_driver_queue}
 use Rattle.strm_blocks.specs.Blocks.{StoreValue, in_hand}
@@ -334,10 +333,11 @@ module _ {M S : Type 0} (name : M → ℕ) (view : View S) where
     pool = put.pool;
   }
 
-  -- at the head, and behind it
+  -- a put at a spot
   abbrev PutIn : (s t : StoreValue) (p q : Streams S) (i : ℕ) (to : Spot) (sent_on : List (Sent M)) (f f' : Fates) → Took ℕ (State ℕ) → Type 0
   PutIn s t p q i to sent_on f f' is = PutAs name view s t p q i (cost to (message_in s i)) (cost_of cost is.sent) sent_on f f' is
 
+  -- at the head
   pub head-put : (s t : StoreValue) (p q : Streams S) (i : ℕ) (to : Spot) (sent_on : List (Sent M)) (f f' : Fates) → let m = message_in s i in to.at ≡ 0
       → PutBy name view s t p q i (head_takes m) sent_on f f' (put_at_head to.side to m (state_in view.modules s p)) → PutIn s t p q i to sent_on f f' (put_in to m (state_in view.modules s p))
   head-put s t p q i to sent_on f f' top put =
@@ -347,16 +347,30 @@ module _ {M S : Type 0} (name : M → ℕ) (view : View S) where
       subst (λ b. PutIn s t p q i to sent_on f f' (cond b (put_at_head to.side to m st) (put_below to.way to m st))) (sym at)
       (with-later s t p q i (head_takes m) (cost to m) sent_on f f' (put_at_head to.side to m st) (head-cost to m st top) put)
 
-  pub behind-put : (way : Way) (s t : StoreValue) (p q : Streams S) (i : ℕ) (to : Spot) (sent_on : List (Sent M)) (f f' : Fates) → let m = message_in s i in AreBeside view s p → to.way ≡ way → (to.at ≡ 0 → ⊥)
-      → PutBy name view s t p q i (below_takes way (has_parts m) (is_across to m)) sent_on f f' (put_behind way to m (state_in view.modules s p)) → PutIn s t p q i to sent_on f f' (put_in to m (state_in view.modules s p))
-  behind-put way s t p q i to sent_on f f' beside is inside put =
+  -- below the head, by whether a module stands at the place
+  below-put : (s t : StoreValue) (p q : Streams S) (i : ℕ) (to : Spot) (sent_on : List (Sent M)) (f f' : Fates) (stands : Bool) → let m = message_in s i in let st = state_in view.modules s p in
+      (to.at ≡ 0 → ⊥) → nat_le to.at (modules_on to.side st) ≡ stands
+      → PutIn s t p q i to sent_on f f' (cond stands (put_at_module to.side to m st) (put_behind to.way to m st)) → PutIn s t p q i to sent_on f f' (put_in to m st)
+  below-put s t p q i to sent_on f f' stands inside place put =
       let m = message_in s i in
       let st = state_in view.modules s p in
       let below : (to.at == 0) ≡ false = grind (arith, nat_tests) in
       subst (λ b. PutIn s t p q i to sent_on f f' (cond b (put_at_head to.side to m st) (put_below to.way to m st))) (sym below)
-      (subst (λ w. PutIn s t p q i to sent_on f f' w) (sym (below-is-behind st (none-stand view s p beside) to.way to m below))
+      (subst (λ b. PutIn s t p q i to sent_on f f' (cond b (put_at_module to.side to m st) (put_behind to.way to m st))) (sym place) put)
+
+  pub module-put : (s t : StoreValue) (p q : Streams S) (i : ℕ) (to : Spot) (sent_on : List (Sent M)) (f f' : Fates) → let m = message_in s i in let st = state_in view.modules s p in
+      (to.at ≡ 0 → ⊥) → nat_le to.at (modules_on to.side st) ≡ true → PutIn s t p q i to sent_on f f' (put_at_module to.side to m st) → PutIn s t p q i to sent_on f f' (put_in to m st)
+  module-put s t p q i to sent_on f f' inside stands put = below-put s t p q i to sent_on f f' true inside stands put
+
+  pub behind-put : (way : Way) (s t : StoreValue) (p q : Streams S) (i : ℕ) (to : Spot) (sent_on : List (Sent M)) (f f' : Fates) → let m = message_in s i in let st = state_in view.modules s p in
+      to.way ≡ way → (to.at ≡ 0 → ⊥) → nat_le to.at (modules_on to.side st) ≡ false
+      → PutBy name view s t p q i (below_takes way (has_parts m) (is_across to m)) sent_on f f' (put_behind way to m st) → PutIn s t p q i to sent_on f f' (put_in to m st)
+  behind-put way s t p q i to sent_on f f' is inside past put =
+      let m = message_in s i in
+      let st = state_in view.modules s p in
+      below-put s t p q i to sent_on f f' false inside past
       (with-later s t p q i (below_takes to.way (has_parts m) (is_across to m)) (cost to m) sent_on f f' (put_behind to.way to m st) (behind-cost to m st inside)
-      (subst (λ w. PutBy name view s t p q i (below_takes w (has_parts m) (is_across to m)) sent_on f f' (put_behind w to m st)) (sym is) put)))
+      (subst (λ w. PutBy name view s t p q i (below_takes w (has_parts m) (is_across to m)) sent_on f f' (put_behind w to m st)) (sym is) put))
 
   -- what a head sends down is made
   pub came-put : (s t u : StoreValue) (p q : Streams S) (m n k : ℕ) (down : List (Parcel ℕ)) (made : List (Sent M)) (f f' : Fates) (is : Took ℕ (State ℕ))

@@ -1,13 +1,14 @@
-//! What stands on the streams of a pair, as delivery sees it: two heads and two drivers (STREAMS Programming Guide, "Put
-//! Procedures").
+//! What stands on the streams of a pair, as delivery sees it: two heads, two drivers, and the modules between them (STREAMS
+//! Programming Guide, "Put Procedures").
 
 ghost use Rattle.std.specs.Prelude.{ℕ, ◌≡◌, ◌<◌, ◌≤◌, ◌&&◌, ◌==◌, [], ◌∷◌, suc, true, false, if◌then◌else◌, Some};
 ghost use Rattle.strm_types.specs.declared.limits.TheConstants.{MODULES};
 ghost use Rattle.strm_types.specs.declared.names.Way.TheVariants.{Up};
+ghost use Rattle.strm_types.specs.Earlier.{modules_on};
 ghost use Rattle.strm_types.specs.Flushing.{is_flush};
 ghost use Rattle.strm_types.specs.Message.{has_parts};
 ghost use Rattle.strm_types.specs.Names.{is_open};
-ghost use Rattle.strm_types.specs.Puts.{across_of, put_at_head, put_at_driver, passed_up, put_behind, put_in, far};
+ghost use Rattle.strm_types.specs.Puts.{across_of, put_at_head, put_at_module, put_at_driver, passed_up, put_behind, put_in, far};
 ghost use Rattle.strm_types.specs.State.{stream};
 ghost use Rattle.strm_blocks.specs.Blocks.{in_hand, block_at};
 ghost use Rattle.strm_msg.specs.Messages.{IsChain};
@@ -20,6 +21,7 @@ ghost use Rattle.strm_types.specs.Costs.{head_takes, is_across, below_takes, cos
 ghost use Rattle.strm_pair.specs.PutBy.{PutAs, PutBy, CameBy};
 ghost use Rattle.strm_pair.specs.Streams.{Modules};
 
+use crate::earlier::note;
 use crate::stacks::Stacks;
 use crate::streams::Streams;
 use strm_blocks::Blocks;
@@ -155,6 +157,42 @@ impl<S: Drop> Streams<S> {
         send_down(store, to, down)
     }
 
+    // A message that comes to a module of a side's stream. What it says of its queues goes by how the stream was before.
+    fn put_module<B: Stacks<Stack = S>>(
+        &mut self,
+        store: &mut B,
+        to: Spot,
+        message: B::Mp,
+        told: &mut Fates,
+    ) -> Outbox<B::Mp>
+        requires beside { AreBeside B.view (B.value store.old) self.old }
+        requires can_put { CanPut (B.value store.old) (B.name message) (kept_by B.view self.old) }
+        requires chain { IsChain (in_hand (B.value store.old) (B.name message)) }
+        requires room { HasRoom (B.value store.old) (cost to (message_in (B.value store.old) (B.name message))) }
+        requires inside { 0 < to.at }
+        requires within { (s : StoreValue) → to.at ≤ modules_on to.side (state_in B.view.modules s self.old) }
+        ensures { let s = B.value store.old in let m = message_in s (B.name message) in
+            let is = put_at_module to.side to m (state_in B.view.modules s self.old) in
+            PutAs B.name B.view s (B.value store.new) self.old self.new (B.name message) (cost to m) (cost_of cost is.sent)
+            (sent_of result) told.old told.new is }
+    {
+        store.audit();
+        let place = B::place(&self.end(to.side).stack, to.at);
+        let earlier = self.earlier::<B>(to.side, to.at);
+        let acts = match to.side {
+            Side::Master => B::put(&mut self.master.stack, store, to, message, told),
+            Side::Slave => B::put(&mut self.slave.stack, store, to, message, told),
+        };
+        note(
+            &mut self.enabled,
+            to.side,
+            place,
+            earlier,
+            acts.notes.as_slice(),
+        );
+        acts.sent
+    }
+
     // A message that comes to the driver of a side.
     fn put_driver<B: Stacks<Stack = S>>(
         &mut self,
@@ -243,6 +281,9 @@ impl<S: Drop> Streams<S> {
     {
         if to.at == 0 {
             return self.put_head(store, to, message, told);
+        }
+        if to.at <= self.modules_on::<B>(to.side) {
+            return self.put_module(store, to, message, told);
         }
         match to.way {
             Way::Down => self.put_driver(store, to, message, told),

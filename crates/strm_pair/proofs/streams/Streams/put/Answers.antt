@@ -1,5 +1,7 @@
--- What stands at a place takes the message: behind the head the driver, as no module stands there.
-use Rattle.std.proofs.Common.{true, sym, subst, arith}
+-- What stands at a place takes the message: the head, a module, or behind the modules what is below them.
+use Rattle.std.proofs.Common.{ℕ, ◌≡◌, ◌≤◌, ◌<◌, true, false, sym, subst, arith}
+use Rattle.std.specs.Prelude.{nat_le}
+use Rattle.std.proofs.lemmas.Bool.Decides.{nat_tests}
 use Rattle.strm_types.specs.declared.names.Way.TheVariants.{Up, Down}
 use Rattle.strm_types.specs.Costs.{below_takes, cost, head_takes}
 use Rattle.strm_types.specs.Message.{has_parts}
@@ -8,9 +10,15 @@ use Rattle.strm_frame.specs.Hands.{HasRoom}
 use Rattle.strm_frame.specs.Outboxes.{message_in, sent_of}
 use Rattle.strm_pair.specs.Pairs.{state_in}
 use Rattle.strm_pair.specs.PutBy.{PutBy}
-use Rattle.strm_pair.proofs.PutSteps.{behind-put, behind-room, head-put, room-for}
+use Rattle.strm_pair.proofs.PutSteps.{behind-put, behind-room, head-put, module-put, room-for}
 use Rattle.strm_pair.proofs.PutsCost.{head-cost}
 use Rattle.strm_pair.proofs.streams.Streams.put.Goals as goal
+
+stands-at : (at count : ℕ) → at ≤ count → nat_le at count ≡ true
+stands-at at count low = grind (arith, nat_tests)
+
+stands-above : (at count : ℕ) → count < at → nat_le at count ≡ false
+stands-above at count past = grind (arith, nat_tests)
 
 pub put_head-requires-clause-room : goal.put_head-requires-clause-room
 put_head-requires-clause-room g c =
@@ -35,6 +43,13 @@ returns-then-to-eq0 g c =
     head-put g.B.Blocks.name g.B.Stacks.view s (g.B.Blocks.value c.put_head.new.store) c.args.self.now c.put_head.new.self (g.B.Blocks.name c.args.message) c.args.to (sent_of c.put_head.result) c.args.told.now c.put_head.new.told
     c.if-to-eq0.true c.put_head.ensures
 
+pub returns-then-to-modules_on : goal.returns-then-to-modules_on
+returns-then-to-modules_on g c =
+    let s = g.B.Blocks.value c.args.store.now in
+    let at = c.args.to.at in
+    module-put g.B.Blocks.name g.B.Stacks.view s (g.B.Blocks.value c.put_module.new.store) c.args.self.now c.put_module.new.self (g.B.Blocks.name c.args.message) c.args.to (sent_of c.put_module.result) c.args.told.now c.put_module.new.told
+    c.if-to-eq0.false (subst (λ n. nat_le at n ≡ true) (c.modules_on.ensures.on s) (stands-at at c.modules_on.result c.if-to-modules_on.true)) c.put_module.ensures
+
 pub returns-in-Down : goal.returns-in-Down
 returns-in-Down g c =
     let s = g.B.Blocks.value c.args.store.now in
@@ -46,7 +61,8 @@ returns-in-Down g c =
     let to = c.args.to in
     let sent = sent_of c.put_driver.result in
     let told = c.put_driver.new.told in
-    behind-put name g.B.Stacks.view Down s t p q i to sent c.args.told.now told c.requires.beside c.in-Down.is c.if-to-eq0.false
+    behind-put name g.B.Stacks.view Down s t p q i to sent c.args.told.now told c.in-Down.is c.if-to-eq0.false
+    (subst (λ n. nat_le to.at n ≡ false) (c.modules_on.ensures.on s) (stands-above to.at c.modules_on.result c.if-to-modules_on.false))
     (subst (λ way. PutBy name g.B.Stacks.view s t p q i (below_takes way (has_parts (message_in s i)) true) sent c.args.told.now told (put_at_driver to.side to (message_in s i) (state_in g.B.Stacks.view.modules s p))) c.in-Down.is c.put_driver.ensures)
 
 pub returns-in-Up : goal.returns-in-Up
@@ -54,4 +70,4 @@ returns-in-Up g c =
     let s = g.B.Blocks.value c.args.store.now in
     let i = g.B.Blocks.name c.args.message in
     behind-put g.B.Blocks.name g.B.Stacks.view Up s (g.B.Blocks.value c.put_up.new.store) c.args.self.now c.put_up.new.self i c.args.to (sent_of c.put_up.result) c.args.told.now c.put_up.new.told
-    c.requires.beside c.in-Up.is c.if-to-eq0.false c.put_up.ensures
+    c.in-Up.is c.if-to-eq0.false (subst (λ n. nat_le c.args.to.at n ≡ false) (c.modules_on.ensures.on s) (stands-above c.args.to.at c.modules_on.result c.if-to-modules_on.false)) c.put_up.ensures
