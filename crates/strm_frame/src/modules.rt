@@ -4,12 +4,14 @@ ghost use Rattle.std.specs.Prelude.{ℕ, ◌≡◌, ◌<◌, ◌≤◌, length, 
 ghost use Rattle.std.specs.Bool.{OnTrue};
 ghost use Rattle.strm_types.specs.declared.names.ModuleName.{ModuleName};
 ghost use Rattle.strm_types.specs.declared.names.Way.{Way};
+ghost use Rattle.strm_types.specs.declared.names.Way.TheVariants.{Up};
 ghost use Rattle.strm_types.specs.declared.spots.Spot.{Spot};
 ghost use Rattle.strm_types.specs.declared.spots.Asks.{Asks};
 ghost use Rattle.strm_types.specs.Message.{Message};
 ghost use Rattle.strm_types.specs.declared.limits.TheConstants.{BANDS, MODULES, STOP_BLOCKS};
 ghost use Rattle.strm_types.specs.Deliver.{Acted, AreLower, tallied};
 ghost use Rattle.strm_types.specs.Queue.{Queue, bytes_of, count_of};
+ghost use Rattle.strm_types.specs.Refused.{has_no_data};
 ghost use Rattle.strm_types.specs.ModuleQueues.{has_queue, messages_at, full_at, waits, queue_changed};
 ghost use Rattle.strm_types.specs.Service.{Serving, turn_ended, end_relieves, has_more, cleared};
 ghost use Rattle.strm_blocks.specs.Blocks.{StoreValue, in_hand};
@@ -145,6 +147,11 @@ pub trait Module<B: Blocks>: Drop {
         requires held { IsHeld (B.value store.now) self.now }
         ensures messages { result.0 ≡ length (messages_at queue_of way (plain (B.value store.now) self.now)) }
         ensures bytes { result.1 ≡ bytes_of (messages_at queue_of way (plain (B.value store.now) self.now)) };
+
+    /// Whether no M_DATA or M_PROTO stands on its read queue; none does without one.
+    fn none_waits_up(&self, store: &B) -> bool
+        requires { IsHeld (B.value store.now) self.now }
+        ensures { result ≡ has_no_data (messages_at queue_of Up (plain (B.value store.now) self.now)) };
 
     /// Has a writer of a band wait at its queue of a way, until there is room again: want-write is set there.
     fn let_wait(&mut self, way: Way, band: Band)

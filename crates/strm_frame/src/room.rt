@@ -1,10 +1,13 @@
 //! Room past a place of a stream, by the queues of its modules (canputnext(9F), bcanput(9F); STREAMS Programming Guide,
 //! "Flow Control"). Places count from the head's, 0, over the modules from the top; the first module's place is 1.
 
-ghost use Rattle.std.specs.Prelude.{ℕ, ◌≡◌, ◌<◌, ◌≤◌, ◌-◌, false, [], length, map, slice_index_or};
+ghost use Rattle.std.specs.Prelude.{ℕ, ◌≡◌, ◌<◌, ◌≤◌, ◌-◌, false, not, [], length, map, slice_index_or};
+ghost use Rattle.std.specs.List.{AllByRecursion, list_any};
 ghost use Rattle.strm_types.specs.declared.limits.TheConstants.{BANDS};
 ghost use Rattle.strm_types.specs.Queue.{bytes_of, count_of};
+ghost use Rattle.strm_types.specs.declared.names.Way.TheVariants.{Up};
 ghost use Rattle.strm_types.specs.Modules.{change_among};
+ghost use Rattle.strm_types.specs.Refused.{has_no_data};
 ghost use Rattle.strm_types.specs.ModuleQueues.{at_place, messages_at, full_at, waits, place_below, place_above, place_past, place_before, can_pass, room_at, waits_at, waits_past};
 ghost use Rattle.strm_blocks.specs.Blocks.{StoreValue};
 ghost use Rattle.strm_frame.specs.Stacks.{all_of, AreHeld, IsPlace};
@@ -147,6 +150,18 @@ fn sizes_among<B: Blocks, M: Module<B>>(
     modules[at].sizes(store, way)
 }
 
+// Whether no M_DATA or M_PROTO stands on the read queues of these modules.
+fn none_wait_up<B: Blocks, M: Module<B>>(store: &B, modules: &[M]) -> bool
+    requires { AllByRecursion (M.IsHeld (B.value store.now)) modules.now }
+    ensures { result ≡ not (list_any (λ p. not (has_no_data (messages_at M.queue_of Up p)))
+        (map (M.plain (B.value store.now)) modules.now)) }
+{
+    let Some((first, rest)) = modules.split_first() else {
+        return true;
+    };
+    first.none_waits_up(store) && none_wait_up(store, rest)
+}
+
 impl<M: Default + Drop> Stream<M> {
     /// The place of the nearest module past a place that has a queue, as messages of a way go; None where no module there
     /// has one, so that what stands behind the modules is next.
@@ -209,6 +224,17 @@ impl<M: Default + Drop> Stream<M> {
     {
         let place = self.place_past(way, at);
         let_wait_at(self.modules.as_mut_slice(), place, way, band);
+    }
+
+    /// Whether no M_DATA or M_PROTO stands on the read queues of the modules.
+    pub fn none_waits_up<B: Blocks>(&self, store: &B) -> bool
+    where
+        M: Module<B>,
+        requires { AreHeld M.IsHeld M.owns (B.value store.now) self.now.modules.items }
+        ensures { result ≡ not (list_any (λ p. not (has_no_data (messages_at M.queue_of Up p)))
+            (map (M.plain (B.value store.now)) self.now.modules.items)) }
+    {
+        none_wait_up(store, self.modules.as_slice())
     }
 
     /// How many messages stand on a queue of the module at a place, and how many bytes they have; nothing without one.

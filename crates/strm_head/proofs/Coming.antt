@@ -23,29 +23,12 @@ use Rattle.strm_msg.specs.Bytes.{bytes_of}
 use Rattle.strm_msg.specs.Messages.{message_of, AreMessages, IsChain}
 use Rattle.strm_msg.proofs.Chains.{kind-is}
 use Rattle.strm_msg.proofs.MadePlain.{parts-same, plain-is}
+use Rattle.strm_queue.proofs.Finding.{finds-kind}
 use Rattle.strm_queue.specs.declared.queue.Queue.{Queue}
 use Rattle.strm_queue.specs.Kept.{AreCounted}
 use Rattle.strm_queue.specs.Queues.{OnlyCounts}
 use Rattle.strm_queue.specs.Stored.{Changes, FreesBlocks, HoldsReadable, IsReady}
 use Rattle.strm_head.specs.declared.putting.Urgent.{Urgent}
-
--- a visitor that stops at a message of a kind sees whether there is one
-module _ {V : Type 0} (found : V → Bool) (saw : Bool → V) (same : (b : Bool) → found (saw b) ≡ b) (test : MsgKind → Bool) where
-  abbrev any_such : List (Message ℕ) → Bool
-  any_such ms = list_any (λ (m : Message ℕ). test m.kind) ms
-
-  abbrev seen_in : Bool → List (List Block) → V
-  seen_in b q = told (λ v p. saw (test p.kind)) (λ v. not (found v)) (saw b) (map peek_of q)
-
-  pub finds-kind : (q : List (List Block)) → found (seen_in false q) ≡ any_such (map message_of q)
-  finds-kind [] = same false
-  finds-kind (chain ∷ q) =
-      ap (λ b. found (cond (not b) (seen_in (test (block_at 0 chain).kind) q) (saw (test (block_at 0 chain).kind)))) (same (test (block_at 0 chain).kind))
-      ∙ at (test (block_at 0 chain).kind) (finds-kind q) ∙ ap (λ k. test k || any_such (map message_of q)) (sym (kind-is chain))
-    where
-      at : (b : Bool) → found (seen_in false q) ≡ any_such (map message_of q) → found (cond (not b) (seen_in b q) (saw b)) ≡ (b || any_such (map message_of q))
-      at true ih = same true
-      at false ih = ih
 
 -- whether an M_PCPROTO stands among some messages
 abbrev any_urgent : List (Message ℕ) → Bool

@@ -88,6 +88,10 @@ impl<B: Blocks> Module<B> for Ldterm<B::Mp> {
         queues::sizes(self, store, way)
     }
 
+    fn none_waits_up(&self, store: &B) -> bool {
+        queues::none_waits_up(self, store)
+    }
+
     fn let_wait(&mut self, way: Way, band: Band) {
         match way {
             Way::Up => self.read_queue.let_wait(band),

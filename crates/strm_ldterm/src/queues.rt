@@ -3,9 +3,11 @@
 ghost use Rattle.std.specs.Prelude.{ℕ, ◌≡◌, ◌<◌, ◌≤◌, ◌+◌, ◌++◌, nat_le, length, [], ◌∷◌, IfSome, OnSome, MatchOption};
 ghost use Rattle.std.specs.Option.{option_to_list};
 ghost use Rattle.strm_types.specs.declared.limits.TheConstants.{BANDS};
+ghost use Rattle.strm_types.specs.declared.names.Way.TheVariants.{Up};
 ghost use Rattle.strm_types.specs.Queue.{bytes_of, flow_of, count_of};
 ghost use Rattle.strm_types.specs.ModuleQueues.{messages_at, full_at};
 ghost use Rattle.strm_types.specs.Message.{Message};
+ghost use Rattle.strm_types.specs.Refused.{has_no_data};
 ghost use Rattle.strm_queue.specs.Stored.{queue_in, messages_on, IsReady};
 ghost use Rattle.strm_frame.specs.Serves.{IsBand};
 ghost use Rattle.strm_ldterm.specs.Stands.{ldterm_in, kept_in, IsHeld, IsOrdinary};
@@ -93,6 +95,14 @@ pub fn sizes<B: Blocks>(ldterm: &Ldterm<B::Mp>, store: &B, way: Way) -> (usize, 
             (listed.0 + 1, listed.1 + echo)
         }
     }
+}
+
+/// Whether no M_DATA or M_PROTO stands on its read queue.
+pub fn none_waits_up<B: Blocks>(ldterm: &Ldterm<B::Mp>, store: &B) -> bool
+    requires { IsHeld B.name (B.value store.now) ldterm.now }
+    ensures { result ≡ has_no_data (messages_at queue_of Up (ldterm_in B.name (B.value store.now) ldterm.now)) }
+{
+    standing::has_no_data(store, &ldterm.read_queue)
 }
 
 // What a message of a kind and a band asks.

@@ -1,47 +1,14 @@
 //! What the queues of both streams count, as those ask who hold the pair.
 
 ghost use Rattle.std.specs.Prelude.{ℕ, ◌≡◌, ◌<◌, length};
-ghost use Rattle.strm_types.specs.Message.{is_held};
 ghost use Rattle.strm_types.specs.Queue.{bytes_of};
-ghost use Rattle.strm_types.specs.Refused.{has_no_data};
-ghost use Rattle.strm_queue.specs.Stored.{messages_on};
 ghost use Rattle.strm_pair.specs.Shows.{count_at, full_at, messages_at};
 
 use crate::naming::{count_named, is_full_named, sizes_named};
 use crate::stacks::Stacks;
 use crate::streams::Streams;
-use strm_blocks::{Blocks, Peek, Visitor};
-use strm_queue::Queue;
 use strm_queue::standing::{count, is_full, sizes};
 use strm_types::{BANDS, Band, Place, QueueName, Way};
-
-// Sees whether a message that flow control would hold back stands on a list.
-#[derive(Drop)]
-struct Ordinary {
-    found: bool,
-}
-
-impl Visitor for Ordinary {
-    ghost use Rattle.std.specs.Prelude.{not};
-
-    ghost after = { λ v p. record { found = is_held p.kind } };
-
-    ghost goes_on = { λ v. not v.found };
-
-    fn see(&mut self, message: Peek) -> bool {
-        self.found = message.kind.is_held();
-        !self.found
-    }
-}
-
-/// Whether no M_DATA or M_PROTO stands on a queue. The cost is a step for each block of the messages in front of the first one.
-pub(crate) fn has_no_data<B: Blocks>(store: &B, queue: &Queue) -> bool
-    ensures { result ≡ has_no_data (messages_on (B.value store.now) queue.now.list) }
-{
-    let mut ordinary = Ordinary { found: false };
-    store.visit(queue.list, &mut ordinary);
-    !ordinary.found
-}
 
 impl<S: Drop> Streams<S> {
     ghost use Rattle.strm_pair.specs.Pairs.{state_in, AreHeld};

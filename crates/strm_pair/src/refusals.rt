@@ -14,10 +14,10 @@ ghost use Rattle.strm_types.specs.State.{stream};
 ghost use Rattle.strm_pair.specs.Streams.{Modules};
 
 use crate::ends::End;
-use crate::looking::has_no_data;
 use crate::stacks::Stacks;
 use crate::streams::Streams;
 use strm_head::put_refusal;
+use strm_queue::standing::has_no_data;
 use strm_types::{
     BANDS, Band, CHANGE_BLOCKS, CLOSE_BLOCKS, Caller, Event, IOCTL_BLOCKS, IOCTL_END, IOCTL_MAX,
     ModuleName, Openness, Prio, READ_MAX, Refusal, SIGNALS_MAX, Side, WRITE_BLOCKS, Wanted,
@@ -208,6 +208,7 @@ impl<S: Drop> Streams<S> {
                 self.master.head.hung_up
                     || (self.slave.opened.is_closed()
                         && has_no_data(store, &self.slave.driver)
+                        && B::none_waits_up(&self.master.stack, store)
                         && has_no_data(store, &self.master.head.queue))
             }
         }

@@ -12,6 +12,7 @@ ghost use Rattle.strm_types.specs.Earlier.{places_of};
 ghost use Rattle.strm_types.specs.ModuleQueues.{at_place, can_pass, full_at, messages_at, place_before, place_past, queue_changed, waits_past};
 ghost use Rattle.strm_types.specs.Modules.{act_among, change_among, put_among, top_name};
 ghost use Rattle.strm_types.specs.Queue.{bytes_of, count_of};
+ghost use Rattle.strm_types.specs.Refused.{none_waits_up};
 ghost use Rattle.strm_types.specs.Service.{end_relieves, has_more, turn_ended};
 ghost use Rattle.strm_types.specs.Stacked.{module_asks, module_name, module_puts, module_queue, module_serves, with_module_queue};
 ghost use Rattle.strm_blocks.specs.Blocks.{StoreValue, in_hand};
@@ -83,6 +84,11 @@ pub trait Stacks: Blocks {
         ensures held { (s : StoreValue) → view.IsHeld s stack.old → view.IsHeld s stack.new }
         ensures owns { (k : ℕ) → view.owns stack.new k ≡ view.owns stack.old k }
         ensures keeps { (i : ℕ) → view.keeps stack.new i ≡ view.keeps stack.old i };
+
+    /// Whether no M_DATA or M_PROTO stands on the read queues of the modules.
+    fn none_waits_up(stack: &Self::Stack, store: &Self) -> bool
+        requires { view.IsHeld (Self.value store.now) stack.now }
+        ensures { result ≡ none_waits_up (view.modules (Self.value store.now) stack.now) };
 
     /// How many messages stand on a queue of the module of a place, and how many bytes they have; nothing without one.
     fn sizes(stack: &Self::Stack, store: &Self, at: usize, way: Way) -> (usize, usize)
@@ -246,6 +252,10 @@ impl Stacks for TableStore {
 
     fn let_wait_past(stack: &mut Stream<Ldterm<InHand>>, way: Way, band: Band, at: usize) {
         stack.let_wait_past::<TableStore>(way, band, at);
+    }
+
+    fn none_waits_up(stack: &Stream<Ldterm<InHand>>, store: &TableStore) -> bool {
+        stack.none_waits_up(store)
     }
 
     fn sizes(

@@ -19,3 +19,4 @@ pub mod Renewed
 pub mod Joined
 pub mod Dequeuing
 pub mod Going
+pub mod Finding

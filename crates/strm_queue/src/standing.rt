@@ -5,7 +5,7 @@ ghost use Rattle.std.specs.Prelude.{◌≡◌, ◌<◌, ◌≤◌, ◌+◌, ◌-
 ghost use Rattle.strm_types.specs.declared.kinds.MsgKind.{MsgKind};
 ghost use Rattle.strm_types.specs.Message.{is_held};
 ghost use Rattle.strm_types.specs.Emptied.{cells_gone, of_data};
-ghost use Rattle.strm_types.specs.Refused.{is_a_band};
+ghost use Rattle.strm_types.specs.Refused.{has_no_data, is_a_band};
 ghost use Rattle.strm_types.specs.Queue.{put_on, put_enables, bytes_of, count_of, is_full, marked, relieved, relieves};
 ghost use Rattle.strm_blocks.specs.Blocks.{Block, StoreValue, IsInHand, block_at, in_hand, list_at, dropped};
 ghost use Rattle.strm_msg.specs.Messages.{message_of, IsChain};
@@ -73,6 +73,34 @@ pub fn sizes<B: Blocks>(store: &B, queue: &Queue) -> (usize, usize)
     let mut counted = MessageCount { messages: 0 };
     store.visit(queue.list, &mut counted);
     (counted.messages, total(store, queue))
+}
+
+// Sees whether a message that flow control would hold back stands on a list.
+#[derive(Drop)]
+struct Ordinary {
+    found: bool,
+}
+
+impl Visitor for Ordinary {
+    ghost use Rattle.std.specs.Prelude.{not};
+
+    ghost after = { λ v p. record { found = is_held p.kind } };
+
+    ghost goes_on = { λ v. not v.found };
+
+    fn see(&mut self, message: Peek) -> bool {
+        self.found = message.kind.is_held();
+        !self.found
+    }
+}
+
+/// Whether no M_DATA or M_PROTO stands on a queue. The cost is a step for each block of the messages in front of the first one.
+pub fn has_no_data<B: Blocks>(store: &B, queue: &Queue) -> bool
+    ensures { result ≡ has_no_data (messages_on (B.value store.now) queue.now.list) }
+{
+    let mut ordinary = Ordinary { found: false };
+    store.visit(queue.list, &mut ordinary);
+    !ordinary.found
 }
 
 /// Whether a band of a queue is full: its count is at or above its high-water mark.

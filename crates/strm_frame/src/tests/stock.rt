@@ -141,6 +141,10 @@ impl<B: Blocks> Module<B> for Stock {
         }
     }
 
+    fn none_waits_up(&self, _store: &B) -> bool {
+        true
+    }
+
     fn let_wait(&mut self, way: Way, band: Band) {
         match way {
             Way::Up => {}

@@ -113,6 +113,10 @@ impl<B: Blocks> Module<B> for Turner {
         (0, 0)
     }
 
+    fn none_waits_up(&self, _store: &B) -> bool {
+        true
+    }
+
     fn let_wait(&mut self, _way: Way, _band: Band) {}
 
     fn asks(&self, _store: &B, _way: Way) -> Asks {

@@ -3,9 +3,9 @@ use Rattle.std.proofs.Common.{refl, ap, ◌∙◌}
 use Rattle.std.specs.Prelude.{not}
 use Rattle.strm_types.specs.Message.{is_held}
 use Rattle.strm_blocks.specs.Blocks.{list_at}
-use Rattle.strm_head.proofs.Coming.{finds-kind}
-use Rattle.strm_pair.specs.declared.looking.Ordinary.{Ordinary}
-use Rattle.strm_pair.proofs.looking.has_no_data.Goals as goal
+use Rattle.strm_queue.specs.declared.standing.Ordinary.{Ordinary}
+use Rattle.strm_queue.proofs.Finding.{finds-kind}
+use Rattle.strm_queue.proofs.standing.has_no_data.Goals as goal
 
 pub returns : goal.returns
 returns g c =
