@@ -3,6 +3,8 @@ pub mod Sides
 pub mod PutsCost
 pub mod PutSteps
 pub mod TurnSteps
+mod NamedPlaces
+mod ModuleTurns
 pub mod ReadSteps
 pub mod GetSteps
 pub mod PutBooks

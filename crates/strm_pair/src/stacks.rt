@@ -9,7 +9,7 @@ ghost use Rattle.strm_types.specs.Cells as cells;
 ghost use Rattle.strm_types.specs.Costs.{cost};
 ghost use Rattle.strm_types.specs.Deliver.{tallied};
 ghost use Rattle.strm_types.specs.Earlier.{places_of};
-ghost use Rattle.strm_types.specs.ModuleQueues.{at_place, can_pass, messages_at, place_before, queue_changed, waits_past};
+ghost use Rattle.strm_types.specs.ModuleQueues.{at_place, can_pass, messages_at, place_before, place_past, queue_changed, waits_past};
 ghost use Rattle.strm_types.specs.Modules.{act_among, change_among, put_among, top_name};
 ghost use Rattle.strm_types.specs.Queue.{bytes_of};
 ghost use Rattle.strm_types.specs.Service.{end_relieves, has_more, turn_ended};
@@ -62,6 +62,10 @@ pub trait Stacks: Blocks {
     fn place_before(stack: &Self::Stack, way: Way, at: usize) -> Option<usize>
         ensures place { (s : StoreValue) → result ≡ place_before module_queue way at (view.modules s stack.now) }
         ensures inside { (s : StoreValue) → IsPlace (length (view.modules s stack.now)) result };
+
+    /// The place of the nearest module past a place that has a queue, as messages of a way go.
+    fn place_past(stack: &Self::Stack, way: Way, at: usize) -> Option<usize>
+        ensures { (s : StoreValue) → result ≡ place_past module_queue way at (view.modules s stack.now) };
 
     /// Whether a message of a band may go on past a place, as messages of a way go: whether the nearest queue there has room
     /// (canputnext(9F), bcanput(9F)). None where no module there has a queue.
@@ -208,6 +212,10 @@ impl Stacks for TableStore {
 
     fn place_before(stack: &Stream<Ldterm<InHand>>, way: Way, at: usize) -> Option<usize> {
         stack.place_before::<TableStore>(way, at)
+    }
+
+    fn place_past(stack: &Stream<Ldterm<InHand>>, way: Way, at: usize) -> Option<usize> {
+        stack.place_past::<TableStore>(way, at)
     }
 
     fn can_pass(
