@@ -5,6 +5,8 @@ pub mod PutsCost
 pub mod PutSteps
 pub mod ModuleSteps
 pub mod TurnSteps
+mod NamedPlaces
+mod ModuleTurns
 pub mod ReadSteps
 pub mod GetSteps
 pub mod PutBooks

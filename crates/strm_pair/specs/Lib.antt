@@ -14,3 +14,4 @@ pub mod PlainCalls
 pub mod Shows
 pub mod Pool
 pub mod Parts
+pub mod ModuleTurned

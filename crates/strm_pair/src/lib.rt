@@ -17,6 +17,7 @@ mod putting;
 mod refusals;
 mod room;
 mod sending;
+mod serving;
 mod stacks;
 mod streams;
 mod turning;

@@ -27,7 +27,7 @@ use std::alloc::Global;
 use std::marker::Model;
 use strm_types::{
     Answer, BANDS, Band, Caller, Config, Content, Entry, Event, Fates, LISTS, NoMemory, QueueName,
-    READ_MAX, ReadBytes, Refusal, TURN_BLOCKS, Turn,
+    READ_MAX, ReadBytes, Refusal, Turn, turn_blocks,
 };
 
 /// A pair of a master and a slave, whose messages stand in a store of its own. Contracts see it as its plain state, its
@@ -207,7 +207,7 @@ impl<B: Stacks + Drop> Pair<B> {
                 self.streams.beyond(),
                 or_else(
                     unless(self.has_room(0), Refusal::JournalFull),
-                    unless(self.has_blocks(TURN_BLOCKS), Refusal::Enosr),
+                    unless(self.has_blocks(turn_blocks(name.place)), Refusal::Enosr),
                 ),
             ),
         )

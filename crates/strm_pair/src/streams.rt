@@ -11,9 +11,9 @@ ghost use Rattle.strm_types.specs.declared.entries.Entry.TheVariants.{Called};
 ghost use Rattle.strm_types.specs.Deliver.{tallied};
 ghost use Rattle.strm_types.specs.Kept.{AreIdle, gone};
 ghost use Rattle.strm_types.specs.Turns.{turned};
-ghost use Rattle.strm_types.specs.declared.limits.TheConstants.{READ_MAX, TURN_BLOCKS};
+ghost use Rattle.strm_types.specs.declared.limits.TheConstants.{READ_MAX};
 ghost use Rattle.strm_frame.specs.Hands.{HasRoom};
-ghost use Rattle.strm_types.specs.Refused.{blocks_asked, refused_at_once};
+ghost use Rattle.strm_types.specs.Refused.{blocks_asked, refused_at_once, turn_blocks};
 ghost use Rattle.strm_types.specs.Journal.{reply_in, answer_len, content_max};
 ghost use Rattle.strm_blocks.specs.Blocks.{StoreValue, free_m, free_d, empty_store};
 ghost use Rattle.strm_pair.specs.Streams.{Modules, IsBlank, IsSide, stream_in};
@@ -220,7 +220,7 @@ impl<S: Drop> Streams<S> {
     ) -> Turn
         requires held { AreHeld B.view (B.value store.old) self.old }
         requires idle { AreIdle (state_in B.view.modules (B.value store.old) self.old) }
-        requires room { HasRoom (B.value store.old) TURN_BLOCKS }
+        requires room { HasRoom (B.value store.old) (turn_blocks name.place) }
         ensures turn { result ≡ (turned plain name result (state_in B.view.modules (B.value store.old) self.old)).turn }
         ensures state { state_in B.view.modules (B.value store.new) self.new
             ≡ (turned plain name result (state_in B.view.modules (B.value store.old) self.old)).state }

@@ -5,7 +5,6 @@ use Rattle.strm_types.specs.declared.answers.Turn.{Turn}
 use Rattle.strm_types.specs.declared.events.Caller.{Caller}
 use Rattle.strm_types.specs.declared.names.QueueName.{QueueName}
 use Rattle.strm_types.specs.declared.refusals.Refusal.{Refusal}
-use Rattle.strm_types.specs.declared.limits.TheConstants.{TURN_BLOCKS}
 use Rattle.strm_types.specs.declared.names.Side.{Side}
 use Rattle.strm_types.specs.declared.events.FlushQueues.{FlushQueues}
 use Rattle.strm_types.specs.declared.entries.Entry.TheVariants.{Called, Turned}
@@ -15,7 +14,7 @@ use Rattle.strm_types.specs.TurnOutcomes.{TurnOutcome}
 use Rattle.strm_types.specs.Turns.{whole_turn}
 use Rattle.strm_types.specs.Calls.{Request, Reply}
 use Rattle.strm_types.specs.Journal.{reply_in}
-use Rattle.strm_types.specs.Refused.{Free, enough, blocks_asked}
+use Rattle.strm_types.specs.Refused.{Free, enough, blocks_asked, turn_blocks}
 use Rattle.strm_types.specs.Pair.{PairState, call_refused, queue_refused, AddsEntry}
 use Rattle.strm_types.proofs.AloneCalls.{turns-alone}
 use Rattle.strm_run.specs.ScriptAnswers.{Ran, reply_line, turn_line}
@@ -127,8 +126,8 @@ pub TurnHappens-from : (old new : PairState) (name : QueueName) (r : Result Turn
     → TurnHappens old new name r
 unfolding turn_of
 TurnHappens-from old new name r none h adds = record {
-  supply = supply_of (enough TURN_BLOCKS old.free);
-  same = rw (is_enough-supply_of (enough TURN_BLOCKS old.free)) (turn_as (queue_refused old name) old new name r none h adds);
+  supply = supply_of (enough (turn_blocks name.place) old.free);
+  same = rw (is_enough-supply_of (enough (turn_blocks name.place) old.free)) (turn_as (queue_refused old name) old new name r none h adds);
 }
 
 -- the answer of a command that makes a call, and of one that gives a turn

@@ -2,7 +2,6 @@
 use Rattle.std.proofs.Common.{ℕ, ◌≡◌, Bool, true, false, List, [], ◌∷◌, map, refl, replicate}
 use Rattle.std.specs.Prelude.{Option, None, Some}
 use Rattle.strm_types.specs.declared.limits.Config.{Config}
-use Rattle.strm_types.specs.declared.limits.TheConstants.{TURN_BLOCKS}
 use Rattle.strm_types.specs.declared.answers.Answer.TheVariants.{Done, Count, Bytes}
 use Rattle.strm_types.specs.declared.answers.Turn.TheVariants.{Moved}
 use Rattle.strm_types.specs.declared.entries.Entry.TheVariants.{Called, Turned}
@@ -10,9 +9,11 @@ use Rattle.strm_types.specs.declared.events.Caller.{Caller}
 use Rattle.strm_types.specs.declared.events.Event.TheVariants.{OpenMaster, Unlock, OpenSlave, Write, Read}
 use Rattle.strm_types.specs.declared.names.Openness.{Openness}
 use Rattle.strm_types.specs.declared.names.Openness.TheVariants.{Never, Open, Closed}
+use Rattle.strm_types.specs.declared.names.Place.TheVariants.{Head, Ldterm, Driver}
 use Rattle.strm_types.specs.declared.names.QueueName.{QueueName}
 use Rattle.strm_types.specs.declared.names.Side.{Side}
 use Rattle.strm_types.specs.declared.names.Side.TheVariants.{Master, Slave}
+use Rattle.strm_types.specs.declared.names.Way.TheVariants.{Up}
 use Rattle.strm_types.specs.declared.refusals.Refusal.{Refusal}
 use Rattle.strm_types.specs.declared.refusals.Refusal.TheVariants.{Einval, Eagain, Enxio, Enosr, JournalFull}
 use Rattle.strm_types.specs.Message.{Message, data_message, band_of, size_of, cells_of, is_high_priority}
@@ -24,7 +25,7 @@ use Rattle.strm_types.specs.State.{State, opening, new_head, new_driver}
 use Rattle.strm_types.specs.Write.{chunk_count}
 use Rattle.strm_types.specs.Calls.{Request, payload_of, content_of}
 use Rattle.strm_types.specs.Journal.{PlainEntry, content_max, room_of, room_used, entry_len, entries_in}
-use Rattle.strm_types.specs.Refused.{Free, free_beside, enough, blocks_taken, blocks_asked, has_room, refused, turn_refused}
+use Rattle.strm_types.specs.Refused.{Free, free_beside, enough, blocks_taken, blocks_asked, has_room, refused, turn_blocks, turn_refused}
 use Rattle.strm_types.specs.Rules.{no_fates}
 use Rattle.strm_types.specs.Pair.{PairState, new_pair, call_refused, queue_refused}
 
@@ -36,8 +37,11 @@ free mblks dblks = record { mblks = mblks; dblks = dblks }
 abbrev sizes : ℕ → ℕ → ℕ → Config
 sizes blocks events bytes = record { mblks = blocks; dblks = blocks; journal_events = events; journal_bytes = bytes }
 
-pub turn-wants-eight-of-each : map (enough TURN_BLOCKS) (free 8 8 ∷ free 7 8 ∷ free 8 7 ∷ []) ≡ true ∷ false ∷ false ∷ []
+pub turn-wants-eight-of-each : map (enough (turn_blocks Driver)) (free 8 8 ∷ free 7 8 ∷ free 8 7 ∷ []) ≡ true ∷ false ∷ false ∷ []
 turn-wants-eight-of-each = refl
+
+pub turns-want-by-place : map turn_blocks (Head ∷ Ldterm ∷ Driver ∷ []) ≡ 8 ∷ 32 ∷ 8 ∷ []
+turns-want-by-place = refl
 
 abbrev writes : List Request
 writes = Write [] ∷ Write (97 ∷ []) ∷ Write (replicate 256 97) ∷ Write (replicate 257 97) ∷ Read 9 ∷ OpenMaster ∷ []
@@ -210,6 +214,17 @@ pair mblks dblks = record { state = state Open Open false; base = opening; journ
 
 pub pair-turns-with-eight-blocks : map (λ p. queue_refused p (driver_of Master)) (pair 8 8 ∷ pair 7 8 ∷ pair 8 7 ∷ []) ≡ None ∷ Some Enosr ∷ Some Enosr ∷ []
 pair-turns-with-eight-blocks = refl
+
+abbrev line : QueueName
+line = record { side = Slave; place = Ldterm; way = Up }
+
+abbrev pair_of_line : ℕ → ℕ → PairState
+pair_of_line mblks dblks =
+    let p = pair mblks dblks in
+    record p { state = record p.state { enabled = line ∷ [] } }
+
+pub modules-turn-with-32-blocks : map (λ p. queue_refused p line) (pair_of_line 32 32 ∷ pair_of_line 31 32 ∷ pair_of_line 32 31 ∷ []) ≡ None ∷ Some Enosr ∷ Some Enosr ∷ []
+modules-turn-with-32-blocks = refl
 
 pub pair-writes-with-33-blocks : map (λ p. call_refused p (caller Slave) (Write (97 ∷ []))) (pair 33 33 ∷ pair 32 33 ∷ pair 33 32 ∷ []) ≡ None ∷ Some Enosr ∷ Some Enosr ∷ []
 unfolding chunk_count

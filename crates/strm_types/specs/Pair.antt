@@ -7,8 +7,7 @@ use Rattle.strm_types.specs.declared.refusals.Refusal.{Refusal}
 use Rattle.strm_types.specs.State.{State, opening}
 use Rattle.strm_types.specs.Calls.{Request}
 use Rattle.strm_types.specs.Journal.{PlainEntry}
-use Rattle.strm_types.specs.Refused.{Free, enough, blocks_asked, refused, turn_refused}
-use Rattle.strm_types.specs.declared.limits.TheConstants.{TURN_BLOCKS}
+use Rattle.strm_types.specs.Refused.{Free, enough, blocks_asked, refused, turn_blocks, turn_refused}
 use Rattle.strm_types.specs.Cells.{plain}
 use Rattle.strm_types.specs.Step.{Step}
 use Rattle.strm_types.specs.Kept.{gone}
@@ -43,7 +42,7 @@ call_refused p caller asked = refused p.state p.journal p.limits (enough (blocks
 
 -- the refusal of a turn of a pair's queue, if any
 abbrev pub queue_refused : PairState → QueueName → Option Refusal
-queue_refused p name = turn_refused p.state p.journal p.limits (enough TURN_BLOCKS p.free) name
+queue_refused p name = turn_refused p.state p.journal p.limits (enough (turn_blocks name.place) p.free) name
 
 -- The pair took a step, and its journal has gained the entry of it. What the step let go is told by its rules. The base and the
 -- sizes stay.

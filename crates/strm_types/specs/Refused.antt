@@ -12,6 +12,8 @@ use Rattle.strm_types.specs.declared.modes.Wanted.TheVariants.{Any, High, Band}
 use Rattle.strm_types.specs.declared.names.Side.{Side}
 use Rattle.strm_types.specs.declared.names.Side.TheVariants.{Master, Slave}
 use Rattle.strm_types.specs.declared.names.ModuleName.{ModuleName}
+use Rattle.strm_types.specs.declared.names.Place.{Place}
+use Rattle.strm_types.specs.declared.names.Place.TheVariants as places
 use Rattle.std.specs.List.{list_any}
 use Rattle.strm_types.specs.Message.{Message, is_held}
 use Rattle.strm_types.specs.Names.{is_master, is_enabled, is_open, is_never, is_closed}
@@ -22,7 +24,7 @@ use Rattle.strm_types.specs.Write.{chunk_count}
 use Rattle.strm_types.specs.Reads.{read_refusal}
 use Rattle.strm_types.specs.Gets.{get_refusal}
 use Rattle.strm_types.specs.PutMsg.{put_blocks, put_refusal, put_waits}
-use Rattle.strm_types.specs.declared.limits.TheConstants.{BANDS, WRITE_BLOCKS, CHANGE_BLOCKS, CLOSE_BLOCKS, IOCTL_BLOCKS, IOCTL_END, IOCTL_MAX}
+use Rattle.strm_types.specs.declared.limits.TheConstants.{BANDS, WRITE_BLOCKS, CHANGE_BLOCKS, CLOSE_BLOCKS, IOCTL_BLOCKS, IOCTL_END, IOCTL_MAX, STOP_BLOCKS, TURN_BLOCKS}
 use Rattle.strm_types.specs.declared.events.Event.TheVariants.{OpenMaster, Unlock, OpenSlave, Shut, Push, Pop, Look, Flush, Write, Read, Put, Get, Ioctl, IoctlResult}
 use Rattle.strm_types.specs.Books as books
 use Rattle.strm_types.specs.Calls.{Request, payload_of}
@@ -74,6 +76,13 @@ blocks_asked (Flush what band) = CHANGE_BLOCKS
 blocks_asked Shut = CLOSE_BLOCKS
 blocks_asked (Ioctl command body) = IOCTL_BLOCKS
 blocks_asked _ = 0
+
+-- how many blocks of each kind have to be free for a turn of a queue at a place: the service procedure of a module may make messages of
+-- what it treats
+abbrev pub turn_blocks : Place → ℕ
+turn_blocks places.Driver = TURN_BLOCKS
+turn_blocks places.Head = TURN_BLOCKS
+turn_blocks places.Ldterm = STOP_BLOCKS
 
 -- the journal takes one more entry with so many bytes
 abbrev pub has_room : List PlainEntry → Config → ℕ → Bool

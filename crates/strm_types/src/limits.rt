@@ -1,7 +1,10 @@
 //! Limits that all crates share, and the sizes that a pair is made with.
 
 ghost use Rattle.std.specs.Prelude.{◌≡◌, ◌<◌, ◌^◌};
+ghost use Rattle.strm_types.specs.Refused.{turn_blocks};
 ghost use Rattle.strm_types.specs.Write.{chunk_count};
+
+use crate::names::Place;
 
 /// How many bytes a data block holds.
 pub const BLOCK_SIZE: usize = 256;
@@ -50,10 +53,11 @@ pub const WRITE_BLOCKS: usize = 32;
 /// How many blocks of each kind have to be free for an ioctl(2).
 pub const IOCTL_BLOCKS: usize = 34;
 
-/// How many blocks of each kind have to be free for a turn of a driver.
+/// How many blocks of each kind have to be free for a turn of a driver's queue.
 pub const TURN_BLOCKS: usize = 8;
 
-/// A service procedure may stop within a message where fewer blocks than these of some kind are free.
+/// A service procedure may stop within a message where fewer blocks than these of some kind are free, and these have to be for a
+/// turn of a module's queue.
 pub const STOP_BLOCKS: usize = 32;
 
 /// How many blocks of each kind have to be free for a flush, and for a push or a pop.
@@ -84,4 +88,14 @@ pub fn chunk_count(bytes: usize) -> usize
     ensures small { result < 2 ^ 62 }
 {
     ((bytes + (BLOCK_SIZE - 1)) / BLOCK_SIZE).max(1)
+}
+
+/// How many blocks of each kind have to be free for a turn of a queue at a place.
+pub fn turn_blocks(place: Place) -> usize
+    ensures { result ≡ turn_blocks place }
+{
+    match place {
+        Place::Driver | Place::Head => TURN_BLOCKS,
+        Place::Ldterm => STOP_BLOCKS,
+    }
 }

@@ -1,13 +1,12 @@
 -- A turn that isn't refused is a step, and the journal gains it.
 use Rattle.std.proofs.Common.{◌≡◌, ◌∙◌, ap, sym, refl, subst, rules}
 use Rattle.std.specs.Prelude.{None}
-use Rattle.strm_types.specs.declared.limits.TheConstants.{TURN_BLOCKS}
 use Rattle.strm_types.specs.declared.entries.Entry.TheVariants.{Turned}
 use Rattle.strm_types.specs.Cells.{plain}
 use Rattle.strm_types.specs.Earlier.{NoModules}
 use Rattle.strm_types.specs.Journal.{PlainEntry}
 use Rattle.strm_types.specs.Step.{IsTurn, after}
-use Rattle.strm_types.specs.Refused.{enough}
+use Rattle.strm_types.specs.Refused.{enough, turn_blocks}
 use Rattle.strm_types.specs.Pair.{PairState, AddsEntry, queue_refused}
 use Rattle.strm_types.proofs.Replay.{turn-allowed}
 use Rattle.strm_pair.specs.Pairs.{state_in, journal_of, free_in}
@@ -26,8 +25,8 @@ invariant_of-self g c =
     let allowed : queue_refused (pair_of g.B.Stacks.view s p.streams p.journal p.limits p.fates) c.args.name ≡ None = ap (λ (v : PairState). queue_refused v c.args.name) c.self.view_is ∙ sym c.turn_refusal.ensures ∙ c.in_default.is in
     kept-step g.B.Stacks.view s new p.streams c.turn-turn.new.self p.journal c.add_turn.new.self p.limits p.fates c.turn-turn.new.told entry c.self.invariant
     (record {
-      enabled = (turn-allowed old (journal_of p.journal) p.limits (enough TURN_BLOCKS (free_in s)) c.args.name allowed).0;
-      in_range = (turn-allowed old (journal_of p.journal) p.limits (enough TURN_BLOCKS (free_in s)) c.args.name allowed).1;
+      enabled = (turn-allowed old (journal_of p.journal) p.limits (enough (turn_blocks c.args.name.place) (free_in s)) c.args.name allowed).0;
+      in_range = (turn-allowed old (journal_of p.journal) p.limits (enough (turn_blocks c.args.name.place) (free_in s)) c.args.name allowed).1;
       answered = sym c.turn-turn.ensures.turn;
       leads = refl;
     })
@@ -44,8 +43,8 @@ returns-clause-adds g c =
     let entry : PlainEntry = Turned c.args.name c.turn-turn.result in
     let allowed : queue_refused (pair_of g.B.Stacks.view s p.streams p.journal p.limits p.fates) c.args.name ≡ None = ap (λ (v : PairState). queue_refused v c.args.name) c.self.view_is ∙ sym c.turn_refusal.ensures ∙ c.in_default.is in
     let taken : IsTurn plain old c.args.name c.turn-turn.result (after plain old entry) = record {
-      enabled = (turn-allowed old (journal_of p.journal) p.limits (enough TURN_BLOCKS (free_in s)) c.args.name allowed).0;
-      in_range = (turn-allowed old (journal_of p.journal) p.limits (enough TURN_BLOCKS (free_in s)) c.args.name allowed).1;
+      enabled = (turn-allowed old (journal_of p.journal) p.limits (enough (turn_blocks c.args.name.place) (free_in s)) c.args.name allowed).0;
+      in_range = (turn-allowed old (journal_of p.journal) p.limits (enough (turn_blocks c.args.name.place) (free_in s)) c.args.name allowed).1;
       answered = sym c.turn-turn.ensures.turn;
       leads = refl;
     } in

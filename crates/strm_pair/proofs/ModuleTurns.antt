@@ -1,0 +1,95 @@
+-- What a turn of a module's queue begins with, where nothing of one is under way.
+use Rattle.std.proofs.Common.{ℕ, zero, suc, ◌≡◌, ◌≤◌, ◌<◌, ◌-◌, Bool, true, false, cond, List, [], ◌∷◌, length, map, refl, sym, ap, ◌∙◌, arith}
+use Rattle.std.specs.Prelude.{◌&&◌, not, slice_index_or, Option, None, Some, is_some}
+use Rattle.std.specs.List.{AllByRecursion}
+use Rattle.strm_types.specs.declared.answers.Turn.{Turn}
+use Rattle.strm_types.specs.declared.answers.Turn.TheVariants.{Idle, Blocked}
+use Rattle.strm_types.specs.declared.kinds.Band.{Band}
+use Rattle.strm_types.specs.declared.limits.TheConstants.{MODULES}
+use Rattle.strm_types.specs.declared.names.QueueName.{QueueName}
+use Rattle.strm_types.specs.declared.names.Side.{Side}
+use Rattle.strm_types.specs.declared.names.Side.TheVariants.{Master, Slave}
+use Rattle.strm_types.specs.declared.names.Way.{Way}
+use Rattle.strm_types.specs.declared.names.Way.TheVariants.{Up, Down}
+use Rattle.strm_types.specs.declared.spots.Asks.{Asks}
+use Rattle.strm_types.specs.declared.spots.Asks.TheVariants as asked
+use Rattle.strm_types.specs.declared.spots.Spot.{Spot}
+use Rattle.strm_types.specs.Cells.{plain}
+use Rattle.strm_types.specs.Kept.{AreIdle}
+use Rattle.strm_types.specs.LdtermTurns.{is_between}
+use Rattle.strm_types.specs.Ldterms.{IsIdle, Ldterm}
+use Rattle.strm_types.specs.ModuleQueues.{at_place, place_past, waits}
+use Rattle.strm_types.specs.ModuleTurns.{asked_turn, module_turned, moved_within, place_named, stayed_at, turned_named}
+use Rattle.strm_types.specs.Modules.{change_among}
+use Rattle.strm_types.specs.Past.{has_room_past, waits_on, writer_waits}
+use Rattle.strm_types.specs.Queue.{is_none_left}
+use Rattle.strm_types.specs.Stacked.{Module, module_asks, module_queue, module_rests, with_module_queue}
+use Rattle.strm_types.specs.State.{State, Stream, stream, with_stream}
+use Rattle.strm_types.specs.TurnOutcomes.{TurnOutcome, stayed_put}
+use Rattle.strm_pair.proofs.NamedPlaces.{found-low}
+use Rattle.strm_pair.specs.ModuleTurned.{MayMove}
+
+-- one of which nothing of a turn is under way rests
+rests-idle : (l : Module ℕ) → IsIdle l → module_rests l ≡ true
+rests-idle l idle =
+    ap (λ o. not (is_some o) && (is_none_left l.gathered && (not l.echoing && is_between l.stage))) idle.0
+    ∙ ap (λ xs. is_none_left xs && (not l.echoing && is_between l.stage)) idle.1
+    ∙ ap (λ b. not b && is_between l.stage) idle.2
+    ∙ ap is_between idle.3
+
+rests-at : (i : ℕ) (ps : List (Module ℕ)) → AllByRecursion (λ p. IsIdle p) ps → i < length ps → slice_index_or (map module_rests ps) i false ≡ true
+rests-at i [] idle low = absurd (omega (arith, low))
+rests-at zero (l ∷ ls) idle low = rests-idle l idle.0
+rests-at (suc i) (l ∷ ls) idle low = rests-at i ls idle.1 (omega (arith, low))
+
+idle-on : (side : Side) (s : State ℕ) → AreIdle s → AllByRecursion (λ p. IsIdle p) (stream side s).modules
+idle-on Master s idle = idle.master
+idle-on Slave s idle = idle.slave
+
+abbrev spot_of : QueueName → ℕ → Spot
+spot_of name at = record { side = name.side; at = at; way = name.way }
+
+-- without such a module it is over
+pub turned-nowhere : (name : QueueName) (turn : Turn) (s : State ℕ) → place_named name.place (stream name.side s).modules ≡ None → module_turned plain name turn s ≡ stayed_put Idle s
+turned-nowhere name turn s none = ap (turned_named plain name turn s) none
+
+-- with one it goes by what its first message asks
+pub turned-asks : (name : QueueName) (at : ℕ) (asks : Asks) (turn : Turn) (s : State ℕ) → AreIdle s → place_named name.place (stream name.side s).modules ≡ Some at
+    → asks ≡ at_place (module_asks name.way) asked.Empty at (stream name.side s).modules → module_turned plain name turn s ≡ asked_turn plain (spot_of name at) asks name turn s
+turned-asks name at asks turn s idle found is =
+    let ps = (stream name.side s).modules in
+    let low = found-low name.place ps at found in
+    let rested : at_place module_rests false at ps ≡ true = rests-at (at - 1) ps (idle-on name.side s idle) (omega (arith, low.0, low.1)) in
+    ap (turned_named plain name turn s) found
+    ∙ ap (λ b. cond {A = TurnOutcome ℕ} b (asked_turn plain (spot_of name at) (at_place (module_asks name.way) asked.Empty at ps) name turn s) (stayed_put Blocked s)) rested
+    ∙ ap (λ a. asked_turn plain (spot_of name at) a name turn s) (sym is)
+
+pub turned-waits : (name : QueueName) (at : ℕ) (band : Band) (turn : Turn) (s : State ℕ) → has_room_past name.side name.way at band.0 s ≡ false
+    → asked_turn plain (spot_of name at) (asked.Room band) name turn s ≡ stayed_at Blocked (spot_of name at) (writer_waits name.side name.way at band.0 s)
+turned-waits name at band turn s none = ap (λ b. cond {A = TurnOutcome ℕ} b (moved_within plain (spot_of name at) name turn s) (stayed_at Blocked (spot_of name at) (writer_waits name.side name.way at band.0 s))) none
+
+pub turned-room : (name : QueueName) (at : ℕ) (band : Band) (turn : Turn) (s : State ℕ) → has_room_past name.side name.way at band.0 s ≡ true
+    → asked_turn plain (spot_of name at) (asked.Room band) name turn s ≡ moved_within plain (spot_of name at) name turn s
+turned-room name at band turn s room = ap (λ b. cond {A = TurnOutcome ℕ} b (moved_within plain (spot_of name at) name turn s) (stayed_at Blocked (spot_of name at) (writer_waits name.side name.way at band.0 s))) room
+
+-- where it may serve
+pub may-move : (name : QueueName) (at : ℕ) (s : State ℕ) → place_named name.place (stream name.side s).modules ≡ Some at → ((turn : Turn) → module_turned plain name turn s ≡ moved_within plain (spot_of name at) name turn s)
+    → MayMove s s name (spot_of name at)
+may-move name at s found moves =
+    let low = found-low name.place (stream name.side s).modules at found in
+    record { stays = refl; named = refl; inside = low.0; within = low.1; low = low.2; moves = moves }
+
+-- as many modules stand behind a writer that waits
+change-long : (f : Module ℕ → Module ℕ) (i : ℕ) (ps : List (Module ℕ)) → length (change_among f i ps) ≡ length ps
+change-long f i [] = refl
+change-long f zero (p ∷ ps) = refl
+change-long f (suc i) (p ∷ ps) = ap suc (change-long f i ps)
+
+waits-long : (way : Way) (band : ℕ) (o : Option ℕ) (t : Stream ℕ) → length (waits_on way band o t).modules ≡ length t.modules
+waits-long Up band None t = refl
+waits-long Down band None t = refl
+waits-long way band (Some at) t = change-long (waits module_queue with_module_queue way band) (at - 1) t.modules
+
+pub waiting-long : (side : Side) (way : Way) (at band : ℕ) (s : State ℕ) → length (stream side (writer_waits side way at band s)).modules ≡ length (stream side s).modules
+waiting-long Master way at band s = waits-long way band (place_past module_queue way at s.master.modules) s.master
+waiting-long Slave way at band s = waits-long way band (place_past module_queue way at s.slave.modules) s.slave
