@@ -1,5 +1,6 @@
 pub mod Readings
 pub mod Printings
+pub mod Stopping
 pub mod Events
 pub mod Ways
 pub mod EngineSteps
