@@ -15,4 +15,5 @@ pub mod IoctlSpellings
 pub mod Spellings
 mod ScriptRows
 mod RunRows
+mod TurnRows
 mod SpellingRows

@@ -8,9 +8,11 @@ use Rattle.strm_types.specs.declared.names.Side.TheVariants.{Master}
 use Rattle.strm_types.specs.declared.names.Place.{Place}
 use Rattle.strm_types.specs.declared.names.Place.TheVariants.{Head, Ldterm, Driver}
 use Rattle.strm_types.specs.declared.names.QueueName.{QueueName}
+use Rattle.strm_types.specs.declared.names.Way.TheVariants.{Up, Down}
 use Rattle.strm_types.specs.declared.refusals.Refusal.{Refusal}
 use Rattle.strm_types.specs.declared.refusals.Refusal.TheVariants.{Einval, Enxio, Enosr}
-use Rattle.strm_types.specs.State.{State, opening}
+use Rattle.strm_types.specs.ModuleTurns.{place_named}
+use Rattle.strm_types.specs.State.{State, opening, stream}
 use Rattle.strm_types.specs.Names.{head_of, driver_of}
 use Rattle.strm_types.specs.Queue.{bytes_of}
 use Rattle.strm_types.specs.declared.names.Side.{Side}
@@ -202,9 +204,16 @@ by_put side prio control body account p = by_named side (λ prio. calls.Put prio
 unfoldable pub by_get : Side → NamedWanted → ℕ → ℕ → List Supply → PlainPair → Answered
 by_get side wanted cmax dmax account p = by_named side (λ wanted. calls.Get wanted cmax dmax) (wanted_of wanted) account p
 
+-- the queues of the module on a side's stream that has queues, the read queue first
+abbrev pub module_queues : Side → State ℕ → List QueueName
+module_queues side s =
+    if is_some (place_named Ldterm (stream side s).modules)
+    then record { side = side; place = Ldterm; way = Up } ∷ record { side = side; place = Ldterm; way = Down } ∷ []
+    else []
+
 -- the queues of a side's stream, from the head down
-abbrev pub queues_down : Side → List QueueName
-queues_down side = head_of side ∷ driver_of side ∷ []
+abbrev pub queues_down : Side → State ℕ → List QueueName
+queues_down side s = head_of side ∷ (module_queues side s ++ driver_of side ∷ [])
 
 -- how many messages stand on a queue, and how many bytes they have
 abbrev pub size_at : State ℕ → QueueName → QueueSize
@@ -213,7 +222,7 @@ size_at s name = record { name = name; messages = length (messages_at name s); b
 -- a look at what stands on a side's queues, which is no event
 unfoldable pub by_show : Side → List Supply → PlainPair → Answered
 by_show side account p = record {
-  line = Sizes side (map (size_at p.state) (queues_down side));
+  line = Sizes side (map (size_at p.state) (queues_down side p.state));
   pair = Some p;
   account = account;
   is_short = false;

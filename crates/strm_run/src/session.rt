@@ -7,18 +7,19 @@ ghost use Rattle.strm_run.specs.ScriptRun.{by_call, by_flush, by_turn, by_run, b
 ghost use Rattle.strm_run.specs.ScriptRun.{by_put, by_get, band_of, prio_of, wanted_of};
 ghost use Rattle.strm_run.specs.ScriptRun.{script_limits, is_enosr, reach, size_at};
 ghost use Rattle.strm_types.specs.Names.{head_of, driver_of};
+ghost use Rattle.strm_run.specs.Lines.{module_sizes};
 ghost use Rattle.strm_run.specs.Commands.{command_of};
 ghost use Rattle.strm_run.specs.Plain.{plain};
 ghost use Rattle.strm_run.specs.Outcomes.{LeadsTo, Leads};
 
-use crate::answers::{Line, QueueSize};
+use crate::answers::{Line, ModuleSizes, QueueSize};
 use crate::commands::{Command, NamedPrio, NamedWanted};
 use std::alloc::{AllocError, Global};
 use strm_blocks::TableStore;
 use strm_pair::Pair;
 use strm_types::{
     Band, Caller, Config, Content, Event, FlushQueues, Place, Prio, QueueName, Refusal, Side, Turn,
-    Wanted,
+    Wanted, Way,
 };
 
 /// How many blocks of each kind a pair gets where a script names no number.
@@ -213,10 +214,38 @@ fn size(pair: &Pair<TableStore>, name: QueueName) -> QueueSize
     }
 }
 
+/// How much stands on the queues of the module on a side's stream that has queues. Each module is an ldterm so far.
+fn module_sizes(pair: &Pair<TableStore>, side: Side) -> Option<ModuleSizes>
+    ensures { result ≡ module_sizes side pair.now.state }
+{
+    let stacked = pair.modules(side);
+    if stacked == 0 {
+        return None;
+    }
+    let place = Place::Ldterm;
+    let up = QueueName {
+        side,
+        place,
+        way: Way::Up,
+    };
+    let down = QueueName {
+        side,
+        place,
+        way: Way::Down,
+    };
+    let read = size(pair, up);
+    let write = size(pair, down);
+    Some(ModuleSizes {
+        up: read,
+        down: write,
+    })
+}
+
 /// A look at what stands on a side's queues.
 fn show(pair: &Pair<TableStore>, side: Side) -> Answered
     ensures { result ≡ record {
-      line = Line.Sizes side (size_at pair.now.state (head_of side)) (size_at pair.now.state (driver_of side));
+      line = Line.Sizes side (size_at pair.now.state (head_of side)) (module_sizes side pair.now.state)
+          (size_at pair.now.state (driver_of side));
       short = false;
     } }
 {
@@ -224,6 +253,7 @@ fn show(pair: &Pair<TableStore>, side: Side) -> Answered
         line: Line::Sizes {
             side,
             head: size(pair, side.head()),
+            stacked: module_sizes(pair, side),
             driver: size(pair, side.driver()),
         },
         short: false,
