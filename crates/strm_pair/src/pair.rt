@@ -4,7 +4,7 @@ ghost use Rattle.std.specs.Prelude.{◌≡◌, ◌≤◌, ◌<◌, [], length, r
 ghost use Rattle.strm_types.specs.Calls.{request, map_answer};
 ghost use Rattle.strm_types.specs.Cells.{plain};
 ghost use Rattle.strm_types.specs.declared.entries.Entry.TheVariants.{Called, Turned};
-ghost use Rattle.strm_types.specs.Earlier.{NoModules};
+ghost use Rattle.strm_types.specs.Earlier.{modules_on};
 ghost use Rattle.strm_types.specs.Pair.{new_pair, call_refused, queue_refused, AddsEntry};
 ghost use Rattle.strm_types.specs.Journal.{entries_in, reply_in, answer_len};
 ghost use Rattle.strm_types.specs.Refused.{enough, has_room};
@@ -27,7 +27,7 @@ use std::alloc::Global;
 use std::marker::Model;
 use strm_types::{
     Answer, BANDS, Band, Caller, Config, Content, Entry, Event, Fates, LISTS, NoMemory, QueueName,
-    READ_MAX, ReadBytes, Refusal, Turn, turn_blocks,
+    READ_MAX, ReadBytes, Refusal, Side, Turn, turn_blocks,
 };
 
 /// A pair of a master and a slave, whose messages stand in a store of its own. Contracts see it as its plain state, its
@@ -156,6 +156,13 @@ impl<B: Stacks + Drop> Pair<B> {
         self.streams.sizes(&self.store, queue)
     }
 
+    /// How many modules stand on a side's stream.
+    pub fn modules(&self, side: Side) -> usize
+        ensures { result ≡ modules_on side self.now.state }
+    {
+        self.streams.modules_on::<B>(side)
+    }
+
     /// Whether a band, from 0 to 7, of a queue is full: its count is at or above its high-water mark. A queue that
     /// doesn't exist isn't full.
     pub fn is_full(&self, queue: QueueName, band: Band) -> bool
@@ -273,7 +280,6 @@ impl<B: Stacks + Drop> Pair<B> {
         ensures refused { MatchOption (queue_refused self.old name) (IsOk result)
             (λ r. (result ≡ Err r) × (self.new ≡ self.old)) }
         ensures adds { IfOk result (λ turn. AddsEntry self.old self.new (Turned name turn)) }
-        ensures alone { NoModules self.old.state }
     {
         if let Some(refusal) = self.turn_refusal(name) {
             return Err(refusal);

@@ -1,5 +1,6 @@
 pub mod Readings
 pub mod Printings
+pub mod Stopping
 pub mod Events
 pub mod Ways
 pub mod EngineSteps
@@ -14,4 +15,5 @@ pub mod IoctlSpellings
 pub mod Spellings
 mod ScriptRows
 mod RunRows
+mod TurnRows
 mod SpellingRows

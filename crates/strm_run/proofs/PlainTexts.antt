@@ -1,5 +1,5 @@
 -- Events that aren't short are answered as if all events had the blocks that they ask for.
-use Rattle.std.proofs.Common.{◌≡◌, ℕ, zero, suc, ◌-◌, ◌≤◌, Bool, true, false, List, [], ◌∷◌, ◌++◌, take, Option, None, Some, Result, Ok, Err, refl, sym, ap, ◌∙◌, slice_get, arith, append_assoc, inl, inr, nat_le, ◌&&◌, unwrap_or, ◌⊎◌, ◌==◌}
+use Rattle.std.proofs.Common.{◌≡◌, ℕ, zero, suc, ◌-◌, ◌≤◌, Bool, true, false, List, [], ◌∷◌, ◌++◌, take, Option, None, Some, Result, Ok, Err, refl, sym, ap, ◌∙◌, slice_get, arith, append_assoc, inl, inr, nat_le, ◌&&◌, ◌||◌, unwrap_or, ◌⊎◌, ◌==◌}
 use Rattle.std.proofs.lemmas.Bool.{cases_Bool, false≢true}
 use Rattle.strm_types.specs.declared.answers.Turn.{Turn}
 use Rattle.strm_types.specs.declared.events.Caller.{Caller}
@@ -17,7 +17,7 @@ use Rattle.strm_run.specs.Script.{Command, Open, Call, Flush, Put, Get, Turn as 
 use Rattle.strm_run.specs.ScriptReading.{Reading, Silent, Malformed, Spoken, reading}
 use Rattle.strm_run.specs.ScriptAnswers.{printed_line, reply_line, turn_line, Ran, Wrong}
 use Rattle.strm_run.specs.ScriptRun as script
-use Rattle.strm_run.specs.ScriptRun.{Supply, Enough, TooFew, next_of, rest_of, PlainPair, Happened, call_refusal, turn_refusal, call_happens, turn_happens, call_of, turn_of, is_short, is_enosr, turns_of, by_call, by_flush, prio_of, wanted_of, by_named, by_put, by_get, by_show, by_turn, by_run, by_open, answered, told_from, told_after, first_of, line_if, Told, new_plain}
+use Rattle.strm_run.specs.ScriptRun.{Supply, Enough, Within, TooFew, next_of, rest_of, PlainPair, Happened, call_refusal, turn_refusal, call_happens, turn_happens, told_of, call_of, turn_of, is_enosr, turns_of, by_call, by_flush, prio_of, wanted_of, by_named, by_put, by_get, by_show, by_turn, by_run, by_open, answered, told_from, told_after, first_of, line_if, Told, new_plain}
 use Rattle.strm_run.proofs.Supplies.{is_want, call_happens-short, turn_happens-short, answered-enough}
 use Rattle.strm_run.proofs.Events.{turns_none, turns_err, turns_ok, turns_zero}
 
@@ -39,21 +39,30 @@ refused-same : (b : Bool) (p : PlainPair) (caller : Caller) (asked : Request) �
 refused-same true p caller asked h = refl
 refused-same false p caller asked h = same_refusal (refused_at_once p.state caller asked) _ (Some Enosr) (refused_by_state p.state caller asked) h
 
-call-same : (supply : Supply) (p : PlainPair) (caller : Caller) (asked : Request) → is_short (call_of supply p caller asked).answer ≡ false
+call-same : (supply : Supply) (p : PlainPair) (caller : Caller) (asked : Request) → (call_of supply p caller asked).is_short ≡ false
     → call_of supply p caller asked ≡ call_of Enough p caller asked
 unfolding call_of
 call-same Enough p caller asked h = refl
+call-same (Within bytes) p caller asked h = refl
 call-same TooFew p caller asked h =
     ap (λ o. call_happens o p caller asked)
     (refused-same (blocks_asked asked == 0) p caller asked
     (sym (call_happens-short (call_refusal TooFew p caller asked) p caller asked) ∙ h))
 
-turn-same : (supply : Supply) (p : PlainPair) (name : QueueName) → is_short (turn_of supply p name).answer ≡ false
+-- a turn of which the account says nothing goes to the end of its message
+untold-same : (o : Option Refusal) (told : Option ℕ) (p : PlainPair) (name : QueueName) → (turn_happens o told p name).is_short ≡ false
+    → turn_happens o told p name ≡ turn_happens o None p name
+untold-same (Some refusal) told p name h = refl
+untold-same None None p name h = refl
+untold-same None (Some bytes) p name h = absurd (false≢true (sym h))
+
+turn-same : (supply : Supply) (p : PlainPair) (name : QueueName) → (turn_of supply p name).is_short ≡ false
     → turn_of supply p name ≡ turn_of Enough p name
 unfolding turn_of
 turn-same Enough p name h = refl
+turn-same (Within bytes) p name h = untold-same (turn_refusal Enough p name) (told_of (Within bytes) name p.state) p name h
 turn-same TooFew p name h =
-    ap (λ o. turn_happens o p name)
+    ap (λ o. turn_happens o None p name)
     (same_refusal_behind (unless (is_enabled name p.state.enabled) Einval) _ _ (Some Enosr) None
     (sym (turn_happens-short (turn_refusal TooFew p name) p name) ∙ h))
 
@@ -71,19 +80,25 @@ same_turns t t' u u' e f h = record {
 abbrev Same-at : ℕ → Type 0
 Same-at n = (account : List Supply) (p : PlainPair) → (turns_of n account p).is_short ≡ false → SameTurns (turns_of n account p) (turns_of n [] p)
 
-turns-one : (n : ℕ) → Same-at n → (account : List Supply) (p : PlainPair) (name : QueueName) → slice_get p.state.enabled 0 ≡ Some name → (r : Result Turn Refusal) (after : PlainPair)
-    → turn_of (next_of account) p name ≡ record { answer = r; pair = after } → (turns_of (suc n) account p).is_short ≡ false
+-- neither of two is so
+neither : (a b : Bool) → (a || b) ≡ false → (a ≡ false) × (b ≡ false)
+neither true b h = absurd (false≢true (sym h))
+neither false b h = (refl, h)
+
+turns-one : (n : ℕ) → Same-at n → (account : List Supply) (p : PlainPair) (name : QueueName) → slice_get p.state.enabled 0 ≡ Some name → (r : Result Turn Refusal) (after : PlainPair) (now : Bool)
+    → turn_of (next_of account) p name ≡ record { answer = r; pair = after; is_short = now } → (turns_of (suc n) account p).is_short ≡ false
     → SameTurns (turns_of (suc n) account p) (turns_of (suc n) [] p)
-turns-one n later account p name e (Err refusal) after h short =
-    let all = turns_err n account p after name refusal e h in
-    let not_short = ap (λ (x : Happened Turn). is_short x.answer) h ∙ sym (ap (λ (t : script.Turns). t.is_short) all) ∙ short in
-    let none = turns_err n [] p after name refusal e (sym (turn-same (next_of account) p name not_short) ∙ h) in
+turns-one n later account p name e (Err refusal) after now h short =
+    let all = turns_err n account p after name refusal now e h in
+    let not_short = ap (λ (x : Happened Turn). x.is_short) h ∙ sym (ap (λ (t : script.Turns). t.is_short) all) ∙ short in
+    let none = turns_err n [] p after name refusal now e (sym (turn-same (next_of account) p name not_short) ∙ h) in
     same_turns _ _ _ _ all none (record { count = refl; pair = refl })
-turns-one n later account p name e (Ok turn) after h short =
-    let all = turns_ok n account p after name turn e h in
-    let not_short = ap (λ (x : Happened Turn). is_short x.answer) h in
-    let none = turns_ok n [] p after name turn e (sym (turn-same (next_of account) p name not_short) ∙ h) in
-    let rest = later (rest_of account) after (sym (ap (λ (t : script.Turns). t.is_short) all) ∙ short) in
+turns-one n later account p name e (Ok turn) after now h short =
+    let all = turns_ok n account p after name turn now e h in
+    let none_short = neither now _ (sym (ap (λ (t : script.Turns). t.is_short) all) ∙ short) in
+    let not_short = ap (λ (x : Happened Turn). x.is_short) h ∙ none_short.0 in
+    let none = turns_ok n [] p after name turn now e (sym (turn-same (next_of account) p name not_short) ∙ h) in
+    let rest = later (rest_of account) after none_short.1 in
     same_turns _ _ _ _ all none (record { count = ap suc rest.count; pair = rest.pair })
 
 turns-first : (n : ℕ) → Same-at n → (account : List Supply) (p : PlainPair) (o : Option QueueName) → slice_get p.state.enabled 0 ≡ o
@@ -91,7 +106,8 @@ turns-first : (n : ℕ) → Same-at n → (account : List Supply) (p : PlainPair
 turns-first n later account p None e short =
     same_turns _ _ _ _ (turns_none (suc n) account p e) (turns_none (suc n) [] p e) (record { count = refl; pair = refl })
 turns-first n later account p (Some name) e short =
-    turns-one n later account p name e (turn_of (next_of account) p name).answer (turn_of (next_of account) p name).pair refl short
+    let happened = turn_of (next_of account) p name in
+    turns-one n later account p name e happened.answer happened.pair happened.is_short refl short
 
 turns-same : (n : ℕ) → Same-at n
 turns-same zero account p short = same_turns _ _ _ _ (turns_zero account p) (turns_zero [] p) (record { count = refl; pair = refl })
@@ -103,7 +119,7 @@ record SameAnswer (a b : script.Answered) : Type 0 where
   pair : a.pair ≡ b.pair
 
 call_answer : (supply : Supply) (p : PlainPair) (caller : Caller) (asked : Request) (account : List Supply)
-    → is_short (call_of (next_of account) p caller asked).answer ≡ false → SameAnswer (by_call caller asked account p) (by_call caller asked [] p)
+    → (call_of (next_of account) p caller asked).is_short ≡ false → SameAnswer (by_call caller asked account p) (by_call caller asked [] p)
 unfolding by_call
 call_answer supply p caller asked account h =
     let same = call-same (next_of account) p caller asked h in

@@ -1,5 +1,5 @@
 -- Events that get the blocks that they ask for: none of them is short.
-use Rattle.std.proofs.Common.{◌≡◌, ℕ, zero, suc, Bool, true, false, cond, List, [], ◌∷◌, Option, None, Some, Result, Ok, Err, refl, sym, ap, ◌∙◌, slice_get, inl, inr, unwrap_or, nat_le, ◌&&◌}
+use Rattle.std.proofs.Common.{◌≡◌, ℕ, zero, suc, Bool, true, false, cond, List, [], ◌∷◌, Option, None, Some, Result, Ok, Err, refl, sym, ap, ◌∙◌, slice_get, inl, inr, unwrap_or, nat_le, ◌&&◌, ◌||◌}
 use Rattle.std.proofs.lemmas.Bool.{cases_Bool}
 use Rattle.strm_types.specs.declared.answers.Turn.{Turn}
 use Rattle.strm_types.specs.declared.events.Caller.{Caller}
@@ -25,7 +25,7 @@ use Rattle.strm_types.specs.Refused.{or_else, unless, at_end, refused_at_once, r
 use Rattle.strm_run.specs.Script.{Command, Open, Call, Flush, Put, Get, Turn as TurnOf, Run, Show}
 use Rattle.strm_run.specs.ScriptReading.{Reading, Silent, Malformed, Spoken, reading}
 use Rattle.strm_run.specs.ScriptRun as script
-use Rattle.strm_run.specs.ScriptRun.{Supply, Enough, TooFew, PlainPair, Happened, call_refusal, turn_refusal, call_happens, turn_happens, call_of, turn_of, is_short, is_enosr, turns_of, no_turns, counted, by_call, by_flush, prio_of, wanted_of, by_named, by_put, by_get, by_show, by_turn, by_run, by_open, answered, told_from, new_plain}
+use Rattle.strm_run.specs.ScriptRun.{Supply, Enough, TooFew, PlainPair, Happened, call_refusal, turn_refusal, call_happens, turn_happens, call_of, turn_of, is_enosr, turns_of, no_turns, counted, by_call, by_flush, prio_of, wanted_of, by_named, by_put, by_get, by_show, by_turn, by_run, by_open, answered, told_from, new_plain}
 use Rattle.strm_run.proofs.Events.{turns_none, turns_err, turns_ok, turns_zero}
 
 -- a refusal is for want of blocks
@@ -142,24 +142,24 @@ by_state-want s caller (calls.Ioctl command sent) = unless-want _ Eagain refl
 by_state-want s caller (calls.IoctlResult number) = answer-want number (stream caller.side s).head.ioctl
 by_state-want s caller calls.Signals = none-want
 
-pub call_happens-short : (o : Option Refusal) (p : PlainPair) (caller : Caller) (asked : Request) → is_short (call_happens o p caller asked).answer ≡ is_want o
+pub call_happens-short : (o : Option Refusal) (p : PlainPair) (caller : Caller) (asked : Request) → (call_happens o p caller asked).is_short ≡ is_want o
 unfolding is_want
 call_happens-short None p caller asked = refl
 call_happens-short (Some r) p caller asked = refl
 
-pub turn_happens-short : (o : Option Refusal) (p : PlainPair) (name : QueueName) → is_short (turn_happens o p name).answer ≡ is_want o
+pub turn_happens-short : (o : Option Refusal) (p : PlainPair) (name : QueueName) → (turn_happens o None p name).is_short ≡ is_want o
 unfolding is_want
 turn_happens-short None p name = refl
 turn_happens-short (Some r) p name = refl
 
-pub call-enough : (p : PlainPair) (caller : Caller) (asked : Request) → is_short (call_of Enough p caller asked).answer ≡ false
+pub call-enough : (p : PlainPair) (caller : Caller) (asked : Request) → (call_of Enough p caller asked).is_short ≡ false
 unfolding call_of
 call-enough p caller asked =
     call_happens-short (call_refusal Enough p caller asked) p caller asked
     ∙ or_else-want (refused_at_once p.state caller asked) _ (at_once-want p.state caller asked)
     (or_else-want _ _ (unless-want _ JournalFull refl) (by_state-want p.state caller asked))
 
-pub turn-enough : (p : PlainPair) (name : QueueName) → is_short (turn_of Enough p name).answer ≡ false
+pub turn-enough : (p : PlainPair) (name : QueueName) → (turn_of Enough p name).is_short ≡ false
 unfolding turn_of
 turn-enough p name =
     turn_happens-short (turn_refusal Enough p name) p name
@@ -175,18 +175,19 @@ pub record AllEnough (short : Bool) (account : List Supply) : Type 0 where
 abbrev Enough-at : ℕ → Type 0
 Enough-at n = (p : PlainPair) → AllEnough (turns_of n [] p).is_short (turns_of n [] p).account
 
-turns-one : (n : ℕ) → Enough-at n → (p : PlainPair) (name : QueueName) → slice_get p.state.enabled 0 ≡ Some name → (r : Result Turn Refusal) (after : PlainPair)
-    → turn_of Enough p name ≡ record { answer = r; pair = after } → AllEnough (turns_of (suc n) [] p).is_short (turns_of (suc n) [] p).account
-turns-one n later p name e (Err refusal) after h =
-    let all = turns_err n [] p after name refusal e h in
+turns-one : (n : ℕ) → Enough-at n → (p : PlainPair) (name : QueueName) → slice_get p.state.enabled 0 ≡ Some name → (r : Result Turn Refusal) (after : PlainPair) (short : Bool)
+    → turn_of Enough p name ≡ record { answer = r; pair = after; is_short = short } → AllEnough (turns_of (suc n) [] p).is_short (turns_of (suc n) [] p).account
+turns-one n later p name e (Err refusal) after short h =
+    let all = turns_err n [] p after name refusal short e h in
     record {
-      not_short = ap (λ (t : script.Turns). t.is_short) all ∙ ap (λ (x : Happened Turn). is_short x.answer) (sym h) ∙ turn-enough p name;
+      not_short = ap (λ (t : script.Turns). t.is_short) all ∙ ap (λ (x : Happened Turn). x.is_short) (sym h) ∙ turn-enough p name;
       none_left = ap (λ (t : script.Turns). t.account) all;
     }
-turns-one n later p name e (Ok turn) after h =
-    let all = turns_ok n [] p after name turn e h in
+turns-one n later p name e (Ok turn) after short h =
+    let all = turns_ok n [] p after name turn short e h in
+    let first = ap (λ (x : Happened Turn). x.is_short) (sym h) ∙ turn-enough p name in
     record {
-      not_short = ap (λ (t : script.Turns). t.is_short) all ∙ (later after).not_short;
+      not_short = ap (λ (t : script.Turns). t.is_short) all ∙ ap (λ (b : Bool). b || (turns_of n [] after).is_short) first ∙ (later after).not_short;
       none_left = ap (λ (t : script.Turns). t.account) all ∙ (later after).none_left;
     }
 
@@ -195,7 +196,7 @@ turns-first n later p None e = record {
   not_short = ap (λ (t : script.Turns). t.is_short) (turns_none (suc n) [] p e);
   none_left = ap (λ (t : script.Turns). t.account) (turns_none (suc n) [] p e);
 }
-turns-first n later p (Some name) e = turns-one n later p name e (turn_of Enough p name).answer (turn_of Enough p name).pair refl
+turns-first n later p (Some name) e = turns-one n later p name e (turn_of Enough p name).answer (turn_of Enough p name).pair (turn_of Enough p name).is_short refl
 
 pub turns-enough : (n : ℕ) → Enough-at n
 turns-enough zero p = record {

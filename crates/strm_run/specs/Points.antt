@@ -2,8 +2,8 @@
 use Rattle.std.specs.Prelude.{◌≡◌, ℕ, suc, ◌==◌, if◌then◌else◌, List, [], ◌∷◌, ◌++◌, Option, None, Some}
 use Rattle.strm_run.specs.ScriptRun.{Supply, PlainPair, Told, told_after, told_from}
 
--- A script on its way: the pair, how many lines have ended, the bytes so far of the next, and the first line in which an
--- event got ENOSR.
+-- A script on its way: the pair, how many lines have ended, the bytes so far of the next, and the first line in which the pool was
+-- short of blocks for an event.
 pub record Point : Type 0 where
   pub pair : Option PlainPair
   pub lines : ℕ

@@ -1,13 +1,18 @@
 -- What a script writes: its answers, in the order of its lines.
-use Rattle.std.specs.Prelude.{ℕ, zero, suc, nat_le, ◌&&◌, ◌||◌, ◌==◌, Bool, true, false, if◌then◌else◌, List, [], ◌∷◌, ◌++◌, length, map, Option, None, Some, option_map, Result, Ok, Err, unwrap_or, slice_get}
+use Rattle.std.specs.Prelude.{ℕ, zero, suc, nat_le, ◌&&◌, ◌||◌, ◌==◌, Bool, true, false, if◌then◌else◌, List, [], ◌∷◌, ◌++◌, length, map, Option, None, Some, option_map, is_some, Result, Ok, Err, unwrap_or, slice_get}
 use Rattle.strm_types.specs.declared.limits.Config.{Config}
 use Rattle.strm_types.specs.declared.answers.Turn.{Turn}
+use Rattle.strm_types.specs.declared.answers.Turn.TheVariants.{Moved, Blocked, Idle}
 use Rattle.strm_types.specs.declared.events.Caller.{Caller}
 use Rattle.strm_types.specs.declared.names.Side.TheVariants.{Master}
+use Rattle.strm_types.specs.declared.names.Place.{Place}
+use Rattle.strm_types.specs.declared.names.Place.TheVariants.{Head, Ldterm, Driver}
 use Rattle.strm_types.specs.declared.names.QueueName.{QueueName}
+use Rattle.strm_types.specs.declared.names.Way.TheVariants.{Up, Down}
 use Rattle.strm_types.specs.declared.refusals.Refusal.{Refusal}
 use Rattle.strm_types.specs.declared.refusals.Refusal.TheVariants.{Einval, Enxio, Enosr}
-use Rattle.strm_types.specs.State.{State, opening}
+use Rattle.strm_types.specs.ModuleTurns.{place_named}
+use Rattle.strm_types.specs.State.{State, opening, stream}
 use Rattle.strm_types.specs.Names.{head_of, driver_of}
 use Rattle.strm_types.specs.Queue.{bytes_of}
 use Rattle.strm_types.specs.declared.names.Side.{Side}
@@ -35,13 +40,15 @@ use Rattle.strm_run.specs.declared.commands.NamedWanted.{NamedWanted}
 use Rattle.strm_run.specs.declared.commands.NamedWanted.TheVariants as wanteds
 
 -- What the pool of blocks had for an event. An account says it of each call and each turn of a script, in their order;
--- behind its end the pool has enough.
+-- behind its end the pool has enough, and each turn goes to the end of its message.
 pub data Supply : Type 0 where
   Enough : Supply
+  Within : ℕ → Supply  -- for an event to begin; a turn of a module's queue went so many bytes far
   TooFew : Supply
 
 abbrev pub is_enough : Supply → Bool
 is_enough Enough = true
+is_enough (Within bytes) = true
 is_enough TooFew = false
 
 -- the supply of the next event, and the account of those behind it
@@ -70,10 +77,17 @@ script_limits blocks = record { mblks = blocks; dblks = blocks; journal_events =
 abbrev pub new_plain : ℕ → PlainPair
 new_plain blocks = record { state = opening; journal = []; limits = script_limits blocks }
 
--- what an event was answered, and the pair behind it
+-- What an event was answered, and the pair behind it, and whether the pool was short of blocks for it: it got ENOSR, or it is a turn
+-- of which the account says how far it went.
 pub record Happened (A : Type 0) : Type 0 where
   pub answer : Result A Refusal
   pub pair : PlainPair
+  pub is_short : Bool
+
+-- whether an event got ENOSR
+abbrev pub is_enosr : Refusal → Bool
+is_enosr Enosr = true
+is_enosr _ = false
 
 -- why a call or a turn is refused, with this supply of blocks; a call that asks for none has enough
 abbrev pub call_refusal : Supply → PlainPair → Caller → Request → Option Refusal
@@ -89,35 +103,52 @@ stepped p entry state = record p { state = state; journal = p.journal ++ entry �
 
 -- a call that is refused, if it is, or carried out
 abbrev pub call_happens : Option Refusal → PlainPair → Caller → Request → Happened (Reply)
-call_happens (Some refusal) p caller asked = record { answer = Err refusal; pair = p }
+call_happens (Some refusal) p caller asked = record { answer = Err refusal; pair = p; is_short = is_enosr refusal }
 call_happens None p caller asked =
     let outcome = called plain caller asked p.state in
-    record { answer = Ok outcome.answer; pair = stepped p (Called caller asked outcome.answer) outcome.state }
+    record { answer = Ok outcome.answer; pair = stepped p (Called caller asked outcome.answer) outcome.state; is_short = false }
 
 -- a call
 unfoldable pub call_of : Supply → PlainPair → Caller → Request → Happened (Reply)
 call_of supply p caller asked = call_happens (call_refusal supply p caller asked) p caller asked
 
-abbrev pub turn_happens : Option Refusal → PlainPair → QueueName → Happened Turn
-turn_happens (Some refusal) p name = record { answer = Err refusal; pair = p }
-turn_happens None p name =
-    let outcome = turned plain name (whole_turn name p.state) p.state in
-    record { answer = Ok outcome.turn; pair = stepped p (Turned name outcome.turn) outcome.state }
+-- How far a turn went that is answered so, if it may have stopped within its message, as turns of modules' queues may for want of
+-- blocks (STREAMS Programming Guide, "Service Procedures"; bufcall(9F)).
+abbrev pub reach : Place → Turn → Option ℕ
+reach Head turn = None
+reach Driver turn = None
+reach Ldterm (Moved bytes) = Some bytes
+reach Ldterm Blocked = None
+reach Ldterm Idle = None
+
+-- the number that is there, where it is this one
+abbrev pub only : ℕ → Option ℕ → Option ℕ
+only bytes None = None
+only bytes (Some n) = if n == bytes then Some n else None
+
+-- How far a turn of a queue went, where its account says so. It says nothing of a turn that doesn't go so far.
+abbrev pub told_of : Supply → QueueName → State ℕ → Option ℕ
+told_of Enough name s = None
+told_of (Within bytes) name s = only bytes (reach name.place (turned plain name (Moved bytes) s).turn)
+told_of TooFew name s = None
+
+-- the answer of a turn that goes as far as is told of it, and else to the end of its message
+abbrev pub turn_to : Option ℕ → QueueName → State ℕ → Turn
+turn_to None name s = whole_turn name s
+turn_to (Some bytes) name s = Moved bytes
+
+-- a turn that is refused, if it is, or taken as far as is told of it
+abbrev pub turn_happens : Option Refusal → Option ℕ → PlainPair → QueueName → Happened Turn
+turn_happens (Some refusal) told p name = record { answer = Err refusal; pair = p; is_short = is_enosr refusal }
+turn_happens None told p name =
+    let outcome = turned plain name (turn_to told name p.state) p.state in
+    record { answer = Ok outcome.turn; pair = stepped p (Turned name outcome.turn) outcome.state; is_short = is_some told }
 
 -- a turn of a queue
 unfoldable pub turn_of : Supply → PlainPair → QueueName → Happened Turn
-turn_of supply p name = turn_happens (turn_refusal supply p name) p name
+turn_of supply p name = turn_happens (turn_refusal supply p name) (told_of supply name p.state) p name
 
--- whether an event got ENOSR
-abbrev pub is_enosr : Refusal → Bool
-is_enosr Enosr = true
-is_enosr _ = false
-
-abbrev pub is_short : {A : Type 0} → Result A Refusal → Bool
-is_short (Ok _) = false
-is_short (Err refusal) = is_enosr refusal
-
--- what a line leads to: its answer, the pair behind it, what is left of the account, and whether an event got ENOSR
+-- what a line leads to: its answer, the pair behind it, what is left of the account, and whether the pool was short of blocks for an event
 pub record Answered : Type 0 where
   pub line : Line
   pub pair : Option PlainPair
@@ -136,7 +167,7 @@ by_call caller asked account p =
       line = reply_line happened.answer;
       pair = Some happened.pair;
       account = rest_of account;
-      is_short = is_short happened.answer;
+      is_short = happened.is_short;
     }
 
 -- a flush by a command; a band above 255 is refused before any call
@@ -173,9 +204,16 @@ by_put side prio control body account p = by_named side (λ prio. calls.Put prio
 unfoldable pub by_get : Side → NamedWanted → ℕ → ℕ → List Supply → PlainPair → Answered
 by_get side wanted cmax dmax account p = by_named side (λ wanted. calls.Get wanted cmax dmax) (wanted_of wanted) account p
 
+-- the queues of the module on a side's stream that has queues, the read queue first
+abbrev pub module_queues : Side → State ℕ → List QueueName
+module_queues side s =
+    if is_some (place_named Ldterm (stream side s).modules)
+    then record { side = side; place = Ldterm; way = Up } ∷ record { side = side; place = Ldterm; way = Down } ∷ []
+    else []
+
 -- the queues of a side's stream, from the head down
-abbrev pub queues_down : Side → List QueueName
-queues_down side = head_of side ∷ driver_of side ∷ []
+abbrev pub queues_down : Side → State ℕ → List QueueName
+queues_down side s = head_of side ∷ (module_queues side s ++ driver_of side ∷ [])
 
 -- how many messages stand on a queue, and how many bytes they have
 abbrev pub size_at : State ℕ → QueueName → QueueSize
@@ -184,7 +222,7 @@ size_at s name = record { name = name; messages = length (messages_at name s); b
 -- a look at what stands on a side's queues, which is no event
 unfoldable pub by_show : Side → List Supply → PlainPair → Answered
 by_show side account p = record {
-  line = Sizes side (map (size_at p.state) (queues_down side));
+  line = Sizes side (map (size_at p.state) (queues_down side p.state));
   pair = Some p;
   account = account;
   is_short = false;
@@ -198,7 +236,7 @@ by_turn name account p =
       line = turn_line happened.answer;
       pair = Some happened.pair;
       account = rest_of account;
-      is_short = is_short happened.answer;
+      is_short = happened.is_short;
     }
 
 -- turns by a command: how many were taken, and what they led to
@@ -212,9 +250,9 @@ pub record Turns : Type 0 where
 abbrev pub no_turns : Bool → List Supply → PlainPair → Turns
 no_turns short account p = record { count = 0; pair = p; account = account; is_short = short }
 
--- one more turn before others
-abbrev pub counted : Turns → Turns
-counted turns = record turns { count = suc turns.count }
+-- one more turn before others, for which the pool was short of blocks or not
+abbrev pub counted : Bool → Turns → Turns
+counted short turns = record turns { count = suc turns.count; is_short = short || turns.is_short }
 
 -- Turns of the first enabled queue, so many at most. They end where none is enabled, and where one is refused.
 unfoldable pub turns_of : ℕ → List Supply → PlainPair → Turns
@@ -225,8 +263,8 @@ turns_of (suc n) account p =
       | Some name ↦
           let happened = turn_of (next_of account) p name in
           elim happened.answer [
-            | Err refusal ↦ no_turns (is_enosr refusal) (rest_of account) happened.pair
-            | Ok turn ↦ counted (turns_of n (rest_of account) happened.pair)
+            | Err refusal ↦ no_turns happened.is_short (rest_of account) happened.pair
+            | Ok turn ↦ counted happened.is_short (turns_of n (rest_of account) happened.pair)
           ]
     ]
 
@@ -259,8 +297,8 @@ answered (TurnOf name) account pair = with_pair (by_turn name) account pair
 answered (Run n) account pair = with_pair (by_run n) account pair
 answered (Show side) account pair = with_pair (by_show side) account pair
 
--- What lines lead to: the text, the first line in which an event got ENOSR, and the first malformed line, at which the
--- script ends.
+-- What lines lead to: the text, the first line in which the pool was short of blocks for an event, and the first malformed line, at
+-- which the script ends.
 pub record Told : Type 0 where
   pub text : List ℕ
   pub short : Option ℕ
@@ -293,7 +331,7 @@ told_from n account pair (line ∷ lines) =
           told_after (printed_line here.line) (line_if here.is_short n) (told_from (suc n) here.account here.pair lines)
     ]
 
--- a script, for an account of which events got too few blocks
+-- a script, for an account of what the pool had for its events
 abbrev pub told : List Supply → List ℕ → Told
 told account bytes = told_from 1 account None (lines_of bytes)
 
@@ -301,7 +339,8 @@ told account bytes = told_from 1 account None (lines_of bytes)
 abbrev pub script_lines : List Supply → List ℕ → List ℕ
 script_lines account bytes = (told account bytes).text
 
--- the text of lines whose events all had the blocks that they asked for, and of a whole script
+-- the text of lines whose events all had the blocks that they asked for, and whose turns all went to the end of their message, and of a
+-- whole script
 abbrev pub plain_lines : List (List ℕ) → List ℕ
 plain_lines lines = (told_from 1 [] None lines).text
 

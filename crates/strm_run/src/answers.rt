@@ -19,6 +19,13 @@ pub struct QueueSize {
     pub bytes: usize,
 }
 
+/// How much stands on the queues of a module.
+#[derive(Clone, Copy)]
+pub struct ModuleSizes {
+    pub up: QueueSize,
+    pub down: QueueSize,
+}
+
 /// An answer line, without its LF. The bytes that a call gave stand apart.
 #[derive(Clone, Copy)]
 pub enum Line {
@@ -28,10 +35,11 @@ pub enum Line {
     Turned(Turn),
     /// So many turns were taken.
     Ran(u32),
-    /// So much stands on the queues of a side's stream.
+    /// So much stands on the queues of a side's stream: of its head, of its module that has queues, if there is one, and of its driver.
     Sizes {
         side: Side,
         head: QueueSize,
+        stacked: Option<ModuleSizes>,
         driver: QueueSize,
     },
     /// The command was refused.
@@ -433,9 +441,19 @@ impl fmt::Display for Shown<'_> {
             Line::Turned(Turn::Blocked) => write!(f, "blocked"),
             Line::Turned(Turn::Idle) => write!(f, "idle"),
             Line::Ran(turns) => write!(f, "ran {turns}"),
-            Line::Sizes { side, head, driver } => {
+            Line::Sizes {
+                side,
+                head,
+                stacked,
+                driver,
+            } => {
                 let side = side_name(*side);
-                write!(f, "show {side} {head} {driver}")
+                match stacked {
+                    None => write!(f, "show {side} {head} {driver}"),
+                    Some(ModuleSizes { up, down }) => {
+                        write!(f, "show {side} {head} {up} {down} {driver}")
+                    }
+                }
             }
             Line::Refused(refusal) => {
                 let name = name(*refusal);

@@ -33,7 +33,7 @@ pub struct Engine {
     pub lines: u64,
     /// The bytes so far of the next line, at most 4096.
     pub line: Vec<u8>,
-    /// The first line in which an event got ENOSR.
+    /// The first line in which the pool was short of blocks for an event.
     pub short: Option<u64>,
     /// The answers that aren't written yet.
     pub answers: Vec<u8>,
@@ -69,7 +69,7 @@ impl Engine {
         }
     }
 
-    /// Notes that an event of the next line to end got ENOSR, where that line is the first.
+    /// Notes that the pool was short of blocks for an event of the next line to end, where that line is the first.
     fn note(&mut self, short: bool)
         requires { self.old.lines < 2 ^ 60 }
         ensures { self.new ≡ record self.old { short = first_of self.old.short (line_if short (self.old.lines + 1)) } }

@@ -39,7 +39,8 @@ impl ScriptStatus {
 #[derive(Clone, Copy, Debug, PartialEq, Eq)]
 pub struct ScriptEnd {
     pub status: ScriptStatus,
-    /// The first line in which a call or a turn got ENOSR.
+    /// The first line in which a call or a turn got ENOSR, or a turn of a module's queue moved something, which may have stopped within its
+    /// message for want of blocks.
     pub short: Option<u64>,
 }
 
@@ -122,8 +123,9 @@ fn end_of(status: ScriptStatus, engine: &Engine) -> ScriptEnd
 }
 
 /// Runs a script: reads commands, one a line, and writes an answer line for each. What it writes, up to a fault, is the
-/// text that the script's bytes say, for some account of which calls and turns the pool had enough blocks for; before
-/// the line `short`, and where there is none in all of it, the pool had enough.
+/// text that the script's bytes say, for some account of which calls and turns the pool had enough blocks for and of how far turns of
+/// modules' queues went; before the line `short`, and where there is none in all of it, the pool had enough, and each turn went to the
+/// end of its message.
 pub fn run_script<R: Read, W: Write>(alloc: Global, reader: &mut R, writer: &mut W) -> ScriptEnd
     ensures { IsRun (R.remaining reader.old) (W.contents writer.old) (W.contents writer.new)
         result.status result.short }

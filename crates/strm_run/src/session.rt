@@ -1,23 +1,25 @@
 //! What commands lead to on the pair of a script.
 
-ghost use Rattle.std.specs.Prelude.{◌≡◌, false, Some, None, IfOk, OnErr, option_map};
+ghost use Rattle.std.specs.Prelude.{◌≡◌, ◌||◌, false, Some, None, IfOk, OnErr, option_map, is_some};
 ghost use Rattle.strm_types.specs.Calls.{request};
 ghost use Rattle.strm_run.specs.ScriptAnswers as script;
 ghost use Rattle.strm_run.specs.ScriptRun.{by_call, by_flush, by_turn, by_run, by_open, answered};
 ghost use Rattle.strm_run.specs.ScriptRun.{by_put, by_get, band_of, prio_of, wanted_of};
-ghost use Rattle.strm_run.specs.ScriptRun.{script_limits, is_enosr, size_at};
+ghost use Rattle.strm_run.specs.ScriptRun.{script_limits, is_enosr, reach, size_at};
 ghost use Rattle.strm_types.specs.Names.{head_of, driver_of};
+ghost use Rattle.strm_run.specs.Lines.{module_sizes};
 ghost use Rattle.strm_run.specs.Commands.{command_of};
 ghost use Rattle.strm_run.specs.Plain.{plain};
 ghost use Rattle.strm_run.specs.Outcomes.{LeadsTo, Leads};
 
-use crate::answers::{Line, QueueSize};
+use crate::answers::{Line, ModuleSizes, QueueSize};
 use crate::commands::{Command, NamedPrio, NamedWanted};
 use std::alloc::{AllocError, Global};
 use strm_blocks::TableStore;
 use strm_pair::Pair;
 use strm_types::{
-    Band, Caller, Config, Content, Event, FlushQueues, Prio, QueueName, Refusal, Side, Wanted,
+    Band, Caller, Config, Content, Event, FlushQueues, Place, Prio, QueueName, Refusal, Side, Turn,
+    Wanted, Way,
 };
 
 /// How many blocks of each kind a pair gets where a script names no number.
@@ -40,7 +42,7 @@ const JOURNAL_BYTES: usize = 262144;
 pub struct Answered {
     /// The line that answers it.
     pub line: Line,
-    /// Whether a call or a turn got ENOSR.
+    /// Whether a call or a turn got ENOSR, or a turn may have stopped within its message for want of blocks.
     pub short: bool,
 }
 
@@ -212,10 +214,38 @@ fn size(pair: &Pair<TableStore>, name: QueueName) -> QueueSize
     }
 }
 
+/// How much stands on the queues of the module on a side's stream that has queues. Each module is an ldterm so far.
+fn module_sizes(pair: &Pair<TableStore>, side: Side) -> Option<ModuleSizes>
+    ensures { result ≡ module_sizes side pair.now.state }
+{
+    let stacked = pair.modules(side);
+    if stacked == 0 {
+        return None;
+    }
+    let place = Place::Ldterm;
+    let up = QueueName {
+        side,
+        place,
+        way: Way::Up,
+    };
+    let down = QueueName {
+        side,
+        place,
+        way: Way::Down,
+    };
+    let read = size(pair, up);
+    let write = size(pair, down);
+    Some(ModuleSizes {
+        up: read,
+        down: write,
+    })
+}
+
 /// A look at what stands on a side's queues.
 fn show(pair: &Pair<TableStore>, side: Side) -> Answered
     ensures { result ≡ record {
-      line = Line.Sizes side (size_at pair.now.state (head_of side)) (size_at pair.now.state (driver_of side));
+      line = Line.Sizes side (size_at pair.now.state (head_of side)) (module_sizes side pair.now.state)
+          (size_at pair.now.state (driver_of side));
       short = false;
     } }
 {
@@ -223,9 +253,26 @@ fn show(pair: &Pair<TableStore>, side: Side) -> Answered
         line: Line::Sizes {
             side,
             head: size(pair, side.head()),
+            stacked: module_sizes(pair, side),
             driver: size(pair, side.driver()),
         },
         short: false,
+    }
+}
+
+/// Whether a turn that is answered so may have stopped within its message: only one of a module's queue may, and only where it moved
+/// something.
+fn may_have_stopped(name: QueueName, turn: Turn) -> bool
+    ensures { result ≡ is_some (reach name.place turn) }
+{
+    match name.place {
+        Place::Head => false,
+        Place::Driver => false,
+        Place::Ldterm => match turn {
+            Turn::Moved(_) => true,
+            Turn::Blocked => false,
+            Turn::Idle => false,
+        },
     }
 }
 
@@ -236,7 +283,7 @@ fn turn(pair: &mut Pair<TableStore>, name: QueueName) -> Answered
     match pair.turn(name) {
         Ok(turn) => Answered {
             line: Line::Turned(turn),
-            short: false,
+            short: may_have_stopped(name, turn),
         },
         Err(refusal) => Answered {
             line: Line::Refused(refusal),
@@ -245,28 +292,41 @@ fn turn(pair: &mut Pair<TableStore>, name: QueueName) -> Answered
     }
 }
 
+/// Whether the pool was short of blocks for one of the turns so far, or for this one.
+fn either_short(before: bool, now: bool) -> bool
+    ensures { result ≡ (before || now) }
+{
+    before || now
+}
+
 /// Turns of the first enabled queue, so many at most. They end where none is enabled, and where one is refused.
 fn run(pair: &mut Pair<TableStore>, turns: u32) -> Answered
     ensures { Leads (by_run turns) result pair.old pair.new }
 {
+    let mut short = false;
     for taken in 0..turns {
         let Some(name) = pair.first_enabled() else {
-            return Answered {
-                line: Line::Ran(taken),
-                short: false,
-            };
+            let line = Line::Ran(taken);
+            return Answered { line, short };
         };
-        if let Err(refusal) = pair.turn(name) {
-            return Answered {
-                line: Line::Ran(taken),
-                short: is_short(refusal),
-            };
+        match pair.turn(name) {
+            Ok(turn) => {
+                let stopped = may_have_stopped(name, turn);
+                let so_far = either_short(short, stopped);
+                short = so_far;
+            }
+            Err(refusal) => {
+                let refused = is_short(refusal);
+                let in_all = either_short(short, refused);
+                return Answered {
+                    line: Line::Ran(taken),
+                    short: in_all,
+                };
+            }
         }
     }
-    Answered {
-        line: Line::Ran(turns),
-        short: false,
-    }
+    let line = Line::Ran(turns);
+    Answered { line, short }
 }
 
 /// A command where the pair is there.

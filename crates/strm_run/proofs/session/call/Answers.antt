@@ -1,17 +1,16 @@
 use Rattle.std.proofs.Common.{ap, sym, ◌∙◌}
 use Rattle.strm_run.specs.ScriptAnswers.{reply_line}
-use Rattle.strm_run.specs.ScriptRun.{is_short}
-use Rattle.strm_run.proofs.Events.{CallHappens-from, answers_call, replied}
+use Rattle.strm_run.proofs.Events.{CallHappens-from, answers_call, replied, short_call}
 use Rattle.strm_run.proofs.session.call.Goals as goal
 
 pub returns-in-Ok : goal.returns-in-Ok
 returns-in-Ok c =
     let out = c.call.new.out.items in
     let h = CallHappens-from _ c.args.pair.now c.call.new.self _ _ out c.call.result c.call.ensures.refused c.call.ensures.adds in
-    answers_call _ _ _ _ _ _ _ h (ap (λ r. reply_line (replied out r)) (sym c.in-Ok.is)) (ap (λ r. is_short (replied out r)) (sym c.in-Ok.is))
+    answers_call _ _ _ _ _ _ _ h (ap (λ r. reply_line (replied out r)) (sym c.in-Ok.is)) (ap short_call (sym c.in-Ok.is))
 
 pub returns-in-Err : goal.returns-in-Err
 returns-in-Err c =
     let out = c.call.new.out.items in
     let h = CallHappens-from _ c.args.pair.now c.call.new.self _ _ out c.call.result c.call.ensures.refused c.call.ensures.adds in
-    answers_call _ _ _ _ _ _ _ h (ap (λ r. reply_line (replied out r)) (sym c.in-Err.is)) (c.is_short.ensures ∙ ap (λ r. is_short (replied out r)) (sym c.in-Err.is))
+    answers_call _ _ _ _ _ _ _ h (ap (λ r. reply_line (replied out r)) (sym c.in-Err.is)) (c.is_short.ensures ∙ ap short_call (sym c.in-Err.is))

@@ -1,13 +1,20 @@
-use Rattle.std.proofs.Common.{◌≡◌, ℕ, List, Option, Some, ap, sym, refl}
+use Rattle.std.proofs.Common.{◌≡◌, ℕ, Bool, true, false, cond, List, [], ◌∷◌, ◌++◌, map, Option, None, Some, is_some, ap, sym, refl, ◌∙◌}
+use Rattle.strm_types.specs.declared.names.Place.TheVariants.{Ldterm}
+use Rattle.strm_types.specs.declared.names.QueueName.{QueueName}
+use Rattle.strm_types.specs.declared.names.Way.TheVariants.{Up, Down}
+use Rattle.strm_types.specs.ModuleTurns.{place_named}
+use Rattle.strm_types.specs.Names.{head_of, driver_of}
+use Rattle.strm_types.specs.State.{State, stream}
+use Rattle.strm_run.specs.ScriptAnswers.{Sizes}
 use Rattle.strm_types.specs.declared.names.Side.{Side}
 use Rattle.strm_types.specs.Calls.{Request}
 use Rattle.strm_run.specs.Script.{Call, Put}
 use Rattle.strm_run.specs.declared.commands.NamedPrio.{NamedPrio}
-use Rattle.strm_run.specs.ScriptRun.{PlainPair, answered, by_call, by_put, by_show}
+use Rattle.strm_run.specs.ScriptRun.{PlainPair, answered, by_call, by_put, by_show, queues_down, size_at}
 use Rattle.strm_types.specs.declared.refusals.Refusal.TheVariants.{Einval}
 use Rattle.strm_run.specs.Commands.{command_of}
 use Rattle.strm_run.specs.Plain.{plain}
-use Rattle.strm_run.specs.Lines.{line_of}
+use Rattle.strm_run.specs.Lines.{line_of, module_sizes, sizes_of}
 use Rattle.strm_run.specs.Outcomes.{LeadsTo}
 use Rattle.strm_run.specs.declared.session.Answered.{Answered}
 use Rattle.strm_run.specs.declared.commands.Command.{Command}
@@ -51,10 +58,28 @@ pub returns-in-Flush : goal.returns-in-Flush
 unfolding answered
 returns-in-Flush c = known _ _ _ _ _ _ c.in-Flush.is c.flush.ensures
 
+-- a look, by whether a module with queues stands there
+shown : (side : Side) (s : State ℕ) → Sizes side (size_at s (head_of side) ∷ (sizes_of (module_sizes side s) ++ size_at s (driver_of side) ∷ []))
+    ≡ Sizes side (map (size_at s) (queues_down side s))
+shown side s = by (is_some (place_named Ldterm (stream side s).modules))
+  where
+    up : QueueName
+    up = record { side = side; place = Ldterm; way = Up }
+
+    down : QueueName
+    down = record { side = side; place = Ldterm; way = Down }
+
+    by : (stands : Bool) → Sizes side (size_at s (head_of side) ∷ (sizes_of (cond stands (Some (record { up = size_at s up; down = size_at s down })) None) ++ size_at s (driver_of side) ∷ []))
+        ≡ Sizes side (map (size_at s) (head_of side ∷ (cond stands (up ∷ down ∷ []) [] ++ driver_of side ∷ [])))
+    by true = refl
+    by false = refl
+
 pub returns-in-Show : goal.returns-in-Show
 unfolding answered by_show
 returns-in-Show c = known _ _ _ _ _ _ c.in-Show.is
-    (leads_looked _ _ _ _ (λ account. ap (λ (x : Answered). record { line = line_of c.args.out.now.items x.line; pair = Some (plain c.args.pair.now); account = account; is_short = x.short }) (sym c.show.ensures)))
+    (leads_looked _ _ _ _ (λ account.
+    ap (λ line. record { line = line; pair = Some (plain c.args.pair.now); account = account; is_short = false }) (sym (shown c.in-Show.side c.args.pair.now.state))
+    ∙ ap (λ (x : Answered). record { line = line_of c.args.out.now.items x.line; pair = Some (plain c.args.pair.now); account = account; is_short = x.short }) (sym c.show.ensures)))
 
 -- a put, whose parts are lent
 puts : (bytes : List ℕ) (side : Side) (prio : NamedPrio) (control body asked_control asked_body : Option (List ℕ)) (found : Answered) (old : PlainPair) (new : Option PlainPair)

@@ -1,4 +1,4 @@
-use Rattle.std.proofs.Common.{◌≡◌, refl, ap, sym, ◌∙◌, arith, ◌≤◌}
+use Rattle.std.proofs.Common.{◌≡◌, refl, ap, sym, ◌∙◌, arith, ◌≤◌, ◌||◌}
 use Rattle.strm_run.specs.ScriptAnswers.{Ran}
 use Rattle.strm_run.specs.Plain.{plain}
 use Rattle.strm_run.proofs.Events.{RunsTo-start, RunsTo-more, run_none, run_refused, run_all, TurnHappens-from}
@@ -10,27 +10,28 @@ loop-taken-init c = RunsTo-start c.args.turns (plain c.args.pair.now)
 pub returns-in_default : goal.returns-in_default
 returns-in_default c = λ bytes.
     let l = c.loop-taken in
-    run_none bytes c.args.turns l.taken (plain c.args.pair.now) l.pair _ l.invariant (sym c.first_enabled.ensures ∙ c.in_default.is) refl refl
+    run_none bytes c.args.turns l.taken l.short (plain c.args.pair.now) l.pair _ l.invariant (sym c.first_enabled.ensures ∙ c.in_default.is) refl refl
 
 pub returns-in-Err : goal.returns-in-Err
 returns-in-Err c = λ bytes.
     let l = c.loop-taken in
-    run_refused bytes c.args.turns l.taken (plain c.args.pair.now) l.pair c.turn.new.self c.in-Some.name c.in-Err.refusal c.turn.result _
+    run_refused bytes c.args.turns l.taken l.short (plain c.args.pair.now) l.pair c.turn.new.self c.in-Some.name c.in-Err.refusal c.turn.result _
     c.loop-taken-test.true l.invariant (sym c.first_enabled.ensures ∙ c.in-Some.is)
-    (TurnHappens-from l.pair c.turn.new.self c.in-Some.name c.turn.result c.turn.ensures.alone c.turn.ensures.refused c.turn.ensures.adds)
-    c.in-Err.is refl c.is_short.ensures
+    (TurnHappens-from l.pair c.turn.new.self c.in-Some.name c.turn.result c.turn.ensures.refused c.turn.ensures.adds)
+    c.in-Err.is refl (c.either_short-in_all.ensures ∙ ap (λ b. l.short || b) c.is_short-refused.ensures)
 
 pub loop-taken-preserved : goal.loop-taken-preserved
 loop-taken-preserved c =
     let l = c.loop-taken in
-    RunsTo-more c.args.turns l.taken (plain c.args.pair.now) l.pair c.turn.new.self c.in-Some.name c.in_default-turn.field-0 c.turn.result
+    rw (c.either_short-so_far.ensures, c.may_have_stopped-stopped.ensures)
+    (RunsTo-more c.args.turns l.taken l.short (plain c.args.pair.now) l.pair c.turn.new.self c.in-Some.name c.in-Ok.turn c.turn.result
     c.loop-taken-test.true l.invariant (sym c.first_enabled.ensures ∙ c.in-Some.is)
-    (TurnHappens-from l.pair c.turn.new.self c.in-Some.name c.turn.result c.turn.ensures.alone c.turn.ensures.refused c.turn.ensures.adds)
-    c.in_default-turn.is
+    (TurnHappens-from l.pair c.turn.new.self c.in-Some.name c.turn.result c.turn.ensures.refused c.turn.ensures.adds)
+    c.in-Ok.is)
 
 pub returns : goal.returns
 returns c = λ bytes.
     let l = c.loop-taken in
     let done : c.args.turns ≤ l.taken = omega arith in
     let all : l.taken ≡ c.args.turns = omega arith in
-    run_all bytes c.args.turns (plain c.args.pair.now) l.pair _ l.taken done l.invariant (ap Ran (sym all)) refl
+    run_all bytes c.args.turns l.short (plain c.args.pair.now) l.pair _ l.taken done l.invariant (ap Ran (sym all)) refl

@@ -3,7 +3,6 @@ use Rattle.std.proofs.Common.{◌≡◌, ◌∙◌, ap, sym, refl, subst, rules}
 use Rattle.std.specs.Prelude.{None}
 use Rattle.strm_types.specs.declared.entries.Entry.TheVariants.{Turned}
 use Rattle.strm_types.specs.Cells.{plain}
-use Rattle.strm_types.specs.Earlier.{NoModules}
 use Rattle.strm_types.specs.Journal.{PlainEntry}
 use Rattle.strm_types.specs.Step.{IsTurn, after}
 use Rattle.strm_types.specs.Refused.{enough, turn_blocks}
@@ -11,7 +10,6 @@ use Rattle.strm_types.specs.Pair.{PairState, AddsEntry, queue_refused}
 use Rattle.strm_types.proofs.Replay.{turn-allowed}
 use Rattle.strm_pair.specs.Pairs.{state_in, journal_of, free_in}
 use Rattle.strm_pair.specs.PairViews.{pair_of}
-use Rattle.strm_pair.proofs.Sides.{none-stand}
 use Rattle.strm_pair.proofs.Steps.{kept-step, led-idle, step-shown}
 use Rattle.strm_pair.proofs.pair.Pair.turn.Goals as goal
 
@@ -56,17 +54,6 @@ returns-clause-adds g c =
       base = refl;
       limits = refl;
     })
-
--- no module stands, whether the turn is refused or not
-pub returns-clause-alone : goal.returns-clause-alone
-returns-clause-alone g c =
-    let p = c.self.inside in
-    subst (λ (v : PairState). NoModules v.state) c.self.view_is (none-stand g.B.Stacks.view (g.B.Blocks.value p.store) p.streams c.self.invariant.held.beside)
-
-pub returns-in-Some-clause-alone : goal.returns-in-Some-clause-alone
-returns-in-Some-clause-alone g c =
-    let p = c.self.inside in
-    subst (λ (v : PairState). NoModules v.state) c.self.view_is (none-stand g.B.Stacks.view (g.B.Blocks.value p.store) p.streams c.self.invariant.held.beside)
 
 pub returns-in-Some-clause-refused : goal.returns-in-Some-clause-refused
 returns-in-Some-clause-refused g c = search rules steps 300000
