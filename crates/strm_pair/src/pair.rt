@@ -271,11 +271,11 @@ impl<B: Stacks + Drop> Pair<B> {
     }
 
     /// Makes a turn of an enabled queue's service procedure. It is refused where the queue isn't enabled (EINVAL), a book is
-    /// full (ERANGE), the journal is full, or fewer than 8 blocks of a kind are free (ENOSR), and then changes nothing. Else the journal
-    /// gains the turn with its answer.
+    /// full (ERANGE), the journal is full, or too few blocks of a kind are free (ENOSR): 8 for a driver's queue, 32 for a module's. It
+    /// changes nothing then. Else the journal gains the turn with its answer.
     ///
-    /// No module stands on either stream, so that a turn treats a message whole or not at all. The cost is that of one message. No
-    /// memory is taken.
+    /// A turn of a module's queue may stop within its message where fewer than 32 blocks are left, and its answer says how far it went.
+    /// The cost is that of one message. No memory is taken.
     pub fn turn(&mut self, name: QueueName) -> Result<Turn, Refusal>
         ensures refused { MatchOption (queue_refused self.old name) (IsOk result)
             (λ r. (result ≡ Err r) × (self.new ≡ self.old)) }
