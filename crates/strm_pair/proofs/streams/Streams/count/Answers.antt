@@ -1,6 +1,24 @@
--- What the head counts is what its queue counts.
-use Rattle.std.proofs.Common.{rules}
+-- What the head counts is what its queue counts, and a module's queue counts what its call says.
+use Rattle.std.proofs.Common.{ap, sym, rules, ◌∙◌}
+use Rattle.strm_types.specs.declared.names.Place.TheVariants.{Ldterm}
+use Rattle.strm_types.specs.Queue.{count_of}
+use Rattle.strm_types.specs.State.{Stream, stream}
+use Rattle.strm_pair.specs.Named.{messages_named}
+use Rattle.strm_pair.specs.Pairs.{state_in}
+use Rattle.strm_pair.specs.Shows.{count_in}
 use Rattle.strm_pair.proofs.streams.Streams.count.Goals as goal
 
 pub returns-in-Up : goal.returns-in-Up
 returns-in-Up g c = search rules steps 300000
+
+pub returns-in-Ldterm : goal.returns-in-Ldterm
+returns-in-Ldterm g c =
+    let s = g.B.Blocks.value c.args.store.now in
+    let modules = g.B.Stacks.view.modules in
+    let t = stream c.args.queue.side (state_in modules s c.args.self.now) in
+    let way = c.args.queue.way in
+    let band = c.args.band.0 in
+    c.count_named.ensures
+    ∙ ap (λ place. count_of band (messages_named place way (modules s c.end-end.result.now.stack))) c.in-Ldterm.is
+    ∙ ap (λ (u : Stream _). count_of band (messages_named Ldterm way u.modules)) (c.end-end.ensures.stream modules s)
+    ∙ ap (λ place. count_in place way band t) (sym c.in-Ldterm.is)
