@@ -6,7 +6,6 @@ pub mod TurnSteps
 pub mod ReadSteps
 pub mod GetSteps
 pub mod PutBooks
-pub mod Bands
 pub mod FreeBlocks
 pub mod Steps
 pub mod Shown

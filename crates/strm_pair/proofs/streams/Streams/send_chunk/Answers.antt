@@ -1,9 +1,9 @@
 -- The chunk is alone in hand, and nothing is when all is delivered.
-use Rattle.std.proofs.Common.{ℕ, ◌≡◌, ◌∷◌, refl, sym, ap, subst, ◌∙◌, arith}
+use Rattle.std.proofs.Common.{ℕ, ◌≡◌, ◌∷◌, sym, ap, subst, ◌∙◌, arith}
 use Rattle.strm_types.specs.declared.spots.Spot.{Spot}
 use Rattle.strm_types.specs.Costs.{cost}
 use Rattle.strm_types.specs.Deliver.{tallied}
-use Rattle.strm_types.specs.Message.{Message, data_message}
+use Rattle.strm_types.specs.Message.{Message}
 use Rattle.strm_types.specs.Puts.{delivered}
 use Rattle.strm_types.specs.Writes.{below_head}
 use Rattle.strm_blocks.specs.Blocks.{in_hand, StoreValue}
