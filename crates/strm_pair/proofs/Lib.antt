@@ -10,7 +10,6 @@ mod ModuleTurns
 pub mod ReadSteps
 pub mod GetSteps
 pub mod PutBooks
-pub mod Bands
 pub mod FreeBlocks
 pub mod Steps
 pub mod Shown

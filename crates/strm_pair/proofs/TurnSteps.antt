@@ -2,7 +2,6 @@
 use Rattle.std.proofs.Common.{ℕ, ◌≡◌, ◌≤◌, ◌<◌, Bool, true, false, cond, List, [], ◌∷◌, map, refl, sym, ap, ◌∙◌, arith}
 use Rattle.std.specs.Prelude.{not, ◌&&◌, ◌==◌, Option, None, Some, MatchOption}
 use Rattle.strm_types.specs.declared.answers.Turn.TheVariants.{Blocked}
-use Rattle.strm_types.specs.declared.names.QueueName.{QueueName}
 use Rattle.strm_types.specs.declared.names.Side.{Side}
 use Rattle.strm_types.specs.declared.names.Side.TheVariants.{Master, Slave}
 use Rattle.strm_types.specs.declared.names.Way.TheVariants.{Up}
@@ -23,7 +22,7 @@ use Rattle.strm_blocks.specs.Outcomes.{PeekedFirst}
 use Rattle.strm_blocks.specs.declared.asked.Peek.{Peek}
 use Rattle.strm_msg.specs.Messages.{message_of}
 use Rattle.strm_queue.specs.declared.queue.Queue.{Queue}
-use Rattle.strm_queue.specs.Stored.{queue_in, messages_on, Dequeued}
+use Rattle.strm_queue.specs.Stored.{messages_on, Dequeued}
 use Rattle.strm_msg.proofs.Chains.{kind-is}
 use Rattle.strm_queue.proofs.Chains.{held-band, stopped-held}
 use Rattle.strm_pty.specs.Does.{OnlyQueue}

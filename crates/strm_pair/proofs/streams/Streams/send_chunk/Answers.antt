@@ -3,7 +3,7 @@ use Rattle.std.proofs.Common.{ℕ, ◌≡◌, sym, ap, subst, ◌∙◌, arith}
 use Rattle.strm_types.specs.declared.spots.Spot.{Spot}
 use Rattle.strm_types.specs.Costs.{cost}
 use Rattle.strm_types.specs.Deliver.{tallied}
-use Rattle.strm_types.specs.Message.{Message, data_message}
+use Rattle.strm_types.specs.Message.{Message}
 use Rattle.strm_types.specs.Puts.{delivered}
 use Rattle.strm_types.specs.Writes.{below_head}
 use Rattle.strm_blocks.specs.Blocks.{in_hand}
