@@ -1,5 +1,10 @@
 pub mod Peeked
 pub mod Sides
+pub mod LdtermTaken
+pub mod Takings
+pub mod Puttings
+pub mod LdtermPushed
+pub mod Modes
 pub mod PutsCost
 pub mod PutSteps
 pub mod TurnSteps

@@ -64,11 +64,11 @@ pub readable-none : (l : List (List Block)) → l ≡ [] → HoldsReadable l
 readable-none l none = subst HoldsReadable (sym none) (record { each = tt })
 
 -- a queue whose list stays
-queue-same : (s t : StoreValue) (q : Queue) → list_at t q.list ≡ list_at s q.list → queue_in t q ≡ queue_in s q
+pub queue-same : (s t : StoreValue) (q : Queue) → list_at t q.list ≡ list_at s q.list → queue_in t q ≡ queue_in s q
 queue-same s t q same = ap (λ l. record { messages = map message_of l; flows = plain_flows q.flows; want_read = q.want_read; no_enable = q.no_enable }) same
 
 -- a stream by its two queues and its modules
-abbrev stream_of : {S : Type 0} → End S → state.Queue ℕ → List (stacked.Module ℕ) → state.Queue ℕ → streams.Stream ℕ
+abbrev pub stream_of : {S : Type 0} → End S → state.Queue ℕ → List (stacked.Module ℕ) → state.Queue ℕ → streams.Stream ℕ
 stream_of e h ms d = record {
   opened = e.opened;
   head = record { queue = h; read_mode = e.head.read_mode; control_mode = e.head.control_mode; hung_up = e.head.hung_up; signals = e.head.signals; ioctl = plain_slot e.head.ioctl };
@@ -94,7 +94,7 @@ module _ {S : Type 0} (view : View S) (s t : StoreValue) (first : ℕ) (e : End 
   within : Stay → Beside
   within stay k low high = stay k (omega (arith, low)) high
 
-  side-stays : Stay → IsSide view t first e
+  pub side-stays : Stay → IsSide view t first e
   side-stays stay = record {
     head_list = is.head_list;
     driver_list = is.driver_list;
@@ -107,7 +107,7 @@ module _ {S : Type 0} (view : View S) (s t : StoreValue) (first : ℕ) (e : End 
     unowned = is.unowned;
   }
 
-  stream-stays : Stay → stream_in view.modules t e ≡ stream_in view.modules s e
+  pub stream-stays : Stay → stream_in view.modules t e ≡ stream_in view.modules s e
   stream-stays stay =
       ap (λ h. stream_of e h (view.modules t e.stack) (queue_in t e.driver)) (queue-same s t e.head.queue (head-at stay))
       ∙ ap (λ ms. stream_of e (queue_in s e.head.queue) ms (queue_in t e.driver)) (stack-same view s t first e is stays (within stay)).0
@@ -196,7 +196,7 @@ readable-cleared t q old is = readable-none (list_at t q.list) (no-chain (list_a
     behind false = all-gone old.messages
 
 -- a state where both streams change
-both : {S : Type 0} (p : Streams S) (m m' sl sl' : streams.Stream ℕ) → m ≡ m' → sl ≡ sl' → state_with p m sl ≡ state_with p m' sl'
+pub both : {S : Type 0} (p : Streams S) (m m' sl sl' : streams.Stream ℕ) → m ≡ m' → sl ≡ sl' → state_with p m sl ≡ state_with p m' sl'
 both p m m' sl sl' a b = ap (λ v. state_with p v sl) a ∙ ap (λ v. state_with p m' v) b
 
 module _ {S : Type 0} (view : View S) (s t : StoreValue) (p : Streams S) (beside : AreBeside view s p) (stays : Stays s t (kept_by view p)) where

@@ -1,5 +1,7 @@
 pub mod PutBy
 pub mod Took
+pub mod Taken
+pub mod Fitting
 pub mod Framing
 pub mod Streams
 pub mod Journals
