@@ -41,8 +41,14 @@ impl Earlier {
     }
 }
 
-// Enables what a put says of the queues of a place, one note after the other.
-fn note(enabled: &mut Enabled, side: Side, place: Option<Place>, earlier: Earlier, notes: &[Note])
+/// Enables what a put says of the queues of a place, one note after the other.
+pub(crate) fn note(
+    enabled: &mut Enabled,
+    side: Side,
+    place: Option<Place>,
+    earlier: Earlier,
+    notes: &[Note],
+)
     ensures { enabled.new ≡ noted side place (earlier_of earlier) notes.now enabled.old }
 {
     let Some((first, rest)) = notes.split_first() else {
@@ -123,8 +129,8 @@ impl<S: Drop> Streams<S> {
         }
     }
 
-    // The nearest earlier queues of a place.
-    fn earlier<B: Stacks<Stack = S>>(&self, side: Side, at: usize) -> Earlier
+    /// The nearest earlier queues of a place.
+    pub(crate) fn earlier<B: Stacks<Stack = S>>(&self, side: Side, at: usize) -> Earlier
         ensures { (s : StoreValue) (way : Way) → earlier_of result way ≡ before_at side way at (state_in B.view.modules s self.now) }
     {
         Earlier {
