@@ -1,6 +1,12 @@
 pub mod Peeked
+pub mod Idle
 pub mod InHand
 pub mod Sides
+pub mod LdtermTaken
+pub mod Takings
+pub mod Puttings
+pub mod LdtermPushed
+pub mod Modes
 pub mod PutsCost
 pub mod PutSteps
 pub mod ModuleSteps

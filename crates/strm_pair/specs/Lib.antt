@@ -1,6 +1,8 @@
 pub mod Alone
 pub mod PutBy
 pub mod Took
+pub mod Taken
+pub mod Fitting
 pub mod Framing
 pub mod Streams
 pub mod Journals

@@ -135,8 +135,8 @@ impl<S: Drop> Streams<S> {
         }
     }
 
-    /// Closes a side. What stands for its readers goes, and with the master what both drivers have; the slave's driver
-    /// keeps what it has for the master. The slave is hung up where the master goes.
+    /// Closes a side. What stands for its readers goes, then its modules from the top with all that they have, and with the
+    /// master what both drivers have; the slave's driver keeps what it has for the master. The slave is hung up where the master goes.
     #[inline(never)]
     pub fn shut<B: Stacks<Stack = S>>(
         &mut self,
@@ -145,6 +145,7 @@ impl<S: Drop> Streams<S> {
         told: &mut Fates,
     ) -> Answer<usize>
         requires held { AreHeld B.view (B.value store.old) self.old }
+        requires idle { AreIdle (state_in B.view.modules (B.value store.old) self.old) }
         ensures answer { result ≡ Done }
         ensures state { state_in B.view.modules (B.value store.new) self.new
             ≡ (closed_at side (state_in B.view.modules (B.value store.old) self.old)).state }
@@ -153,6 +154,7 @@ impl<S: Drop> Streams<S> {
         ensures told { told.new ≡ tallied (closed_at side (state_in B.view.modules (B.value store.old) self.old)).gone told.old }
     {
         self.clear_head(store, side, told);
+        self.clear_modules(store, side, Rule::EndClosed, told);
         match side {
             Side::Master => {
                 self.clear_driver(store, Side::Master, told);

@@ -3,6 +3,7 @@
 #![tactic(auto)]
 
 mod answers;
+mod changing;
 mod closing;
 mod delivering;
 mod earlier;

@@ -267,6 +267,13 @@ impl<S: Drop> Streams<S> {
         }
     }
 
+    // Whether a module of a name may be pushed on a side's stream: so far that is an ldterm, where none stands.
+    fn may_push<B: Stacks<Stack = S>>(&self, side: Side, name: Option<ModuleName>) -> bool
+        ensures { (s : StoreValue) → result ≡ may_stand (named_by name) (stream side (state_in B.view.modules s self.now)).modules }
+    {
+        is_built(name) && B::count(&self.end(side).stack) == 0
+    }
+
     /// What a call that isn't refused at once is refused for after all else: what the state says.
     pub fn refused_by_state<B: Stacks<Stack = S>>(
         &self,
@@ -308,8 +315,12 @@ impl<S: Drop> Streams<S> {
             }
             Event::Ioctl { .. } => unless(self.end(caller.side).head.is_idle(), Refusal::Eagain),
             Event::IoctlResult { number } => self.end(caller.side).head.result_refusal(*number),
-            Event::Push { name } => unless(is_built(*name), Refusal::Einval),
-            Event::Pop | Event::Look => Some(Refusal::Einval),
+            Event::Push { name } => {
+                unless(self.may_push::<B>(caller.side, *name), Refusal::Einval)
+            }
+            Event::Pop | Event::Look => {
+                unless(self.top::<B>(caller.side).is_some(), Refusal::Einval)
+            }
             Event::Unlock | Event::Shut | Event::Flush { .. } => None,
             Event::Mode { .. } | Event::Nread | Event::Signals => None,
         }

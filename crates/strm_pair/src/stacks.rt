@@ -1,7 +1,7 @@
 //! The modules of a side's stream, beside a store (streamio(7I): I_PUSH, I_POP, I_LOOK; STREAMS Programming Guide, "Modules"). Places count
 //! from 1 for the module on top.
 
-ghost use Rattle.std.specs.Prelude.{ℕ, ◌≡◌, ◌<◌, ◌≤◌, ◌-◌, true, false, [], length, slice_index_or, HoldsAt, None};
+ghost use Rattle.std.specs.Prelude.{ℕ, ◌≡◌, ◌<◌, ◌≤◌, ◌+◌, ◌-◌, true, false, [], ◌∷◌, length, slice_index_or, HoldsAt, IfSome, MatchOption, None, Some};
 ghost use Rattle.std.specs.Bool.{OnTrue};
 ghost use Rattle.strm_types.specs.declared.limits.TheConstants.{BANDS, STOP_BLOCKS};
 ghost use Rattle.strm_types.specs.declared.spots.Asks.TheVariants.{Empty};
@@ -11,11 +11,12 @@ ghost use Rattle.strm_types.specs.Deliver.{tallied};
 ghost use Rattle.strm_types.specs.Earlier.{places_of};
 ghost use Rattle.strm_types.specs.ModuleQueues.{at_place, can_pass, full_at, messages_at, place_before, place_past, queue_changed, waits_past};
 ghost use Rattle.strm_types.specs.Modules.{act_among, change_among, put_among, top_name};
+ghost use Rattle.strm_types.specs.Pushes.{may_stand, named_by};
 ghost use Rattle.strm_types.specs.Queue.{bytes_of, count_of};
 ghost use Rattle.strm_types.specs.Refused.{none_waits_up};
 ghost use Rattle.strm_types.specs.Service.{end_relieves, has_more, turn_ended};
 ghost use Rattle.strm_types.specs.Stacked.{module_asks, module_name, module_puts, module_queue, module_serves, with_module_queue};
-ghost use Rattle.strm_blocks.specs.Blocks.{StoreValue, in_hand};
+ghost use Rattle.strm_blocks.specs.Blocks.{StoreValue, in_hand, list_at};
 ghost use Rattle.strm_msg.specs.Messages.{IsChain};
 ghost use Rattle.strm_frame.specs.Hands.{AreIn, CanPut, Handles, Hands, HasRoom, OnlyOwn, SamePool, Spends};
 ghost use Rattle.strm_frame.specs.Outboxes.{AreChains, cost_of, message_in, parcels_in, sent_of, times_sent};
@@ -24,11 +25,20 @@ ghost use Rattle.strm_frame.specs.Stacks.{IsPlace};
 ghost use Rattle.strm_ldterm.specs.Bounds.{turn_cost};
 ghost use Rattle.strm_ldterm.specs.Served.{IsServed};
 ghost use Rattle.strm_pair.specs.Streams.{View};
+ghost use Rattle.strm_pair.specs.Taken.{TookNone, TookTop};
 
+use arrayvec::ArrayVec;
 use strm_blocks::{Blocks, InHand, TableStore};
 use strm_frame::{Acts, Served, Stream, TurnEnd};
 use strm_ldterm::Ldterm;
-use strm_types::{Asks, Band, Fates, ModuleName, Place, Spot, Way};
+use strm_types::{Asks, Band, Fates, ModuleName, Note, Place, Rule, Side, Spot, Way};
+
+/// A module that was taken off a stack: its name, and which queues before its own have room again.
+#[derive(Drop)]
+pub struct Taken {
+    pub name: ModuleName,
+    pub notes: ArrayVec<Note, 4>,
+}
 
 /// A store with the stacks of modules whose messages stand in it. A stack's type is known where the store's is, and nowhere
 /// else, so that its size is looked into there alone.
@@ -204,6 +214,35 @@ pub trait Stacks: Blocks {
         ensures held { view.IsHeld (Self.value store.now) stack.new }
         ensures owns { (k : ℕ) → view.owns stack.new k ≡ view.owns stack.old k }
         ensures keeps { (i : ℕ) → view.keeps stack.new i ≡ view.keeps stack.old i };
+
+    /// Takes the module on top off its stack, which keeps nothing in hand: what stands on the queues and in the line of the
+    /// module goes by a rule. `None` where no module stands (streamio(7I): I_POP; close(2)).
+    fn take_top(
+        stack: &mut Self::Stack,
+        store: &mut Self,
+        side: Side,
+        rule: Rule,
+        told: &mut Fates,
+    ) -> Option<Taken>
+        requires held { view.IsHeld (Self.value store.old) stack.old }
+        requires rests { (i : ℕ) → view.keeps stack.old i ≡ 0 }
+        ensures { MatchOption result
+            (TookNone view (Self.value store.old) (Self.value store.new) stack.old stack.new told.old told.new)
+            (λ taken. TookTop view side rule (Self.value store.old) (Self.value store.new) stack.old stack.new told.old told.new taken) };
+
+    /// Pushes a module on top of a stack, as its name makes it: one that may stand there (streamio(7I): I_PUSH). The queues of the
+    /// stack stand on two lists, behind those of its stream's ends, which start from a number on.
+    fn push(stack: &mut Self::Stack, store: &Self, name: ModuleName, first: usize)
+        requires small { first ≤ 4 }
+        requires may_stand { may_stand (named_by (Some name)) (view.modules (Self.value store.now) stack.old) ≡ true }
+        requires held { view.IsHeld (Self.value store.now) stack.old }
+        requires owned { (k : ℕ) → 0 < view.owns stack.old k → (first + 2 ≤ k) × (k < first + 4) }
+        requires spare { (k : ℕ) → first + 2 ≤ k → k < first + 4 → view.owns stack.old k ≡ 0 → list_at (Self.value store.now) k ≡ [] }
+        ensures modules { IfSome (named_by (Some name)) (λ p. view.modules (Self.value store.now) stack.new ≡ p ∷ view.modules (Self.value store.now) stack.old) }
+        ensures held { view.IsHeld (Self.value store.now) stack.new }
+        ensures owned { (k : ℕ) → 0 < view.owns stack.new k → (first + 2 ≤ k) × (k < first + 4) }
+        ensures spare { (k : ℕ) → first + 2 ≤ k → k < first + 4 → view.owns stack.new k ≡ 0 → list_at (Self.value store.now) k ≡ [] }
+        ensures keeps { (i : ℕ) → view.keeps stack.new i ≡ view.keeps stack.old i };
 }
 
 impl Stacks for TableStore {
@@ -319,5 +358,30 @@ impl Stacks for TableStore {
         took: bool,
     ) -> TurnEnd {
         stack.end_turn(store, at, way, took)
+    }
+
+    fn take_top(
+        stack: &mut Stream<Ldterm<InHand>>,
+        store: &mut TableStore,
+        side: Side,
+        rule: Rule,
+        told: &mut Fates,
+    ) -> Option<Taken> {
+        let name = stack.look::<TableStore>()?;
+        let notes = stack.clear_top(store, side, rule, told);
+        stack.pop();
+        Some(Taken { name, notes })
+    }
+
+    // Where it may stand, it is an ldterm, and nothing stands there.
+    fn push(
+        stack: &mut Stream<Ldterm<InHand>>,
+        store: &TableStore,
+        name: ModuleName,
+        first: usize,
+    ) {
+        let _ = store;
+        let _ = name;
+        let _ = stack.push::<TableStore>(Ldterm::new(first + 2, first + 3));
     }
 }

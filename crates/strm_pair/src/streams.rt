@@ -186,7 +186,9 @@ impl<S: Drop> Streams<S> {
             Event::OpenSlave => self.open_slave(store),
             Event::Shut => self.shut(store, side, told),
             Event::Flush { what, band } => self.flush(store, side, *what, *band, told),
-            Event::Push { .. } | Event::Pop | Event::Look => Answer::Done,
+            Event::Push { name } => self.push(store, side, *name, told),
+            Event::Pop => self.pop(store, side, told),
+            Event::Look => self.look::<B>(side),
             Event::Write { bytes } => Answer::Count(self.write(store, side, bytes, told)),
             Event::Read { n } => {
                 self.read(store, side, *n, out, told);

@@ -1,0 +1,130 @@
+-- A head that is told its read mode, and what stands on the stream beside it.
+use Rattle.std.proofs.Common.{ℕ, suc, ◌≡◌, ◌≤◌, Bool, true, false, cond, List, [], ◌∷◌, refl, sym, ap, ◌∙◌, arith}
+use Rattle.std.proofs.lemmas.Bool.Decides.{nat_tests}
+use Rattle.std.specs.Prelude.{Option, None, Some, ◌&&◌, ◌==◌, not, nat_lt, length}
+use Rattle.strm_types.specs.declared.limits.TheConstants.{MODULES}
+use Rattle.strm_types.specs.declared.modes.ReadMode.{ReadMode}
+use Rattle.strm_types.specs.declared.names.ModuleName.{ModuleName}
+use Rattle.strm_types.specs.declared.names.ModuleName.TheVariants as names
+use Rattle.strm_types.specs.declared.names.Side.{Side}
+use Rattle.strm_types.specs.declared.names.Side.TheVariants.{Master, Slave}
+use Rattle.strm_types.specs.declared.names.Way.TheVariants.{Up}
+use Rattle.strm_types.specs.declared.rules.Rule.TheVariants.{EndClosed}
+use Rattle.strm_types.specs.Deliver.{Carried, Fate, Goes}
+use Rattle.strm_types.specs.Heads.{with_options}
+use Rattle.strm_types.specs.Ldterms.{new_ldterm}
+use Rattle.strm_types.specs.Message.{cells_of}
+use Rattle.strm_types.specs.Names.{direction_at, driver_of, enable_if, is_open, other}
+use Rattle.strm_types.specs.Options.{options_in}
+use Rattle.strm_types.specs.Pushes.{head_above, let_come, may_stand, mode_message, mode_number, mode_on_push, mode_put, named_by, pushed_named, with_modules}
+use Rattle.strm_types.specs.Queue.{is_none_left}
+use Rattle.strm_types.specs.Stacked.{Module}
+use Rattle.strm_types.specs.State.{State, stream, with_stream}
+use Rattle.strm_types.proofs.FlushDelivered.{carries, went_on}
+
+-- what it does at a head that is open, and at one that isn't
+abbrev told_mode : Bool → Side → ReadMode → State ℕ → Carried ℕ (State ℕ)
+told_mode true side mode s =
+    let above = stream side s in
+    record { state = with_stream side (record above { head = with_options (options_in (mode_number mode ∷ [])) above.head }) s; gone = [] }
+told_mode false side mode s = record { state = s; gone = Goes (direction_at Up side) EndClosed (cells_of {C = ℕ} (mode_message mode)) ∷ [] }
+
+puts-mode : (side : Side) (mode : ReadMode) (s : State ℕ) → mode_put side (Some mode) s ≡ told_mode (is_open (stream side s).opened) side mode s
+puts-mode Master mode s = carries 15 (record { to = head_above Master; message = mode_message mode }) s ∙ by (is_open s.master.opened)
+  where
+    by : (opened : Bool) → went_on 15 (cond opened
+        (record { state = with_stream Master (record s.master { head = with_options (options_in (mode_number mode ∷ [])) s.master.head }) s; sent = []; gone = [] })
+        (record { state = s; sent = []; gone = Goes (direction_at Up Master) EndClosed (cells_of {C = ℕ} (mode_message mode)) ∷ [] })) ≡ told_mode opened Master mode s
+    by true = refl
+    by false = refl
+puts-mode Slave mode s = carries 15 (record { to = head_above Slave; message = mode_message mode }) s ∙ by (is_open s.slave.opened)
+  where
+    by : (opened : Bool) → went_on 15 (cond opened
+        (record { state = with_stream Slave (record s.slave { head = with_options (options_in (mode_number mode ∷ [])) s.slave.head }) s; sent = []; gone = [] })
+        (record { state = s; sent = []; gone = Goes (direction_at Up Slave) EndClosed (cells_of {C = ℕ} (mode_message mode)) ∷ [] })) ≡ told_mode opened Slave mode s
+    by true = refl
+    by false = refl
+
+-- The modules stay, and it is the same with others.
+told-stays : (opened : Bool) (side : Side) (mode : ReadMode) (s : State ℕ) → (stream side (told_mode opened side mode s).state).modules ≡ (stream side s).modules
+told-stays true Master mode s = refl
+told-stays true Slave mode s = refl
+told-stays false side mode s = refl
+
+pub modules-stay : (side : Side) (mode : Option ReadMode) (s : State ℕ) → (stream side (mode_put side mode s).state).modules ≡ (stream side s).modules
+modules-stay side None s = refl
+modules-stay side (Some mode) s = ap (λ (t : Carried ℕ (State ℕ)). (stream side t.state).modules) (puts-mode side mode s) ∙ told-stays (is_open (stream side s).opened) side mode s
+
+-- the same with these modules
+abbrev among : Side → List (Module ℕ) → Carried ℕ (State ℕ) → Carried ℕ (State ℕ)
+among side ms t = record { state = with_modules side ms t.state; gone = t.gone }
+
+told-among : (opened : Bool) (side : Side) (mode : ReadMode) (ms : List (Module ℕ)) (s : State ℕ) → told_mode opened side mode (with_modules side ms s) ≡ among side ms (told_mode opened side mode s)
+told-among true Master mode ms s = refl
+told-among true Slave mode ms s = refl
+told-among false side mode ms s = refl
+
+opened-same : (side : Side) (ms : List (Module ℕ)) (s : State ℕ) → is_open (stream side (with_modules side ms s)).opened ≡ is_open (stream side s).opened
+opened-same Master ms s = refl
+opened-same Slave ms s = refl
+
+mode-among : (side : Side) (mode : Option ReadMode) (ms : List (Module ℕ)) (s : State ℕ) → mode_put side mode (with_modules side ms s) ≡ among side ms (mode_put side mode s)
+mode-among side None ms s = refl
+mode-among side (Some mode) ms s =
+    puts-mode side mode (with_modules side ms s)
+    ∙ ap (λ opened. told_mode opened side mode (with_modules side ms s)) (opened-same side ms s)
+    ∙ told-among (is_open (stream side s).opened) side mode ms s
+    ∙ ap (among side ms) (sym (puts-mode side mode s))
+
+no-and : (b : Bool) → (b && false) ≡ true → 1 ≤ 0
+no-and true is = absurd (cc)
+no-and false is = absurd (cc)
+
+-- where ldterm may stand, no module stands
+pub bare : (ms : List (Module ℕ)) → may_stand (named_by (Some names.Ldterm)) ms ≡ true → ms ≡ []
+bare [] may = refl
+bare (p ∷ ms) may = absurd (let no = no-and (nat_lt (length (p ∷ ms)) MODULES) may in omega (arith, no))
+
+some-none : (n : ℕ) → (suc n == 0) ≡ false
+some-none n = grind (arith, nat_tests)
+
+-- An ldterm may stand where no module does.
+pub may-bare : (name : Option ModuleName) (ms : List (Module ℕ)) → may_stand {C = ℕ} (named_by name) [] ≡ true → (length ms == 0) ≡ may_stand (named_by name) ms
+may-bare None ms built = absurd (cc)
+may-bare (Some names.Ptem) ms built = absurd (cc)
+may-bare (Some names.Pckt) ms built = absurd (cc)
+may-bare (Some names.Ldterm) [] built = refl
+may-bare (Some names.Ldterm) (p ∷ ms) built = some-none (length ms) ∙ by (nat_lt (length (p ∷ ms)) MODULES)
+  where
+    by : (b : Bool) → false ≡ (b && false)
+    by true = refl
+    by false = refl
+
+-- what comes before its read queue is what the other side's driver has
+abbrev pub driver_comes : Side → State ℕ → State ℕ
+driver_comes side s = record s { enabled = enable_if (not (is_none_left (stream (other side) s).driver.queue.messages)) (driver_of (other side)) s.enabled }
+
+comes : (side : Side) (s : State ℕ) → let_come true side (with_modules side (new_ldterm ∷ []) s) ≡ driver_comes side (with_modules side (new_ldterm ∷ []) s)
+comes Master s = refl
+comes Slave s = refl
+
+abbrev led : List (Fate ℕ) → State ℕ → Carried ℕ (State ℕ)
+led gone s = record { state = s; gone = gone }
+
+abbrev or_new : Option (Module ℕ) → Module ℕ
+or_new None = new_ldterm
+or_new (Some p) = p
+
+-- A module is pushed: the head may be told its mode before it stands there.
+pub pushed-is : (side : Side) (name : ModuleName) (p : Module ℕ) (s : State ℕ) → named_by (Some name) ≡ Some p → may_stand (named_by (Some name)) (stream side s).modules ≡ true
+    → let t = mode_put side (mode_on_push name) s in pushed_named side (named_by (Some name)) s ≡ record { state = driver_comes side (with_modules side (p ∷ (stream side t.state).modules) t.state); gone = t.gone }
+pushed-is side names.Ptem p s is may = absurd (cc)
+pushed-is side names.Pckt p s is may = absurd (cc)
+pushed-is side names.Ldterm p s is may =
+    let none = bare (stream side s).modules may in
+    let t = mode_put side (mode_on_push names.Ldterm) s in
+    ap (λ (u : Carried ℕ (State ℕ)). led u.gone (let_come true side u.state)) (mode-among side (mode_on_push names.Ldterm) (new_ldterm ∷ (stream side s).modules) s)
+    ∙ ap (λ ms. led t.gone (let_come true side (with_modules side (new_ldterm ∷ ms) t.state))) none
+    ∙ ap (led t.gone) (comes side t.state)
+    ∙ ap (λ ms. led t.gone (driver_comes side (with_modules side (new_ldterm ∷ ms) t.state))) (sym (modules-stay side (mode_on_push names.Ldterm) s ∙ none))
+    ∙ ap (λ q. led t.gone (driver_comes side (with_modules side (q ∷ (stream side t.state).modules) t.state))) (ap or_new is)

@@ -1,0 +1,54 @@
+-- A module that is put on a side's stack.
+use Rattle.std.proofs.Common.{ℕ, ◌≡◌, ◌≤◌, ◌<◌, ◌+◌, [], ◌∷◌, ap}
+use Rattle.std.specs.Prelude.{Option, None, Some, IfSome}
+use Rattle.strm_types.specs.declared.names.Side.{Side}
+use Rattle.strm_types.specs.declared.names.Side.TheVariants.{Master, Slave}
+use Rattle.strm_types.specs.Pushes.{with_modules}
+use Rattle.strm_types.specs.Stacked.{Module}
+use Rattle.strm_types.specs.State.{stream}
+use Rattle.strm_blocks.specs.Blocks.{StoreValue, list_at}
+use Rattle.strm_pair.specs.declared.ends.End.{End}
+use Rattle.strm_pair.specs.declared.streams.Streams.{Streams}
+use Rattle.strm_pair.specs.Fitting.{AreReady, Fits}
+use Rattle.strm_pair.specs.Framing.{state_with, stream_with}
+use Rattle.strm_pair.specs.Pairs.{state_in, end_at, with_end, AreHeld}
+use Rattle.strm_pair.specs.Streams.{View, stream_in, IsSide}
+
+module _ {S : Type 0} (view : View S) (s : StoreValue) where
+  fits-side : (first : ℕ) (e : End S) → IsSide view s first e → Fits view s first e
+  fits-side first e is = record {
+    head_list = is.head_list;
+    driver_list = is.driver_list;
+    head = is.head;
+    driver = is.driver;
+    stack = is.stack;
+    owned = is.owned;
+    spare = is.spare;
+  }
+
+  fits-put : (first : ℕ) (e : End S) (y : S) → IsSide view s first e → view.IsHeld s y → ((k : ℕ) → 0 < view.owns y k → (first + 2 ≤ k) × (k < first + 4)) → ((k : ℕ) → first + 2 ≤ k → k < first + 4 → view.owns y k ≡ 0 → list_at s k ≡ []) → Fits view s first (record e { stack = y })
+  fits-put first e y is held owned spare = record {
+    head_list = is.head_list;
+    driver_list = is.driver_list;
+    head = is.head;
+    driver = is.driver;
+    stack = held;
+    owned = owned;
+    spare = spare;
+  }
+
+  pub ready-held : (p : Streams S) → AreHeld view s p → AreReady view s p
+  ready-held p held = record { hand = held.hand; master = fits-side 0 p.master held.beside.master; slave = fits-side 4 p.slave held.beside.slave }
+
+  pub ready-master : (p : Streams S) (y : S) → AreHeld view s p → view.IsHeld s y → ((k : ℕ) → 0 < view.owns y k → (0 + 2 ≤ k) × (k < 0 + 4)) → ((k : ℕ) → 0 + 2 ≤ k → k < 0 + 4 → view.owns y k ≡ 0 → list_at s k ≡ []) → AreReady view s (record p { master = record p.master { stack = y } })
+  ready-master p y held fits owned spare = record { hand = held.hand; master = fits-put 0 p.master y held.beside.master fits owned spare; slave = fits-side 4 p.slave held.beside.slave }
+
+  pub ready-slave : (p : Streams S) (y : S) → AreHeld view s p → view.IsHeld s y → ((k : ℕ) → 0 < view.owns y k → (4 + 2 ≤ k) × (k < 4 + 4)) → ((k : ℕ) → 4 + 2 ≤ k → k < 4 + 4 → view.owns y k ≡ 0 → list_at s k ≡ []) → AreReady view s (record p { slave = record p.slave { stack = y } })
+  ready-slave p y held fits owned spare = record { hand = held.hand; master = fits-side 0 p.master held.beside.master; slave = fits-put 4 p.slave y held.beside.slave fits owned spare }
+
+  -- what the streams stand for with it
+  pub put-state : (p : Streams S) (side : Side) (y : S) (o : Option (Module ℕ)) → IfSome o (λ q. view.modules s y ≡ q ∷ view.modules s (end_at side p).stack)
+      → IfSome o (λ q. state_in view.modules s (with_end side (record (end_at side p) { stack = y }) p) ≡ with_modules side (q ∷ (stream side (state_in view.modules s p)).modules) (state_in view.modules s p))
+  put-state p side y None is = tt
+  put-state p Master y (Some q) is = ap (λ ms. state_with p (stream_with s p.master ms) (stream_in view.modules s p.slave)) is
+  put-state p Slave y (Some q) is = ap (λ ms. state_with p (stream_in view.modules s p.master) (stream_with s p.slave ms)) is

@@ -1,0 +1,218 @@
+-- The module on top of a side's stream, taken off it.
+use Rattle.std.proofs.Common.{ℕ, zero, suc, ◌≡◌, ◌≤◌, ◌<◌, ◌+◌, List, [], ◌∷◌, ◌++◌, length, refl, sym, ap, subst, ◌∙◌, arith}
+use Rattle.std.specs.Prelude.{None, Some}
+use Rattle.strm_types.specs.declared.names.QueueName.{QueueName}
+use Rattle.strm_types.specs.declared.names.Side.{Side}
+use Rattle.strm_types.specs.declared.names.Side.TheVariants.{Master, Slave}
+use Rattle.strm_types.specs.declared.rules.Fates.{Fates}
+use Rattle.strm_types.specs.declared.rules.Rule.{Rule}
+use Rattle.strm_types.specs.declared.spots.Note.{Note}
+use Rattle.strm_types.specs.Deliver.{Carried, Fate, counted_with, tallied}
+use Rattle.strm_types.specs.Modules.{top_name, without_module}
+use Rattle.strm_types.specs.Names.{place_of}
+use Rattle.strm_types.specs.Pushes.{all_taken, top_taken, with_modules}
+use Rattle.strm_types.specs.Puts.{earlier_at, noted}
+use Rattle.strm_types.specs.Stacked.{Module, module_name}
+use Rattle.strm_types.specs.State.{State, stream}
+use Rattle.strm_blocks.specs.Blocks.{StoreValue, list_at}
+use Rattle.strm_queue.specs.Stored.{queue_in, HoldsReadable}
+use Rattle.strm_queue.proofs.Placed.{ready-same}
+use Rattle.strm_pair.specs.declared.ends.End.{End}
+use Rattle.strm_pair.specs.declared.stacks.Taken.{Taken}
+use Rattle.strm_pair.specs.declared.streams.Streams.{Streams}
+use Rattle.strm_pair.specs.Framing.{stays-master, stays-slave, still}
+use Rattle.strm_pair.specs.Pairs.{state_in, end_at, with_end, AreBeside, AreHeld, kept_by}
+use Rattle.strm_pair.specs.Streams.{View, stream_in, IsSide}
+use Rattle.strm_pair.specs.Taken.{TookNone, TookTop, WithoutTop, let_go_of}
+use Rattle.strm_pair.proofs.Sides.{both, queue-same, side-stays, stream-stays, stream_of}
+
+-- what was let go first, and then the rest
+pub tallied-both : (a b : List (Fate ℕ)) (f : Fates) → tallied (a ++ b) f ≡ tallied b (tallied a f)
+tallied-both [] b f = refl
+tallied-both (x ∷ a) b f = tallied-both a b (counted_with x f)
+
+zero-if : (n : ℕ) → (0 < n → 1 ≤ 0) → n ≡ 0
+zero-if zero never = refl
+zero-if (suc n) never = absurd (let one : 0 < suc n = omega arith in omega (arith, never one))
+
+module _ {S : Type 0} (view : View S) (s t : StoreValue) where
+  module _ (first : ℕ) (e : End S) (is : IsSide view s first e) where
+    -- a stack owns no list but its two
+    pub unowned-below : (k : ℕ) → k < first + 2 → view.owns e.stack k ≡ 0
+    unowned-below k low = zero-if (view.owns e.stack k) (λ some. let own = is.owned k some in omega (arith, low, own.0))
+
+    pub unowned-beyond : (k : ℕ) → first + 4 ≤ k → view.owns e.stack k ≡ 0
+    unowned-beyond k high = zero-if (view.owns e.stack k) (λ some. let own = is.owned k some in omega (arith, high, own.1))
+
+    module _ (side : Side) (rule : Rule) (told told' : Fates) (taken : Taken) (y : S) (took : TookTop view side rule s t e.stack y told told' taken) where
+      head-beside : list_at t e.head.queue.list ≡ list_at s e.head.queue.list
+      head-beside = took.others e.head.queue.list (unowned-below e.head.queue.list (omega (arith, is.head_list)))
+
+      driver-beside : list_at t e.driver.list ≡ list_at s e.driver.list
+      driver-beside = took.others e.driver.list (unowned-below e.driver.list (omega (arith, is.driver_list)))
+
+      took-spare : (k : ℕ) → first + 2 ≤ k → k < first + 4 → view.owns y k ≡ 0 → list_at t k ≡ []
+      took-spare k low high none = by (view.owns e.stack k) refl
+        where
+          by : (n : ℕ) → view.owns e.stack k ≡ n → list_at t k ≡ []
+          by zero was = took.others k was ∙ is.spare k low high was
+          by (suc n) was = took.emptied k (omega (arith, was)) none
+
+      pub took-side : IsSide view t first (record e { stack = y })
+      took-side = record {
+        head_list = is.head_list;
+        driver_list = is.driver_list;
+        head = record { ready = ready-same s t e.head.queue head-beside is.head.ready; readable = subst HoldsReadable (sym head-beside) is.head.readable };
+        driver = ready-same s t e.driver driver-beside is.driver;
+        stack = took.held;
+        owned = λ k some. is.owned k (omega (arith, took.owns k, some));
+        spare = took-spare;
+        no_module = λ u. absurd (let none : took.top ∷ took.rest ≡ [] = sym took.was ∙ is.no_module s in cc);
+        unowned = λ k. omega (arith, took.owns k, is.unowned k);
+      }
+
+      pub took-stream : stream_in view.modules t (record e { stack = y }) ≡ record (stream_in view.modules s e) { modules = took.rest }
+      took-stream =
+          ap (λ h. stream_of e h (view.modules t y) (queue_in t e.driver)) (queue-same s t e.head.queue head-beside)
+          ∙ ap (λ ms. stream_of e (queue_in s e.head.queue) ms (queue_in t e.driver)) took.stays
+          ∙ ap (λ d. stream_of e (queue_in s e.head.queue) took.rest d) (queue-same s t e.driver driver-beside)
+
+  module _ (p : Streams S) (beside : AreBeside view s p) (rule : Rule) (told told' : Fates) (taken : Taken) where
+    took-beside : (side : Side) (y : S) → TookTop view side rule s t (end_at side p).stack y told told' taken → AreBeside view t (with_end side (record (end_at side p) { stack = y }) p)
+    took-beside Master y took = record {
+      master = took-side 0 p.master beside.master Master rule told told' taken y took;
+      slave = side-stays view s t 4 p.slave beside.slave (stays-slave view s t p (still s t (kept_by view p) took.hand.hand took.hand.mblks took.hand.dblks)) (λ k low high. took.others k (unowned-beyond 0 p.master beside.master k low));
+    }
+    took-beside Slave y took = record {
+      master = side-stays view s t 0 p.master beside.master (stays-master view s t p (still s t (kept_by view p) took.hand.hand took.hand.mblks took.hand.dblks)) (λ k low high. took.others k (unowned-below 4 p.slave beside.slave k (omega (arith, high))));
+      slave = took-side 4 p.slave beside.slave Slave rule told told' taken y took;
+    }
+
+    took-state : (side : Side) (y : S) (took : TookTop view side rule s t (end_at side p).stack y told told' taken) → state_in view.modules t (with_end side (record (end_at side p) { stack = y }) p) ≡ with_modules side took.rest (state_in view.modules s p)
+    took-state Master y took =
+        both p (stream_in view.modules t (record p.master { stack = y })) (record (stream_in view.modules s p.master) { modules = took.rest }) (stream_in view.modules t p.slave) (stream_in view.modules s p.slave)
+        (took-stream 0 p.master beside.master Master rule told told' taken y took)
+        (stream-stays view s t 4 p.slave beside.slave (stays-slave view s t p (still s t (kept_by view p) took.hand.hand took.hand.mblks took.hand.dblks)) (λ k low high. took.others k (unowned-beyond 0 p.master beside.master k low)))
+    took-state Slave y took =
+        both p (stream_in view.modules t p.master) (stream_in view.modules s p.master) (stream_in view.modules t (record p.slave { stack = y })) (record (stream_in view.modules s p.slave) { modules = took.rest })
+        (stream-stays view s t 0 p.master beside.master (stays-master view s t p (still s t (kept_by view p) took.hand.hand took.hand.mblks took.hand.dblks)) (λ k low high. took.others k (unowned-below 4 p.slave beside.slave k (omega (arith, high)))))
+        (took-stream 4 p.slave beside.slave Slave rule told told' taken y took)
+
+-- the modules of a side, as its stack stands for them
+pub modules-are : {S : Type 0} (view : View S) (s : StoreValue) (p : Streams S) (side : Side) → (stream side (state_in view.modules s p)).modules ≡ view.modules s (end_at side p).stack
+modules-are view s p Master = refl
+modules-are view s p Slave = refl
+
+-- the same queues are enabled where only a stack changed
+same-enabled : {S : Type 0} (p : Streams S) (side : Side) (e : End S) → (with_end side e p).enabled ≡ p.enabled
+same-enabled p Master e = refl
+same-enabled p Slave e = refl
+
+pub enabled-stays : {S : Type 0} (p q : Streams S) (side : Side) → q ≡ with_end side (record (end_at side p) { stack = (end_at side q).stack }) p → q.enabled ≡ p.enabled
+enabled-stays p q side same = ap (λ (r : Streams _). r.enabled) same ∙ same-enabled p side (record (end_at side p) { stack = (end_at side q).stack })
+
+-- another order of enabled queues
+abbrev with_enabled : {S : Type 0} → List QueueName → Streams S → Streams S
+with_enabled names p = record p { enabled = names }
+
+enabled-beside : {S : Type 0} (view : View S) (t : StoreValue) (names : List QueueName) (p : Streams S) → AreBeside view t p → AreBeside view t (with_enabled names p)
+enabled-beside view t names p beside = record { master = beside.master; slave = beside.slave }
+
+same-stack : {S : Type 0} (p : Streams S) (side : Side) (y : S) → y ≡ (end_at side p).stack → with_end side (record (end_at side p) { stack = y }) p ≡ p
+same-stack p Master y same = ap (λ x. record p { master = record p.master { stack = x } }) same
+same-stack p Slave y same = ap (λ x. record p { slave = record p.slave { stack = x } }) same
+
+module _ {S : Type 0} (view : View S) (side : Side) (rule : Rule) (s : StoreValue) (p : Streams S) (held : AreHeld view s p) (told : Fates) where
+  -- none stood there
+  nothing-went : view.modules s (end_at side p).stack ≡ [] → WithoutTop view side rule s s p p told told None
+  nothing-went none =
+      let st = state_in view.modules s p in
+      let bare : (stream side st).modules ≡ [] = modules-are view s p side ∙ none in
+      record {
+        name_is = sym (ap (λ ms. top_name module_name ms) bare);
+        state = sym (ap (λ ms. (top_taken rule side ms st).state) bare);
+        tells = sym (ap (λ ms. tallied (top_taken rule side ms st).gone told) bare);
+        held = held;
+        frees = record { mblks = omega arith; dblks = omega arith };
+        pool = record { mblks = refl; dblks = refl };
+      }
+
+  pub none-went : (t : StoreValue) (q : Streams S) (told' : Fates) → q ≡ with_end side (record (end_at side p) { stack = (end_at side q).stack }) p → TookNone view s t (end_at side p).stack (end_at side q).stack told told' → WithoutTop view side rule s t p q told told' None
+  none-went t q told' same took =
+      subst (λ f. WithoutTop view side rule s t p q told f None) (sym took.tells)
+      (subst (λ u. WithoutTop view side rule s u p q told told None) (sym took.store)
+      (subst (λ r. WithoutTop view side rule s s p r told told None) (sym (same ∙ same-stack p side (end_at side q).stack took.stack)) (nothing-went took.none)))
+
+  -- the module on top went, and these queues are enabled behind it
+  pub top-went : (t : StoreValue) (q : Streams S) (told' : Fates) (taken : Taken) (names : List QueueName) → q ≡ with_end side (record (end_at side p) { stack = (end_at side q).stack }) p → TookTop view side rule s t (end_at side p).stack (end_at side q).stack told told' taken
+      → names ≡ without_module side taken.name (noted side (place_of taken.name) (earlier_at side 1 (state_in view.modules s p)) taken.notes.items p.enabled)
+      → WithoutTop view side rule s t p (record q { enabled = names }) told told' (Some taken.name)
+  top-went t q told' taken names same took are =
+      let st = state_in view.modules s p in
+      let y = (end_at side q).stack in
+      let p' = with_end side (record (end_at side p) { stack = y }) p in
+      let these : (stream side st).modules ≡ took.top ∷ took.rest = modules-are view s p side ∙ took.was in
+      let earlier = earlier_at side 1 st in
+      let enabled : names ≡ without_module side (module_name took.top) (noted side (place_of (module_name took.top)) earlier (let_go_of side rule took.top).notes p.enabled) =
+      are ∙ ap (λ n. without_module side n (noted side (place_of n) earlier taken.notes.items p.enabled)) took.name
+      ∙ ap (λ (ns : List Note). without_module side (module_name took.top) (noted side (place_of (module_name took.top)) earlier ns p.enabled)) took.notes in
+      record {
+        name_is = ap (λ n. Some n) took.name ∙ sym (ap (λ ms. top_name module_name ms) these);
+        state =
+            ap (λ (r : Streams S). state_in view.modules t (record r { enabled = names })) same
+            ∙ ap (λ (x : State ℕ). record x { enabled = names }) (took-state view s t p held.beside rule told told' taken side y took)
+            ∙ ap (λ (ns : List QueueName). record (with_modules side took.rest st) { enabled = ns }) enabled
+            ∙ sym (ap (λ ms. (top_taken rule side ms st).state) these);
+        tells = took.tells ∙ sym (ap (λ ms. tallied (top_taken rule side ms st).gone told) these);
+        held = record {
+          hand = took.hand.hand ∙ held.hand;
+          beside = enabled-beside view t names q (subst (AreBeside view t) (sym same) (took-beside view s t p held.beside rule told told' taken side y took));
+        };
+        frees = took.frees;
+        pool = record { mblks = took.hand.mblks; dblks = took.hand.dblks };
+      }
+
+-- what all modules lead to that are taken off, by the one on top and the rest
+abbrev after_top : Rule → Side → State ℕ → Carried ℕ (State ℕ)
+after_top rule side s = top_taken rule side (stream side s).modules s
+
+abbrev after_all : Rule → Side → State ℕ → Carried ℕ (State ℕ)
+after_all rule side s = all_taken rule side (stream side s).modules s
+
+abbrev joined : Rule → Side → List (Fate ℕ) → List (Module ℕ) → State ℕ → Carried ℕ (State ℕ)
+joined rule side gone ms s = record { state = (all_taken rule side ms s).state; gone = gone ++ (all_taken rule side ms s).gone }
+
+rest-stands : (rule : Rule) (side : Side) (p : Module ℕ) (ps : List (Module ℕ)) (s : State ℕ) → (stream side (top_taken rule side (p ∷ ps) s).state).modules ≡ ps
+rest-stands rule Master p ps s = refl
+rest-stands rule Slave p ps s = refl
+
+pub none-taken : (rule : Rule) (side : Side) (s : State ℕ) → length (stream side s).modules ≡ 0 → after_all rule side s ≡ record { state = s; gone = [] }
+none-taken rule side s none = by (stream side s).modules none
+  where
+    by : (ms : List (Module ℕ)) → length ms ≡ 0 → all_taken rule side ms s ≡ record { state = s; gone = [] }
+    by [] none = refl
+    by (p ∷ ps) none = absurd (omega (arith, none))
+
+module _ (rule : Rule) (side : Side) (s t : State ℕ) (is : t ≡ (after_top rule side s).state) (n : ℕ) (many : suc n ≡ length (stream side s).modules) where
+  pub one-less : length (stream side t).modules ≡ n
+  one-less = by (stream side s).modules refl
+    where
+      by : (ms : List (Module ℕ)) → (stream side s).modules ≡ ms → length (stream side t).modules ≡ n
+      by [] none = absurd (omega (arith, many, ap (λ (ms : List (Module ℕ)). length ms) none))
+      by (p ∷ ps) these =
+          let left : (stream side t).modules ≡ ps = ap (λ (x : State ℕ). (stream side x).modules) (is ∙ ap (λ ms. (top_taken rule side ms s).state) these) ∙ rest-stands rule side p ps s in
+          omega (arith, many, ap (λ (ms : List (Module ℕ)). length ms) these, ap (λ (ms : List (Module ℕ)). length ms) left)
+
+  pub all-by-one : after_all rule side s ≡ record { state = (after_all rule side t).state; gone = (after_top rule side s).gone ++ (after_all rule side t).gone }
+  all-by-one = by (stream side s).modules refl
+    where
+      by : (ms : List (Module ℕ)) → (stream side s).modules ≡ ms → after_all rule side s ≡ record { state = (after_all rule side t).state; gone = (after_top rule side s).gone ++ (after_all rule side t).gone }
+      by [] none = absurd (omega (arith, many, ap (λ (ms : List (Module ℕ)). length ms) none))
+      by (p ∷ ps) these =
+          let u = (top_taken rule side (p ∷ ps) s).state in
+          let same : t ≡ u = is ∙ ap (λ ms. (top_taken rule side ms s).state) these in
+          let left : (stream side t).modules ≡ ps = ap (λ (x : State ℕ). (stream side x).modules) same ∙ rest-stands rule side p ps s in
+          ap (λ ms. all_taken rule side ms s) these
+          ∙ ap (joined rule side (top_taken rule side (p ∷ ps) s).gone ps) (sym same)
+          ∙ ap (λ ms. joined rule side (top_taken rule side (p ∷ ps) s).gone ms t) (sym left)
+          ∙ ap (λ ms. joined rule side (top_taken rule side ms s).gone (stream side t).modules t) (sym these)

@@ -1,0 +1,9 @@
+-- All modules that stand there.
+use Rattle.std.proofs.Common.{length, ap, ◌∙◌}
+use Rattle.strm_types.specs.State.{Stream}
+use Rattle.strm_pair.proofs.streams.Streams.clear_modules.Goals as goal
+
+pub take_all-requires-clause-count : goal.take_all-requires-clause-count
+take_all-requires-clause-count g c =
+    let s = g.B.Blocks.value c.args.store.now in
+    c.count-count.ensures s ∙ ap (λ (t : Stream _). length t.modules) (c.end.ensures.stream g.B.Stacks.view.modules s)

@@ -1,0 +1,56 @@
+-- The head is told its mode, the module stands there, and what waits before it may come.
+use Rattle.std.proofs.Common.{ℕ, ◌≡◌, ◌∷◌, ap, sym, subst, ◌∙◌}
+use Rattle.std.specs.Prelude.{Option, Some, IfSome}
+use Rattle.strm_types.specs.Deliver.{Carried, tallied}
+use Rattle.strm_types.specs.Ldterms.{new_ldterm}
+use Rattle.strm_types.specs.Pushes.{may_stand, mode_put, named_by, with_modules}
+use Rattle.strm_types.specs.State.{State, stream}
+use Rattle.strm_pair.specs.declared.streams.Streams.{Streams}
+use Rattle.strm_pair.specs.Fitting.{AreReady}
+use Rattle.strm_pair.specs.Pairs.{state_in}
+use Rattle.strm_pair.proofs.LdtermPushed.{new-named}
+use Rattle.strm_pair.proofs.Modes.{driver_comes, modules-stay, pushed-is}
+use Rattle.strm_pair.proofs.streams.Streams.push.Goals as goal
+
+pub put_on-requires-clause-may_stand : goal.put_on-requires-clause-may_stand
+put_on-requires-clause-may_stand g c =
+    let s = state_in g.B.Stacks.view.modules (g.B.Blocks.value c.args.store.now) c.args.self.now in
+    let named = ap (λ (o : Option _). may_stand (named_by o) (stream c.args.side s).modules) (sym c.in-Some.is) ∙ c.requires.may_stand in
+    ap (λ ms. may_stand (named_by (Some c.in-Some.name)) ms)
+    (ap (λ (x : State ℕ). (stream c.args.side x).modules) c.put_mode.ensures.state ∙ modules-stay c.args.side c.mode_on_push.result s)
+    ∙ named
+
+pub returns-clause-state : goal.returns-clause-state
+returns-clause-state g c =
+    let s = state_in g.B.Stacks.view.modules (g.B.Blocks.value c.args.store.now) c.args.self.now in
+    let t = g.B.Blocks.value c.put_mode.new.store in
+    let u = state_in g.B.Stacks.view.modules t c.put_mode.new.self in
+    let v = state_in g.B.Stacks.view.modules t c.put_on.new.self in
+    let name = c.in-Some.name in
+    let may = ap (λ (o : Option _). may_stand (named_by o) (stream c.args.side s).modules) (sym c.in-Some.is) ∙ c.requires.may_stand in
+    let new = new-named name (stream c.args.side s).modules may in
+    let stands : v ≡ with_modules c.args.side (new_ldterm ∷ (stream c.args.side u).modules) u =
+    subst (λ o. IfSome o (λ p. v ≡ with_modules c.args.side (p ∷ (stream c.args.side u).modules) u)) new c.put_on.ensures.state in
+    let told = c.put_mode.ensures.state ∙ ap (λ m. (mode_put c.args.side m s).state) c.mode_on_push.ensures in
+    rw c.in-Some.is
+    (ap (λ (p : Streams _). state_in g.B.Stacks.view.modules t p) c.come_from_driver.ensures
+    ∙ ap (driver_comes c.args.side) stands
+    ∙ ap (λ (x : State ℕ). driver_comes c.args.side (with_modules c.args.side (new_ldterm ∷ (stream c.args.side x).modules) x)) told
+    ∙ sym (ap (λ (o : Carried ℕ (State ℕ)). o.state) (pushed-is c.args.side name new_ldterm s new may)))
+
+pub returns-clause-told : goal.returns-clause-told
+returns-clause-told g c =
+    let s = state_in g.B.Stacks.view.modules (g.B.Blocks.value c.args.store.now) c.args.self.now in
+    let name = c.in-Some.name in
+    let may = ap (λ (o : Option _). may_stand (named_by o) (stream c.args.side s).modules) (sym c.in-Some.is) ∙ c.requires.may_stand in
+    let new = new-named name (stream c.args.side s).modules may in
+    rw c.in-Some.is
+    (c.put_mode.ensures.told
+    ∙ ap (λ m. tallied (mode_put c.args.side m s).gone c.args.told.now) c.mode_on_push.ensures
+    ∙ sym (ap (λ (o : Carried ℕ (State ℕ)). tallied o.gone c.args.told.now) (pushed-is c.args.side name new_ldterm s new may)))
+
+pub returns-clause-ready : goal.returns-clause-ready
+returns-clause-ready g c =
+    let r = c.put_on.ensures.ready in
+    subst (λ (p : Streams _). AreReady g.B.Stacks.view (g.B.Blocks.value c.put_mode.new.store) p) (sym c.come_from_driver.ensures)
+    (record { hand = r.hand; master = r.master; slave = r.slave })

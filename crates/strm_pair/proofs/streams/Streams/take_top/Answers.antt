@@ -1,0 +1,34 @@
+-- The module on top is taken off its stack, its queues are no longer enabled, and those before it are.
+use Rattle.std.proofs.Common.{◌≡◌, ap, ◌∙◌, arith}
+use Rattle.std.specs.Prelude.{None}
+use Rattle.strm_types.proofs.Alone.{noted-same}
+use Rattle.strm_types.specs.Modules.{without_module}
+use Rattle.strm_types.specs.Puts.{earlier_at, noted}
+use Rattle.strm_types.specs.Names.{place_of}
+use Rattle.strm_pair.specs.Nearest.{earlier_of}
+use Rattle.strm_pair.specs.Pairs.{state_in}
+use Rattle.strm_pair.proofs.Takings.{enabled-stays, none-went, top-went}
+use Rattle.strm_pair.proofs.streams.Streams.take_top.Goals as goal
+
+pub returns-in_err-taken : goal.returns-in_err-taken
+returns-in_err-taken g c =
+    let gone : c.from_residual.result ≡ None = grind arith in
+    let e = c.take_off.ensures in
+    let took = rw c.in_err-taken.was at e.took in
+    rw gone (none-went g.B.Stacks.view c.args.side c.args.rule (g.B.Blocks.value c.args.store.now) c.args.self.now c.requires.held c.args.told.now (g.B.Blocks.value c.take_off.new.store) c.take_off.new.self c.take_off.new.told e.streams took)
+
+pub returns : goal.returns
+returns g c =
+    let s = g.B.Blocks.value c.args.store.now in
+    let p = c.args.self.now in
+    let st = state_in g.B.Stacks.view.modules s p in
+    let e = c.take_off.ensures in
+    let taken = c.in_ok-taken.taken in
+    let took = rw c.in_ok-taken.was at e.took in
+    top-went g.B.Stacks.view c.args.side c.args.rule s p c.requires.held c.args.told.now (g.B.Blocks.value c.take_off.new.store) c.take_off.new.self c.take_off.new.told taken c.forget.new.self e.streams took
+    (c.forget.ensures ∙ ap (without_module c.args.side taken.name)
+    (c.note.ensures
+    ∙ noted-same c.args.side c.place-place.result (earlier_of c.earlier-earlier.result) (earlier_at c.args.side 1 st) (λ way. c.earlier-earlier.ensures s way) c.as_slice.result.now c.take_off.new.self.enabled
+    ∙ ap (λ ns. noted c.args.side c.place-place.result (earlier_at c.args.side 1 st) ns c.take_off.new.self.enabled) c.as_slice.ensures.value
+    ∙ ap (λ pl. noted c.args.side pl (earlier_at c.args.side 1 st) taken.notes.items c.take_off.new.self.enabled) c.place-place.ensures
+    ∙ ap (λ names. noted c.args.side (place_of taken.name) (earlier_at c.args.side 1 st) taken.notes.items names) (enabled-stays p c.take_off.new.self c.args.side e.streams)))

@@ -1,0 +1,278 @@
+//! Modules that are pushed on a side's stream and taken off it (streamio(7I): I_PUSH, I_POP, I_LOOK; close(2)).
+
+ghost use Rattle.std.specs.Prelude.{ℕ, List, ◌≡◌, ◌<◌, ◌∷◌, not, true, MatchOption, IfSome, Some, length};
+ghost use Rattle.strm_types.specs.declared.answers.Answer.TheVariants.{Done};
+ghost use Rattle.strm_types.specs.Calls.{looked};
+ghost use Rattle.strm_types.specs.Deliver.{tallied};
+ghost use Rattle.strm_types.specs.Journal.{answer_len, reply_in};
+ghost use Rattle.strm_types.specs.Kept.{AreIdle};
+ghost use Rattle.strm_types.specs.Pushes.{all_taken, may_stand, mode_behind, mode_number, mode_on_push, mode_put, modules_emptied, named_by, popped, pushed_named, top_on, with_modules};
+ghost use Rattle.strm_types.specs.Names.{driver_of, enable_if, other};
+ghost use Rattle.strm_types.specs.Queue.{is_none_left};
+ghost use Rattle.strm_types.specs.State.{stream};
+ghost use Rattle.strm_frame.specs.Hands.{HasRoom};
+ghost use Rattle.strm_pair.specs.Fitting.{AreReady};
+ghost use Rattle.strm_pair.specs.Parts.{longest_part};
+ghost use Rattle.strm_pair.specs.Taken.{TookNone, TookTop, WithoutTop};
+
+use crate::earlier::note;
+use crate::stacks::{Stacks, Taken};
+use crate::streams::Streams;
+use strm_pty::make;
+use strm_types::{Answer, Fates, ModuleName, MsgKind, ReadMode, Rule, Side, Spot, Way};
+
+// The number of a read mode in an M_SETOPTS: RNORM, RMSGD and RMSGN.
+fn mode_number(mode: ReadMode) -> u8
+    ensures { result ≡ mode_number mode }
+{
+    match mode {
+        ReadMode::ByteStream => 0,
+        ReadMode::MessageDiscard => 1,
+        ReadMode::MessageKeep => 2,
+    }
+}
+
+// The read mode that a head is given where a module of this name is pushed below it: ldterm makes lines.
+fn mode_on_push(name: ModuleName) -> Option<ReadMode>
+    ensures { result ≡ mode_on_push name }
+{
+    match name {
+        ModuleName::Ldterm => Some(ReadMode::MessageKeep),
+        ModuleName::Ptem | ModuleName::Pckt => None,
+    }
+}
+
+// The read mode that a head is given where the module on top, if one stood there, is taken off.
+fn mode_behind(name: Option<ModuleName>) -> Option<ReadMode>
+    ensures { result ≡ mode_behind name }
+{
+    match name {
+        Some(ModuleName::Ldterm) => Some(ReadMode::ByteStream),
+        Some(ModuleName::Ptem | ModuleName::Pckt) | None => None,
+    }
+}
+
+impl<S: Drop> Streams<S> {
+    ghost use Rattle.strm_blocks.specs.Blocks.{StoreValue};
+    ghost use Rattle.strm_pair.specs.Pairs.{state_in, end_at, with_end, AreHeld, SamePool};
+
+    // Takes the module on top off the stack of a side, and changes nothing else of the streams.
+    fn take_off<B: Stacks<Stack = S>>(
+        &mut self,
+        store: &mut B,
+        side: Side,
+        rule: Rule,
+        told: &mut Fates,
+    ) -> Option<Taken>
+        requires held { AreHeld B.view (B.value store.old) self.old }
+        requires idle { AreIdle (state_in B.view.modules (B.value store.old) self.old) }
+        ensures streams { self.new ≡ with_end side (record (end_at side self.old) { stack = (end_at side self.new).stack }) self.old }
+        ensures took { let s = B.value store.old in let t = B.value store.new in
+            let x = (end_at side self.old).stack in let y = (end_at side self.new).stack in
+            MatchOption result (TookNone B.view s t x y told.old told.new) (λ taken. TookTop B.view side rule s t x y told.old told.new taken) }
+    {
+        match side {
+            Side::Master => B::take_top(&mut self.master.stack, store, side, rule, told),
+            Side::Slave => B::take_top(&mut self.slave.stack, store, side, rule, told),
+        }
+    }
+
+    /// Takes the module off that is on top of a side's stream, and tells its name, where one stands there: what stands on its
+    /// queues and in its line goes by a rule, its queues aren't enabled any more, and queues before them have room again where
+    /// that lets a writer go.
+    pub(crate) fn take_top<B: Stacks<Stack = S>>(
+        &mut self,
+        store: &mut B,
+        side: Side,
+        rule: Rule,
+        told: &mut Fates,
+    ) -> Option<ModuleName>
+        requires held { AreHeld B.view (B.value store.old) self.old }
+        requires idle { AreIdle (state_in B.view.modules (B.value store.old) self.old) }
+        ensures { WithoutTop B.view side rule (B.value store.old) (B.value store.new) self.old self.new told.old told.new result }
+    {
+        let earlier = self.earlier::<B>(side, 1);
+        let taken = self.take_off(store, side, rule, told)?;
+        let place = taken.name.place();
+        note(
+            &mut self.enabled,
+            side,
+            place,
+            earlier,
+            taken.notes.as_slice(),
+        );
+        self.enabled.forget(side, taken.name);
+        Some(taken.name)
+    }
+
+    // Takes all modules off a side's stream, which are so many.
+    fn take_all<B: Stacks<Stack = S>>(
+        &mut self,
+        store: &mut B,
+        side: Side,
+        rule: Rule,
+        told: &mut Fates,
+        count: usize,
+    )
+        requires held { AreHeld B.view (B.value store.old) self.old }
+        requires idle { AreIdle (state_in B.view.modules (B.value store.old) self.old) }
+        requires count { count ≡ length (stream side (state_in B.view.modules (B.value store.old) self.old)).modules }
+        ensures state { let s = state_in B.view.modules (B.value store.old) self.old in
+            state_in B.view.modules (B.value store.new) self.new ≡ (all_taken rule side (stream side s).modules s).state }
+        ensures told { let s = state_in B.view.modules (B.value store.old) self.old in
+            told.new ≡ tallied (all_taken rule side (stream side s).modules s).gone told.old }
+        ensures held { AreHeld B.view (B.value store.new) self.new }
+        ensures pool { SamePool (B.value store.old) (B.value store.new) }
+    {
+        if count == 0 {
+            return;
+        }
+        self.take_top(store, side, rule, told);
+        self.take_all(store, side, rule, told, count - 1);
+    }
+
+    /// Takes all modules off a side's stream, from the top: what each has goes by a rule.
+    pub(crate) fn clear_modules<B: Stacks<Stack = S>>(
+        &mut self,
+        store: &mut B,
+        side: Side,
+        rule: Rule,
+        told: &mut Fates,
+    )
+        requires held { AreHeld B.view (B.value store.old) self.old }
+        requires idle { AreIdle (state_in B.view.modules (B.value store.old) self.old) }
+        ensures state { state_in B.view.modules (B.value store.new) self.new
+            ≡ (modules_emptied rule side (state_in B.view.modules (B.value store.old) self.old)).state }
+        ensures told { told.new ≡ tallied (modules_emptied rule side (state_in B.view.modules (B.value store.old) self.old)).gone told.old }
+        ensures held { AreHeld B.view (B.value store.new) self.new }
+        ensures pool { SamePool (B.value store.old) (B.value store.new) }
+    {
+        let count = B::count(&self.end(side).stack);
+        self.take_all(store, side, rule, told, count);
+    }
+
+    // A side's head is told its read mode, where there is one to tell, by an M_SETOPTS that comes up to it.
+    fn put_mode<B: Stacks<Stack = S>>(
+        &mut self,
+        store: &mut B,
+        side: Side,
+        mode: Option<ReadMode>,
+        told: &mut Fates,
+    )
+        requires held { AreHeld B.view (B.value store.old) self.old }
+        requires idle { AreIdle (state_in B.view.modules (B.value store.old) self.old) }
+        requires room { HasRoom (B.value store.old) 1 }
+        ensures state { state_in B.view.modules (B.value store.new) self.new ≡ (mode_put side mode (state_in B.view.modules (B.value store.old) self.old)).state }
+        ensures told { told.new ≡ tallied (mode_put side mode (state_in B.view.modules (B.value store.old) self.old)).gone told.old }
+        ensures held { AreHeld B.view (B.value store.new) self.new }
+        ensures pool { SamePool (B.value store.old) (B.value store.new) }
+    {
+        let Some(mode) = mode else {
+            return;
+        };
+        let message = make(store, MsgKind::Setopts, &[mode_number(mode)]);
+        let head = Spot {
+            side,
+            at: 0,
+            way: Way::Up,
+        };
+        self.deliver_alone(store, head, message, told);
+    }
+
+    /// Pops the module that is on top of a side's stream: what it has goes, and the head is told its read mode. Nothing where
+    /// no module stands (streamio(7I): I_POP).
+    #[inline(never)]
+    pub fn pop<B: Stacks<Stack = S>>(
+        &mut self,
+        store: &mut B,
+        side: Side,
+        told: &mut Fates,
+    ) -> Answer<usize>
+        requires held { AreHeld B.view (B.value store.old) self.old }
+        requires idle { AreIdle (state_in B.view.modules (B.value store.old) self.old) }
+        requires room { HasRoom (B.value store.old) 1 }
+        ensures answer { result ≡ Done }
+        ensures state { state_in B.view.modules (B.value store.new) self.new ≡ (popped side (state_in B.view.modules (B.value store.old) self.old)).state }
+        ensures told { told.new ≡ tallied (popped side (state_in B.view.modules (B.value store.old) self.old)).gone told.old }
+        ensures held { AreHeld B.view (B.value store.new) self.new }
+        ensures pool { SamePool (B.value store.old) (B.value store.new) }
+    {
+        let name = self.take_top(store, side, Rule::ModulePopped, told);
+        self.put_mode(store, side, mode_behind(name), told);
+        Answer::Done
+    }
+
+    /// The name of the module on top of a side's stream, if one stands there.
+    pub(crate) fn top<B: Stacks<Stack = S>>(&self, side: Side) -> Option<ModuleName>
+        ensures { (s : StoreValue) → result ≡ top_on side (state_in B.view.modules s self.now) }
+    {
+        B::look(&self.end(side).stack)
+    }
+
+    /// Tells the name of the module on top of a side's stream (streamio(7I): I_LOOK).
+    pub fn look<B: Stacks<Stack = S>>(&self, side: Side) -> Answer<usize>
+        ensures answer { (s : StoreValue) (bytes : List ℕ) → reply_in result bytes ≡ (looked side (state_in B.view.modules s self.now)).answer }
+        ensures empty { answer_len result ≡ 0 }
+        ensures no_part { longest_part result ≡ 0 }
+    {
+        match self.top::<B>(side) {
+            Some(name) => Answer::Name(name),
+            None => Answer::Done,
+        }
+    }
+
+    // Pushes a module on the stack of a side, as its name makes it: one that may stand there.
+    fn put_on<B: Stacks<Stack = S>>(&mut self, store: &B, side: Side, name: ModuleName)
+        requires held { AreHeld B.view (B.value store.now) self.old }
+        requires may_stand { may_stand (named_by (Some name)) (stream side (state_in B.view.modules (B.value store.now) self.old)).modules ≡ true }
+        ensures state { let s = state_in B.view.modules (B.value store.now) self.old in IfSome (named_by (Some name))
+            (λ p. state_in B.view.modules (B.value store.now) self.new ≡ with_modules side (p ∷ (stream side s).modules) s) }
+        ensures ready { AreReady B.view (B.value store.now) self.new }
+    {
+        match side {
+            Side::Master => B::push(&mut self.master.stack, store, name, 0),
+            Side::Slave => B::push(&mut self.slave.stack, store, name, 4),
+        }
+    }
+
+    // What the other side's driver has may come to the read queue of the only module, which stands behind it.
+    fn come_from_driver<B: Stacks<Stack = S>>(&mut self, store: &B, side: Side)
+        ensures { let s = state_in B.view.modules (B.value store.now) self.old in self.new ≡ record self.old {
+          enabled = enable_if (not (is_none_left (stream (other side) s).driver.queue.messages)) (driver_of (other side)) s.enabled;
+        } }
+    {
+        let other = side.other();
+        let waits = !self.end(other).driver.is_empty(store);
+        self.enabled.enable_if(waits, other.driver());
+    }
+
+    /// Pushes a module on a side's stream, one that may stand there: the head is told its read mode, and what waits before the
+    /// module may come to it (streamio(7I): I_PUSH).
+    #[inline(never)]
+    pub fn push<B: Stacks<Stack = S>>(
+        &mut self,
+        store: &mut B,
+        side: Side,
+        name: Option<ModuleName>,
+        told: &mut Fates,
+    ) -> Answer<usize>
+        requires held { AreHeld B.view (B.value store.old) self.old }
+        requires idle { AreIdle (state_in B.view.modules (B.value store.old) self.old) }
+        requires may_stand { may_stand (named_by name) (stream side (state_in B.view.modules (B.value store.old) self.old)).modules ≡ true }
+        requires room { HasRoom (B.value store.old) 1 }
+        ensures answer { result ≡ Done }
+        ensures state { state_in B.view.modules (B.value store.new) self.new
+            ≡ (pushed_named side (named_by name) (state_in B.view.modules (B.value store.old) self.old)).state }
+        ensures told { told.new ≡ tallied (pushed_named side (named_by name) (state_in B.view.modules (B.value store.old) self.old)).gone told.old }
+        ensures ready { AreReady B.view (B.value store.new) self.new }
+        ensures pool { SamePool (B.value store.old) (B.value store.new) }
+    {
+        let Some(name) = name else {
+            return Answer::Done;
+        };
+        self.put_mode(store, side, mode_on_push(name), told);
+        self.put_on(store, side, name);
+        self.come_from_driver(store, side);
+        Answer::Done
+    }
+}
