@@ -16,7 +16,7 @@ use Rattle.strm_types.specs.Calls.{Request, Reply}
 use Rattle.strm_types.specs.Journal.{reply_in}
 use Rattle.strm_types.specs.Refused.{Free, enough, blocks_asked, or_else, turn_blocks, turn_refused, unless}
 use Rattle.strm_types.specs.Pair.{PairState, call_refused, queue_refused, AddsEntry}
-use Rattle.strm_run.proofs.Stopping.{Accounted, accounted}
+use Rattle.strm_run.proofs.Stopping.{accounted}
 use Rattle.strm_run.specs.ScriptAnswers.{Ran, reply_line, turn_line}
 use Rattle.strm_run.specs.ScriptRun as script
 use Rattle.strm_run.specs.ScriptRun.{Supply, Enough, TooFew, is_enough, PlainPair, Happened, call_refusal, turn_refusal, call_happens, turn_happens, told_of, turn_to, reach, call_of, turn_of, is_enosr, Turns, no_turns, counted, turns_of, by_call, by_flush, by_named, by_turn, by_run, by_open, unanswered, new_plain, next_of, rest_of}

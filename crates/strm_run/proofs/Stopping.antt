@@ -17,7 +17,7 @@ use Rattle.strm_types.specs.Cells.{plain}
 use Rattle.strm_types.specs.Input.{input_begins, is_data, output_passes, passes, stages, stages_done, treats}
 use Rattle.strm_types.specs.Message.{Message}
 use Rattle.strm_types.specs.ModuleQueues.{at_place, messages_at}
-use Rattle.strm_types.specs.ModuleTurns.{Calls, again_at, asked_turn, calls, made_below, moved_by, moved_on, moved_within, place_named, turned_named, turned_there}
+use Rattle.strm_types.specs.ModuleTurns.{Calls, again_at, asked_turn, calls, made_below, moved_by, moved_on, moved_within, place_named, turned_named}
 use Rattle.strm_types.specs.Past.{has_room_past}
 use Rattle.strm_types.specs.Queue.{left_with}
 use Rattle.strm_types.specs.Stacked.{Module, module_asks, module_queue, module_rests, module_serves}
