@@ -46,7 +46,7 @@ idle-on : (side : Side) (s : State ℕ) → AreIdle s → AllByRecursion (λ p. 
 idle-on Master s idle = idle.master
 idle-on Slave s idle = idle.slave
 
-abbrev spot_of : QueueName → ℕ → Spot
+abbrev pub spot_of : QueueName → ℕ → Spot
 spot_of name at = record { side = name.side; at = at; way = name.way }
 
 -- without such a module it is over

@@ -1,0 +1,68 @@
+-- What the first message asks says what becomes of the turn.
+use Rattle.std.proofs.Common.{ℕ, ◌≡◌, length, sym, ap, subst, ◌∙◌, arith}
+use Rattle.std.specs.Prelude.{Some}
+use Rattle.strm_types.specs.declared.answers.Turn.TheVariants.{Blocked}
+use Rattle.strm_types.specs.declared.spots.Asks.TheVariants as asked
+use Rattle.strm_types.specs.ModuleQueues.{at_place}
+use Rattle.strm_types.specs.ModuleTurns.{stayed_at}
+use Rattle.strm_types.specs.Stacked.{module_asks}
+use Rattle.strm_types.specs.State.{State, Stream, stream}
+use Rattle.strm_types.specs.TurnOutcomes.{stayed_put}
+use Rattle.strm_pair.specs.ModuleTurned.{BeginsAs}
+use Rattle.strm_pair.specs.Pairs.{state_in}
+use Rattle.strm_pair.proofs.ModuleTurns.{may-move, spot_of, turned-asks, turned-room, turned-waits, waiting-long}
+use Rattle.strm_pair.proofs.NamedPlaces.{found-low}
+use Rattle.strm_pair.proofs.streams.Streams.begin_module_turn.Goals as goal
+
+pub returns-in-Free-clause-begins : goal.returns-in-Free-clause-begins
+returns-in-Free-clause-begins g c =
+    let s = g.B.Blocks.value c.args.store.now in
+    let st = state_in g.B.Stacks.view.modules s c.args.self.now in
+    let name = c.args.name in
+    let at = c.in-Some.at in
+    let found = sym (c.module_named.ensures s) ∙ c.in-Some.is in
+    let asks = sym c.in-Free.is ∙ c.asks.ensures.asks ∙ ap (λ (t : Stream ℕ). at_place (module_asks name.way) asked.Empty at t.modules) (c.end.ensures.stream g.B.Stacks.view.modules s) in
+    may-move name at st found (λ turn. turned-asks name at asked.Free turn st c.requires.rests found asks)
+
+pub returns-then-has_room_past-clause-begins : goal.returns-then-has_room_past-clause-begins
+returns-then-has_room_past-clause-begins g c =
+    let s = g.B.Blocks.value c.args.store.now in
+    let st = state_in g.B.Stacks.view.modules s c.args.self.now in
+    let name = c.args.name in
+    let at = c.in-Some.at in
+    let band = c.in-Room.band in
+    let found = sym (c.module_named.ensures s) ∙ c.in-Some.is in
+    let asks = sym c.in-Room.is ∙ c.asks.ensures.asks ∙ ap (λ (t : Stream ℕ). at_place (module_asks name.way) asked.Empty at t.modules) (c.end.ensures.stream g.B.Stacks.view.modules s) in
+    let room = sym c.has_room_past.ensures ∙ c.if-has_room_past.true in
+    may-move name at st found (λ turn. turned-asks name at (asked.Room band) turn st c.requires.rests found asks ∙ turned-room name at band turn st room)
+
+pub stay-requires-in-Room-clause-inside : goal.stay-requires-in-Room-clause-inside
+stay-requires-in-Room-clause-inside g c =
+    let s = g.B.Blocks.value c.args.store.now in
+    let st = state_in g.B.Stacks.view.modules s c.args.self.now in
+    (found-low c.args.name.place (stream c.args.name.side st).modules c.in-Some.at (sym (c.module_named.ensures s) ∙ c.in-Some.is)).0
+
+pub stay-requires-in-Room-clause-within : goal.stay-requires-in-Room-clause-within
+stay-requires-in-Room-clause-within g c =
+    let s = g.B.Blocks.value c.args.store.now in
+    let st = state_in g.B.Stacks.view.modules s c.args.self.now in
+    let name = c.args.name in
+    let at = c.in-Some.at in
+    let low = found-low name.place (stream name.side st).modules at (sym (c.module_named.ensures s) ∙ c.in-Some.is) in
+    let long = ap (λ (v : State ℕ). length (stream name.side v).modules) (c.wait_past.ensures.state s) ∙ waiting-long name.side name.way at c.in-Room.band.0 st in
+    omega (arith, low.1, long)
+
+pub returns-else-has_room_past-clause-begins : goal.returns-else-has_room_past-clause-begins
+returns-else-has_room_past-clause-begins g c =
+    let s = g.B.Blocks.value c.args.store.now in
+    let st = state_in g.B.Stacks.view.modules s c.args.self.now in
+    let name = c.args.name in
+    let at = c.in-Some.at in
+    let band = c.in-Room.band in
+    let new = state_in g.B.Stacks.view.modules s c.stay-in-Room.new.self in
+    let found = sym (c.module_named.ensures s) ∙ c.in-Some.is in
+    let asks = sym c.in-Room.is ∙ c.asks.ensures.asks ∙ ap (λ (t : Stream ℕ). at_place (module_asks name.way) asked.Empty at t.modules) (c.end.ensures.stream g.B.Stacks.view.modules s) in
+    let none = sym c.has_room_past.ensures ∙ c.if-has_room_past.false in
+    let behind = c.stay-in-Room.ensures.state ∙ ap (λ (v : State ℕ). (stayed_at Blocked (spot_of name at) v).state) (c.wait_past.ensures.state s) in
+    subst (BeginsAs st new name) (sym c.stay-in-Room.ensures.over)
+    (λ turn. turned-asks name at (asked.Room band) turn st c.requires.rests found asks ∙ turned-waits name at band turn st none ∙ ap (stayed_put Blocked) (sym behind))
