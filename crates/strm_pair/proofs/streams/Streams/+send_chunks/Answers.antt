@@ -73,7 +73,3 @@ returns-clause-told g t c =
     chunks-told c.args.side old chunk (chunks_sent c.args.side (chunks_of (c.args.chunks - 1) rest) mid) c.args.told.now c.send_chunk.new.told c.send_chunks-more.new.told c.send_chunk.ensures.told c.send_chunks-more.ensures.told
     ∙ sym (ap (λ (w : Wrote ℕ). tallied w.gone c.args.told.now) e)
 
--- nothing of a turn is under way behind a chunk
-pub send_chunks-more-requires-clause-idle : goal.send_chunks-more-requires-clause-idle
-send_chunks-more-requires-clause-idle g t c =
-    subst AreIdle (sym c.send_chunk.ensures.state) (delivered-idle (below_head c.args.side) (data_message c.split_at.result.0.now) (state_in g.B.Stacks.view.modules (g.B.Blocks.value c.args.store.now) c.args.self.now) c.requires.idle)
