@@ -72,4 +72,3 @@ returns-clause-told g t c =
     (c.split_at.ensures.front ∙ front-256 _ _ c.min.ensures) (c.split_at.ensures.back ∙ back-256 _ _ c.min.ensures) c.send_chunk.ensures.state in
     chunks-told c.args.side old chunk (chunks_sent c.args.side (chunks_of (c.args.chunks - 1) rest) mid) c.args.told.now c.send_chunk.new.told c.send_chunks-more.new.told c.send_chunk.ensures.told c.send_chunks-more.ensures.told
     ∙ sym (ap (λ (w : Wrote ℕ). tallied w.gone c.args.told.now) e)
-
