@@ -30,6 +30,7 @@ use Rattle.strm_types.specs.Kept.{came, gone}
 use Rattle.strm_types.specs.Deliver.{Fate, Goes, carried}
 use Rattle.strm_types.specs.declared.modes.ControlMode.TheVariants.{Discard}
 use Rattle.strm_types.specs.declared.modes.ReadMode.TheVariants.{MessageDiscard}
+use Rattle.strm_types.specs.Ldterms.{new_ldterm}
 use Rattle.strm_types.specs.Write.{chunk_count}
 use Rattle.strm_types.specs.Message.{Message, cells_of, size_of, is_held, is_high_priority, rank_of, band_of, data_message}
 use Rattle.strm_types.specs.Names.{driver_of, is_closed}
@@ -70,8 +71,8 @@ stored-changes = refl
 
 -- arguments
 
-pub no-module-is-known : map is_known (None ∷ Some Ldterm ∷ Some Ptem ∷ Some Pckt ∷ []) ≡ false ∷ false ∷ false ∷ false ∷ []
-no-module-is-known = refl
+pub ldterm-alone-is-known : map is_known (None ∷ Some Ldterm ∷ Some Ptem ∷ Some Pckt ∷ []) ≡ false ∷ true ∷ false ∷ false ∷ []
+ldterm-alone-is-known = refl
 
 pub bands-up-to-seven : map is_a_band (None ∷ band 0 ∷ band 7 ∷ band 8 ∷ band 255 ∷ []) ≡ true ∷ true ∷ true ∷ false ∷ false ∷ []
 bands-up-to-seven = refl
@@ -160,8 +161,18 @@ pops-want-room-in-the-books = refl
 pub bands-are-asked-for-before-the-books : map (answers (Flush flushes.Both (band 8))) (booked Open false) ≡ whatever (always Einval)
 bands-are-asked-for-before-the-books = refl
 
-pub modules-are-asked-for-before-the-books : map (answers (Push (Some Ldterm))) (booked Open false) ≡ whatever (always Einval)
+pub modules-are-asked-for-before-the-books : map (λ name. map (answers (Push name)) (booked Open false)) (None ∷ Some Ptem ∷ []) ≡ whatever (always Einval) ∷ whatever (always Einval) ∷ []
 modules-are-asked-for-before-the-books = refl
+
+pub pushes-want-room-in-the-books : map (answers (Push (Some Ldterm))) (booked Open false) ≡ ranged (at_last None)
+pushes-want-room-in-the-books = refl
+
+-- where an ldterm stands, another one is refused, and it may be taken off and looked at
+abbrev stacked : State ℕ
+stacked = pair (end Open false [] []) (record (end Open false [] []) { modules = new_ldterm ∷ [] }) (book 0 0) (book 0 0)
+
+pub one-ldterm-stands-on-a-stream : map (λ asked. answers asked stacked) (Push (Some Ldterm) ∷ Pop ∷ Look ∷ []) ≡ at_last (Some Einval) ∷ at_last None ∷ at_last None ∷ []
+one-ldterm-stands-on-a-stream = refl
 
 pub looks-and-closes-want-no-room-in-the-books : map (answers Look) (booked Open false) ≡ whatever (at_last (Some Einval))
 looks-and-closes-want-no-room-in-the-books = refl

@@ -13,10 +13,11 @@ use Rattle.strm_types.specs.Deliver.{Acted}
 use Rattle.strm_types.specs.Input.{begins_next, cells_left, input_begins, is_data, ldterm_serves, left_of, made_of, next_stage, output_passes, passes, stage_at, stages, stages_done, then_on, to_treat, treats}
 use Rattle.strm_types.specs.Keys.{restarts}
 use Rattle.strm_types.specs.LdtermTurns.{is_between}
-use Rattle.strm_types.specs.Ldterms.{Ldterm, Stage, Between, Begun, Answered, IsIdle, onward, queue_at, sends}
+use Rattle.strm_types.specs.Ldterms.{Ldterm, Stage, Between, Begun, Answered, IsIdle, onward, sends}
 use Rattle.strm_types.specs.Message.{Message, cells_of, size_of}
 use Rattle.strm_types.specs.Queue.{is_full, is_none_left, left_with}
 use Rattle.strm_types.specs.Service.{Serving}
+use Rattle.strm_types.specs.TurnCalls.{Begins, Ends, bytes_left}
 use Rattle.strm_types.specs.TurnOutcomes.{first_size}
 use Rattle.strm_types.specs.Typing.{bare, begins, echo_dir, echo_grows, echo_lost, echo_stands, echoed, is_lnext, stroke_at, struck}
 use Rattle.strm_types.proofs.LdtermStages.{strikes-stay}
@@ -129,7 +130,7 @@ module _ (here : Spot) where
       at (Answered echo) o some = echoed-rises made echo (record l { in_work = o })
 
   -- Stages up to one that sends something: so many that more would change nothing.
-  record Works (l : Ldterm ℕ) (t : Acted ℕ (Ldterm ℕ)) : Type 0 where
+  pub record Works (l : Ldterm ℕ) (t : Acted ℕ (Ldterm ℕ)) : Type 0 where
     pub steps : ℕ
     pub some : 0 < steps
     pub less : to_treat t.state ≤ to_treat l
@@ -139,7 +140,7 @@ module _ (here : Spot) where
   abbrev join : Acted ℕ (Ldterm ℕ) → Acted ℕ (Ldterm ℕ) → Acted ℕ (Ldterm ℕ)
   join t u = record { state = u.state; notes = t.notes ++ u.notes; sent = u.sent; gone = t.gone ++ u.gone }
 
-  stages-work : (n made : ℕ) (l : Ldterm ℕ) → is_some (stages plain here n made l).state.in_work ≡ true → Works l (stages plain here n made l)
+  pub stages-work : (n made : ℕ) (l : Ldterm ℕ) → is_some (stages plain here n made l).state.in_work ≡ true → Works l (stages plain here n made l)
   stages-work zero made l works = absurd (false≢true works)
   stages-work (suc n) made l works = at (is_none_left t.sent) refl works (stages-work n (made + made_of t.gone) t.state)
     where
@@ -214,16 +215,6 @@ module _ (here : Spot) where
       ap (λ (u : Acted ℕ (Ldterm ℕ)). record { acted = u; bytes = cond (is_some u.state.in_work) (to_treat l - to_treat u.state) left; again = is_some u.state.in_work })
       (w.same (3 * left - stages_done l.stage) other (omega (arith, bytes, steps, within)))
       ∙ ap (λ n. record { acted = t.acted; bytes = n; again = t.again }) (ap (λ again. cond again (to_treat l - to_treat t.acted.state) left) works ∙ sym bytes)
-
--- how many bytes a call may treat at most: those of the first message of its queue, or what is left of the one in work
-abbrev pub bytes_left : Way → Bool → Ldterm ℕ → ℕ
-bytes_left Up true l = to_treat l
-bytes_left way again l = first_size (queue_at way l).messages
-
--- What a call begins with: in a turn of the read queue that goes on a message is in work, and else nothing of a turn is under way.
-abbrev pub Begins : Way → Bool → Ldterm ℕ → Type 0
-Begins Up true l = is_some l.in_work ≡ true
-Begins way again l = IsIdle l
 
 -- A call that asks for another one: how far it went, and what is left.
 pub record GoesOn (way : Way) (again : Bool) (l : Ldterm ℕ) (bytes : ℕ) (q : Ldterm ℕ) : Type 0 where
@@ -313,11 +304,6 @@ module _ (here : Spot) where
       let t = treats plain here most 0 l in
       let bytes : t.bytes ≡ most = ap (λ again. cond again (to_treat l - to_treat t.acted.state) most) over in
       (bytes, ap (λ n. treats plain here n made l) bytes ∙ treats-same here most made 0 l)
-
--- a last call, which went as far as it might
-pub record Ends (way : Way) (again : Bool) (l : Ldterm ℕ) (bytes : ℕ) : Type 0 where
-  pub treat : bytes ≤ bytes_left way again l
-  pub done : stages_done l.stage ≤ 3 * bytes
 
 begun-few : (stage : Stage ℕ) (l : Ldterm ℕ) → stages_done stage ≤ 3 * to_treat (record l { stage = stage })
 begun-few Between l = omega arith

@@ -16,9 +16,9 @@ use Rattle.strm_types.specs.declared.books.Book.{Book}
 use Rattle.strm_types.specs.declared.spots.Spot.{Spot}
 use Rattle.strm_types.specs.Books.{with_made}
 use Rattle.strm_types.specs.Cells.{plain}
-use Rattle.strm_types.specs.Deliver.{Acted, Carried, Fate, Goes, Comes, Parcel, carried, in_turn}
+use Rattle.strm_types.specs.Deliver.{Acted, Fate, Goes, Comes, Parcel, carried, in_turn}
 use Rattle.strm_types.specs.Input.{stages_done, to_treat}
-use Rattle.strm_types.specs.Ldterms.{IsIdle, Stage, new_ldterm}
+use Rattle.strm_types.specs.Ldterms.{Stage, new_ldterm}
 use Rattle.strm_types.specs.Message.{Message}
 use Rattle.strm_types.specs.ModuleQueues.{at_place, messages_at}
 use Rattle.strm_types.specs.ModuleTurns.{Calls, again_at, booked, bytes_at, call_at, calls, made_below, module_acted, module_turn_ended, moved_on, moved_within}
@@ -27,10 +27,11 @@ use Rattle.strm_types.specs.Puts.{put_in}
 use Rattle.strm_types.specs.Service.{Serving}
 use Rattle.strm_types.specs.Stacked.{Module, module_puts, module_queue, module_serves}
 use Rattle.strm_types.specs.State.{State, book, stream, with_book, with_stream}
+use Rattle.strm_types.specs.TurnCalls.{Begins, Ends, Stopped, asks_on, bytes_left, called, led, module_at, treated}
 use Rattle.strm_types.specs.TurnOutcomes.{TurnOutcome, first_size, stayed_put}
 use Rattle.strm_types.proofs.DeliveryHolds.{carried-holds, in_turn-holds}
 use Rattle.strm_types.proofs.LdtermPutStays.{puts-stay}
-use Rattle.strm_types.proofs.LdtermStops.{Begins, Ends, GoesOn, bytes_left, serves-alike, serves-ends, serves-goes, serves-made}
+use Rattle.strm_types.proofs.LdtermStops.{GoesOn, serves-alike, serves-ends, serves-goes, serves-made}
 use Rattle.strm_types.proofs.ModulesHold.{OnBoth, puts-hold}
 
 -- one of several, and what is said of it
@@ -56,11 +57,11 @@ act-length f zero (p ∷ ps) = refl
 act-length f (suc i) (p ∷ ps) = ap suc (act-length f i ps)
 
 -- what stays of a module where something is put at it
-record UnderWay : Type 0 where
+pub record UnderWay : Type 0 where
   pub stage : Stage ℕ
   pub in_work : Option (Message ℕ)
 
-abbrev under_way : Module ℕ → UnderWay
+abbrev pub under_way : Module ℕ → UnderWay
 under_way l = record { stage = l.stage; in_work = l.in_work }
 
 ways : (a b : Stage ℕ) (c d : Option (Message ℕ)) → a ≡ b → c ≡ d → (let x : UnderWay = record { stage = a; in_work = c } in let y : UnderWay = record { stage = b; in_work = d } in x ≡ y)
@@ -75,7 +76,7 @@ put-stays zero to m (l ∷ ls) =
 put-stays (suc j) to m (l ∷ ls) = ap (λ xs. under_way l ∷ xs) (put-stays j to m ls)
 
 -- so it does in deliveries
-sent-stays : (sent : List (Parcel ℕ)) (s : State ℕ) (side : Side) → map under_way (stream side (in_turn (carried put_in HOPS) sent s).state).modules ≡ map under_way (stream side s).modules
+pub sent-stays : (sent : List (Parcel ℕ)) (s : State ℕ) (side : Side) → map under_way (stream side (in_turn (carried put_in HOPS) sent s).state).modules ≡ map under_way (stream side s).modules
 sent-stays sent s side = of side
   where
     Good : Side → List (Module ℕ) → Type 0
@@ -107,49 +108,28 @@ with-modules Master ps names s = refl
 with-modules Slave ps names s = refl
 
 module _ (here : Spot) where
-  -- the module at a place
-  abbrev pub module_at : State ℕ → Module ℕ
-  module_at s = slice_index_or (stream here.side s).modules (here.at - 1) new_ldterm
-
   acted-modules : (t : Acted ℕ (List (Module ℕ))) (s : State ℕ) → (stream here.side (module_acted here t s).state).modules ≡ t.state
   acted-modules t s = booked-stays here.side t.gone _ ∙ with-modules here.side t.state _ s
 
   module _ (again : Bool) (stop : Option ℕ) where
-    -- a call as a store makes it: what the modules do, how many bytes it treated, and whether it asks for another one
-    abbrev pub called : List (Module ℕ) → Acted ℕ (List (Module ℕ))
-    called ps = act_among (λ p. (module_serves plain here 0 again stop p).acted) (here.at - 1) ps
-
-    abbrev pub treated : List (Module ℕ) → ℕ
-    treated ps = at_place (λ p. (module_serves plain here 0 again stop p).bytes) 0 here.at ps
-
-    abbrev pub asks_on : List (Module ℕ) → Bool
-    asks_on ps = at_place (λ p. (module_serves plain here 0 again stop p).again) false here.at ps
-
-    -- what it leads to, with what it sent
-    abbrev pub led : State ℕ → Carried ℕ (State ℕ)
-    led s =
-        let t = module_acted here (called (stream here.side s).modules) s in
-        let u = in_turn (carried put_in HOPS) t.sent t.state in
-        record { state = u.state; gone = t.gone ++ u.gone }
-
     -- the module behind it
-    led-under-way : (s : State ℕ) → map under_way (stream here.side (led s).state).modules ≡ map under_way (called (stream here.side s).modules).state
+    pub led-under-way : (s : State ℕ) → map under_way (stream here.side (led here again stop s).state).modules ≡ map under_way (called here again stop (stream here.side s).modules).state
     led-under-way s =
-        let t = module_acted here (called (stream here.side s).modules) s in
-        sent-stays t.sent t.state here.side ∙ ap (λ ps. map under_way ps) (acted-modules (called (stream here.side s).modules) s)
+        let t = module_acted here (called here again stop (stream here.side s).modules) s in
+        sent-stays t.sent t.state here.side ∙ ap (λ ps. map under_way ps) (acted-modules (called here again stop (stream here.side s).modules) s)
 
-    led-length : (s : State ℕ) → length (stream here.side (led s).state).modules ≡ length (stream here.side s).modules
+    pub led-length : (s : State ℕ) → length (stream here.side (led here again stop s).state).modules ≡ length (stream here.side s).modules
     led-length s =
         let ps = (stream here.side s).modules in
         let same = ap length (led-under-way s) in
-        let before = length-map (stream here.side (led s).state).modules under_way in
-        let behind = length-map (called ps).state under_way in
+        let before = length-map (stream here.side (led here again stop s).state).modules under_way in
+        let behind = length-map (called here again stop ps).state under_way in
         sym before ∙ same ∙ behind ∙ act-length (λ p. (module_serves plain here 0 again stop p).acted) (here.at - 1) ps
 
-    led-at : (s : State ℕ) → here.at - 1 < length (stream here.side s).modules → under_way (module_at (led s).state) ≡ under_way (module_serves plain here 0 again stop (module_at s)).acted.state
+    pub led-at : (s : State ℕ) → here.at - 1 < length (stream here.side s).modules → under_way (module_at here (led here again stop s).state) ≡ under_way (module_serves plain here 0 again stop (module_at here s)).acted.state
     led-at s low =
         let ps = (stream here.side s).modules in
-        let qs = (stream here.side (led s).state).modules in
+        let qs = (stream here.side (led here again stop s).state).modules in
         let i = here.at - 1 in
         let acts : Module ℕ → Acted ℕ (Module ℕ) = λ p. (module_serves plain here 0 again stop p).acted in
         let none = under_way new_ldterm in
@@ -157,7 +137,7 @@ module _ (here : Spot) where
         let long = act-length acts i ps in
         sym (index-map new_ldterm under_way none i qs (omega (arith, low, same)))
         ∙ ap (λ xs. slice_index_or xs i none) (led-under-way s)
-        ∙ index-map new_ldterm under_way none i (called ps).state (omega (arith, low, long))
+        ∙ index-map new_ldterm under_way none i (called here again stop ps).state (omega (arith, low, long))
         ∙ ap under_way (act-index new_ldterm acts i ps low)
 
   -- the calls behind some that have led to this
@@ -177,15 +157,15 @@ module _ (here : Spot) where
 
   -- a call within a limit is as one without it, where the module does alike
   call-same : (more left : ℕ) (again : Bool) (stop : Option ℕ) (s : State ℕ) → here.at - 1 < length (stream here.side s).modules
-      → ((made : ℕ) → module_serves plain here made again (Some left) (module_at s) ≡ module_serves plain here 0 again stop (module_at s))
-      → let ps = (stream here.side s).modules in calls plain here (suc more) again left s ≡ next_of more left (called again stop ps) (treated again stop ps) (asks_on again stop ps) s
+      → ((made : ℕ) → module_serves plain here made again (Some left) (module_at here s) ≡ module_serves plain here 0 again stop (module_at here s))
+      → let ps = (stream here.side s).modules in calls plain here (suc more) again left s ≡ next_of more left (called here again stop ps) (treated here again stop ps) (asks_on here again stop ps) s
   call-same more left again stop s low alike =
       let ps = (stream here.side s).modules in
       let i = here.at - 1 in
       let made = made_below here.side s in
       let f : Module ℕ → Serving ℕ (Module ℕ) = λ p. module_serves plain here made again (Some left) p in
       let g : Module ℕ → Serving ℕ (Module ℕ) = λ p. module_serves plain here 0 again stop p in
-      next-same more left s (call_at plain here made again left ps) (called again stop ps) (bytes_at plain here made again left ps) (treated again stop ps) (again_at plain here made again left ps) (asks_on again stop ps)
+      next-same more left s (call_at plain here made again left ps) (called here again stop ps) (bytes_at plain here made again left ps) (treated here again stop ps) (again_at plain here made again left ps) (asks_on here again stop ps)
       (act-alike new_ldterm (λ p. (f p).acted) (λ p. (g p).acted) i ps (ap (λ (t : Serving ℕ (Module ℕ)). t.acted) (alike made)))
       (index-map new_ldterm (λ p. (f p).bytes) 0 i ps low ∙ ap (λ (t : Serving ℕ (Module ℕ)). t.bytes) (alike made) ∙ sym (index-map new_ldterm (λ p. (g p).bytes) 0 i ps low))
       (index-map new_ldterm (λ p. (f p).again) false i ps low ∙ ap (λ (t : Serving ℕ (Module ℕ)). t.again) (alike made) ∙ sym (index-map new_ldterm (λ p. (g p).again) false i ps low))
@@ -196,15 +176,15 @@ module _ (here : Spot) where
     pub record Reached (again : Bool) (bytes : ℕ) (gone : List (Fate ℕ)) (s : State ℕ) : Type 0 where
       pub made : ℕ
       pub inside : here.at - 1 < length (stream here.side s).modules
-      pub begins : Begins here.way again (module_at s)
-      pub few : made ≤ 3 * bytes + stages_done (module_at s).stage
-      pub within : bytes + bytes_left here.way again (module_at s) ≤ bytes_left here.way false (module_at s0)
-      pub goes : (left more : ℕ) → stages_done (module_at s).stage ≤ 3 * left → calls plain here (made + more) false (bytes + left) s0 ≡ behind gone bytes (calls plain here more again left s)
+      pub begins : Begins here.way again (module_at here s)
+      pub few : made ≤ 3 * bytes + stages_done (module_at here s).stage
+      pub within : bytes + bytes_left here.way again (module_at here s) ≤ bytes_left here.way false (module_at here s0)
+      pub goes : (left more : ℕ) → stages_done (module_at here s).stage ≤ 3 * left → calls plain here (made + more) false (bytes + left) s0 ≡ behind gone bytes (calls plain here more again left s)
 
     none-behind : (v : Calls ℕ) → behind [] 0 v ≡ v
     none-behind v = ap (λ (n : ℕ). record { state = v.state; gone = v.gone; bytes = n; ended = v.ended }) (let e : 0 + v.bytes ≡ v.bytes = omega arith in e)
 
-    pub reached-first : here.at - 1 < length (stream here.side s0).modules → Begins here.way false (module_at s0) → Reached false 0 [] s0
+    pub reached-first : here.at - 1 < length (stream here.side s0).modules → Begins here.way false (module_at here s0) → Reached false 0 [] s0
     reached-first low begins = record {
       made = 0;
       inside = low;
@@ -226,7 +206,7 @@ module _ (here : Spot) where
 
     -- one more call, which asks for another one
     pub reached-next : (again : Bool) (bytes : ℕ) (gone : List (Fate ℕ)) (s : State ℕ) → Reached again bytes gone s → let ps = (stream here.side s).modules in
-        asks_on again None ps ≡ true → Reached true (bytes + treated again None ps) (gone ++ (led again None s).gone) (led again None s).state
+        asks_on here again None ps ≡ true → Reached true (bytes + treated here again None ps) (gone ++ (led here again None s).gone) (led here again None s).state
     reached-next again bytes gone s r asks =
         record {
           made = suc r.made;
@@ -241,16 +221,16 @@ module _ (here : Spot) where
         ps = (stream here.side s).modules
 
         l : Module ℕ
-        l = module_at s
+        l = module_at here s
 
         t : Serving ℕ (Module ℕ)
         t = module_serves plain here 0 again None l
 
         q : Module ℕ
-        q = module_at (led again None s).state
+        q = module_at here (led here again None s).state
 
         b : ℕ
-        b = treated again None ps
+        b = treated here again None ps
 
         works : t.again ≡ true
         works = sym (index-map new_ldterm (λ p. (module_serves plain here 0 again None p).again) false (here.at - 1) ps r.inside) ∙ asks
@@ -270,68 +250,63 @@ module _ (here : Spot) where
         left_is : bytes_left here.way true q ≡ to_treat t.acted.state
         left_is = ap (λ w. bytes_left w true q) g.up ∙ ap (λ (x : UnderWay). to_treat (record q { stage = x.stage; in_work = x.in_work })) at
 
-        goes : (left more : ℕ) → stages_done q.stage ≤ 3 * left → calls plain here (suc r.made + more) false (bytes + b + left) s0 ≡ behind (gone ++ (led again None s).gone) (bytes + b) (calls plain here more true left (led again None s).state)
+        goes : (left more : ℕ) → stages_done q.stage ≤ 3 * left → calls plain here (suc r.made + more) false (bytes + b + left) s0 ≡ behind (gone ++ (led here again None s).gone) (bytes + b) (calls plain here more true left (led here again None s).state)
         goes left more fits =
-            let w = module_acted here (called again None ps) s in
+            let w = module_acted here (called here again None ps) s in
             let u = in_turn (carried put_in HOPS) w.sent w.state in
             let v = calls plain here more true left u.state in
             ap (λ n. calls plain here n false (bytes + b + left) s0) (let e : suc r.made + more ≡ r.made + suc more = omega arith in e)
             ∙ ap (λ n. calls plain here (r.made + suc more) false n s0) (let e : bytes + b + left ≡ bytes + (b + left) = omega arith in e)
             ∙ r.goes (b + left) (suc more) (omega (arith, g.done, bytes_is, done, fits))
             ∙ ap (behind gone bytes) (call-same more (b + left) again None s r.inside (λ made. serves-alike here again l works (b + left) made (omega (arith, bytes_is, done, fits))))
-            ∙ ap (λ x. behind gone bytes (next_of more (b + left) (called again None ps) b x s)) asks
+            ∙ ap (λ x. behind gone bytes (next_of more (b + left) (called here again None ps) b x s)) asks
             ∙ ap (λ n. let v = calls plain here more true n u.state in behind gone bytes (record { state = v.state; gone = w.gone ++ u.gone ++ v.gone; bytes = b + v.bytes; ended = v.ended })) (let e : b + left - b ≡ left = omega arith in e)
             ∙ both-behind gone w.gone u.gone bytes b v
-
-    -- Where a call stops, it did so at what it treated, and what had begun is among that.
-    abbrev pub Stopped : Bool → State ℕ → Option ℕ → Type 0
-    Stopped again s None = Unit {0}
-    Stopped again s (Some bytes) = (bytes ≡ treated again (Some bytes) (stream here.side s).modules) × Ends here.way again (module_at s) bytes
 
     -- the last call
     module _ (name : QueueName) (again : Bool) (bytes : ℕ) (gone : List (Fate ℕ)) (s : State ℕ) (r : Reached again bytes gone s) where
       -- how far the turn goes by it
       abbrev all : Option ℕ → ℕ
-      all stop = bytes + treated again stop (stream here.side s).modules
+      all stop = bytes + treated here again stop (stream here.side s).modules
 
       abbrev ended : Option ℕ → TurnOutcome ℕ
-      ended stop = record { turn = Moved (all stop); state = module_turn_ended name here (not (all stop == 0)) (led again stop s).state; gone = gone ++ (led again stop s).gone }
+      ended stop = record { turn = Moved (all stop); state = module_turn_ended name here (not (all stop == 0)) (led here again stop s).state; gone = gone ++ (led here again stop s).gone }
 
       -- it is the same within what it treated
       abbrev IsLast : Option ℕ → Type 0
       IsLast stop =
-          let b = treated again stop (stream here.side s).modules in
-          Ends here.way again (module_at s) b × ((made : ℕ) → module_serves plain here made again (Some b) (module_at s) ≡ module_serves plain here 0 again stop (module_at s))
+          let b = treated here again stop (stream here.side s).modules in
+          Ends here.way again (module_at here s) b × ((made : ℕ) → module_serves plain here made again (Some b) (module_at here s) ≡ module_serves plain here 0 again stop (module_at here s))
 
-      last-is : (stop : Option ℕ) → asks_on again stop (stream here.side s).modules ≡ false → Stopped again s stop → IsLast stop
+      last-is : (stop : Option ℕ) → asks_on here again stop (stream here.side s).modules ≡ false → Stopped here again s stop → IsLast stop
       last-is None over _ =
           let ps = (stream here.side s).modules in
-          let l = module_at s in
+          let l = module_at here s in
           let i = here.at - 1 in
           let over : (module_serves plain here 0 again None l).again ≡ false = sym (index-map new_ldterm (λ p. (module_serves plain here 0 again None p).again) false i ps r.inside) ∙ over in
           let bytes_is = index-map new_ldterm (λ p. (module_serves plain here 0 again None p).bytes) 0 i ps r.inside in
           let e = serves-ends here again l r.begins over in
           (record { treat = let a = e.0.treat in omega (arith, bytes_is); done = let a = e.0.done in omega (arith, bytes_is) }, λ made. ap (λ n. module_serves plain here made again (Some n) l) bytes_is ∙ e.1 made)
       last-is (Some n) over is =
-          let l = module_at s in
+          let l = module_at here s in
           (subst (λ b. Ends here.way again l b) is.0 is.1, λ made. ap (λ b. module_serves plain here made again (Some b) l) (sym is.0) ∙ serves-made here again (Some n) l made)
 
-      last-moves : (stop : Option ℕ) → asks_on again stop (stream here.side s).modules ≡ false → IsLast stop → moved_on plain here name (all stop) s0 ≡ ended stop
+      last-moves : (stop : Option ℕ) → asks_on here again stop (stream here.side s).modules ≡ false → IsLast stop → moved_on plain here name (all stop) s0 ≡ ended stop
       last-moves stop over is =
           let ps = (stream here.side s).modules in
-          let b = treated again stop ps in
+          let b = treated here again stop ps in
           let more = 3 * (bytes + b) - r.made in
-          let w = module_acted here (called again stop ps) s in
+          let w = module_acted here (called here again stop ps) s in
           let u = in_turn (carried put_in HOPS) w.sent w.state in
           ap (λ (t : Calls ℕ). cond {A = TurnOutcome ℕ} t.ended (record { turn = Moved t.bytes; state = module_turn_ended name here (not (t.bytes == 0)) t.state; gone = t.gone }) (stayed_put Blocked s0))
           (ap (λ n. calls plain here n false (bytes + b) s0) (let few = r.few in let done = is.0.done in let e : 3 * (bytes + b) + 1 ≡ r.made + suc more = omega (arith, few, done) in e)
           ∙ r.goes b (suc more) is.0.done
           ∙ ap (behind gone bytes) (call-same more b again stop s r.inside is.1)
-          ∙ ap (λ x. behind gone bytes (next_of more b (called again stop ps) b x s)) over)
+          ∙ ap (λ x. behind gone bytes (next_of more b (called here again stop ps) b x s)) over)
 
       -- The turn went so far, and led to that.
-      pub reached-last : (stop : Option ℕ) → asks_on again stop (stream here.side s).modules ≡ false → Stopped again s stop
-          → (all stop ≤ bytes_left here.way false (module_at s0)) × (moved_on plain here name (all stop) s0 ≡ ended stop)
+      pub reached-last : (stop : Option ℕ) → asks_on here again stop (stream here.side s).modules ≡ false → Stopped here again s stop
+          → (all stop ≤ bytes_left here.way false (module_at here s0)) × (moved_on plain here name (all stop) s0 ≡ ended stop)
       reached-last stop over stopped =
           let is = last-is stop over stopped in
           (let treat = is.0.treat in omega (arith, r.within, treat), last-moves stop over is)
@@ -341,10 +316,10 @@ module _ (here : Spot) where
   whole Down l = refl
 
   -- and no further than to the end of the first message
-  pub moves-within : (name : QueueName) (bytes : ℕ) (s : State ℕ) → here.at - 1 < length (stream here.side s).modules → bytes ≤ bytes_left here.way false (module_at s)
+  pub moves-within : (name : QueueName) (bytes : ℕ) (s : State ℕ) → here.at - 1 < length (stream here.side s).modules → bytes ≤ bytes_left here.way false (module_at here s)
       → moved_within plain here name (Moved bytes) s ≡ moved_on plain here name bytes s
   moves-within name bytes s low within =
       let ps = (stream here.side s).modules in
       let size = index-map new_ldterm (λ p. first_size (messages_at module_queue here.way p)) 0 (here.at - 1) ps low in
-      let first = whole here.way (module_at s) in
+      let first = whole here.way (module_at here s) in
       ap (λ n. moved_on plain here name n s) (let e : min bytes (at_place (λ p. first_size (messages_at module_queue here.way p)) 0 here.at ps) ≡ bytes = omega (arith, size, first, within) in e)

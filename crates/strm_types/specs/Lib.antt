@@ -59,6 +59,7 @@ pub mod LdtermTurns
 pub mod Asking
 pub mod Stacked
 pub mod ModuleTurns
+pub mod TurnCalls
 pub mod Earlier
 pub mod Pushes
 pub mod Past

@@ -12,6 +12,7 @@ use Rattle.strm_types.specs.declared.modes.Wanted.TheVariants.{Any, High, Band}
 use Rattle.strm_types.specs.declared.names.Side.{Side}
 use Rattle.strm_types.specs.declared.names.Side.TheVariants.{Master, Slave}
 use Rattle.strm_types.specs.declared.names.ModuleName.{ModuleName}
+use Rattle.strm_types.specs.declared.names.ModuleName.TheVariants as names
 use Rattle.strm_types.specs.declared.names.Place.{Place}
 use Rattle.strm_types.specs.declared.names.Place.TheVariants as places
 use Rattle.std.specs.List.{list_any}
@@ -89,10 +90,12 @@ abbrev pub has_room : List PlainEntry → Config → ℕ → Bool
 has_room entries limits bytes =
     nat_lt (length entries) limits.journal_events && nat_le (room_used entries + bytes) limits.journal_bytes
 
--- the name of a module that may be pushed: none is known yet
+-- the name of a module that may be pushed: so far ldterm alone is built
 abbrev pub is_known : Option ModuleName → Bool
 is_known None = false
-is_known (Some name) = false
+is_known (Some names.Ldterm) = true
+is_known (Some names.Ptem) = false
+is_known (Some names.Pckt) = false
 
 -- a band, where one is named, is one of those that queues have
 abbrev pub is_a_band : Option bands.Band → Bool
