@@ -5,7 +5,7 @@ use Rattle.std.specs.List.{AllByRecursion}
 use Rattle.std.proofs.lemmas.List.Sums.{sum_by-cons, get_or-le-sum_by, take_while-cons}
 use Rattle.strm_blocks.specs.Blocks.{Block, StoreValue, IsInHand, in_hand, block_at, list_at}
 use Rattle.strm_types.specs.Kinds.{is_control_kind, is_body_kind}
-use Rattle.strm_blocks.specs.Outcomes.{PeekedFirst, peek_of, summary_of, part_len, control_len, body_len}
+use Rattle.strm_blocks.specs.Outcomes.{PeekedFirst, first_bytes, peek_of, summary_of, part_len, control_len, body_len}
 use Rattle.strm_blocks.specs.Parts.{with_len, control_run, body_run, lens, lens_in, peek_in, summary_in}
 use Rattle.strm_blocks.specs.Message.{message_at, no_message, row_at, no_row, without_at, place_in, weigh, naming, block_count, askew}
 use Rattle.strm_blocks.specs.Table.{shown, chain_of, value_of, IsTableStore}
@@ -187,6 +187,10 @@ module _ (t : Inside) {s : StoreValue} (is : value_of t ≡ s) (holds : IsTableS
 
     pub first-few : lens_in first < 2 ^ 63
     first-few = let l = list-lens in let m = get_or-le-sum_by lens_in (list t is holds k eight) 0 no_message some in omega arith
+
+    -- it has so many bytes
+    pub first-value : ((d : ℕ) → d < length t.data.references → length (get_or t.data.bytes d []) ≡ 256) → lens_in first ≡ first_bytes (list_at s k)
+    first-value sized = lens-value t.data.bytes first.blocks (message-long sized 0 some) ∙ ap first_bytes (sym (joined-value t is holds k eight some))
 
     -- the first message is seen
     pub peeked-value : (peek : Peek) → peek ≡ peek_in first → ((d : ℕ) → d < length t.data.references → length (get_or t.data.bytes d []) ≡ 256) → PeekedFirst s k peek

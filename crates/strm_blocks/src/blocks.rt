@@ -1,7 +1,7 @@
 //! The calls of a store of message blocks and data blocks.
 ghost use Rattle.std.specs.Prelude.{◌≡◌, ◌≢◌, ◌==◌, ℕ, ◌<◌, ◌≤◌, [], ◌++◌, length, take, map, MatchResult, MatchOption};
 ghost use Rattle.strm_blocks.specs.Blocks.{StoreValue, IsStore, IsInHand, in_hand, list_at, held, dropped, changed, placed, empty_store, block_at, filled_block, with_block, put, put_back, trimmed_head, trimmed_tail, taken_by, extended, of_kind, banded, free_m, free_d};
-ghost use Rattle.strm_blocks.specs.Outcomes.{Allocated, Duplicated, Copied, NoneFree, NoneShared, Unlinked, UnlinkedLast, Popped, Unpopped, PeekedFirst, peek_of, summary_of, told, flushed};
+ghost use Rattle.strm_blocks.specs.Outcomes.{Allocated, Duplicated, Copied, NoneFree, NoneShared, Unlinked, UnlinkedLast, Popped, Unpopped, PeekedFirst, peek_of, summary_of, first_bytes, told, flushed};
 
 use crate::asked::{FlushWhat, NoBlocks, Peek, Summary};
 use crate::visitor::Visitor;
@@ -198,6 +198,12 @@ pub trait Blocks {
         ensures { MatchOption result
             (list_at (value self.now) list ≡ [])
             (λ peek. PeekedFirst (value self.now) list peek) };
+
+    /// How many bytes all blocks of the first message of a list show; none where none stands there. It takes a step for each of
+    /// these blocks.
+    fn first_len(&self, list: usize) -> usize
+        requires { list < 8 }
+        ensures { result ≡ first_bytes (list_at (value self.now) list) };
 
     /// Tells a visitor of the messages of a list in their order, until it wants no more. It takes a step for each block of
     /// the messages of which the visitor is told.

@@ -111,7 +111,7 @@ pub(crate) fn body_len(blocks: &LinkedList<MessageBlock>) -> Option<usize>
 }
 
 /// How many bytes lie between the places of blocks.
-fn total_len(blocks: &LinkedList<MessageBlock>) -> usize
+pub(crate) fn total_len(blocks: &LinkedList<MessageBlock>) -> usize
     requires { lens blocks.now < 2 ^ 63 }
     ensures { result ≡ lens blocks.now }
 {

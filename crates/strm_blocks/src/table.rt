@@ -10,7 +10,9 @@ use crate::message::{
     Message, MessageBlock, block_at, block_in, blocks_of, first_block, gather, hold, hold_block,
     join_blocks, name_of, part_blocks, place_of, put_node, replace_block, take_named, take_node,
 };
-use crate::parts::{peek_at, place_before, place_behind, rank_of_first, summary_at, tell};
+use crate::parts::{
+    peek_at, place_before, place_behind, rank_of_first, summary_at, tell, total_len,
+};
 use crate::release::{give_back, sift};
 use crate::visitor::Visitor;
 use std::alloc::{AllocError, Global};
@@ -305,6 +307,14 @@ impl Blocks for TableStore {
         let message = self.lists[list].front()?;
         self.data.audit();
         Some(peek_at(message))
+    }
+
+    fn first_len(&self, list: usize) -> usize {
+        let Some(message) = self.lists[list].front() else {
+            return 0;
+        };
+        self.data.audit();
+        total_len(&message.blocks)
     }
 
     fn visit<V: Visitor>(&self, list: usize, visitor: &mut V) {

@@ -1,14 +1,15 @@
 -- How many messages stand on a queue, and how many bytes they have.
-use Rattle.std.proofs.Common.{ℕ, zero, suc, ◌≡◌, ◌≤◌, ◌+◌, List, [], ◌∷◌, length, map, refl, arith}
+use Rattle.std.proofs.Common.{ℕ, zero, suc, ◌≡◌, ◌≤◌, ◌+◌, List, [], ◌∷◌, length, map, refl, sym, arith}
 use Rattle.std.specs.Prelude.{sum_by, slice_index_or, min, true, ◌-◌, ◌^◌}
 use Rattle.std.specs.List.{AllByRecursion}
 use Rattle.std.proofs.lemmas.List.{length-map}
 use Rattle.std.proofs.lemmas.List.Sums.{sum_by-cons}
 use Rattle.strm_types.specs.Message.{size_of}
 use Rattle.strm_types.specs.Queue as plain
+use Rattle.strm_types.specs.TurnOutcomes.{first_size}
 use Rattle.strm_blocks.specs.declared.asked.Peek.{Peek}
 use Rattle.strm_blocks.specs.Blocks.{Block, StoreValue, IsStore, list_at, used, missing}
-use Rattle.strm_blocks.specs.Outcomes.{told, peek_of}
+use Rattle.strm_blocks.specs.Outcomes.{first_bytes, told, peek_of}
 use Rattle.strm_msg.specs.Messages.{message_of, IsChain}
 use Rattle.strm_msg.proofs.Chains.{size-shown}
 use Rattle.strm_queue.specs.Kept as kept
@@ -40,6 +41,11 @@ pub bytes-same : (q : List (List Block)) → AllByRecursion IsChain q → sum_by
 bytes-same [] all = refl
 bytes-same (chain ∷ q) all =
     omega (arith, size-shown chain all.0, bytes-same q all.1, sum_by-cons kept.bytes_of chain q, sum_by-cons size_of (message_of chain) (map message_of q))
+
+-- so are those of the first one
+pub first-same : (q : List (List Block)) → AllByRecursion IsChain q → first_bytes q ≡ first_size (map message_of q)
+first-same [] all = refl
+first-same (chain ∷ q) all = sym (size-shown chain all.0)
 
 -- a visitor that counts
 abbrev one_more : MessageCount → Peek → MessageCount

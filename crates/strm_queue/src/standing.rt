@@ -7,6 +7,7 @@ ghost use Rattle.strm_types.specs.Message.{is_held};
 ghost use Rattle.strm_types.specs.Emptied.{cells_gone, of_data};
 ghost use Rattle.strm_types.specs.Refused.{has_no_data, is_a_band};
 ghost use Rattle.strm_types.specs.Queue.{put_on, put_enables, bytes_of, count_of, is_full, marked, relieved, relieves};
+ghost use Rattle.strm_types.specs.TurnOutcomes.{first_size};
 ghost use Rattle.strm_blocks.specs.Blocks.{Block, StoreValue, IsInHand, block_at, in_hand, list_at, dropped};
 ghost use Rattle.strm_msg.specs.Messages.{message_of, IsChain};
 ghost use Rattle.strm_queue.specs.Kept.{AreCounted};
@@ -73,6 +74,14 @@ pub fn sizes<B: Blocks>(store: &B, queue: &Queue) -> (usize, usize)
     let mut counted = MessageCount { messages: 0 };
     store.visit(queue.list, &mut counted);
     (counted.messages, total(store, queue))
+}
+
+/// How many bytes the first message on a queue has; none where none stands there. The cost is a step for each block of it.
+pub fn first_size<B: Blocks>(store: &B, queue: &Queue) -> usize
+    requires { IsReady (B.value store.now) queue.now }
+    ensures { result ≡ first_size (messages_on (B.value store.now) queue.now.list) }
+{
+    store.first_len(queue.list)
 }
 
 // Sees whether a message that flow control would hold back stands on a list.
