@@ -11,7 +11,7 @@ use Rattle.strm_types.specs.declared.spots.Spot.{Spot}
 use Rattle.strm_frame.specs.declared.parcels.Sent.{Sent}
 use Rattle.strm_types.specs.Deliver.{Parcel, AreLower}
 use Rattle.strm_msg.specs.Messages.{IsChain}
-use Rattle.strm_frame.specs.Hands.{once, CanPut, Handles, Hands, SameFor, HasRoom, Spends}
+use Rattle.strm_frame.specs.Hands.{once, AreIn, CanPut, Handles, Hands, SameFor, HasRoom, Spends}
 use Rattle.strm_frame.specs.Outboxes.{times_sent, parcels_in, parcel_in, AreChains, cost_of}
 
 same-name : (i : ℕ) → eqb i i ≡ true
@@ -103,9 +103,9 @@ module _ {M : Type 0} (name : M → ℕ) where
       let here = same (name x.message) (omega arith) in
       (subst IsChain (sym here) chains.0, chains-same s t more (λ i some. same i (omega arith)) chains.1)
 
-  -- A put has sent x and more, and x is carried on.
-  module _ (s0 s t : StoreValue) (m : ℕ) (kept keeps keeps' : ℕ → ℕ) (x : Sent M) (more all : List (Sent M))
-      (split : all ≡ x ∷ more) (st : IsStore s) (can : CanPut s0 m kept) (put : Hands s0 s m kept keeps (λ i. times_sent name i all)) where
+  -- What has gone has sent x and more, and x is carried on.
+  module _ (s0 s t : StoreValue) (gone kept keeps keeps' : ℕ → ℕ) (x : Sent M) (more all : List (Sent M))
+      (split : all ≡ x ∷ more) (st : IsStore s) (can : AreIn s0 gone kept) (put : Handles s0 s gone kept keeps (λ i. times_sent name i all)) where
     times-split : (i : ℕ) → times_sent name i all ≡ once (name x.message) i + times_sent name i more
     unfolding times_sent
     times-split i = ap (times_sent name i) split
@@ -140,7 +140,7 @@ module _ {M : Type 0} (name : M → ℕ) where
 
     module _ (carried : Hands s t (name x.message) keeps keeps' (λ _. 0)) where
       -- and then the rest is as if it alone had been sent
-      pub next-hands : Hands s0 t m kept keeps' (λ i. times_sent name i more)
+      pub next-hands : Handles s0 t gone kept keeps' (λ i. times_sent name i more)
       next-hands = record {
         counts = λ i. let c = put.counts i in let d = carried.counts i in let e = times-split i in omega arith;
         others = λ i apart none some.
@@ -171,11 +171,19 @@ module _ {M : Type 0} (name : M → ℕ) where
   no-cost s0 s cost most all none spends = let e = ap (λ xs. cost_of cost (parcels_in name s xs)) none in record { mblks = omega arith; dblks = omega arith }
 
   -- nothing is left that was sent
-  pub no-more : (s0 s : StoreValue) (m : ℕ) (kept keeps : ℕ → ℕ) (all : List (Sent M)) → all ≡ [] → Hands s0 s m kept keeps (λ i. times_sent name i all) → Hands s0 s m kept keeps (λ _. 0)
+  pub no-more : (s0 s : StoreValue) (gone kept keeps : ℕ → ℕ) (all : List (Sent M)) → all ≡ [] → Handles s0 s gone kept keeps (λ i. times_sent name i all) → Handles s0 s gone kept keeps (λ _. 0)
   unfolding times_sent
-  no-more s0 s m kept keeps all none put = record {
+  no-more s0 s gone kept keeps all none put = record {
     counts = λ i. let c = put.counts i in let e = ap (times_sent name i) none in omega arith;
     others = put.others;
+  }
+
+  -- nothing was to be sent
+  pub still-sent : (s : StoreValue) (keeps : ℕ → ℕ) (all : List (Sent M)) → all ≡ [] → Handles s s (λ i. times_sent name i all) keeps keeps (λ _. 0)
+  unfolding times_sent
+  still-sent s keeps all none = record {
+    counts = λ i. let e = ap (times_sent name i) none in omega arith;
+    others = λ i gone kept some. refl;
   }
 
   pub no-parts : (s : StoreValue) (all : List (Sent M)) → all ≡ [] → parcels_in name s all ≡ []
@@ -223,6 +231,30 @@ module _ {M : Type 0} (name : M → ℕ) where
 
   pub one-lower : (s : StoreValue) (x : Sent M) (height : Spot → Message ℕ → ℕ) (top : ℕ) (all : List (Sent M)) → all ≡ x ∷ [] → height x.to (parcel_in name s x).message < top → AreLower height top (parcels_in name s all)
   one-lower s x height top all one low = subst (AreLower height top) (sym (one-parts s x all one)) (low, tt)
+
+-- what is lower than something is lower than what is no less
+pub lower-more : (height : Spot → Message ℕ → ℕ) (top more : ℕ) (ps : List (Parcel ℕ)) → top ≤ more → AreLower height top ps → AreLower height more ps
+lower-more height top more [] le low = tt
+lower-more height top more (p ∷ ps) le low = (omega (arith, le, low.0), lower-more height top more ps le low.1)
+
+-- What was sent goes on, and all that was kept then is.
+pub hands-on : (s0 s t : StoreValue) (gone sent kept keeps keeps' : ℕ → ℕ) → IsStore s → Handles s0 s gone kept keeps sent → Handles s t sent keeps keeps' (λ _. 0) → Handles s0 t gone kept keeps' (λ _. 0)
+hands-on s0 s t gone sent kept keeps keeps' st put then = record {
+  counts = λ i. let c = put.counts i in let d = then.counts i in omega arith;
+  others = λ i apart none some.
+      let c = put.counts i in let few = st.apart i in
+      then.others i (omega arith) (omega arith) (omega arith) ∙ put.others i apart none some;
+}
+
+-- what is sent is in hand, beside what is kept
+pub sent-in : (s0 s : StoreValue) (gone sent kept keeps : ℕ → ℕ) → AreIn s0 gone kept → Handles s0 s gone kept keeps sent → AreIn s sent keeps
+sent-in s0 s gone sent kept keeps are put = record { apart = λ i. let a = are.apart i in let c = put.counts i in omega arith }
+
+pub spends-on : (s0 s t : StoreValue) (most sent : ℕ) → Spends s0 s most sent → Spends s t sent 0 → Spends s0 t most 0
+spends-on s0 s t most sent first then = record { mblks = let a = first.mblks in let b = then.mblks in omega arith; dblks = let a = first.dblks in let b = then.dblks in omega arith }
+
+pub room-on : (s0 s : StoreValue) (most sent : ℕ) → HasRoom s0 most → Spends s0 s most sent → HasRoom s sent
+room-on s0 s most sent room spends = record { mblks = let a = room.mblks in let b = spends.mblks in omega arith; dblks = let a = room.dblks in let b = spends.dblks in omega arith }
 
 -- the only message in hand is once there
 times-alone : (s : StoreValue) (n : ℕ) (chain : List Block) (i : ℕ) → s.hand ≡ record { name = n; chain = chain } ∷ [] → times_in i s.hand ≡ once n i

@@ -7,3 +7,4 @@ pub mod Nearest
 pub mod Emptiness
 pub mod ToySteps
 pub mod RigSteps
+pub mod FirstSizes

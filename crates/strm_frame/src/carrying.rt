@@ -2,12 +2,13 @@
 //! it gives rise to, until queues or ends have taken all.
 
 ghost use Rattle.std.specs.Prelude.{ℕ, ◌≡◌, ◌<◌, ◌≤◌};
-ghost use Rattle.strm_types.specs.Deliver.{carried, tallied};
+ghost use Rattle.strm_types.specs.Deliver.{AreLower, carried, in_turn, tallied};
 ghost use Rattle.strm_blocks.specs.Blocks.{in_hand};
 ghost use Rattle.strm_msg.specs.Messages.{IsChain};
-ghost use Rattle.strm_frame.specs.Outboxes.{message_in};
-ghost use Rattle.strm_frame.specs.Hands.{CanPut, Hands, SamePool, HasRoom, Spends};
+ghost use Rattle.strm_frame.specs.Outboxes.{AreChains, cost_of, message_in, parcels_in, sent_of, times_sent};
+ghost use Rattle.strm_frame.specs.Hands.{AreIn, CanPut, Handles, Hands, SamePool, HasRoom, Spends};
 
+use crate::parcels::Outbox;
 use crate::places::Stations;
 use strm_blocks::Blocks;
 use strm_types::{Fates, Spot};
@@ -16,6 +17,7 @@ use strm_types::{Fates, Spot};
 /// with all that it gives rise to before the next. It is handed on fewer than `hops` times.
 ///
 /// The cost is that of the puts. No byte is copied but by a put, and no memory is taken.
+#[cycle(delivery)]
 pub fn deliver<B: Blocks, S: Stations<B>>(
     store: &mut B,
     stations: &mut S,
@@ -42,12 +44,45 @@ pub fn deliver<B: Blocks, S: Stations<B>>(
         (message_in (B.value store.old) (B.name message))) 0 }
     ensures pool { SamePool (B.value store.old) (B.value store.new) }
 {
-    let mut sent = stations.put_at(store, to, message, told);
-    if sent.is_empty() {
+    let sent = stations.put_at(store, to, message, told);
+    store.audit();
+    deliver_all(store, stations, hops - 1, sent, told);
+}
+
+/// Delivers messages one after the other, each with all that it gives rise to before the next. Each is handed on fewer than `hops`
+/// times.
+#[cycle(delivery)]
+pub fn deliver_all<B: Blocks, S: Stations<B>>(
+    store: &mut B,
+    stations: &mut S,
+    hops: usize,
+    sent: Outbox<B::Mp>,
+    told: &mut Fates,
+)
+    requires held { S.IsHeld (B.value store.old) stations.old }
+    requires are_in { AreIn (B.value store.old) (λ i. times_sent B.name i (sent_of sent)) (S.keeps stations.old) }
+    requires chains { AreChains B.name (B.value store.old) (sent_of sent) }
+    requires low { AreLower S.height hops (parcels_in B.name (B.value store.old) (sent_of sent)) }
+    requires room { HasRoom (B.value store.old) (cost_of S.cost (parcels_in B.name (B.value store.old) (sent_of sent))) }
+    ensures state { let s = B.value store.old in
+        S.plain (B.value store.new) stations.new ≡ (in_turn (carried S.puts hops) (parcels_in B.name s (sent_of sent))
+        (S.plain s stations.old)).state }
+    ensures told { let s = B.value store.old in
+        told.new ≡ tallied (in_turn (carried S.puts hops) (parcels_in B.name s (sent_of sent)) (S.plain s stations.old)).gone
+        told.old }
+    ensures held { S.IsHeld (B.value store.new) stations.new }
+    ensures hands { Handles (B.value store.old) (B.value store.new) (λ i. times_sent B.name i (sent_of sent))
+        (S.keeps stations.old) (S.keeps stations.new) (λ _. 0) }
+    ensures spends { Spends (B.value store.old) (B.value store.new)
+        (cost_of S.cost (parcels_in B.name (B.value store.old) (sent_of sent))) 0 }
+    ensures pool { SamePool (B.value store.old) (B.value store.new) }
+{
+    let mut left = sent;
+    if left.is_empty() {
         return;
     }
-    while let Some(next) = sent.take_first() {
+    while let Some(next) = left.take_first() {
         store.audit();
-        deliver(store, stations, hops - 1, next.to, next.message, told);
+        deliver(store, stations, hops, next.to, next.message, told);
     }
 }

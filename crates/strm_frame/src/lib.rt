@@ -13,7 +13,7 @@ mod service;
 mod serving;
 mod stack;
 
-pub use carrying::deliver;
+pub use carrying::{deliver, deliver_all};
 pub use enabled::Enabled;
 pub use modules::{Acts, Module};
 pub use parcels::{Outbox, Sent};

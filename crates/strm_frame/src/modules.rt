@@ -7,10 +7,14 @@ ghost use Rattle.strm_types.specs.declared.names.Way.{Way};
 ghost use Rattle.strm_types.specs.declared.names.Way.TheVariants.{Up};
 ghost use Rattle.strm_types.specs.declared.spots.Spot.{Spot};
 ghost use Rattle.strm_types.specs.declared.spots.Asks.{Asks};
+ghost use Rattle.strm_types.specs.Input.{made_of};
 ghost use Rattle.strm_types.specs.Message.{Message};
+ghost use Rattle.strm_types.specs.TurnCalls.{most_made};
+ghost use Rattle.strm_types.specs.TurnOutcomes.{first_size};
 ghost use Rattle.strm_types.specs.declared.limits.TheConstants.{BANDS, MODULES, STOP_BLOCKS};
 ghost use Rattle.strm_types.specs.Deliver.{Acted, AreLower, tallied};
 ghost use Rattle.strm_types.specs.Queue.{Queue, bytes_of, count_of};
+ghost use Rattle.strm_types.specs.TurnOutcomes.{first_size};
 ghost use Rattle.strm_types.specs.Refused.{has_no_data};
 ghost use Rattle.strm_types.specs.ModuleQueues.{has_queue, messages_at, full_at, waits, queue_changed};
 ghost use Rattle.strm_types.specs.Service.{Serving, turn_ended, end_relieves, has_more, cleared};
@@ -80,6 +84,10 @@ pub trait Module<B: Blocks>: Drop {
     /// turn is under way there, or once more in it (true).
     ghost MayServe: { Way → Bool → Plain → Type 0 };
 
+    /// Where a call may stop, the first one in a turn of its queue of a way (false) or one more in it (true): at so many bytes
+    /// of the message.
+    ghost MayStop: { Way → Bool → ℕ → Plain → Type 0 };
+
     /// How often a message can be handed on at most that is put here, with all that it gives rise to.
     ghost height: { Spot → Message ℕ → ℕ };
 
@@ -148,6 +156,12 @@ pub trait Module<B: Blocks>: Drop {
         ensures messages { result.0 ≡ length (messages_at queue_of way (plain (B.value store.now) self.now)) }
         ensures bytes { result.1 ≡ bytes_of (messages_at queue_of way (plain (B.value store.now) self.now)) };
 
+    /// How many bytes the first message on its queue of a way has; none where none stands there. It takes a step for each block of
+    /// the message.
+    fn first_size(&self, store: &B, way: Way) -> usize
+        requires { IsHeld (B.value store.now) self.now }
+        ensures { result ≡ first_size (messages_at queue_of way (plain (B.value store.now) self.now)) };
+
     /// Whether no M_DATA or M_PROTO stands on its read queue; none does without one.
     fn none_waits_up(&self, store: &B) -> bool
         requires { IsHeld (B.value store.now) self.now }
@@ -162,11 +176,13 @@ pub trait Module<B: Blocks>: Drop {
         ensures owns { (k : ℕ) → owns self.new k ≡ owns self.old k }
         ensures keeps { (i : ℕ) → keeps self.new i ≡ keeps self.old i };
 
-    /// What the first message of its queue of a way asks before it goes on. It has a queue that way.
+    /// What the first message of its queue of a way asks before it goes on. It has a queue that way. A message has no more
+    /// bytes than all blocks of a store.
     fn asks(&self, store: &B, way: Way) -> Asks
         requires held { IsHeld (B.value store.now) self.now }
         ensures asks { result ≡ asks way (plain (B.value store.now) self.now) }
-        ensures band { IsBand result };
+        ensures band { IsBand result }
+        ensures few { first_size (messages_at queue_of way (plain (B.value store.now) self.now)) ≤ 16777216 };
 
     /// Treats the first message of its queue of a way: `srv(9E)`. `again` is for one more call in the same turn, once all
     /// is delivered that the last one sent. It is called so only where the last call asked for that, and for the first time in a
@@ -194,6 +210,10 @@ pub trait Module<B: Blocks>: Drop {
             result.again ≡ (serves here again (stop_of result) (plain s self.old)).again }
         ensures stopped { OnTrue result.stopped
             ((least_free (B.value store.new) < STOP_BLOCKS) × (result.again ≡ false)) }
+        ensures stops { OnTrue result.stopped
+            (MayStop here.way again result.bytes (plain (B.value store.old) self.old)) }
+        ensures made { let s = B.value store.old in
+            made_of (serves here again (stop_of result) (plain s self.old)).acted.gone ≤ most_made result.bytes }
         ensures held { IsHeld (B.value store.new) self.new }
         ensures own { OnlyOwn (B.value store.old) (B.value store.new) (owns self.old) (owns self.new) }
         ensures chains { AreChains B.name (B.value store.new) (sent_of result.acts.sent) }

@@ -5,6 +5,7 @@ ghost use Rattle.std.specs.Prelude.{ℕ, ◌≡◌, ◌<◌, ◌≤◌, ◌-◌,
 ghost use Rattle.std.specs.List.{AllByRecursion, list_any};
 ghost use Rattle.strm_types.specs.declared.limits.TheConstants.{BANDS};
 ghost use Rattle.strm_types.specs.Queue.{bytes_of, count_of};
+ghost use Rattle.strm_types.specs.TurnOutcomes.{first_size};
 ghost use Rattle.strm_types.specs.declared.names.Way.TheVariants.{Up};
 ghost use Rattle.strm_types.specs.Modules.{change_among};
 ghost use Rattle.strm_types.specs.Refused.{has_no_data};
@@ -150,6 +151,16 @@ fn sizes_among<B: Blocks, M: Module<B>>(
     modules[at].sizes(store, way)
 }
 
+// How many bytes the first message on a queue of one of several modules has, counted from 0.
+fn first_size_among<B: Blocks, M: Module<B>>(store: &B, modules: &[M], at: usize, way: Way) -> usize
+    requires within { at < length modules.now }
+    requires held { AreHeld M.IsHeld M.owns (B.value store.now) modules.now }
+    ensures { result ≡ first_size (slice_index_or (map (messages_at M.queue_of way)
+        (map (M.plain (B.value store.now)) modules.now)) at []) }
+{
+    modules[at].first_size(store, way)
+}
+
 // Whether no M_DATA or M_PROTO stands on the read queues of these modules.
 fn none_wait_up<B: Blocks, M: Module<B>>(store: &B, modules: &[M]) -> bool
     requires { AllByRecursion (M.IsHeld (B.value store.now)) modules.now }
@@ -250,6 +261,19 @@ impl<M: Default + Drop> Stream<M> {
             (map (M.plain (B.value store.now)) self.now.modules.items)) }
     {
         sizes_among(store, self.modules.as_slice(), place - 1, way)
+    }
+
+    /// How many bytes the first message on a queue of the module at a place has; none where none stands there.
+    pub fn first_size<B: Blocks>(&self, store: &B, place: usize, way: Way) -> usize
+    where
+        M: Module<B>,
+        requires inside { 0 < place }
+        requires within { place ≤ length self.now.modules.items }
+        requires held { AreHeld M.IsHeld M.owns (B.value store.now) self.now.modules.items }
+        ensures { result ≡ first_size (at_place (messages_at M.queue_of way) [] place
+            (map (M.plain (B.value store.now)) self.now.modules.items)) }
+    {
+        first_size_among(store, self.modules.as_slice(), place - 1, way)
     }
 
     /// How many bytes count in a band of a queue of the module at a place; none without one.

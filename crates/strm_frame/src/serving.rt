@@ -7,9 +7,12 @@ ghost use Rattle.std.specs.Bool.{OnTrue};
 ghost use Rattle.strm_types.specs.declared.limits.TheConstants.{MODULES, STOP_BLOCKS};
 ghost use Rattle.strm_types.specs.declared.spots.Asks.TheVariants.{Empty};
 ghost use Rattle.strm_types.specs.Deliver.{AreLower, tallied};
+ghost use Rattle.strm_types.specs.Input.{made_of};
 ghost use Rattle.strm_types.specs.Modules.{change_among, act_among};
-ghost use Rattle.strm_types.specs.ModuleQueues.{at_place, queue_changed};
+ghost use Rattle.strm_types.specs.ModuleQueues.{at_place, messages_at, queue_changed};
 ghost use Rattle.strm_types.specs.Service.{Serving, turn_ended, end_relieves, has_more};
+ghost use Rattle.strm_types.specs.TurnCalls.{most_made};
+ghost use Rattle.strm_types.specs.TurnOutcomes.{first_size};
 ghost use Rattle.strm_frame.specs.Hands.{AreIn, Handles, OnlyOwn, SamePool, HasRoom};
 ghost use Rattle.strm_frame.specs.Outboxes.{sent_of, times_sent, parcels_in, AreChains};
 ghost use Rattle.strm_frame.specs.Serves.{IsBand, least_free, stop_of, later_cost};
@@ -27,6 +30,8 @@ fn asks_among<B: Blocks, M: Module<B>>(store: &B, modules: &[M], at: usize, way:
     requires held { AreHeld M.IsHeld M.owns (B.value store.now) modules.now }
     ensures asks { result ≡ slice_index_or (map (M.asks way) (map (M.plain (B.value store.now)) modules.now)) at Empty }
     ensures band { IsBand result }
+    ensures few { slice_index_or (map (λ p. first_size (messages_at M.queue_of way p))
+        (map (M.plain (B.value store.now)) modules.now)) at 0 ≤ 16777216 }
 {
     modules[at].asks(store, way)
 }
@@ -88,6 +93,11 @@ fn serve_among<B: Blocks, M: Module<B>>(
         slice_index_or (map (λ p. (M.serves here again (stop_of result) p).again) (map (M.plain s) modules.old)) at false }
     ensures stopped { OnTrue result.stopped
         ((least_free (B.value store.new) < STOP_BLOCKS) × (result.again ≡ false)) }
+    ensures stops { OnTrue result.stopped (HoldsAt (M.MayStop here.way again result.bytes)
+        (map (M.plain (B.value store.old)) modules.old) at) }
+    ensures made { let s = B.value store.old in
+        made_of (act_among (λ p. (M.serves here again (stop_of result) p).acted) at (map (M.plain s) modules.old)).gone
+        ≤ most_made result.bytes }
     ensures held { AreHeld M.IsHeld M.owns (B.value store.new) modules.new }
     ensures own { OnlyOwn (B.value store.old) (B.value store.new) (all_of M.owns modules.old) (all_of M.owns modules.new) }
     ensures chains { AreChains B.name (B.value store.new) (sent_of result.acts.sent) }
@@ -115,6 +125,8 @@ impl<M: Default + Drop> Stream<M> {
         ensures asks { result ≡ at_place (M.asks way) Empty place
             (map (M.plain (B.value store.now)) self.now.modules.items) }
         ensures band { IsBand result }
+        ensures few { at_place (λ p. first_size (messages_at M.queue_of way p)) 0 place
+            (map (M.plain (B.value store.now)) self.now.modules.items) ≤ 16777216 }
     {
         asks_among(store, self.modules.as_slice(), place - 1, way)
     }
@@ -161,6 +173,11 @@ impl<M: Default + Drop> Stream<M> {
             (map (M.plain s) self.old.modules.items) }
         ensures stopped { OnTrue result.stopped
             ((least_free (B.value store.new) < STOP_BLOCKS) × (result.again ≡ false)) }
+        ensures stops { OnTrue result.stopped (HoldsAt (M.MayStop here.way again result.bytes)
+            (map (M.plain (B.value store.old)) self.old.modules.items) (here.at - 1)) }
+        ensures made { let s = B.value store.old in
+            made_of (act_among (λ p. (M.serves here again (stop_of result) p).acted) (here.at - 1)
+            (map (M.plain s) self.old.modules.items)).gone ≤ most_made result.bytes }
         ensures held { AreHeld M.IsHeld M.owns (B.value store.new) self.new.modules.items }
         ensures own { OnlyOwn (B.value store.old) (B.value store.new) (all_of M.owns self.old.modules.items)
             (all_of M.owns self.new.modules.items) }

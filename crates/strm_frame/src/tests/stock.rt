@@ -11,7 +11,7 @@ use arrayvec::ArrayVec;
 use strm_blocks::Blocks;
 use strm_msg::message_size;
 use strm_queue::Queue;
-use strm_queue::standing::{count, dequeue, enqueue, is_full, sizes};
+use strm_queue::standing::{count, dequeue, enqueue, first_size, is_full, sizes};
 use strm_types::{Asks, Band, Fates, ModuleName, MsgKind, Note, Rule, Side, Spot, Way};
 
 #[derive(Drop)]
@@ -82,6 +82,8 @@ impl<B: Blocks> Module<B> for Stock {
 
     ghost MayServe = { λ way again p. again ≡ false };
 
+    ghost MayStop = { λ way again bytes p. ⊥ };
+
     ghost turn_height = { stock_far };
 
     ghost turn_cost = { λ here again p. 0 };
@@ -141,6 +143,13 @@ impl<B: Blocks> Module<B> for Stock {
         }
     }
 
+    fn first_size(&self, store: &B, way: Way) -> usize {
+        match way {
+            Way::Up => 0,
+            Way::Down => first_size(store, &self.queue),
+        }
+    }
+
     fn none_waits_up(&self, _store: &B) -> bool {
         true
     }
@@ -153,6 +162,7 @@ impl<B: Blocks> Module<B> for Stock {
     }
 
     fn asks(&self, store: &B, way: Way) -> Asks {
+        store.audit();
         match way {
             Way::Down if !self.queue.is_empty(store) => Asks::Room(Band(0)),
             Way::Down | Way::Up => Asks::Empty,

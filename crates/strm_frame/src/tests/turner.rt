@@ -73,6 +73,8 @@ impl<B: Blocks> Module<B> for Turner {
 
     ghost MayServe = { λ way again p. again ≡ false };
 
+    ghost MayStop = { λ way again bytes p. ⊥ };
+
     ghost turn_height = { λ here. 0 };
 
     ghost turn_cost = { λ here again p. 0 };
@@ -111,6 +113,10 @@ impl<B: Blocks> Module<B> for Turner {
 
     fn sizes(&self, _store: &B, _way: Way) -> (usize, usize) {
         (0, 0)
+    }
+
+    fn first_size(&self, _store: &B, _way: Way) -> usize {
+        0
     }
 
     fn none_waits_up(&self, _store: &B) -> bool {

@@ -1,5 +1,7 @@
 -- What one module answers.
-use Rattle.std.proofs.Common.{◌∙◌, sym}
+use Rattle.std.proofs.Common.{◌≤◌, ◌∙◌, sym, subst}
+use Rattle.strm_types.specs.ModuleQueues.{messages_at}
+use Rattle.strm_types.specs.TurnOutcomes.{first_size}
 use Rattle.strm_frame.proofs.Beside.{said-of}
 use Rattle.strm_frame.proofs.serving.asks_among.Goals as goal
 
@@ -10,3 +12,11 @@ returns-clause-asks g c =
     let d = c.index-modules-at.result in
     let xs = c.args.modules.now in
     c.asks.ensures.asks ∙ sym (said-of (w.plain s) (w.asks c.args.way) xs c.args.at d d _ c.requires.within c.index-modules-at.is)
+
+pub returns-clause-few : goal.returns-clause-few
+returns-clause-few g c =
+    let s = g.B.Blocks.value c.args.store.now in
+    let w = g.M.Module in
+    let d = c.index-modules-at.result in
+    let xs = c.args.modules.now in
+    subst (λ n. n ≤ 16777216) (sym (said-of (w.plain s) (λ p. first_size (messages_at w.queue_of c.args.way p)) xs c.args.at d d 0 c.requires.within c.index-modules-at.is)) c.asks.ensures.few

@@ -1,8 +1,12 @@
 -- One module acts, and the others stand for the same.
-use Rattle.std.proofs.Common.{true, get_or, map, refl, sym, ap, subst, ◌∙◌}
+use Rattle.std.proofs.Common.{◌≤◌, true, get_or, map, refl, sym, ap, subst, ◌∙◌}
 use Rattle.std.proofs.Math.ListN.{set}
+use Rattle.std.proofs.lemmas.Bool.{OnTrue_at, OnTrue_from}
 use Rattle.std.proofs.lemmas.List.{get_or-map}
+use Rattle.std.specs.Prelude.{HoldsAt}
 use Rattle.strm_types.specs.Deliver.{tallied}
+use Rattle.strm_types.specs.Input.{made_of}
+use Rattle.strm_types.specs.TurnCalls.{most_made}
 use Rattle.strm_frame.specs.Hands.{HasRoom}
 use Rattle.strm_frame.specs.Outboxes.{sent_of, times_sent, parcels_in}
 use Rattle.strm_frame.specs.Serves.{stop_of, later_cost}
@@ -124,3 +128,22 @@ returns-clause-room g c =
 pub returns-clause-own : goal.returns-clause-own
 returns-clause-own g c =
     own-all g.M.Module.owns (g.B.Blocks.value c.args.store.now) (g.B.Blocks.value c.serve.new.store) c.args.modules.now c.args.at (get_or c.args.modules.now c.args.at c.index-modules-at.result) c.index-modules-at.result c.serve.new.self c.requires.within refl c.serve.ensures.own
+
+pub returns-clause-stops : goal.returns-clause-stops
+returns-clause-stops g c =
+    let w = g.M.Module in
+    let f = w.plain (g.B.Blocks.value c.args.store.now) in
+    let d = c.index-modules-at.result in
+    let xs = c.args.modules.now in
+    let may = w.MayStop c.args.here.way c.args.again c.serve.result.bytes in
+    OnTrue_from c.serve.result.stopped (HoldsAt may (map f xs) c.args.at)
+    (λ is e. subst may (sym (get_or-map f xs c.args.at d e c.requires.within)) (OnTrue_at is c.serve.ensures.stops))
+
+pub returns-clause-made : goal.returns-clause-made
+returns-clause-made g c =
+    let s = g.B.Blocks.value c.args.store.now in
+    let w = g.M.Module in
+    let d = c.index-modules-at.result in
+    let xs = c.args.modules.now in
+    subst (λ fates. made_of fates ≤ most_made c.serve.result.bytes)
+    (sym (act-gone (λ p. (w.serves c.args.here c.args.again (stop_of c.serve.result) p).acted) (w.plain s) xs c.args.at (get_or xs c.args.at d) d c.requires.within refl)) c.serve.ensures.made

@@ -1,5 +1,5 @@
 -- The modules are taken as a slice, and written back whole.
-use Rattle.std.proofs.Common.{◌∙◌, ap, sym, subst, length, map, arith}
+use Rattle.std.proofs.Common.{◌∙◌, ap, sym, subst, length, map}
 use Rattle.strm_types.specs.Deliver.{tallied}
 use Rattle.strm_types.specs.Modules.{act_among}
 use Rattle.strm_types.specs.Service.{cleared}

@@ -1,0 +1,177 @@
+-- Each message that was sent is carried in turn, and the rest is as if it alone had been sent.
+use Rattle.std.proofs.Common.{ℕ, suc, ◌≡◌, ◌-◌, refl, sym, ◌∙◌, arith}
+use Rattle.strm_types.specs.Deliver.{Parcel, carried}
+use Rattle.strm_frame.specs.Hands.{once}
+use Rattle.strm_frame.specs.Outboxes.{message_in, sent_of, times_sent, parcels_in, parcel_in, cost_of}
+use Rattle.strm_frame.proofs.Handing.{hands-on, lower-more, next-chain, next-chains, next-low, next-lower, next-room, next-spends, no-cost, next-parts, next-can, next-hands, next-same, no-more, no-parts, room-on, sent-in, spends-on, still-sent}
+use Rattle.strm_frame.proofs.Turns.{begins-state, begins-told, goes-state, goes-told, stops-state, stops-told}
+use Rattle.strm_frame.proofs.carrying.+delivery.Goals as goal
+
+pub deliver-deliver_all-requires : goal.deliver-deliver_all-requires
+deliver-deliver_all-requires g t c κs within =
+    let value = g.B.Blocks.value in
+    let name = g.B.Blocks.name in
+    let w = g.S.Stations in
+    let s0 = value c.args.store.now in
+    let s = value c.put_at-sent.new.store in
+    let m = message_in s0 (name c.args.message) in
+    let e = c.put_at-sent.ensures in
+    let all = sent_of c.put_at-sent.result in
+    let top = c.requires.low in
+    let in_hand = sent-in s0 s (once (name c.args.message)) (λ i. times_sent name i all) (w.keeps c.args.stations.now) (w.keeps c.put_at-sent.new.self) c.requires.can_put e.hands in
+    let low = lower-more w.height (w.height c.args.to m) (c.args.hops - 1) (parcels_in name s all) (omega arith) e.falls in
+    let room = room-on s0 s (w.cost c.args.to m) (cost_of w.cost (parcels_in name s all)) c.requires.room e.spends in
+    (omega arith, (within.0, (within.1.0, (within.1.1, (e.held, (in_hand, (e.chains, (low, room))))))))
+
+pub deliver-returns-clause-state : goal.deliver-returns-clause-state
+deliver-returns-clause-state g t c =
+    let s = g.B.Blocks.value c.args.store.now in
+    let p : Parcel ℕ = record { to = c.args.to; message = message_in s (g.B.Blocks.name c.args.message) } in
+    let w = g.S.Stations in
+    let e = c.put_at-sent.ensures in
+    let low = c.requires.low in
+    let next : c.args.hops ≡ suc (c.args.hops - 1) = omega arith in
+    c.deliver_all.ensures.state ∙ begins-state w.puts c.args.hops (c.args.hops - 1) p (w.plain s c.args.stations.now) _ _ next e.state e.sent
+
+pub deliver-returns-clause-told : goal.deliver-returns-clause-told
+deliver-returns-clause-told g t c =
+    let s = g.B.Blocks.value c.args.store.now in
+    let p : Parcel ℕ = record { to = c.args.to; message = message_in s (g.B.Blocks.name c.args.message) } in
+    let w = g.S.Stations in
+    let e = c.put_at-sent.ensures in
+    let low = c.requires.low in
+    let next : c.args.hops ≡ suc (c.args.hops - 1) = omega arith in
+    c.deliver_all.ensures.told ∙ begins-told w.puts c.args.hops (c.args.hops - 1) p (w.plain s c.args.stations.now) _ _ _ _ next e.state e.sent e.told
+
+pub deliver-returns-clause-hands : goal.deliver-returns-clause-hands
+deliver-returns-clause-hands g t c =
+    let value = g.B.Blocks.value in
+    let name = g.B.Blocks.name in
+    let w = g.S.Stations in
+    hands-on (value c.args.store.now) (value c.put_at-sent.new.store) (value c.deliver_all.new.store) (once (name c.args.message)) (λ i. times_sent name i (sent_of c.put_at-sent.result))
+    (w.keeps c.args.stations.now) (w.keeps c.put_at-sent.new.self) (w.keeps c.deliver_all.new.stations) c.audit.ensures c.put_at-sent.ensures.hands c.deliver_all.ensures.hands
+
+pub deliver-returns-clause-spends : goal.deliver-returns-clause-spends
+deliver-returns-clause-spends g t c =
+    let value = g.B.Blocks.value in
+    let name = g.B.Blocks.name in
+    let w = g.S.Stations in
+    let s = value c.put_at-sent.new.store in
+    spends-on (value c.args.store.now) s (value c.deliver_all.new.store) (w.cost c.args.to (message_in (value c.args.store.now) (name c.args.message)))
+    (cost_of w.cost (parcels_in name s (sent_of c.put_at-sent.result))) c.put_at-sent.ensures.spends c.deliver_all.ensures.spends
+
+pub deliver_all-loop-next-init : goal.deliver_all-loop-next-init
+deliver_all-loop-next-init g t c =
+    let s = g.B.Blocks.value c.args.store.now in
+    record {
+      state = refl;
+      told = refl;
+      held = c.requires.held;
+      chains = c.requires.chains;
+      lower = c.requires.low;
+      hands = record { counts = λ i. omega arith; others = λ i gone kept some. refl };
+      spends = record { mblks = omega arith; dblks = omega arith };
+      pool = record { mblks = refl; dblks = refl };
+    }
+
+pub deliver_all-loop-next-preserved : goal.deliver_all-loop-next-preserved
+deliver_all-loop-next-preserved g t c =
+    let value = g.B.Blocks.value in
+    let name = g.B.Blocks.name in
+    let w = g.S.Stations in
+    let i = c.loop-next.invariant in
+    let x = c.in-Some.next in
+    let s0 = value c.args.store.now in
+    let s = value c.loop-next.store in
+    let s' = value c.deliver.new.store in
+    let first = λ (j : ℕ). times_sent name j (sent_of c.args.sent) in
+    let all = sent_of c.loop-next.left in
+    let more = sent_of c.take_first.new.self in
+    let k0 = w.keeps c.args.stations.now in
+    let k = w.keeps c.loop-next.stations in
+    let k' = w.keeps c.deliver.new.stations in
+    let split = c.in-Some.ensures in
+    let carry = carried w.puts c.args.hops in
+    let parts = next-parts name s0 s s' first k0 k k' x more all split c.audit.ensures c.requires.are_in i.hands in
+    let same = next-same name s0 s s' first k0 k k' x more all split c.audit.ensures c.requires.are_in i.hands c.deliver.ensures.hands in
+    record {
+      state = goes-state carry (parcels_in name s all) (parcels_in name s more) (parcels_in name s' more) (parcel_in name s x) (w.plain s c.loop-next.stations) _ parts same c.deliver.ensures.state ∙ i.state;
+      told = goes-told carry (parcels_in name s all) (parcels_in name s more) (parcels_in name s' more) (parcel_in name s x) (w.plain s c.loop-next.stations) _ _ _ parts same c.deliver.ensures.state c.deliver.ensures.told ∙ i.told;
+      held = c.deliver.ensures.held;
+      chains = next-chains name s0 s s' first k0 k k' x more all split c.audit.ensures c.requires.are_in i.hands c.deliver.ensures.hands i.chains;
+      lower = next-lower name s0 s s' first k0 k k' x more all split c.audit.ensures c.requires.are_in i.hands c.deliver.ensures.hands w.height c.args.hops i.lower;
+      hands = next-hands name s0 s s' first k0 k k' x more all split c.audit.ensures c.requires.are_in i.hands c.deliver.ensures.hands;
+      spends = next-spends name s0 s s' first k0 k k' x more all split c.audit.ensures c.requires.are_in i.hands c.deliver.ensures.hands w.cost _ c.requires.room i.spends c.deliver.ensures.spends;
+      pool = record { mblks = c.deliver.ensures.pool.mblks ∙ i.pool.mblks; dblks = c.deliver.ensures.pool.dblks ∙ i.pool.dblks };
+    }
+
+pub deliver_all-deliver-requires : goal.deliver_all-deliver-requires
+deliver_all-deliver-requires g t c κs within =
+    let value = g.B.Blocks.value in
+    let name = g.B.Blocks.name in
+    let w = g.S.Stations in
+    let i = c.loop-next.invariant in
+    let s0 = value c.args.store.now in
+    let s = value c.loop-next.store in
+    let first = λ (j : ℕ). times_sent name j (sent_of c.args.sent) in
+    let k0 = w.keeps c.args.stations.now in
+    let k = w.keeps c.loop-next.stations in
+    let x = c.in-Some.next in
+    let more = sent_of c.take_first.new.self in
+    let all = sent_of c.loop-next.left in
+    let can = next-can name s0 s s first k0 k k x more all c.in-Some.ensures c.audit.ensures c.requires.are_in i.hands in
+    let room = next-room name s0 s s first k0 k k x more all c.in-Some.ensures c.audit.ensures c.requires.are_in i.hands w.cost _ c.requires.room i.spends in
+    let chain = next-chain name s0 s s first k0 k k x more all c.in-Some.ensures c.audit.ensures c.requires.are_in i.hands i.chains in
+    let low = next-low name s0 s s first k0 k k x more all c.in-Some.ensures c.audit.ensures c.requires.are_in i.hands w.height c.args.hops i.lower in
+    (omega arith, (within.0, (within.1.0, (within.1.1, (i.held, (can, (chain, (low, room))))))))
+
+pub deliver_all-returns-clause-state : goal.deliver_all-returns-clause-state
+deliver_all-returns-clause-state g t c =
+    let w = g.S.Stations in
+    let s = g.B.Blocks.value c.loop-next.store in
+    let all = parcels_in g.B.Blocks.name s (sent_of c.loop-next.left) in
+    let none = no-parts g.B.Blocks.name s (sent_of c.loop-next.left) c.in_default.ensures.0 in
+    sym (stops-state (carried w.puts c.args.hops) all (w.plain s c.loop-next.stations) none) ∙ c.loop-next.invariant.state
+
+pub deliver_all-returns-clause-told : goal.deliver_all-returns-clause-told
+deliver_all-returns-clause-told g t c =
+    let w = g.S.Stations in
+    let s = g.B.Blocks.value c.loop-next.store in
+    let all = parcels_in g.B.Blocks.name s (sent_of c.loop-next.left) in
+    let none = no-parts g.B.Blocks.name s (sent_of c.loop-next.left) c.in_default.ensures.0 in
+    sym (stops-told (carried w.puts c.args.hops) all (w.plain s c.loop-next.stations) c.loop-next.told none) ∙ c.loop-next.invariant.told
+
+pub deliver_all-returns-clause-hands : goal.deliver_all-returns-clause-hands
+deliver_all-returns-clause-hands g t c =
+    let name = g.B.Blocks.name in
+    let w = g.S.Stations in
+    let s0 = g.B.Blocks.value c.args.store.now in
+    let s = g.B.Blocks.value c.loop-next.store in
+    no-more name s0 s (λ i. times_sent name i (sent_of c.args.sent)) (w.keeps c.args.stations.now) (w.keeps c.loop-next.stations) (sent_of c.loop-next.left) c.in_default.ensures.0 c.loop-next.invariant.hands
+
+pub deliver_all-returns-clause-spends : goal.deliver_all-returns-clause-spends
+deliver_all-returns-clause-spends g t c =
+    let s0 = g.B.Blocks.value c.args.store.now in
+    let s = g.B.Blocks.value c.loop-next.store in
+    no-cost g.B.Blocks.name s0 s g.S.Stations.cost _ (sent_of c.loop-next.left) c.in_default.ensures.0 c.loop-next.invariant.spends
+
+pub deliver_all-returns-then-is_empty-clause-state : goal.deliver_all-returns-then-is_empty-clause-state
+deliver_all-returns-then-is_empty-clause-state g t c =
+    let w = g.S.Stations in
+    let s = g.B.Blocks.value c.args.store.now in
+    let none = no-parts g.B.Blocks.name s (sent_of c.args.sent) (c.if-is_empty.ensures.0 refl) in
+    sym (stops-state (carried w.puts c.args.hops) (parcels_in g.B.Blocks.name s (sent_of c.args.sent)) (w.plain s c.args.stations.now) none)
+
+pub deliver_all-returns-then-is_empty-clause-told : goal.deliver_all-returns-then-is_empty-clause-told
+deliver_all-returns-then-is_empty-clause-told g t c =
+    let w = g.S.Stations in
+    let s = g.B.Blocks.value c.args.store.now in
+    let none = no-parts g.B.Blocks.name s (sent_of c.args.sent) (c.if-is_empty.ensures.0 refl) in
+    sym (stops-told (carried w.puts c.args.hops) (parcels_in g.B.Blocks.name s (sent_of c.args.sent)) (w.plain s c.args.stations.now) c.args.told.now none)
+
+pub deliver_all-returns-then-is_empty-clause-hands : goal.deliver_all-returns-then-is_empty-clause-hands
+deliver_all-returns-then-is_empty-clause-hands g t c =
+    still-sent g.B.Blocks.name (g.B.Blocks.value c.args.store.now) (g.S.Stations.keeps c.args.stations.now) (sent_of c.args.sent) (c.if-is_empty.ensures.0 refl)
+
+pub deliver_all-returns-then-is_empty-clause-spends : goal.deliver_all-returns-then-is_empty-clause-spends
+deliver_all-returns-then-is_empty-clause-spends g t c = record { mblks = omega arith; dblks = omega arith }

@@ -1,0 +1,32 @@
+use Rattle.std.proofs.Common.{◌≡◌, ◌+◌, ◌*◌, length}
+use Rattle.strm_types.specs.Deliver.{in_turn, carried, tallied, AreLower}
+use Rattle.strm_frame.specs.Hands.{Handles, SamePool, Spends}
+use Rattle.strm_frame.specs.Outboxes.{sent_of, times_sent, parcels_in, AreChains, cost_of}
+use Rattle.strm_frame.proofs.carrying.+delivery.Given as goal
+
+abbrev pub decreases-deliver : goal.decreases-deliver
+decreases-deliver g l = 2 * l.hops
+
+abbrev pub decreases-deliver_all : goal.decreases-deliver_all
+decreases-deliver_all g l = 2 * l.hops + 1
+
+abbrev pub invariant-deliver_all-loop-next : goal.invariant-deliver_all-loop-next
+invariant-deliver_all-loop-next g l =
+    let value = g.B.Blocks.value in
+    let name = g.B.Blocks.name in
+    let w = g.S.Stations in
+    let rest = in_turn (carried w.puts l.hops) (parcels_in name (value l.store) (sent_of l.left)) (w.plain (value l.store) l.stations) in
+    let all = in_turn (carried w.puts l.fn.hops) (parcels_in name (value l.fn.store) (sent_of l.fn.sent)) (w.plain (value l.fn.store) l.fn.stations) in
+    record {
+      state : rest.state ≡ all.state;
+      told : tallied rest.gone l.told ≡ tallied all.gone l.fn.told;
+      held : w.IsHeld (value l.store) l.stations;
+      chains : AreChains name (value l.store) (sent_of l.left);
+      lower : AreLower w.height l.hops (parcels_in name (value l.store) (sent_of l.left));
+      hands : Handles (value l.fn.store) (value l.store) (λ i. times_sent name i (sent_of l.fn.sent)) (w.keeps l.fn.stations) (w.keeps l.stations) (λ i. times_sent name i (sent_of l.left));
+      spends : Spends (value l.fn.store) (value l.store) (cost_of w.cost (parcels_in name (value l.fn.store) (sent_of l.fn.sent))) (cost_of w.cost (parcels_in name (value l.store) (sent_of l.left)));
+      pool : SamePool (value l.fn.store) (value l.store);
+    }
+
+abbrev pub decreases-deliver_all-loop-next : goal.decreases-deliver_all-loop-next
+decreases-deliver_all-loop-next g l = length (sent_of l.left)

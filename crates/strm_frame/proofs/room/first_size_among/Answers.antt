@@ -1,0 +1,14 @@
+-- What one module answers.
+use Rattle.std.proofs.Common.{◌∙◌, sym, ap}
+use Rattle.strm_types.specs.ModuleQueues.{messages_at}
+use Rattle.strm_types.specs.TurnOutcomes.{first_size}
+use Rattle.strm_frame.proofs.Beside.{said-of}
+use Rattle.strm_frame.proofs.room.first_size_among.Goals as goal
+
+pub returns : goal.returns
+returns g c =
+    let s = g.B.Blocks.value c.args.store.now in
+    let w = g.M.Module in
+    let d = c.index-modules-at.result in
+    let xs = c.args.modules.now in
+    c.first_size.ensures ∙ sym (ap first_size (said-of (w.plain s) (messages_at w.queue_of c.args.way) xs c.args.at d d _ c.requires.within c.index-modules-at.is))
