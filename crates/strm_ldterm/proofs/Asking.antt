@@ -1,20 +1,26 @@
 -- What the first message of a queue asks.
-use Rattle.std.proofs.Common.{ℕ, ◌≡◌, true, List, [], ◌∷◌, ◌++◌, map, refl, sym, ap, ◌∙◌, append-nil}
+use Rattle.std.proofs.Common.{ℕ, ◌≡◌, ◌≤◌, true, List, [], ◌∷◌, ◌++◌, map, refl, sym, ap, ◌∙◌, append-nil, arith}
 use Rattle.std.specs.Prelude.{Option, None, Some, IfSome, is_some}
 use Rattle.std.specs.Option.{option_to_list}
 use Rattle.strm_types.specs.declared.kinds.MsgKind.{MsgKind}
 use Rattle.strm_types.specs.declared.names.Way.{Way}
-use Rattle.strm_types.specs.declared.names.Way.TheVariants.{Down}
+use Rattle.strm_types.specs.declared.names.Way.TheVariants.{Up, Down}
 use Rattle.strm_types.specs.Message.{Message}
+use Rattle.strm_types.specs.ModuleQueues.{messages_at}
+use Rattle.strm_types.specs.TurnOutcomes.{first_size}
 use Rattle.strm_blocks.specs.declared.asked.Peek.{Peek}
-use Rattle.strm_blocks.specs.Blocks.{StoreValue, in_hand}
+use Rattle.strm_blocks.specs.Blocks.{StoreValue, IsStore, in_hand}
 use Rattle.strm_blocks.specs.Outcomes.{PeekedFirst}
 use Rattle.strm_msg.specs.Messages.{message_of}
 use Rattle.strm_msg.proofs.Chains.{kind-is, band-is}
 use Rattle.strm_queue.specs.Stored.{messages_on}
 use Rattle.strm_types.specs.declared.spots.Asks.{Asks}
 use Rattle.strm_types.specs.declared.spots.Asks.TheVariants as asked
-use Rattle.strm_ldterm.specs.Stands.{IsOrdinary, kept_in}
+use Rattle.strm_frame.proofs.FirstSizes.{first-few, first-within}
+use Rattle.strm_ldterm.specs.declared.ldterm.Ldterm.{Ldterm}
+use Rattle.strm_ldterm.specs.Calls.{queue_of}
+use Rattle.strm_ldterm.specs.Stands.{IsHeld, IsOrdinary, kept_in, ldterm_in}
+use Rattle.strm_ldterm.proofs.Last.{bytes-few, bytes-last}
 use Rattle.strm_types.specs.Asking.{asked_by, asked_first}
 
 pub asked-peek : (s : StoreValue) (k : ℕ) (way : Way) (peek : Peek) → PeekedFirst s k peek → asked_first way (messages_on s k) ≡ asked_by way peek.kind peek.band.0
@@ -42,3 +48,12 @@ module _ {M : Type 0} (name : M → ℕ) (s : StoreValue) where
   pub asked-none : (ms : List (Message ℕ)) (o : Option M) → ms ≡ [] → (is_some o ≡ true → ⊥) → asked.Empty ≡ asked_first Down (ms ++ option_to_list (kept_in name s o))
   asked-none ms None none some = ap (λ l. asked_first Down (l ++ [])) (sym none)
   asked-none ms (Some m) none some = absurd (some refl)
+
+-- the first message of a queue has few bytes, the turn's echo among those that stand there
+pub asked-few : {M : Type 0} (name : M → ℕ) (s : StoreValue) (x : Ldterm M) (way : Way) → IsStore s → IsHeld name s x → first_size (messages_at queue_of way (ldterm_in name s x)) ≤ 16777216
+asked-few name s x Up st held = first-few s x.read_queue st held.read
+asked-few name s x Down st held =
+    let listed = messages_on s x.write_queue.list in
+    let last = option_to_list (kept_in name s x.echo) in
+    let few = bytes-few name s x.write_queue.list x.write_queue x.echo st held.write refl held.echoes in
+    omega (arith, few, bytes-last listed last, first-within (listed ++ last))

@@ -23,7 +23,7 @@ use Rattle.strm_frame.specs.Hands.{HasRoom}
 use Rattle.strm_frame.specs.Outboxes.{sent_of}
 use Rattle.strm_frame.specs.Serves.{least_free, stop_at, stop_of}
 use Rattle.strm_ldterm.specs.declared.ldterm.Ldterm.{Ldterm}
-use Rattle.strm_ldterm.specs.Called.{RunsOut, RunsInto, TreatsAs, all_free, treated_by}
+use Rattle.strm_ldterm.specs.Called.{EndsAt, RunsOut, RunsInto, TreatsAs, all_free, treated_by}
 use Rattle.strm_ldterm.specs.Does.{Proceeds}
 use Rattle.strm_ldterm.specs.Freeing.{FreesNone}
 use Rattle.strm_ldterm.specs.Stands.{kept_in, ldterm_in, stage_in}
@@ -269,12 +269,13 @@ module _ {M : Type 0} (name : M → ℕ) (s s' : StoreValue) (here : Spot) (x x'
   -- what a call did, where the definition comes to this
   treats-as : (served : Served M) (v : Serving ℕ (ldterms.Ldterm ℕ)) → treated_by name s s' here x x' (stop_of served) ≡ v
       → Proceeds name s s' x x' (all_free s) served.acts.notes.items (sent_of served.acts.sent) t t' v.acted → served.bytes ≡ v.bytes → served.again ≡ v.again → (served.stopped ≡ true → (least_free s' < STOP_BLOCKS) × (served.again ≡ false))
-      → to_treat (ldterm_in name s' x') ≤ to_treat (ldterm_in name s x) → HasRoom s' (leaves (stage_in x'.stage)) → TreatsAs name s s' here x x' served t t'
-  treats-as served v is does bytes again stops less room = record {
+      → (served.stopped ≡ true → EndsAt name s s' here x x' served.bytes) → to_treat (ldterm_in name s' x') ≤ to_treat (ldterm_in name s x) → HasRoom s' (leaves (stage_in x'.stage)) → TreatsAs name s s' here x x' served t t'
+  treats-as served v is does bytes again stops ends less room = record {
     does = subst (λ (w : Serving ℕ (ldterms.Ldterm ℕ)). Proceeds name s s' x x' (all_free s) served.acts.notes.items (sent_of served.acts.sent) t t' w.acted) (sym is) does;
     bytes = bytes ∙ sym (ap (λ (w : Serving ℕ (ldterms.Ldterm ℕ)). w.bytes) is);
     again = again ∙ sym (ap (λ (w : Serving ℕ (ldterms.Ldterm ℕ)). w.again) is);
     stops = stops;
+    ends = ends;
     less = less;
     room = room;
   }
@@ -296,7 +297,7 @@ module _ {M : Type 0} (name : M → ℕ) (s s' : StoreValue) (here : Spot) (x x'
       let same = ap to_treat r.does.state in
       treats-as (record { acts = acts; bytes = bytes - left; stopped = false; again = true }) _
       (treats-sent here from n (3 * (left - 1)) (to_treat from) (omega arith) out (omega arith) work)
-      r.does (omega arith) refl (λ e. absurd (false≢true e)) (omega arith) r.room
+      r.does (omega arith) refl (λ e. absurd (false≢true e)) (λ e. absurd (false≢true e)) (omega arith) r.room
 
   -- and where nothing was sent, to the end of the call
   pub out-treats : (bytes left : ℕ) (notes : ArrayVec Note) (sent : Outbox M) (s1 : StoreValue) (x1 : Ldterm M) (t1 : Fates) → IsStore s1 → stages_left (stage_in x.stage) ≡ 0 → bytes ≡ length (cells_left from)
@@ -319,7 +320,7 @@ module _ {M : Type 0} (name : M → ℕ) (s s' : StoreValue) (here : Spot) (x x'
       treats-as (record { acts = record { notes = notes; sent = sent }; bytes = bytes - left; stopped = nat_lt 0 left; again = false }) _
       (ap (λ k. treats plain here k 0 from) stop ∙ treats-ended here from n (bytes - left) (omega arith) none)
       (subst (λ ns. Proceeds name s s' x x' (all_free s) ns (sent_of sent) t t' (one_after (ahead here n from) (finished plain here))) (append-nil notes.items) all)
-      refl refl (λ v. (few (lower 0 left v), refl)) (omega arith) (record { mblks = omega arith; dblks = omega arith })
+      refl refl (λ v. (few (lower 0 left v), refl)) (λ v. record { treat = omega arith; done = omega arith }) (omega arith) (record { mblks = omega arith; dblks = omega arith })
     where
       at : (v : Bool) → nat_lt 0 left ≡ v → left ≤ bytes × (to_treat from ≡ bytes) → unwrap_or (stop_at v (bytes - left)) (to_treat from) ≡ bytes - left
       at true is both = refl
@@ -393,7 +394,7 @@ module _ {M : Type 0} (name : M → ℕ) (s s' : StoreValue) (here : Spot) (x x'
       let rd = behind.0.dblks in
       treats-as (record { acts = acts; bytes = 0; stopped = false; again = true }) _
       (treats-sent here from n (3 * (to_treat from - 1)) (to_treat from) (omega arith) out room work)
-      (takes-any name s s' x x' 26 acts.notes.items (sent_of acts.sent) t t' (ahead here n from) a) (omega arith) refl (λ v. absurd (false≢true v)) (omega arith) (record { mblks = omega arith; dblks = omega arith })
+      (takes-any name s s' x x' 26 acts.notes.items (sent_of acts.sent) t t' (ahead here n from) a) (omega arith) refl (λ v. absurd (false≢true v)) (λ v. absurd (false≢true v)) (omega arith) (record { mblks = omega arith; dblks = omega arith })
 
 module _ {M : Type 0} (name : M → ℕ) (s s1 s' : StoreValue) (here : Spot) (x x1 x' : Ldterm M) (t t1 t' : Fates) where
   -- from within a byte on that has sent nothing, and then on
@@ -438,7 +439,7 @@ module _ {M : Type 0} (name : M → ℕ) (s s1 s' : StoreValue) (here : Spot) (x
       (subst (Proceeds name s s' x x' (all_free s) (notes ++ served.acts.notes.items) (sent_of served.acts.sent) t t')
       (ap (λ v. cond {A = Acts} v (next (ends here (3 * k) (ahead here n p).state)) (ahead here n p)) none ∙ ap (λ (q : ldterms.Ldterm ℕ). next (ends here (3 * k) q)) (sym a.state)) joined))
       (ap (λ j. j + 1) count ∙ plus (is_some u.state.in_work) (to_treat u.state) (to_treat p1) (to_treat p) k (omega arith) one)
-      again b.stops (omega arith) b.room
+      again b.stops (λ v. let less = (b.ends v).treat in record { treat = omega arith; done = omega arith }) (omega arith) b.room
     where
       at : (v : Bool) (m : ℕ) → to_treat (ldterm_in name s x) ≡ to_treat (ldterm_in name s1 x1) + 1 → unwrap_or (stop_at v (m + 1)) (to_treat (ldterm_in name s x)) ≡ unwrap_or (stop_at v m) (to_treat (ldterm_in name s1 x1)) + 1
       at true m one = refl

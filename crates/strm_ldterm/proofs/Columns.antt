@@ -1,5 +1,5 @@
 -- Columns of lines, and of what is rubbed out.
-use Rattle.std.proofs.Common.{◌≡◌, ℕ, zero, suc, ◌+◌, ◌-◌, ◌*◌, ◌≤◌, Bool, true, false, List, [], ◌∷◌, ◌++◌, length, take, drop, refl, sym, ap, ◌∙◌, arith}
+use Rattle.std.proofs.Common.{◌≡◌, ℕ, ◌+◌, ◌-◌, ◌≤◌, Bool, true, false, List, [], ◌∷◌, ◌++◌, take, drop, refl, sym, ap, ◌∙◌, arith}
 use Rattle.std.specs.Prelude.{if◌then◌else◌}
 use Rattle.std.proofs.lemmas.List.{take-append-drop}
 use Rattle.strm_types.specs.declared.termios.Termios.{Termios}
@@ -37,8 +37,3 @@ module _ (t : Termios) where
       ∙ ap (λ n. rub_out (column_from t 0 line - n)) kept_is
       ∙ sym (chosen (echoe t) _ _ rubs)
       ∙ sym (chosen (echo t) _ _ echoes)
-
--- three bytes rub out a column
-pub length-rub_out : (columns : ℕ) → length (rub_out columns) ≡ 3 * columns
-length-rub_out zero = refl
-length-rub_out (suc columns) = let less = length-rub_out columns in omega arith

@@ -3,7 +3,7 @@ use Rattle.std.proofs.Common.{◌≡◌, ℕ, ◌+◌, ◌-◌, ◌*◌, ◌<◌
 use Rattle.std.specs.Prelude.{flat_map}
 use Rattle.std.proofs.lemmas.List.{at_drop_more}
 use Rattle.strm_types.specs.Echo.{rub_out}
-use Rattle.strm_ldterm.proofs.Columns.{length-rub_out}
+use Rattle.strm_types.proofs.EchoSizes.{length-rub_out}
 use Rattle.strm_ldterm.proofs.Runs.{to_end}
 use Rattle.strm_ldterm.specs.declared.echoes.Echo.{Echo}
 use Rattle.strm_ldterm.specs.Echoes.{echo_bytes, shown}

@@ -1,6 +1,5 @@
 mod Columns
 mod EchoBytes
-mod EchoSizes
 mod LineEnds
 mod PlainBytes
 mod Runs

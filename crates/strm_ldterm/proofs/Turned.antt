@@ -1,5 +1,5 @@
 -- Calls of the service procedure, by the way of their queue.
-use Rattle.std.proofs.Common.{ℕ, ◌≡◌, ◌+◌, Bool, true, false, [], length, refl, sym, ap, subst, ◌∙◌, arith}
+use Rattle.std.proofs.Common.{ℕ, ◌≡◌, ◌≤◌, ◌+◌, Bool, true, false, [], length, refl, sym, ap, subst, ◌∙◌, arith}
 use Rattle.std.proofs.lemmas.Bool.{false≢true}
 use Rattle.std.specs.Prelude.{Option, None, is_some, not, unwrap_or}
 use Rattle.strm_types.specs.declared.names.Way.{Way}
@@ -9,7 +9,10 @@ use Rattle.strm_types.specs.declared.spots.Spot.{Spot}
 use Rattle.strm_types.specs.Cells.{plain}
 use Rattle.strm_types.specs.Input.{cells_left, input_begins, is_data, ldterm_serves, output_passes, to_treat, treats}
 use Rattle.strm_types.specs.Ldterms as ldterms
+use Rattle.strm_types.specs.Message.{Message, cells_of, size_of}
 use Rattle.strm_types.specs.Service.{Serving}
+use Rattle.strm_types.specs.TurnCalls.{bytes_left}
+use Rattle.strm_types.specs.TurnOutcomes.{first_size}
 use Rattle.strm_blocks.specs.Blocks.{StoreValue, IsStore}
 use Rattle.strm_frame.specs.declared.parcels.Outbox.{Outbox}
 use Rattle.strm_frame.specs.declared.service.Served.{Served}
@@ -24,9 +27,14 @@ use Rattle.strm_ldterm.specs.Resting.{ldterm-rests}
 use Rattle.strm_ldterm.specs.Served.{IsServed}
 use Rattle.strm_ldterm.specs.Stands.{keeps, ldterm_in, stage_in, IsHeld}
 use Rattle.strm_ldterm.specs.Turns.{stages_left}
-use Rattle.strm_ldterm.proofs.Calls.{all-left, kept-some, takes-any}
+use Rattle.strm_ldterm.proofs.Calls.{all-left, kept-some, takes-any, none-done}
 use Rattle.strm_ldterm.proofs.Joining.{proceeds-joined}
 use Rattle.strm_ldterm.specs.ServedLaws.{again-works, first-idle, serves-served}
+
+-- a message has no fewer bytes than cells
+cells-within : (m : Message ℕ) → length (cells_of m) ≤ size_of m
+unfolding size_of
+cells-within m = omega arith
 
 module _ (here : Spot) (again : Bool) (stop : Option ℕ) (p : ldterms.Ldterm ℕ) where
   abbrev at_way : Way → Spot
@@ -65,6 +73,7 @@ module _ {M : Type 0} (name : M → ℕ) (s s' : StoreValue) (here : Spot) (x x'
         bytes = same-bytes ∙ size ∙ sym (ap (λ (w : Serving ℕ (ldterms.Ldterm ℕ)). w.bytes) whole);
         again_is = ends ∙ sym over ∙ sym (ap (λ (w : Serving ℕ (ldterms.Ldterm ℕ)). w.again) whole);
         stops = λ e. absurd (false≢true (sym goes-on ∙ e));
+        ends = λ e. absurd (false≢true (sym goes-on ∙ e));
         room = λ e. absurd (false≢true (sym ends ∙ e));
         whole = λ e. record { mblks = (let f = a.mblks in omega arith); dblks = (let f = a.dblks in omega arith) };
       }
@@ -79,6 +88,10 @@ module _ {M : Type 0} (name : M → ℕ) (s s' : StoreValue) (here : Spot) (x x'
         bytes = b.bytes ∙ sym (ap (λ (w : Serving ℕ (ldterms.Ldterm ℕ)). w.bytes) whole);
         again_is = b.again ∙ sym (ap (λ (w : Serving ℕ (ldterms.Ldterm ℕ)). w.again) whole);
         stops = b.stops;
+        ends = λ e.
+            let left = ap (λ w. bytes_left w again (ldterm_in name s x)) way ∙ ap (λ v. bytes_left Up v (ldterm_in name s x)) more in
+            let at = b.ends e in
+            record { treat = let few = at.treat in omega (arith, left); done = at.done };
         room = λ e. b.room;
         whole = λ e. absurd (false≢true (sym (ap (λ w. passes_whole w again (ldterm_in name s x)) way ∙ ap (λ v. passes_whole Up v (ldterm_in name s x)) more) ∙ e));
       }
@@ -101,6 +114,12 @@ module _ {M : Type 0} (name : M → ℕ) (s s' : StoreValue) (here : Spot) (x x'
         bytes = b.bytes ∙ sym (ap (λ (v : Serving ℕ (ldterms.Ldterm ℕ)). v.bytes) whole);
         again_is = b.again ∙ sym (ap (λ (v : Serving ℕ (ldterms.Ldterm ℕ)). v.again) whole);
         stops = b.stops;
+        ends = λ e.
+            let left : bytes_left here.way false p ≡ size_of w.message = ap (λ v. bytes_left v false p) way ∙ ap first_size w.first in
+            let few = (b.ends e).treat in
+            let cells = w.size in
+            let none = none-done (stage_in x.stage) between in
+            record { treat = omega (arith, left, cells-within w.message); done = omega arith };
         room = λ e. b.room;
         whole = λ e.
             let begun : passes_whole Up false p ≡ false =

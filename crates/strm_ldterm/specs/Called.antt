@@ -5,10 +5,11 @@ use Rattle.strm_types.specs.declared.rules.Fates.{Fates}
 use Rattle.strm_types.specs.declared.spots.Note.{Note}
 use Rattle.strm_types.specs.declared.spots.Spot.{Spot}
 use Rattle.strm_types.specs.Cells.{plain}
-use Rattle.strm_types.specs.Input.{ldterm_serves, to_treat, treats}
+use Rattle.strm_types.specs.Input.{ldterm_serves, stages_done, to_treat, treats}
 use Rattle.strm_types.specs.Ldterms as ldterms
 use Rattle.strm_types.specs.Queue.{is_none_left}
 use Rattle.strm_types.specs.Service.{Serving}
+use Rattle.strm_types.specs.TurnCalls.{Ends}
 use Rattle.strm_blocks.specs.Blocks.{StoreValue, free_m, free_d}
 use Rattle.strm_queue.specs.Stored.{FreesBlocks}
 use Rattle.strm_frame.specs.declared.parcels.Sent.{Sent}
@@ -53,6 +54,11 @@ module _ {M : Type 0} (name : M → ℕ) (old new : StoreValue) (here : Spot) (x
   abbrev pub treated_by : Option ℕ → Serving ℕ (ldterms.Ldterm ℕ)
   treated_by stop = let p = ldterm_in name old x in treats plain here (unwrap_or stop (to_treat p)) 0 p
 
+  -- It treated no more bytes than there were, and those that had begun are among them.
+  pub record EndsAt (bytes : ℕ) : Type 0 where
+    pub treat : bytes ≤ to_treat (ldterm_in name old x)
+    pub done : stages_done (stage_in x.stage) ≤ 3 * bytes
+
   -- A call did what the definition says. Behind one that stopped fewer blocks of some kind are free than a byte may take, and it isn't called
   -- again. What it leaves of a byte has blocks enough.
   pub record TreatsAs (served : Served M) (t t' : Fates) : Type 0 where
@@ -60,6 +66,7 @@ module _ {M : Type 0} (name : M → ℕ) (old new : StoreValue) (here : Spot) (x
     pub bytes : served.bytes ≡ (treated_by (stop_of served)).bytes
     pub again : served.again ≡ (treated_by (stop_of served)).again
     pub stops : served.stopped ≡ true → (least_free new < STOP_BLOCKS) × (served.again ≡ false)
+    pub ends : served.stopped ≡ true → EndsAt served.bytes
     pub less : to_treat (ldterm_in name new x') ≤ to_treat (ldterm_in name old x)
     pub room : HasRoom new (leaves (stage_in x'.stage))
 
@@ -75,5 +82,6 @@ module _ {M : Type 0} (name : M → ℕ) (old new : StoreValue) (here : Spot) (x
     pub bytes : served.bytes ≡ (served_by again (stop_of served)).bytes
     pub again_is : served.again ≡ (served_by again (stop_of served)).again
     pub stops : served.stopped ≡ true → (least_free new < STOP_BLOCKS) × (served.again ≡ false)
+    pub ends : served.stopped ≡ true → Ends here.way again (ldterm_in name old x) served.bytes
     pub room : served.again ≡ true → HasRoom new (leaves (stage_in x'.stage))
     pub whole : passes_whole here.way again (ldterm_in name old x) ≡ true → FreesBlocks old new

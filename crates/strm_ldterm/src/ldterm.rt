@@ -3,6 +3,7 @@
 
 ghost use Rattle.std.specs.Prelude.{ℕ, ◌≡◌, ◌<◌, ◌+◌, []};
 ghost use Rattle.strm_types.specs.Ldterms.{new_ldterm};
+ghost use Rattle.strm_types.specs.TurnCalls.{IsShort};
 ghost use Rattle.strm_types.specs.declared.names.ModuleName.TheVariants as names;
 ghost use Rattle.strm_blocks.specs.Blocks.{StoreValue, list_at};
 ghost use Rattle.strm_frame.specs.Hands.{once};
@@ -68,6 +69,17 @@ impl<Mp: Drop> Ldterm<Mp> {
             gathered: None,
             echo: None,
             stage: Stage::Between,
+        }
+    }
+
+    /// Does nothing. Its contract is what holds of every one: the line is no longer than it may be, and what is still to be echoed
+    /// of a byte is short.
+    pub(crate) fn audit(&self)
+        ensures { (name : Mp → ℕ) (s : StoreValue) → IsShort (ldterm_in name s self.now) }
+    {
+        let _ = self.line.len();
+        if let Stage::Answered { echo } = &self.stage {
+            let _ = echo.len();
         }
     }
 }

@@ -31,7 +31,7 @@ pub use ending::end_turn;
 pub use ldterm::{Ldterm, Stage, name};
 pub use lines::Line;
 pub use putting::put;
-pub use queues::{asks, is_full, sizes};
+pub use queues::{asks, first_size, is_full, sizes};
 pub use serving::serve;
 pub use strokes::{restarts, stroke_of};
 

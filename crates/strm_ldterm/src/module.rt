@@ -17,6 +17,7 @@ impl<B: Blocks> Module<B> for Ldterm<B::Mp> {
     ghost use Rattle.strm_types.specs.Input.{ldterm_serves};
     ghost use Rattle.strm_types.specs.Ldterms as plain;
     ghost use Rattle.strm_types.specs.Puts.{far};
+    ghost use Rattle.strm_types.specs.TurnCalls.{Ends};
     ghost use Rattle.strm_ldterm.specs.Bounds as bounds;
     ghost use Rattle.strm_ldterm.specs.Calls as calls;
     ghost use Rattle.strm_ldterm.specs.Frames.{ldterm-frame};
@@ -54,6 +55,8 @@ impl<B: Blocks> Module<B> for Ldterm<B::Mp> {
 
     ghost MayServe = { λ way again p. served.IsServed way again p };
 
+    ghost MayStop = { λ way again bytes p. Ends way again p bytes };
+
     ghost height = { far };
 
     ghost cost = { costs.cost };
@@ -88,6 +91,10 @@ impl<B: Blocks> Module<B> for Ldterm<B::Mp> {
         queues::sizes(self, store, way)
     }
 
+    fn first_size(&self, store: &B, way: Way) -> usize {
+        queues::first_size(self, store, way)
+    }
+
     fn none_waits_up(&self, store: &B) -> bool {
         queues::none_waits_up(self, store)
     }
@@ -104,6 +111,7 @@ impl<B: Blocks> Module<B> for Ldterm<B::Mp> {
     }
 
     fn serve(&mut self, store: &mut B, here: Spot, again: bool, told: &mut Fates) -> Served<B::Mp> {
+        self.audit();
         store.audit();
         serving::serve(self, store, here, again, told)
     }

@@ -5,9 +5,11 @@ ghost use Rattle.std.specs.Option.{option_to_list};
 ghost use Rattle.strm_types.specs.declared.limits.TheConstants.{BANDS};
 ghost use Rattle.strm_types.specs.declared.names.Way.TheVariants.{Up};
 ghost use Rattle.strm_types.specs.Queue.{bytes_of, flow_of, count_of};
+ghost use Rattle.strm_types.specs.TurnOutcomes.{first_size};
 ghost use Rattle.strm_types.specs.ModuleQueues.{messages_at, full_at};
 ghost use Rattle.strm_types.specs.Message.{Message};
 ghost use Rattle.strm_types.specs.Refused.{has_no_data};
+ghost use Rattle.strm_types.specs.TurnOutcomes.{first_size};
 ghost use Rattle.strm_queue.specs.Stored.{queue_in, messages_on, IsReady};
 ghost use Rattle.strm_frame.specs.Serves.{IsBand};
 ghost use Rattle.strm_ldterm.specs.Stands.{ldterm_in, kept_in, IsHeld, IsOrdinary};
@@ -97,6 +99,24 @@ pub fn sizes<B: Blocks>(ldterm: &Ldterm<B::Mp>, store: &B, way: Way) -> (usize, 
     }
 }
 
+/// How many bytes the first message on its queue of a way has. The turn's echo stands last on the write queue. The cost is a step for
+/// each block of the message.
+pub fn first_size<B: Blocks>(ldterm: &Ldterm<B::Mp>, store: &B, way: Way) -> usize
+    requires { IsHeld B.name (B.value store.now) ldterm.now }
+    ensures { result ≡ first_size (messages_at queue_of way (ldterm_in B.name (B.value store.now) ldterm.now)) }
+{
+    match way {
+        Way::Up => standing::first_size(store, &ldterm.read_queue),
+        Way::Down => {
+            let none_listed = store.is_empty(ldterm.write_queue.list);
+            if none_listed {
+                return echo_size(store, &ldterm.echo);
+            }
+            standing::first_size(store, &ldterm.write_queue)
+        }
+    }
+}
+
 /// Whether no M_DATA or M_PROTO stands on its read queue.
 pub fn none_waits_up<B: Blocks>(ldterm: &Ldterm<B::Mp>, store: &B) -> bool
     requires { IsHeld B.name (B.value store.now) ldterm.now }
@@ -135,7 +155,9 @@ pub fn asks<B: Blocks>(ldterm: &Ldterm<B::Mp>, store: &B, way: Way) -> Asks
     requires held { IsHeld B.name (B.value store.now) ldterm.now }
     ensures asks { result ≡ ldterm_asks way (ldterm_in B.name (B.value store.now) ldterm.now) }
     ensures band { IsBand result }
+    ensures few { first_size (messages_at queue_of way (ldterm_in B.name (B.value store.now) ldterm.now)) ≤ 16777216 }
 {
+    store.audit();
     match way {
         Way::Up => match asked_on(store, &ldterm.read_queue, way) {
             Some(asks) => asks,

@@ -1,6 +1,6 @@
 use Rattle.std.proofs.Common.{List, ℕ, ◌≤◌, length, subst, sym}
 use Rattle.strm_ldterm.specs.Echoes.{MayLeave}
-use Rattle.strm_ldterm.proofs.EchoSizes.{echo-few}
+use Rattle.strm_types.proofs.EchoSizes.{echo-few}
 use Rattle.strm_ldterm.proofs.echoes.echo_of.Goals as goal
 
 pub returns-clause-few : goal.returns-clause-few

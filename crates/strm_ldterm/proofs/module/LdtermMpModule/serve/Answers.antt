@@ -1,6 +1,10 @@
-use Rattle.std.proofs.Common.{ℕ, List, sym, subst}
+use Rattle.std.proofs.Common.{ℕ, ◌≤◌, List, sym, subst}
+use Rattle.strm_types.specs.Cells.{plain}
 use Rattle.strm_types.specs.Deliver.{AreLower, Parcel}
+use Rattle.strm_types.specs.Input.{ldterm_serves, made_of}
 use Rattle.strm_types.specs.Puts.{far}
+use Rattle.strm_types.specs.TurnCalls.{most_made}
+use Rattle.strm_types.proofs.LdtermMakes.{serves-makes}
 use Rattle.strm_frame.specs.Outboxes.{parcels_in, sent_of}
 use Rattle.strm_frame.specs.Serves.{stop_of}
 use Rattle.strm_ldterm.specs.Bounds.{turn_height}
@@ -27,3 +31,11 @@ returns-clause-room g c =
     c.serve.ensures.does.state c.serve.ensures.does.parcels c.serve.ensures.again_is
     (λ up more. again-works c.args.here.way c.args.again p up more c.requires.turn)
     c.requires.room c.serve.ensures.whole c.serve.ensures.room
+
+pub returns-clause-made : goal.returns-clause-made
+returns-clause-made g c =
+    let name = g.B.Blocks.name in
+    let s = g.B.Blocks.value c.args.store.now in
+    let p = ldterm_in name s c.args.self.now in
+    subst (λ bytes. made_of (ldterm_serves plain c.args.here 0 c.args.again (stop_of c.serve.result) p).acted.gone ≤ most_made bytes) (sym c.serve.ensures.bytes)
+    (serves-makes c.args.here c.args.again (stop_of c.serve.result) p (c.audit.ensures name s))
