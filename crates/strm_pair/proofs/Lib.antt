@@ -10,6 +10,8 @@ pub mod Modes
 pub mod PutsCost
 pub mod PutSteps
 pub mod ModuleSteps
+pub mod ServeSteps
+pub mod CallsOn
 pub mod TurnSteps
 mod NamedPlaces
 mod ModuleTurns

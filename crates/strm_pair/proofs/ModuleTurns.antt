@@ -1,11 +1,10 @@
 -- What a turn of a module's queue begins with, where nothing of one is under way.
-use Rattle.std.proofs.Common.{ℕ, zero, suc, ◌≡◌, ◌≤◌, ◌<◌, ◌-◌, Bool, true, false, cond, List, [], ◌∷◌, length, map, refl, sym, ap, ◌∙◌, arith}
+use Rattle.std.proofs.Common.{ℕ, zero, suc, ◌≡◌, ◌≤◌, ◌<◌, ◌-◌, true, false, cond, List, [], ◌∷◌, length, map, refl, sym, ap, ◌∙◌, arith}
 use Rattle.std.specs.Prelude.{◌&&◌, not, slice_index_or, Option, None, Some, is_some}
 use Rattle.std.specs.List.{AllByRecursion}
 use Rattle.strm_types.specs.declared.answers.Turn.{Turn}
 use Rattle.strm_types.specs.declared.answers.Turn.TheVariants.{Idle, Blocked}
 use Rattle.strm_types.specs.declared.kinds.Band.{Band}
-use Rattle.strm_types.specs.declared.limits.TheConstants.{MODULES}
 use Rattle.strm_types.specs.declared.names.QueueName.{QueueName}
 use Rattle.strm_types.specs.declared.names.Side.{Side}
 use Rattle.strm_types.specs.declared.names.Side.TheVariants.{Master, Slave}
@@ -17,15 +16,17 @@ use Rattle.strm_types.specs.declared.spots.Spot.{Spot}
 use Rattle.strm_types.specs.Cells.{plain}
 use Rattle.strm_types.specs.Kept.{AreIdle}
 use Rattle.strm_types.specs.LdtermTurns.{is_between}
-use Rattle.strm_types.specs.Ldterms.{IsIdle, Ldterm}
-use Rattle.strm_types.specs.ModuleQueues.{at_place, place_past, waits}
+use Rattle.strm_types.specs.Ldterms.{IsIdle, new_ldterm}
+use Rattle.strm_types.specs.ModuleQueues.{at_place, messages_at, place_past, waits}
 use Rattle.strm_types.specs.ModuleTurns.{asked_turn, module_turned, moved_within, place_named, stayed_at, turned_named}
 use Rattle.strm_types.specs.Modules.{change_among}
 use Rattle.strm_types.specs.Past.{has_room_past, waits_on, writer_waits}
 use Rattle.strm_types.specs.Queue.{is_none_left}
 use Rattle.strm_types.specs.Stacked.{Module, module_asks, module_queue, module_rests, with_module_queue}
-use Rattle.strm_types.specs.State.{State, Stream, stream, with_stream}
-use Rattle.strm_types.specs.TurnOutcomes.{TurnOutcome, stayed_put}
+use Rattle.strm_types.specs.State.{State, Stream, stream}
+use Rattle.strm_types.specs.TurnCalls.{bytes_left}
+use Rattle.strm_types.specs.TurnOutcomes.{TurnOutcome, first_size, stayed_put}
+use Rattle.strm_types.proofs.ModuleTurnCalls.{index-map}
 use Rattle.strm_pair.proofs.NamedPlaces.{found-low}
 use Rattle.strm_pair.specs.ModuleTurned.{MayMove}
 
@@ -72,12 +73,20 @@ pub turned-room : (name : QueueName) (at : ℕ) (band : Band) (turn : Turn) (s :
     → asked_turn plain (spot_of name at) (asked.Room band) name turn s ≡ moved_within plain (spot_of name at) name turn s
 turned-room name at band turn s room = ap (λ b. cond {A = TurnOutcome ℕ} b (moved_within plain (spot_of name at) name turn s) (stayed_at Blocked (spot_of name at) (writer_waits name.side name.way at band.0 s))) room
 
+-- how many bytes a first call may treat
+whole : (way : Way) (l : Module ℕ) → bytes_left way false l ≡ first_size (messages_at module_queue way l)
+whole Up l = refl
+whole Down l = refl
+
 -- where it may serve
-pub may-move : (name : QueueName) (at : ℕ) (s : State ℕ) → place_named name.place (stream name.side s).modules ≡ Some at → ((turn : Turn) → module_turned plain name turn s ≡ moved_within plain (spot_of name at) name turn s)
+pub may-move : (name : QueueName) (at : ℕ) (s : State ℕ) → place_named name.place (stream name.side s).modules ≡ Some at
+    → at_place (λ p. first_size (messages_at module_queue name.way p)) 0 at (stream name.side s).modules ≤ 16777216 → ((turn : Turn) → module_turned plain name turn s ≡ moved_within plain (spot_of name at) name turn s)
     → MayMove s s name (spot_of name at)
-may-move name at s found moves =
-    let low = found-low name.place (stream name.side s).modules at found in
-    record { stays = refl; named = refl; inside = low.0; within = low.1; low = low.2; moves = moves }
+may-move name at s found few moves =
+    let ps = (stream name.side s).modules in
+    let low = found-low name.place ps at found in
+    let size = index-map new_ldterm (λ p. first_size (messages_at module_queue name.way p)) 0 (at - 1) ps (omega (arith, low.0, low.1)) in
+    record { stays = refl; named = refl; inside = low.0; within = low.1; low = low.2; few = omega (arith, few, size, whole name.way (slice_index_or ps (at - 1) new_ldterm)); moves = moves }
 
 -- as many modules stand behind a writer that waits
 change-long : (f : Module ℕ → Module ℕ) (i : ℕ) (ps : List (Module ℕ)) → length (change_among f i ps) ≡ length ps

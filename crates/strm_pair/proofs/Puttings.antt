@@ -9,25 +9,13 @@ use Rattle.strm_types.specs.State.{stream}
 use Rattle.strm_blocks.specs.Blocks.{StoreValue, list_at}
 use Rattle.strm_pair.specs.declared.ends.End.{End}
 use Rattle.strm_pair.specs.declared.streams.Streams.{Streams}
-use Rattle.strm_pair.specs.Fitting.{AreReady, Fits}
 use Rattle.strm_pair.specs.Framing.{state_with, stream_with}
 use Rattle.strm_pair.specs.Pairs.{state_in, end_at, with_end, AreHeld}
 use Rattle.strm_pair.specs.Streams.{View, stream_in, IsSide}
 
 module _ {S : Type 0} (view : View S) (s : StoreValue) where
-  fits-side : (first : ℕ) (e : End S) → IsSide view s first e → Fits view s first e
-  fits-side first e is = record {
-    head_list = is.head_list;
-    driver_list = is.driver_list;
-    head = is.head;
-    driver = is.driver;
-    stack = is.stack;
-    owned = is.owned;
-    spare = is.spare;
-  }
-
-  fits-put : (first : ℕ) (e : End S) (y : S) → IsSide view s first e → view.IsHeld s y → ((k : ℕ) → 0 < view.owns y k → (first + 2 ≤ k) × (k < first + 4)) → ((k : ℕ) → first + 2 ≤ k → k < first + 4 → view.owns y k ≡ 0 → list_at s k ≡ []) → Fits view s first (record e { stack = y })
-  fits-put first e y is held owned spare = record {
+  side-put : (first : ℕ) (e : End S) (y : S) → IsSide view s first e → view.IsHeld s y → ((k : ℕ) → 0 < view.owns y k → (first + 2 ≤ k) × (k < first + 4)) → ((k : ℕ) → first + 2 ≤ k → k < first + 4 → view.owns y k ≡ 0 → list_at s k ≡ []) → IsSide view s first (record e { stack = y })
+  side-put first e y is held owned spare = record {
     head_list = is.head_list;
     driver_list = is.driver_list;
     head = is.head;
@@ -37,14 +25,11 @@ module _ {S : Type 0} (view : View S) (s : StoreValue) where
     spare = spare;
   }
 
-  pub ready-held : (p : Streams S) → AreHeld view s p → AreReady view s p
-  ready-held p held = record { hand = held.hand; master = fits-side 0 p.master held.beside.master; slave = fits-side 4 p.slave held.beside.slave }
+  pub held-master : (p : Streams S) (y : S) → AreHeld view s p → view.IsHeld s y → ((k : ℕ) → 0 < view.owns y k → (0 + 2 ≤ k) × (k < 0 + 4)) → ((k : ℕ) → 0 + 2 ≤ k → k < 0 + 4 → view.owns y k ≡ 0 → list_at s k ≡ []) → AreHeld view s (record p { master = record p.master { stack = y } })
+  held-master p y held fits owned spare = record { hand = held.hand; beside = record { master = side-put 0 p.master y held.beside.master fits owned spare; slave = held.beside.slave } }
 
-  pub ready-master : (p : Streams S) (y : S) → AreHeld view s p → view.IsHeld s y → ((k : ℕ) → 0 < view.owns y k → (0 + 2 ≤ k) × (k < 0 + 4)) → ((k : ℕ) → 0 + 2 ≤ k → k < 0 + 4 → view.owns y k ≡ 0 → list_at s k ≡ []) → AreReady view s (record p { master = record p.master { stack = y } })
-  ready-master p y held fits owned spare = record { hand = held.hand; master = fits-put 0 p.master y held.beside.master fits owned spare; slave = fits-side 4 p.slave held.beside.slave }
-
-  pub ready-slave : (p : Streams S) (y : S) → AreHeld view s p → view.IsHeld s y → ((k : ℕ) → 0 < view.owns y k → (4 + 2 ≤ k) × (k < 4 + 4)) → ((k : ℕ) → 4 + 2 ≤ k → k < 4 + 4 → view.owns y k ≡ 0 → list_at s k ≡ []) → AreReady view s (record p { slave = record p.slave { stack = y } })
-  ready-slave p y held fits owned spare = record { hand = held.hand; master = fits-side 0 p.master held.beside.master; slave = fits-put 4 p.slave y held.beside.slave fits owned spare }
+  pub held-slave : (p : Streams S) (y : S) → AreHeld view s p → view.IsHeld s y → ((k : ℕ) → 0 < view.owns y k → (4 + 2 ≤ k) × (k < 4 + 4)) → ((k : ℕ) → 4 + 2 ≤ k → k < 4 + 4 → view.owns y k ≡ 0 → list_at s k ≡ []) → AreHeld view s (record p { slave = record p.slave { stack = y } })
+  held-slave p y held fits owned spare = record { hand = held.hand; beside = record { master = held.beside.master; slave = side-put 4 p.slave y held.beside.slave fits owned spare } }
 
   -- what the streams stand for with it
   pub put-state : (p : Streams S) (side : Side) (y : S) (o : Option (Module ℕ)) → IfSome o (λ q. view.modules s y ≡ q ∷ view.modules s (end_at side p).stack)

@@ -5,7 +5,6 @@ use Rattle.strm_types.specs.declared.names.Side.{Side}
 use Rattle.strm_types.specs.declared.names.Side.TheVariants.{Master, Slave}
 use Rattle.strm_types.specs.declared.kinds.MsgKind.TheVariants as kinds
 use Rattle.strm_types.specs.Flush.{is_data_kind}
-use Rattle.strm_types.specs.Earlier.{NoModules}
 use Rattle.strm_types.specs.Emptied.{of_all, stayed, emptied, none_goes, queue_behind}
 use Rattle.strm_types.specs.Message.{Message}
 use Rattle.strm_types.specs.Queue as state
@@ -103,8 +102,6 @@ module _ {S : Type 0} (view : View S) (s t : StoreValue) (first : ℕ) (e : End 
     stack = (stack-same view s t first e is stays (within stay)).1;
     owned = is.owned;
     spare = λ k low high none. within stay k low high ∙ is.spare k low high none;
-    no_module = is.no_module;
-    unowned = is.unowned;
   }
 
   pub stream-stays : Stay → stream_in view.modules t e ≡ stream_in view.modules s e
@@ -130,8 +127,6 @@ module _ {S : Type 0} (view : View S) (s t : StoreValue) (first : ℕ) (e : End 
       stack = (stack-same view s t first e is stays driver-apart).1;
       owned = is.owned;
       spare = λ k low high none. driver-apart k low high ∙ is.spare k low high none;
-      no_module = is.no_module;
-      unowned = is.unowned;
     }
 
     driver-stream : stream_in view.modules t (record e { driver = q }) ≡ with_driver_queue (queue_in t q) (stream_in view.modules s e)
@@ -156,8 +151,6 @@ module _ {S : Type 0} (view : View S) (s t : StoreValue) (first : ℕ) (e : End 
       stack = (stack-same view s t first e is stays head-apart).1;
       owned = is.owned;
       spare = λ k low high none. head-apart k low high ∙ is.spare k low high none;
-      no_module = is.no_module;
-      unowned = is.unowned;
     }
 
     head-stream : stream_in view.modules t (record e { head = h }) ≡ record (stream_in view.modules s e) { head = head_in t h }
@@ -175,8 +168,6 @@ as-side view t first e e' same stays is = record {
   stack = subst (view.IsHeld t) (sym stays) is.stack;
   owned = subst (λ x. (k : ℕ) → 0 < view.owns x k → (first + 2 ≤ k) × (k < first + 4)) (sym stays) is.owned;
   spare = subst (λ x. (k : ℕ) → first + 2 ≤ k → k < first + 4 → view.owns x k ≡ 0 → list_at t k ≡ []) (sym stays) is.spare;
-  no_module = λ s. ap (view.modules s) stays ∙ is.no_module s;
-  unowned = subst (λ x. (k : ℕ) → view.owns x k ≡ 0) (sym stays) is.unowned;
 }
 
 -- a queue from which all went has what readers may read
@@ -272,7 +263,3 @@ pub slave-renewed : {S : Type 0} (view : View S) (s t : StoreValue) (p : Streams
 slave-renewed view s t p e beside same stays keeps =
     let all = head-changed view s t p beside (still s t (kept_by view p) keeps.hand keeps.mblks keeps.dblks) Slave e.head (only-kept s t p.slave.head.queue e.head.queue keeps) (readable-kept s t p.slave.head.queue e.head.queue beside.slave.head keeps) in
     record { master = all.master; slave = as-side view t 4 p.slave e same stays all.slave }
-
--- no module stands on a pair's streams yet
-pub none-stand : {S : Type 0} (view : View S) (s : StoreValue) (p : Streams S) → AreBeside view s p → NoModules (state_in view.modules s p)
-none-stand view s p beside = record { master = beside.master.no_module s; slave = beside.slave.no_module s }

@@ -67,8 +67,6 @@ module _ {S : Type 0} (view : View S) (s t : StoreValue) where
         stack = took.held;
         owned = λ k some. is.owned k (omega (arith, took.owns k, some));
         spare = took-spare;
-        no_module = λ u. absurd (let none : took.top ∷ took.rest ≡ [] = sym took.was ∙ is.no_module s in cc);
-        unowned = λ k. omega (arith, took.owns k, is.unowned k);
       }
 
       pub took-stream : stream_in view.modules t (record e { stack = y }) ≡ record (stream_in view.modules s e) { modules = took.rest }

@@ -42,10 +42,6 @@ state_with p m sl = record {
   from_slave = p.from_slave;
 }
 
--- the state of streams on which no module stands
-abbrev pub alone_in : {S : Type 0} → StoreValue → Streams S → State ℕ
-alone_in s p = state_with p (stream_with s p.master []) (stream_with s p.slave [])
-
 module _ {S : Type 0} (view : View S) where
   -- a stack that rests keeps nothing
   none-kept : (s : StoreValue) (first : ℕ) (e : End S) → IsSide view s first e → AllByRecursion (λ p. IsIdle p) (view.modules s e.stack) → (i : ℕ) → view.keeps e.stack i ≡ 0
@@ -53,11 +49,6 @@ module _ {S : Type 0} (view : View S) where
 
   pub rests : (s : StoreValue) (p : Streams S) → AreBeside view s p → AreIdle (state_in view.modules s p) → (i : ℕ) → kept_by view p i ≡ 0
   rests s p beside idle i = omega (arith, none-kept s 0 p.master beside.master idle.master i, none-kept s 4 p.slave beside.slave idle.slave i)
-
-  pub alone : (s : StoreValue) (p : Streams S) → AreBeside view s p → state_in view.modules s p ≡ alone_in s p
-  alone s p beside =
-      ap (λ ms. state_with p (stream_with s p.master ms) (stream_in view.modules s p.slave)) (beside.master.no_module s)
-      ∙ ap (λ ms. state_with p (stream_with s p.master []) (stream_with s p.slave ms)) (beside.slave.no_module s)
 
   module _ (s t : StoreValue) where
     pub stays-master : (p : Streams S) → Stays s t (kept_by view p) → Stays s t (view.keeps p.master.stack)
@@ -88,8 +79,6 @@ module _ {S : Type 0} (view : View S) where
         stack = (stack-same first e is stays (λ k low high. at k)).1;
         owned = is.owned;
         spare = λ k low high none. at k ∙ is.spare k low high none;
-        no_module = is.no_module;
-        unowned = is.unowned;
       }
 
       side-same : (first : ℕ) (e : End S) → IsSide view s first e → Stays s t (view.keeps e.stack) → stream_in view.modules t e ≡ stream_in view.modules s e

@@ -1,7 +1,7 @@
 -- Stacks on which ldterm may stand.
 use Rattle.std.specs.Prelude.{ℕ, zero, suc, ◌≡◌, ◌<◌, ◌≤◌, ◌-◌, List, [], ◌∷◌, length, map, slice_index_or, None}
 use Rattle.std.specs.List.{AllByRecursion}
-use Rattle.std.proofs.Common.{arith, refl}
+use Rattle.std.proofs.Common.{arith, refl, sym, ◌∙◌}
 use Rattle.std.proofs.lemmas.List.{length-map}
 use Rattle.std.proofs.lemmas.List.Sums.{sum_by-cons}
 use Rattle.strm_types.specs.declared.names.ModuleName.TheVariants as names
@@ -46,4 +46,5 @@ module _ {M : Type 0} (name : M → ℕ) where
     idle = λ s x held idle. idle-keeps s x.modules.items held.each idle;
     shown = λ s x first held idle are. stack-shown name s first x.modules.items held idle are;
     bare = λ s x held none. none-own name s x.modules.items none;
+    long = λ s t x. length-map x.modules.items (ldterm_in name t) ∙ sym (length-map x.modules.items (ldterm_in name s));
   }

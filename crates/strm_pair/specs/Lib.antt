@@ -2,7 +2,6 @@ pub mod Alone
 pub mod PutBy
 pub mod Took
 pub mod Taken
-pub mod Fitting
 pub mod Framing
 pub mod Streams
 pub mod Journals
@@ -17,3 +16,4 @@ pub mod Shows
 pub mod Pool
 pub mod Parts
 pub mod ModuleTurned
+pub mod ModuleServed

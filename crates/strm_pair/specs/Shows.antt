@@ -10,6 +10,7 @@ use Rattle.strm_types.specs.ModuleQueues as modules
 use Rattle.strm_types.specs.Queue.{count_of, is_full}
 use Rattle.strm_types.specs.Stacked.{module_queue}
 use Rattle.strm_types.specs.State.{State, Stream, stream}
+use Rattle.strm_types.specs.TurnOutcomes.{first_size}
 use Rattle.strm_blocks.specs.Blocks.{StoreValue}
 use Rattle.strm_queue.specs.Stored.{messages_on}
 use Rattle.strm_pair.specs.Named.{at_named, messages_named}
@@ -57,3 +58,7 @@ full_at name band s = full_in name.place name.way band (stream name.side s)
 -- the messages of a queue: none of one that doesn't exist
 abbrev pub messages_at : QueueName → State ℕ → List (Message ℕ)
 messages_at name s = messages_in name.place name.way (stream name.side s)
+
+-- how many bytes the first message of a queue has
+abbrev pub first_at : QueueName → State ℕ → ℕ
+first_at name s = first_size (messages_at name s)

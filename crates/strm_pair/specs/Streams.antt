@@ -33,7 +33,7 @@ pub record AreShown (s : StoreValue) (first : ℕ) (ps : List (plain.Module ℕ)
 -- How stacks of modules are seen: what they stand for, when they and the store fit, which lists of the store are their own, and how
 -- often they keep a message of a name in hand. A stack stands for the same, and fits, wherever its own lists are the same and what it
 -- keeps is. Where nothing of a turn is under way it keeps nothing, and the two lists that are for it show its queues. Without a
--- module it owns no list.
+-- module it owns no list. As many modules stand there whatever the store.
 pub record View (S : Type 0) : Type 1 where
   pub modules : Modules S
   pub IsHeld : StoreValue → S → Type 0
@@ -43,6 +43,7 @@ pub record View (S : Type 0) : Type 1 where
   pub idle : (s : StoreValue) (x : S) → IsHeld s x → AllByRecursion (λ p. IsIdle p) (modules s x) → (i : ℕ) → keeps x i ≡ 0
   pub shown : (s : StoreValue) (x : S) (first : ℕ) → IsHeld s x → AllByRecursion (λ p. IsIdle p) (modules s x) → AreFor s first (owns x) → AreShown s first (modules s x)
   pub bare : (s : StoreValue) (x : S) → IsHeld s x → modules s x ≡ [] → (k : ℕ) → owns x k ≡ 0
+  pub long : (s t : StoreValue) (x : S) → length (modules t x) ≡ length (modules s x)
 
 -- the plain stream of a side
 abbrev pub stream_in : {S : Type 0} → Modules S → StoreValue → End S → Stream ℕ
@@ -61,8 +62,7 @@ pub record IsBlank (s : StoreValue) (first : ℕ) : Type 0 where
   pub down : list_at s (first + 3) ≡ []
 
 -- A side's queues stand on lists of their own, from a number on: the head's, which has what readers may read alone, and the
--- driver's, with their kept numbers right; two more are for the queues of a module, and empty where none has them. There is no
--- module, as none can be pushed yet.
+-- driver's, with their kept numbers right; two more are for the queues of a module, and empty where none has them.
 pub record IsSide {S : Type 0} (view : View S) (s : StoreValue) (first : ℕ) (e : End S) : Type 0 where
   pub head_list : e.head.queue.list ≡ first
   pub driver_list : e.driver.list ≡ first + 1
@@ -71,8 +71,6 @@ pub record IsSide {S : Type 0} (view : View S) (s : StoreValue) (first : ℕ) (e
   pub stack : view.IsHeld s e.stack
   pub owned : (k : ℕ) → 0 < view.owns e.stack k → (first + 2 ≤ k) × (k < first + 4)
   pub spare : (k : ℕ) → first + 2 ≤ k → k < first + 4 → view.owns e.stack k ≡ 0 → list_at s k ≡ []
-  pub no_module : (t : StoreValue) → view.modules t e.stack ≡ []
-  pub unowned : (k : ℕ) → view.owns e.stack k ≡ 0
 
 -- Both sides beside their store, whatever is in hand: the master's lists are 0 to 3, the slave's 4 to 7.
 pub record AreSides {S : Type 0} (view : View S) (s : StoreValue) (m sl : End S) : Type 0 where

@@ -11,7 +11,6 @@ ghost use Rattle.strm_types.specs.Names.{driver_of, enable_if, other};
 ghost use Rattle.strm_types.specs.Queue.{is_none_left};
 ghost use Rattle.strm_types.specs.State.{stream};
 ghost use Rattle.strm_frame.specs.Hands.{HasRoom};
-ghost use Rattle.strm_pair.specs.Fitting.{AreReady};
 ghost use Rattle.strm_pair.specs.Parts.{longest_part};
 ghost use Rattle.strm_pair.specs.Taken.{TookNone, TookTop, WithoutTop};
 
@@ -227,7 +226,7 @@ impl<S: Drop> Streams<S> {
         requires may_stand { may_stand (named_by (Some name)) (stream side (state_in B.view.modules (B.value store.now) self.old)).modules ≡ true }
         ensures state { let s = state_in B.view.modules (B.value store.now) self.old in IfSome (named_by (Some name))
             (λ p. state_in B.view.modules (B.value store.now) self.new ≡ with_modules side (p ∷ (stream side s).modules) s) }
-        ensures ready { AreReady B.view (B.value store.now) self.new }
+        ensures held { AreHeld B.view (B.value store.now) self.new }
     {
         match side {
             Side::Master => B::push(&mut self.master.stack, store, name, 0),
@@ -264,7 +263,7 @@ impl<S: Drop> Streams<S> {
         ensures state { state_in B.view.modules (B.value store.new) self.new
             ≡ (pushed_named side (named_by name) (state_in B.view.modules (B.value store.old) self.old)).state }
         ensures told { told.new ≡ tallied (pushed_named side (named_by name) (state_in B.view.modules (B.value store.old) self.old)).gone told.old }
-        ensures ready { AreReady B.view (B.value store.new) self.new }
+        ensures held { AreHeld B.view (B.value store.new) self.new }
         ensures pool { SamePool (B.value store.old) (B.value store.new) }
     {
         let Some(name) = name else {

@@ -3,6 +3,7 @@
 #![tactic(auto)]
 
 mod answers;
+mod calling;
 mod changing;
 mod closing;
 mod delivering;

@@ -2,12 +2,12 @@
 
 ghost use Rattle.std.specs.Prelude.{ℕ, ◌≡◌, ◌<◌, length};
 ghost use Rattle.strm_types.specs.Queue.{bytes_of};
-ghost use Rattle.strm_pair.specs.Shows.{count_at, full_at, messages_at};
+ghost use Rattle.strm_pair.specs.Shows.{count_at, first_at, full_at, messages_at};
 
-use crate::naming::{count_named, is_full_named, sizes_named};
+use crate::naming::{count_named, first_size_named, is_full_named, sizes_named};
 use crate::stacks::Stacks;
 use crate::streams::Streams;
-use strm_queue::standing::{count, is_full, sizes};
+use strm_queue::standing::{count, first_size, is_full, sizes};
 use strm_types::{BANDS, Band, Place, QueueName, Way};
 
 impl<S: Drop> Streams<S> {
@@ -50,6 +50,25 @@ impl<S: Drop> Streams<S> {
                 Way::Down => sizes(store, &end.driver),
             },
             Place::Ldterm => sizes_named::<B>(&end.stack, store, queue.place, queue.way),
+        }
+    }
+
+    /// How many bytes the first message on a queue has.
+    pub fn first_size<B: Stacks<Stack = S>>(&self, store: &B, queue: QueueName) -> usize
+        requires { AreHeld B.view (B.value store.now) self.now }
+        ensures { result ≡ first_at queue (state_in B.view.modules (B.value store.now) self.now) }
+    {
+        let end = self.end(queue.side);
+        match queue.place {
+            Place::Head => match queue.way {
+                Way::Up => first_size(store, &end.head.queue),
+                Way::Down => 0,
+            },
+            Place::Driver => match queue.way {
+                Way::Up => 0,
+                Way::Down => first_size(store, &end.driver),
+            },
+            Place::Ldterm => first_size_named::<B>(&end.stack, store, queue.place, queue.way),
         }
     }
 

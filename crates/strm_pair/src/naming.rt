@@ -7,6 +7,7 @@ ghost use Rattle.strm_types.specs.ModuleTurns.{place_named};
 ghost use Rattle.strm_types.specs.Pushes.{is_there};
 ghost use Rattle.strm_types.specs.Queue.{bytes_of, count_of};
 ghost use Rattle.strm_types.specs.Stacked.{module_queue};
+ghost use Rattle.strm_types.specs.TurnOutcomes.{first_size};
 ghost use Rattle.strm_blocks.specs.Blocks.{StoreValue};
 ghost use Rattle.strm_frame.specs.Stacks.{IsPlace};
 ghost use Rattle.strm_pair.specs.Named.{at_named, messages_named};
@@ -54,6 +55,22 @@ pub(crate) fn sizes_named<B: Stacks>(
     match place_named::<B>(stack, place) {
         Some(at) => B::sizes(stack, store, at, way),
         None => (0, 0),
+    }
+}
+
+/// How many bytes the first message on a queue of that module has.
+pub(crate) fn first_size_named<B: Stacks>(
+    stack: &B::Stack,
+    store: &B,
+    place: Place,
+    way: Way,
+) -> usize
+    requires { B.view.IsHeld (B.value store.now) stack.now }
+    ensures { result ≡ first_size (messages_named place way (B.view.modules (B.value store.now) stack.now)) }
+{
+    match place_named::<B>(stack, place) {
+        Some(at) => B::first_size(stack, store, at, way),
+        None => 0,
     }
 }
 

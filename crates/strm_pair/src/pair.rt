@@ -13,7 +13,7 @@ ghost use Rattle.strm_types.specs.Kept.{told_by};
 ghost use Rattle.strm_types.specs.Rules.{no_fates};
 ghost use Rattle.strm_types.specs.Queue.{bytes_of};
 ghost use Rattle.strm_types.specs.State.{AreOrdered, messages_in};
-ghost use Rattle.strm_pair.specs.Shows.{Shows, count_at, full_at, messages_at};
+ghost use Rattle.strm_pair.specs.Shows.{Shows, count_at, first_at, full_at, messages_at};
 ghost use Rattle.strm_pair.specs.Parts.{longest_part};
 ghost use Rattle.strm_pair.specs.Pool.{IsPoolOf};
 ghost use Rattle.strm_pair.specs.PairViews.{sizes_over};
@@ -154,6 +154,14 @@ impl<B: Stacks + Drop> Pair<B> {
         ensures bytes { result.1 ≡ bytes_of (messages_at queue self.now.state) }
     {
         self.streams.sizes(&self.store, queue)
+    }
+
+    /// How many bytes the first message of a queue has: 0 where none stands there, and for a queue that doesn't exist. The cost is a
+    /// step for each block of the message.
+    pub fn first_size(&self, queue: QueueName) -> usize
+        ensures { result ≡ first_at queue self.now.state }
+    {
+        self.streams.first_size(&self.store, queue)
     }
 
     /// How many modules stand on a side's stream.

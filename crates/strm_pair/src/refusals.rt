@@ -41,12 +41,13 @@ pub(crate) fn or_else(first: Option<Refusal>, second: Option<Refusal>) -> Option
     }
 }
 
-// Whether a module of this name may be pushed: none is known yet.
+// Whether a module of this name may be pushed: so far ldterm alone is built.
 fn is_known(name: Option<ModuleName>) -> bool
     ensures { result ≡ is_known name }
 {
     match name {
-        Some(ModuleName::Ldterm | ModuleName::Ptem | ModuleName::Pckt) | None => false,
+        Some(ModuleName::Ldterm) => true,
+        Some(ModuleName::Ptem | ModuleName::Pckt) | None => false,
     }
 }
 

@@ -1,23 +1,26 @@
 //! Turns of the queues of modules (srv(9E); STREAMS Programming Guide, "Service Procedures", "Flow Control"). Places count from the
 //! head's, 0, over the modules from the top, to the driver's.
 
-ghost use Rattle.std.specs.Prelude.{ℕ, ◌≡◌, ◌≤◌, ◌<◌, ◌-◌, suc, min, length, drop, take, false};
-ghost use Rattle.strm_types.specs.declared.limits.TheConstants.{MODULES};
-ghost use Rattle.strm_types.specs.Earlier.{places_of};
+ghost use Rattle.std.specs.Prelude.{ℕ, ◌≡◌, ◌≤◌, ◌<◌, length, true, false};
+ghost use Rattle.strm_types.specs.Cells.{plain};
+ghost use Rattle.strm_types.specs.Deliver.{tallied};
 ghost use Rattle.strm_types.specs.Kept.{AreIdle};
 ghost use Rattle.strm_types.specs.ModuleQueues.{at_place};
-ghost use Rattle.strm_types.specs.ModuleTurns.{named_from, place_named, queue_ended, stayed_at};
+ghost use Rattle.strm_types.specs.ModuleTurns.{module_turn_ended, module_turned, place_named, queue_ended, stayed_at};
+ghost use Rattle.strm_types.specs.Refused.{in_range};
 ghost use Rattle.strm_types.specs.Service.{end_relieves, has_more};
 ghost use Rattle.strm_types.specs.Stacked.{module_queue};
 ghost use Rattle.strm_types.specs.State.{stream, with_stream};
 ghost use Rattle.strm_blocks.specs.Blocks.{StoreValue};
+ghost use Rattle.strm_frame.specs.Hands.{HasRoom};
 ghost use Rattle.strm_pair.specs.declared.serving.Begun.TheVariants.{Over};
-ghost use Rattle.strm_pair.specs.ModuleTurned.{BeginsAs, has_name};
+ghost use Rattle.strm_pair.specs.ModuleTurned.{BeginsAs};
 
+use crate::naming::place_named;
 use crate::stacks::Stacks;
 use crate::streams::Streams;
 use strm_frame::TurnEnd;
-use strm_types::{Asks, Place, QueueName, Side, Spot, Turn};
+use strm_types::{Asks, Fates, Place, QueueName, Side, Spot, Turn};
 
 /// What a turn of a module's queue begins with: it is over, with this answer, or the module at a place may serve.
 #[derive(Clone, Copy)]
@@ -26,42 +29,14 @@ pub(crate) enum Begun {
     Serves(Spot),
 }
 
-// Whether the queues of a module have a name, if it has queues.
-fn has_name(place: Option<Place>, name: Place) -> bool
-    ensures { result ≡ has_name name place }
-{
-    match place {
-        Some(place) => place == name,
-        None => false,
-    }
-}
-
-// The place of the first module from this place on whose queues have a name, where so many modules have places.
-fn named_from<B: Stacks>(stack: &B::Stack, name: Place, at: usize, count: usize) -> Option<usize>
-    requires inside { 0 < at }
-    requires count { (s : StoreValue) → count ≡ min MODULES (length (B.view.modules s stack.now)) }
-    requires few { count ≤ MODULES }
-    requires within { at ≤ suc count }
-    ensures { (s : StoreValue) → result ≡ named_from name at (drop (at - 1) (places_of (take MODULES (B.view.modules s stack.now)))) }
-{
-    if at > count {
-        return None;
-    }
-    if has_name(B::place(stack, at), name) {
-        return Some(at);
-    }
-    named_from::<B>(stack, name, at + 1, count)
-}
-
 impl<S: Drop> Streams<S> {
-    ghost use Rattle.strm_pair.specs.Pairs.{state_in, AreBeside, AreHeld, kept_by};
+    ghost use Rattle.strm_pair.specs.Pairs.{state_in, AreBeside, AreHeld, SamePool, kept_by};
 
     // The place of the module on a side's stream whose queues have a name.
     fn module_named<B: Stacks<Stack = S>>(&self, side: Side, name: Place) -> Option<usize>
         ensures { (s : StoreValue) → result ≡ place_named name (stream side (state_in B.view.modules s self.now)).modules }
     {
-        let count = self.modules_on::<B>(side);
-        named_from::<B>(&self.end(side).stack, name, 1, count)
+        place_named::<B>(&self.end(side).stack, name)
     }
 
     // The queue of the module at a place comes to the end of a turn, in which bytes were taken of it or not.
@@ -130,6 +105,59 @@ impl<S: Drop> Streams<S> {
                 }
                 self.wait_past::<B>(name.side, name.way, at, band);
                 self.stay(store, here, Turn::Blocked)
+            }
+        }
+    }
+
+    // The end of a turn in which messages were treated.
+    fn end_module_turn<B: Stacks<Stack = S>>(
+        &mut self,
+        store: &B,
+        name: QueueName,
+        here: Spot,
+        took: bool,
+    )
+        requires beside { AreBeside B.view (B.value store.now) self.old }
+        requires inside { 0 < here.at }
+        requires within { here.at ≤ length (stream here.side (state_in B.view.modules (B.value store.now) self.old)).modules }
+        ensures state { state_in B.view.modules (B.value store.now) self.new
+            ≡ module_turn_ended name here took (state_in B.view.modules (B.value store.now) self.old) }
+        ensures beside { AreBeside B.view (B.value store.now) self.new }
+        ensures keeps { (i : ℕ) → kept_by B.view self.new i ≡ kept_by B.view self.old i }
+    {
+        let earlier = self.before::<B>(here.side, here.way, here.at);
+        let end = self.end_queue(store, here, took);
+        if end.room {
+            self.enabled.enable_found(earlier);
+        }
+        self.enabled.enable_if(end.more, name);
+    }
+
+    /// A turn of a module's queue, which is off the list of enabled queues: its first message is treated, as far as the blocks that are
+    /// free allow, unless it may not go on.
+    pub(crate) fn turn_module<B: Stacks<Stack = S>>(
+        &mut self,
+        store: &mut B,
+        name: QueueName,
+        told: &mut Fates,
+    ) -> Turn
+        requires held { AreHeld B.view (B.value store.old) self.old }
+        requires rests { AreIdle (state_in B.view.modules (B.value store.old) self.old) }
+        requires room { HasRoom (B.value store.old) 4 }
+        requires range { in_range (state_in B.view.modules (B.value store.old) self.old) ≡ true }
+        ensures turn { result ≡ (module_turned plain name result (state_in B.view.modules (B.value store.old) self.old)).turn }
+        ensures state { state_in B.view.modules (B.value store.new) self.new
+            ≡ (module_turned plain name result (state_in B.view.modules (B.value store.old) self.old)).state }
+        ensures told { told.new ≡ tallied (module_turned plain name result (state_in B.view.modules (B.value store.old) self.old)).gone told.old }
+        ensures held { AreHeld B.view (B.value store.new) self.new }
+        ensures pool { SamePool (B.value store.old) (B.value store.new) }
+    {
+        match self.begin_module_turn(store, name) {
+            Begun::Over(turn) => turn,
+            Begun::Serves(here) => {
+                let bytes = self.call_on(store, here, told);
+                self.end_module_turn(store, name, here, bytes > 0);
+                Turn::Moved(bytes)
             }
         }
     }

@@ -7,22 +7,26 @@ ghost use Rattle.strm_types.specs.declared.limits.TheConstants.{BANDS, STOP_BLOC
 ghost use Rattle.strm_types.specs.declared.spots.Asks.TheVariants.{Empty};
 ghost use Rattle.strm_types.specs.Cells as cells;
 ghost use Rattle.strm_types.specs.Costs.{cost};
-ghost use Rattle.strm_types.specs.Deliver.{tallied};
+ghost use Rattle.strm_types.specs.Deliver.{AreLower, tallied};
 ghost use Rattle.strm_types.specs.Earlier.{places_of};
+ghost use Rattle.strm_types.specs.Input.{made_of};
 ghost use Rattle.strm_types.specs.ModuleQueues.{at_place, can_pass, full_at, messages_at, place_before, place_past, queue_changed, waits_past};
 ghost use Rattle.strm_types.specs.Modules.{act_among, change_among, put_among, top_name};
 ghost use Rattle.strm_types.specs.Pushes.{may_stand, named_by};
+ghost use Rattle.strm_types.specs.Puts.{far};
 ghost use Rattle.strm_types.specs.Queue.{bytes_of, count_of};
 ghost use Rattle.strm_types.specs.Refused.{none_waits_up};
 ghost use Rattle.strm_types.specs.Service.{end_relieves, has_more, turn_ended};
 ghost use Rattle.strm_types.specs.Stacked.{module_asks, module_name, module_puts, module_queue, module_serves, with_module_queue};
+ghost use Rattle.strm_types.specs.TurnCalls.{Ends, most_made};
+ghost use Rattle.strm_types.specs.TurnOutcomes.{first_size};
 ghost use Rattle.strm_blocks.specs.Blocks.{StoreValue, in_hand, list_at};
 ghost use Rattle.strm_msg.specs.Messages.{IsChain};
 ghost use Rattle.strm_frame.specs.Hands.{AreIn, CanPut, Handles, Hands, HasRoom, OnlyOwn, SamePool, Spends};
 ghost use Rattle.strm_frame.specs.Outboxes.{AreChains, cost_of, message_in, parcels_in, sent_of, times_sent};
 ghost use Rattle.strm_frame.specs.Serves.{IsBand, later_cost, least_free, stop_of};
 ghost use Rattle.strm_frame.specs.Stacks.{IsPlace};
-ghost use Rattle.strm_ldterm.specs.Bounds.{turn_cost};
+ghost use Rattle.strm_ldterm.specs.Bounds.{turn_cost, turn_height};
 ghost use Rattle.strm_ldterm.specs.Served.{IsServed};
 ghost use Rattle.strm_pair.specs.Streams.{View};
 ghost use Rattle.strm_pair.specs.Taken.{TookNone, TookTop};
@@ -108,6 +112,13 @@ pub trait Stacks: Blocks {
         ensures messages { result.0 ≡ length (at_place (messages_at module_queue way) [] at (view.modules (Self.value store.now) stack.now)) }
         ensures bytes { result.1 ≡ bytes_of (at_place (messages_at module_queue way) [] at (view.modules (Self.value store.now) stack.now)) };
 
+    /// How many bytes the first message on a queue of the module of a place has; none where none stands there.
+    fn first_size(stack: &Self::Stack, store: &Self, at: usize, way: Way) -> usize
+        requires inside { 0 < at }
+        requires within { at ≤ length (view.modules (Self.value store.now) stack.now) }
+        requires held { view.IsHeld (Self.value store.now) stack.now }
+        ensures { result ≡ first_size (at_place (messages_at module_queue way) [] at (view.modules (Self.value store.now) stack.now)) };
+
     /// How many bytes count in a band of a queue of the module of a place; none without one.
     fn count_in_band(stack: &Self::Stack, store: &Self, at: usize, way: Way, band: Band) -> usize
         requires inside { 0 < at }
@@ -161,7 +172,8 @@ pub trait Stacks: Blocks {
         requires within { at ≤ length (view.modules (Self.value store.now) stack.now) }
         requires held { view.IsHeld (Self.value store.now) stack.now }
         ensures asks { result ≡ at_place (module_asks way) Empty at (view.modules (Self.value store.now) stack.now) }
-        ensures band { IsBand result };
+        ensures band { IsBand result }
+        ensures few { at_place (λ p. first_size (messages_at module_queue way p)) 0 at (view.modules (Self.value store.now) stack.now) ≤ 16777216 };
 
     /// Calls the service procedure of a queue of the module of a place: `srv(9E)`. `again` is for one more call in the same turn,
     /// once all is delivered that the last one sent. It may stop within its message only where fewer than `STOP_BLOCKS` blocks of some kind
@@ -192,9 +204,13 @@ pub trait Stacks: Blocks {
         ensures again { let s = Self.value store.old in
             result.again ≡ at_place (λ p. (module_serves cells.plain here 0 again (stop_of result) p).again) false here.at (view.modules s stack.old) }
         ensures stopped { OnTrue result.stopped ((least_free (Self.value store.new) < STOP_BLOCKS) × (result.again ≡ false)) }
+        ensures ends { OnTrue result.stopped (HoldsAt (λ p. Ends here.way again p result.bytes) (view.modules (Self.value store.old) stack.old) (here.at - 1)) }
+        ensures made { let s = Self.value store.old in
+            made_of (act_among (λ p. (module_serves cells.plain here 0 again (stop_of result) p).acted) (here.at - 1) (view.modules s stack.old)).gone ≤ most_made result.bytes }
         ensures held { view.IsHeld (Self.value store.new) stack.new }
         ensures own { OnlyOwn (Self.value store.old) (Self.value store.new) (view.owns stack.old) (view.owns stack.new) }
         ensures chains { AreChains Self.name (Self.value store.new) (sent_of result.acts.sent) }
+        ensures falls { AreLower far (turn_height here) (parcels_in Self.name (Self.value store.new) (sent_of result.acts.sent)) }
         ensures hands { Handles (Self.value store.old) (Self.value store.new) (λ _. 0) (view.keeps stack.old) (view.keeps stack.new)
             (λ i. times_sent Self.name i (sent_of result.acts.sent)) }
         ensures room { HasRoom (Self.value store.new) (later_cost cost result.again
@@ -304,6 +320,15 @@ impl Stacks for TableStore {
         way: Way,
     ) -> (usize, usize) {
         stack.sizes(store, at, way)
+    }
+
+    fn first_size(
+        stack: &Stream<Ldterm<InHand>>,
+        store: &TableStore,
+        at: usize,
+        way: Way,
+    ) -> usize {
+        stack.first_size(store, at, way)
     }
 
     fn count_in_band(

@@ -13,7 +13,7 @@ ghost use Rattle.strm_types.specs.Kept.{AreIdle, gone};
 ghost use Rattle.strm_types.specs.Turns.{turned};
 ghost use Rattle.strm_types.specs.declared.limits.TheConstants.{READ_MAX};
 ghost use Rattle.strm_frame.specs.Hands.{HasRoom};
-ghost use Rattle.strm_types.specs.Refused.{blocks_asked, refused_at_once, turn_blocks};
+ghost use Rattle.strm_types.specs.Refused.{blocks_asked, in_range, refused_at_once, refused_by_state, turn_blocks};
 ghost use Rattle.strm_types.specs.Journal.{reply_in, answer_len, content_max};
 ghost use Rattle.strm_blocks.specs.Blocks.{StoreValue, free_m, free_d, empty_store};
 ghost use Rattle.strm_pair.specs.Streams.{Modules, IsBlank, IsSide, stream_in};
@@ -162,6 +162,7 @@ impl<S: Drop> Streams<S> {
     ) -> Answer<usize>
         requires held { AreHeld B.view (B.value store.old) self.old }
         requires allowed { refused_at_once (state_in B.view.modules (B.value store.old) self.old) caller (request event.now) ≡ None }
+        requires allowed_by_state { refused_by_state (state_in B.view.modules (B.value store.old) self.old) caller (request event.now) ≡ None }
         requires idle { AreIdle (state_in B.view.modules (B.value store.old) self.old) }
         requires cut_off { IsCutOff (state_in B.view.modules (B.value store.old) self.old) }
         requires room_m { blocks_asked (request event.now) ≤ free_m (B.value store.old) }
@@ -223,6 +224,7 @@ impl<S: Drop> Streams<S> {
         requires held { AreHeld B.view (B.value store.old) self.old }
         requires idle { AreIdle (state_in B.view.modules (B.value store.old) self.old) }
         requires room { HasRoom (B.value store.old) (turn_blocks name.place) }
+        requires range { in_range (state_in B.view.modules (B.value store.old) self.old) ≡ true }
         ensures turn { result ≡ (turned plain name result (state_in B.view.modules (B.value store.old) self.old)).turn }
         ensures state { state_in B.view.modules (B.value store.new) self.new
             ≡ (turned plain name result (state_in B.view.modules (B.value store.old) self.old)).state }
@@ -233,7 +235,8 @@ impl<S: Drop> Streams<S> {
         self.enabled.remove(name);
         match name.place {
             Place::Driver => self.turn_driver(store, name.side, told),
-            Place::Head | Place::Ldterm => Turn::Idle,
+            Place::Ldterm => self.turn_module(store, name, told),
+            Place::Head => Turn::Idle,
         }
     }
 }

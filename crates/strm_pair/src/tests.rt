@@ -441,11 +441,18 @@ fn a_closed_master_hangs_the_slave_up(rt: HostRuntime) -> Result<(), Fail> {
     Ok(run(&rt, rt.alloc(), SIZES, &OPENING, &CLOSING_THE_MASTER)?)
 }
 
-const UNKNOWN: [Step<'static>; 6] = [
+const UNKNOWN: [Step<'static>; 7] = [
     Step::Call(
         SLAVE,
         Event::Push {
-            name: Some(ModuleName::Ldterm),
+            name: Some(ModuleName::Ptem),
+        },
+        INVALID,
+    ),
+    Step::Call(
+        SLAVE,
+        Event::Push {
+            name: Some(ModuleName::Pckt),
         },
         INVALID,
     ),
@@ -457,6 +464,6 @@ const UNKNOWN: [Step<'static>; 6] = [
 ];
 
 #[test]
-fn no_module_and_no_eighth_band_is_known(rt: HostRuntime) -> Result<(), Fail> {
+fn no_other_module_and_no_eighth_band_is_known(rt: HostRuntime) -> Result<(), Fail> {
     Ok(run(&rt, rt.alloc(), SIZES, &OPENING, &UNKNOWN)?)
 }

@@ -134,11 +134,10 @@ fn band_of(x: u64, fills: bool) -> Option<Band> {
     }
 }
 
-// Some module, or a name that none has.
+// A module that is not known, or a name that none has: no module stands on the model's streams.
 fn name_of(x: u64) -> Option<ModuleName> {
     match (x >> 45) % 4 {
-        0 => Some(ModuleName::Ldterm),
-        1 => Some(ModuleName::Ptem),
+        0..=1 => Some(ModuleName::Ptem),
         2 => Some(ModuleName::Pckt),
         _ => None,
     }

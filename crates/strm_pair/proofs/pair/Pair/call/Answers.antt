@@ -8,10 +8,10 @@ use Rattle.strm_types.specs.Journal.{PlainEntry, content_max, reply_in}
 use Rattle.strm_types.specs.CutOff.{IsCutOff}
 use Rattle.strm_types.specs.State.{opening}
 use Rattle.strm_types.specs.Step.{IsCall, after}
-use Rattle.strm_types.specs.Refused.{enough, blocks_asked}
+use Rattle.strm_types.specs.Refused.{enough, blocks_asked, refused_at_once, refused_by_state}
 use Rattle.strm_types.specs.Pair.{PairState, AddsEntry, call_refused}
 use Rattle.strm_types.proofs.CutOff.{journal-cut, opening-cut}
-use Rattle.strm_types.proofs.Replay.{call-allowed}
+use Rattle.strm_types.proofs.Replay.{call-allowed, or_else-none}
 use Rattle.strm_pair.specs.Pairs.{state_in, journal_of, free_in}
 use Rattle.strm_pair.specs.PairViews.{pair_of}
 use Rattle.strm_pair.proofs.JournalLemmas.{room-less}
@@ -80,6 +80,15 @@ pub carry_out-answer-requires-clause-cut_off : goal.carry_out-answer-requires-cl
 carry_out-answer-requires-clause-cut_off g c =
     let kept = c.self.invariant in
     subst (λ t. IsCutOff t) (sym kept.replayed) (journal-cut plain opening (journal_of c.self.inside.journal) opening-cut kept.legal)
+
+pub carry_out-answer-requires-clause-allowed_by_state : goal.carry_out-answer-requires-clause-allowed_by_state
+carry_out-answer-requires-clause-allowed_by_state g c =
+    let p = c.self.inside in
+    let s = g.B.Blocks.value p.store in
+    let asked = request c.args.event.now in
+    let old = state_in g.B.Stacks.view.modules s p.streams in
+    let allowed : call_refused (pair_of g.B.Stacks.view s p.streams p.journal p.limits p.fates) c.args.caller asked ≡ None = ap (λ (v : PairState). call_refused v c.args.caller asked) c.self.view_is ∙ sym c.refusal.ensures ∙ c.in_default.is in
+    (or_else-none (refused_at_once old c.args.caller asked) (refused_by_state old c.args.caller asked) (call-allowed old (journal_of p.journal) p.limits (enough (blocks_asked asked) (free_in s)) c.args.caller asked allowed).0).1
 
 pub carry_out-answer-requires-clause-idle : goal.carry_out-answer-requires-clause-idle
 carry_out-answer-requires-clause-idle g c = led-idle g.B.Stacks.view (g.B.Blocks.value c.self.inside.store) c.self.inside.streams c.self.inside.journal c.self.inside.limits c.self.inside.fates c.self.invariant

@@ -1,5 +1,5 @@
 -- A turn that isn't refused is a step, and the journal gains it.
-use Rattle.std.proofs.Common.{◌≡◌, ◌∙◌, ap, sym, refl, subst, rules}
+use Rattle.std.proofs.Common.{◌≡◌, ◌∙◌, ap, sym, refl, subst, rules, arith}
 use Rattle.std.specs.Prelude.{None}
 use Rattle.strm_types.specs.declared.entries.Entry.TheVariants.{Turned}
 use Rattle.strm_types.specs.Cells.{plain}
@@ -10,6 +10,7 @@ use Rattle.strm_types.specs.Pair.{PairState, AddsEntry, queue_refused}
 use Rattle.strm_types.proofs.Replay.{turn-allowed}
 use Rattle.strm_pair.specs.Pairs.{state_in, journal_of, free_in}
 use Rattle.strm_pair.specs.PairViews.{pair_of}
+use Rattle.strm_pair.proofs.JournalLemmas.{room-less}
 use Rattle.strm_pair.proofs.Steps.{kept-step, led-idle, step-shown}
 use Rattle.strm_pair.proofs.pair.Pair.turn.Goals as goal
 
@@ -62,10 +63,24 @@ pub returns-in-Some-clause-adds : goal.returns-in-Some-clause-adds
 returns-in-Some-clause-adds g c = search rules steps 30000
 
 pub add_turn-requires : goal.add_turn-requires
-add_turn-requires g c = search rules steps 300000
+add_turn-requires g c =
+    let p = c.self.inside in
+    let s = g.B.Blocks.value p.store in
+    let old = state_in g.B.Stacks.view.modules s p.streams in
+    let allowed : queue_refused (pair_of g.B.Stacks.view s p.streams p.journal p.limits p.fates) c.args.name ≡ None = ap (λ (v : PairState). queue_refused v c.args.name) c.self.view_is ∙ sym c.turn_refusal.ensures ∙ c.in_default.is in
+    let room = (turn-allowed old (journal_of p.journal) p.limits (enough (turn_blocks c.args.name.place) (free_in s)) c.args.name allowed).2 in
+    record { room = room-less (journal_of p.journal) p.limits p.journal.most_entries p.journal.most_bytes 0 0 c.self.invariant.events c.self.invariant.bytes (omega arith) room }
 
 pub returns-clause-refused : goal.returns-clause-refused
 returns-clause-refused g c = search rules steps 1000000
 
 pub turn-turn-requires-clause-idle : goal.turn-turn-requires-clause-idle
 turn-turn-requires-clause-idle g c = led-idle g.B.Stacks.view (g.B.Blocks.value c.self.inside.store) c.self.inside.streams c.self.inside.journal c.self.inside.limits c.self.inside.fates c.self.invariant
+
+pub turn-turn-requires-clause-range : goal.turn-turn-requires-clause-range
+turn-turn-requires-clause-range g c =
+    let p = c.self.inside in
+    let s = g.B.Blocks.value p.store in
+    let old = state_in g.B.Stacks.view.modules s p.streams in
+    let allowed : queue_refused (pair_of g.B.Stacks.view s p.streams p.journal p.limits p.fates) c.args.name ≡ None = ap (λ (v : PairState). queue_refused v c.args.name) c.self.view_is ∙ sym c.turn_refusal.ensures ∙ c.in_default.is in
+    (turn-allowed old (journal_of p.journal) p.limits (enough (turn_blocks c.args.name.place) (free_in s)) c.args.name allowed).1

@@ -1,11 +1,12 @@
 -- A chunk goes, and the rest is a write of the other chunks.
-use Rattle.std.proofs.Common.{◌≡◌, ◌-◌, ◌+◌, ℕ, suc, length, sym, ap, subst, ◌∙◌, arith}
+use Rattle.std.proofs.Common.{◌≡◌, ◌≤◌, ◌-◌, ◌+◌, ℕ, suc, length, sym, ap, subst, ◌∙◌, arith}
 use Rattle.strm_types.specs.Deliver.{tallied}
 use Rattle.strm_types.specs.Kept.{AreIdle}
 use Rattle.strm_types.specs.Message.{data_message}
 use Rattle.strm_types.specs.Write.{chunks_of}
 use Rattle.strm_types.specs.Writes.{Wrote, below_head, chunks_sent}
 use Rattle.strm_types.proofs.ModulesIdle.{delivered-idle}
+use Rattle.strm_blocks.specs.Blocks.{free_m, free_d}
 use Rattle.strm_pair.specs.Pairs.{state_in}
 use Rattle.strm_pair.proofs.ChunkSteps.{chunks-none, chunks-full, chunks-more, chunks-told}
 use Rattle.strm_pair.proofs.DataLemmas.{front-256, back-256}
@@ -40,6 +41,16 @@ pub returns-then-is_full_below-clause-told : goal.returns-then-is_full_below-cla
 returns-then-is_full_below-clause-told g t c =
     let old = state_in g.B.Stacks.view.modules (g.B.Blocks.value c.args.store.now) c.args.self.now in
     ap (λ (w : Wrote ℕ). tallied w.gone c.args.told.now) (sym (chunks-full c.args.side old c.args.chunks c.args.bytes.now (sym c.is_full_below.ensures ∙ c.if-is_full_below.true)))
+
+-- Nothing of a turn is under way behind a chunk.
+pub send_chunks-more-requires : goal.send_chunks-more-requires
+send_chunks-more-requires g t c κs within =
+    let old = state_in g.B.Stacks.view.modules (g.B.Blocks.value c.args.store.now) c.args.self.now in
+    let some = c.if-chunks-eq0.false in
+    let idle = subst AreIdle (sym c.send_chunk.ensures.state) (delivered-idle (below_head c.args.side) (data_message c.split_at.result.0.now) old c.requires.idle) in
+    let room_m : c.args.chunks - 1 ≤ free_m (g.B.Blocks.value c.send_chunk.new.store) = omega (arith, some, c.requires.room_m, c.send_chunk.ensures.takes_m) in
+    let room_d : c.args.chunks - 1 ≤ free_d (g.B.Blocks.value c.send_chunk.new.store) = omega (arith, some, c.requires.room_d, c.send_chunk.ensures.takes_d) in
+    (omega arith, (within.0, (within.1.0, (within.1.1, (c.send_chunk.ensures.held, (idle, (room_m, room_d)))))))
 
 pub returns-clause-taken : goal.returns-clause-taken
 returns-clause-taken g t c =

@@ -1,13 +1,12 @@
 -- What the first message asks says what becomes of the turn.
-use Rattle.std.proofs.Common.{ℕ, ◌≡◌, length, sym, ap, subst, ◌∙◌, arith}
-use Rattle.std.specs.Prelude.{Some}
+use Rattle.std.proofs.Common.{ℕ, ◌≤◌, length, sym, ap, subst, ◌∙◌, arith}
 use Rattle.strm_types.specs.declared.answers.Turn.TheVariants.{Blocked}
 use Rattle.strm_types.specs.declared.spots.Asks.TheVariants as asked
-use Rattle.strm_types.specs.ModuleQueues.{at_place}
+use Rattle.strm_types.specs.ModuleQueues.{at_place, messages_at}
 use Rattle.strm_types.specs.ModuleTurns.{stayed_at}
-use Rattle.strm_types.specs.Stacked.{module_asks}
+use Rattle.strm_types.specs.Stacked.{module_asks, module_queue}
 use Rattle.strm_types.specs.State.{State, Stream, stream}
-use Rattle.strm_types.specs.TurnOutcomes.{stayed_put}
+use Rattle.strm_types.specs.TurnOutcomes.{first_size, stayed_put}
 use Rattle.strm_pair.specs.ModuleTurned.{BeginsAs}
 use Rattle.strm_pair.specs.Pairs.{state_in}
 use Rattle.strm_pair.proofs.ModuleTurns.{may-move, spot_of, turned-asks, turned-room, turned-waits, waiting-long}
@@ -22,7 +21,8 @@ returns-in-Free-clause-begins g c =
     let at = c.in-Some.at in
     let found = sym (c.module_named.ensures s) ∙ c.in-Some.is in
     let asks = sym c.in-Free.is ∙ c.asks.ensures.asks ∙ ap (λ (t : Stream ℕ). at_place (module_asks name.way) asked.Empty at t.modules) (c.end.ensures.stream g.B.Stacks.view.modules s) in
-    may-move name at st found (λ turn. turned-asks name at asked.Free turn st c.requires.rests found asks)
+    let few = subst (λ (t : Stream ℕ). at_place (λ p. first_size (messages_at module_queue name.way p)) 0 at t.modules ≤ 16777216) (c.end.ensures.stream g.B.Stacks.view.modules s) c.asks.ensures.few in
+    may-move name at st found few (λ turn. turned-asks name at asked.Free turn st c.requires.rests found asks)
 
 pub returns-then-has_room_past-clause-begins : goal.returns-then-has_room_past-clause-begins
 returns-then-has_room_past-clause-begins g c =
@@ -34,7 +34,8 @@ returns-then-has_room_past-clause-begins g c =
     let found = sym (c.module_named.ensures s) ∙ c.in-Some.is in
     let asks = sym c.in-Room.is ∙ c.asks.ensures.asks ∙ ap (λ (t : Stream ℕ). at_place (module_asks name.way) asked.Empty at t.modules) (c.end.ensures.stream g.B.Stacks.view.modules s) in
     let room = sym c.has_room_past.ensures ∙ c.if-has_room_past.true in
-    may-move name at st found (λ turn. turned-asks name at (asked.Room band) turn st c.requires.rests found asks ∙ turned-room name at band turn st room)
+    let few = subst (λ (t : Stream ℕ). at_place (λ p. first_size (messages_at module_queue name.way p)) 0 at t.modules ≤ 16777216) (c.end.ensures.stream g.B.Stacks.view.modules s) c.asks.ensures.few in
+    may-move name at st found few (λ turn. turned-asks name at (asked.Room band) turn st c.requires.rests found asks ∙ turned-room name at band turn st room)
 
 pub stay-requires-in-Room-clause-inside : goal.stay-requires-in-Room-clause-inside
 stay-requires-in-Room-clause-inside g c =

@@ -1,17 +1,16 @@
 -- Plain bytes have no origin: what goes down and what comes up are the bytes themselves. A write that isn't refused is one while the master isn't closed.
-use Rattle.std.proofs.Common.{ℕ, ◌≡◌, ◌≤◌, Bool, true, false, List, ◌∙◌, sym, ap, take, arith}
+use Rattle.std.proofs.Common.{ℕ, ◌≡◌, List, ◌∙◌, sym, ap, take}
 use Rattle.std.proofs.Math.Seq.{take-length}
 use denote.Ref.{Bor}
-use Rattle.std.specs.Prelude.{option_map, Option, None, Some}
+use Rattle.std.specs.Prelude.{option_map}
 use Rattle.strm_types.specs.declared.answers.Answer.TheVariants.{Bytes}
-use Rattle.strm_types.specs.declared.events.Caller.{Caller}
 use Rattle.strm_types.specs.declared.events.Event.{Event}
-use Rattle.strm_types.specs.declared.events.Event.TheVariants.{Push}
-use Rattle.strm_types.specs.declared.names.ModuleName.{ModuleName}
-use Rattle.strm_types.specs.declared.refusals.Refusal.TheVariants.{Einval, Enxio}
+use Rattle.strm_types.specs.declared.refusals.Refusal.TheVariants.{Einval}
 use Rattle.strm_types.specs.Calls.{Outcome, request}
-use Rattle.strm_types.specs.Refused.{goes_down, or_else, refused_at_once, unless}
-use Rattle.strm_types.specs.State.{State}
+use Rattle.strm_types.specs.Pushes.{may_stand, named_by}
+use Rattle.strm_types.specs.Refused.{refused_at_once, refused_by_state}
+use Rattle.strm_types.specs.State.{stream}
+use Rattle.strm_types.proofs.Replay.{unless-none}
 use Rattle.strm_pair.specs.Pairs.{state_in}
 use Rattle.strm_pair.proofs.PlainWrites.{put-in_range, write-stays, read-is}
 use Rattle.strm_pair.proofs.streams.Streams.carry_out.Goals as goal
@@ -59,30 +58,11 @@ putmsg-requires-clause-in_range g c =
     put-in_range old c.args.caller c.in-Put.prio (option_map now c.in-Put.control) (option_map now c.in-Put.body)
     (ap (λ (e : Event (Bor (List ℕ))). refused_at_once old c.args.caller (request e)) (sym c.in-Put.is) ∙ c.requires.allowed)
 
--- No name of a module is known yet.
-no-push : (s : State ℕ) (caller : Caller) (name : Option ModuleName) → refused_at_once s caller (Push name) ≡ None → 1 ≤ 0
-no-push s caller None allowed = by (goes_down caller.side s) allowed
-  where
-    by : (b : Bool) → or_else (unless b Enxio) (Some Einval) ≡ None → 1 ≤ 0
-    by true is = absurd (cc)
-    by false is = absurd (cc)
-no-push s caller (Some name) allowed = by (goes_down caller.side s) allowed
-  where
-    by : (b : Bool) → or_else (unless b Enxio) (Some Einval) ≡ None → 1 ≤ 0
-    by true is = absurd (cc)
-    by false is = absurd (cc)
-
 pub push-requires-clause-may_stand : goal.push-requires-clause-may_stand
 push-requires-clause-may_stand g c =
     let old = state_in g.B.Stacks.view.modules (g.B.Blocks.value c.args.store.now) c.args.self.now in
-    let no = no-push old c.args.caller c.in-Push.name (ap (λ (e : Event (Bor (List ℕ))). refused_at_once old c.args.caller (request e)) (sym c.in-Push.is) ∙ c.requires.allowed) in
-    absurd (omega (arith, no))
-
-pub returns-in-Push-clause-held : goal.returns-in-Push-clause-held
-returns-in-Push-clause-held g c =
-    let old = state_in g.B.Stacks.view.modules (g.B.Blocks.value c.args.store.now) c.args.self.now in
-    let no = no-push old c.args.caller c.in-Push.name (ap (λ (e : Event (Bor (List ℕ))). refused_at_once old c.args.caller (request e)) (sym c.in-Push.is) ∙ c.requires.allowed) in
-    absurd (omega (arith, no))
+    unless-none (may_stand (named_by c.in-Push.name) (stream c.args.caller.side old).modules) Einval
+    (ap (λ (e : Event (Bor (List ℕ))). refused_by_state old c.args.caller (request e)) (sym c.in-Push.is) ∙ c.requires.allowed_by_state)
 
 pub returns-in-Look-clause-answer : goal.returns-in-Look-clause-answer
 returns-in-Look-clause-answer g c = rw c.in-Look.is (c.look.ensures.answer (g.B.Blocks.value c.args.store.now) c.clear.new.self.items)

@@ -6,8 +6,7 @@ use Rattle.strm_types.specs.Ldterms.{new_ldterm}
 use Rattle.strm_types.specs.Pushes.{may_stand, mode_put, named_by, with_modules}
 use Rattle.strm_types.specs.State.{State, stream}
 use Rattle.strm_pair.specs.declared.streams.Streams.{Streams}
-use Rattle.strm_pair.specs.Fitting.{AreReady}
-use Rattle.strm_pair.specs.Pairs.{state_in}
+use Rattle.strm_pair.specs.Pairs.{state_in, AreHeld}
 use Rattle.strm_pair.proofs.LdtermPushed.{new-named}
 use Rattle.strm_pair.proofs.Modes.{driver_comes, modules-stay, pushed-is}
 use Rattle.strm_pair.proofs.streams.Streams.push.Goals as goal
@@ -49,8 +48,8 @@ returns-clause-told g c =
     ∙ ap (λ m. tallied (mode_put c.args.side m s).gone c.args.told.now) c.mode_on_push.ensures
     ∙ sym (ap (λ (o : Carried ℕ (State ℕ)). tallied o.gone c.args.told.now) (pushed-is c.args.side name new_ldterm s new may)))
 
-pub returns-clause-ready : goal.returns-clause-ready
-returns-clause-ready g c =
-    let r = c.put_on.ensures.ready in
-    subst (λ (p : Streams _). AreReady g.B.Stacks.view (g.B.Blocks.value c.put_mode.new.store) p) (sym c.come_from_driver.ensures)
-    (record { hand = r.hand; master = r.master; slave = r.slave })
+pub returns-clause-held : goal.returns-clause-held
+returns-clause-held g c =
+    let r = c.put_on.ensures.held in
+    subst (λ (p : Streams _). AreHeld g.B.Stacks.view (g.B.Blocks.value c.put_mode.new.store) p) (sym c.come_from_driver.ensures)
+    (record { hand = r.hand; beside = record { master = r.beside.master; slave = r.beside.slave } })

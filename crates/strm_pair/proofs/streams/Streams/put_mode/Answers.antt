@@ -1,7 +1,16 @@
 -- The M_SETOPTS is alone in hand.
-use Rattle.std.proofs.Common.{refl}
+use Rattle.std.proofs.Common.{ℕ, ◌≡◌, [], ◌∷◌, refl, ap, ◌∙◌}
+use Rattle.std.specs.Prelude.{None}
+use Rattle.strm_types.specs.declared.kinds.MsgKind.TheVariants.{Setopts}
+use Rattle.strm_types.specs.Deliver.{tallied}
 use Rattle.strm_types.specs.Flush.{is_data_kind}
-use Rattle.strm_pair.proofs.InHand.{made-alone}
+use Rattle.strm_types.specs.Message.{Message}
+use Rattle.strm_types.specs.Pushes.{head_above, mode_message}
+use Rattle.strm_types.specs.Puts.{delivered}
+use Rattle.strm_blocks.specs.Blocks.{in_hand}
+use Rattle.strm_msg.specs.Messages.{message_of}
+use Rattle.strm_pair.specs.Pairs.{state_in}
+use Rattle.strm_pair.proofs.InHand.{made-alone, made-state}
 use Rattle.strm_pair.proofs.streams.Streams.put_mode.Goals as goal
 
 pub make-message-requires-clause-kind : goal.make-message-requires-clause-kind
@@ -12,3 +21,31 @@ pub deliver_alone-requires-clause-alone : goal.deliver_alone-requires-clause-alo
 deliver_alone-requires-clause-alone g c =
     let made = c.make-message.ensures in
     made-alone g.B.Stacks.view (g.B.Blocks.value c.args.store.now) (g.B.Blocks.value c.make-message.new.store) c.args.self.now c.requires.held c.requires.idle (g.B.Blocks.name c.make-message.result) made.after made.chain
+
+pub returns-clause-state : goal.returns-clause-state
+returns-clause-state g c =
+    let s = g.B.Blocks.value c.args.store.now in
+    let made = g.B.Blocks.value c.make-message.new.store in
+    let p = c.args.self.now in
+    let i = g.B.Blocks.name c.make-message.result in
+    let m = message_of (in_hand made i) in
+    let to = head_above c.args.side in
+    let shown : m ≡ mode_message c.in-Some.mode = c.make-message.ensures.shows ∙ ap (λ (n : ℕ). record { kind = Setopts; band = 0; control = None; body = None; plain = n ∷ [] }) c.mode_number.ensures in
+    rw c.in-Some.is
+    (c.deliver_alone.ensures.state
+    ∙ ap (λ v. (delivered to m v).state) (made-state g.B.Stacks.view s made p c.requires.held c.requires.idle i c.make-message.ensures.after)
+    ∙ ap (λ (x : Message _). (delivered to x (state_in g.B.Stacks.view.modules s p)).state) shown)
+
+pub returns-clause-told : goal.returns-clause-told
+returns-clause-told g c =
+    let s = g.B.Blocks.value c.args.store.now in
+    let made = g.B.Blocks.value c.make-message.new.store in
+    let p = c.args.self.now in
+    let i = g.B.Blocks.name c.make-message.result in
+    let m = message_of (in_hand made i) in
+    let to = head_above c.args.side in
+    let shown : m ≡ mode_message c.in-Some.mode = c.make-message.ensures.shows ∙ ap (λ (n : ℕ). record { kind = Setopts; band = 0; control = None; body = None; plain = n ∷ [] }) c.mode_number.ensures in
+    rw c.in-Some.is
+    (c.deliver_alone.ensures.told
+    ∙ ap (λ v. tallied (delivered to m v).gone c.args.told.now) (made-state g.B.Stacks.view s made p c.requires.held c.requires.idle i c.make-message.ensures.after)
+    ∙ ap (λ (x : Message _). tallied (delivered to x (state_in g.B.Stacks.view.modules s p)).gone c.args.told.now) shown)

@@ -27,7 +27,7 @@ returns g c =
           let x = w.put-acts.new.stack in
           rw (w.store-is, w.told-is, w.acts-is)
           (module-by g.B.Blocks.name g.B.Stacks.view Master s (g.B.Blocks.value w.put-acts.new.store) p (record c.match-to.self { enabled = c.note.new.enabled }) x i to place earlier w.put-acts.result c.args.told.now w.put-acts.new.told
-          c.audit.ensures c.requires.can_put w.in-Master.is c.requires.inside (c.requires.within s) place_is (λ way. c.earlier-earlier.ensures s way) c.requires.beside
+          c.audit.ensures c.requires.can_put w.in-Master.is place_is (λ way. c.earlier-earlier.ensures s way) c.requires.beside
           e.state e.notes e.sent e.told e.held e.own e.chains e.hands e.spends e.pool
           (ap (λ ns. record c.match-to.self { enabled = ns }) c.note.ensures
           ∙ ap (λ ns. record c.match-to.self { enabled = noted to.side place earlier ns c.match-to.self.enabled }) (c.as_slice.ensures.value ∙ ap (λ acts. acts.notes.items) w.acts-is)
@@ -37,7 +37,7 @@ returns g c =
           let x = w.put-acts-in-Slave.new.stack in
           rw (w.store-is, w.told-is, w.acts-is)
           (module-by g.B.Blocks.name g.B.Stacks.view Slave s (g.B.Blocks.value w.put-acts-in-Slave.new.store) p (record c.match-to.self { enabled = c.note.new.enabled }) x i to place earlier w.put-acts-in-Slave.result c.args.told.now w.put-acts-in-Slave.new.told
-          c.audit.ensures c.requires.can_put w.in-Slave.is c.requires.inside (c.requires.within s) place_is (λ way. c.earlier-earlier.ensures s way) c.requires.beside
+          c.audit.ensures c.requires.can_put w.in-Slave.is place_is (λ way. c.earlier-earlier.ensures s way) c.requires.beside
           e.state e.notes e.sent e.told e.held e.own e.chains e.hands e.spends e.pool
           (ap (λ ns. record c.match-to.self { enabled = ns }) c.note.ensures
           ∙ ap (λ ns. record c.match-to.self { enabled = noted to.side place earlier ns c.match-to.self.enabled }) (c.as_slice.ensures.value ∙ ap (λ acts. acts.notes.items) w.acts-is)

@@ -5,7 +5,7 @@ use Rattle.strm_types.specs.declared.names.Side.TheVariants.{Master, Slave}
 use Rattle.strm_types.specs.Pushes.{may_stand, named_by}
 use Rattle.strm_types.specs.State.{stream}
 use Rattle.strm_pair.specs.Pairs.{state_in}
-use Rattle.strm_pair.proofs.Puttings.{put-state, ready-master, ready-slave}
+use Rattle.strm_pair.proofs.Puttings.{put-state, held-master, held-slave}
 use Rattle.strm_pair.proofs.streams.Streams.put_on.Goals as goal
 
 pub push-requires-clause-may_stand : goal.push-requires-clause-may_stand
@@ -25,8 +25,8 @@ push-requires-clause-spare g c = c.requires.held.beside.master.spare
 pub returns-in-Master-clause-state : goal.returns-in-Master-clause-state
 returns-in-Master-clause-state g c = rw c.in-Master.is (put-state g.B.Stacks.view (g.B.Blocks.value c.args.store.now) c.args.self.now Master c.push.new.stack (named_by (Some c.args.name)) c.push.ensures.modules)
 
-pub returns-in-Master-clause-ready : goal.returns-in-Master-clause-ready
-returns-in-Master-clause-ready g c = ready-master g.B.Stacks.view (g.B.Blocks.value c.args.store.now) c.args.self.now c.push.new.stack c.requires.held c.push.ensures.held c.push.ensures.owned c.push.ensures.spare
+pub returns-in-Master-clause-held : goal.returns-in-Master-clause-held
+returns-in-Master-clause-held g c = held-master g.B.Stacks.view (g.B.Blocks.value c.args.store.now) c.args.self.now c.push.new.stack c.requires.held c.push.ensures.held c.push.ensures.owned c.push.ensures.spare
 
 pub push-requires-in-Slave-clause-may_stand : goal.push-requires-in-Slave-clause-may_stand
 push-requires-in-Slave-clause-may_stand g c =
@@ -45,5 +45,5 @@ push-requires-in-Slave-clause-spare g c = c.requires.held.beside.slave.spare
 pub returns-in-Slave-clause-state : goal.returns-in-Slave-clause-state
 returns-in-Slave-clause-state g c = rw c.in-Slave.is (put-state g.B.Stacks.view (g.B.Blocks.value c.args.store.now) c.args.self.now Slave c.push-in-Slave.new.stack (named_by (Some c.args.name)) c.push-in-Slave.ensures.modules)
 
-pub returns-in-Slave-clause-ready : goal.returns-in-Slave-clause-ready
-returns-in-Slave-clause-ready g c = ready-slave g.B.Stacks.view (g.B.Blocks.value c.args.store.now) c.args.self.now c.push-in-Slave.new.stack c.requires.held c.push-in-Slave.ensures.held c.push-in-Slave.ensures.owned c.push-in-Slave.ensures.spare
+pub returns-in-Slave-clause-held : goal.returns-in-Slave-clause-held
+returns-in-Slave-clause-held g c = held-slave g.B.Stacks.view (g.B.Blocks.value c.args.store.now) c.args.self.now c.push-in-Slave.new.stack c.requires.held c.push-in-Slave.ensures.held c.push-in-Slave.ensures.owned c.push-in-Slave.ensures.spare

@@ -20,3 +20,7 @@ returns-in-Put g c = λ view s.
 
 pub returns-in-Ioctl : goal.returns-in-Ioctl
 returns-in-Ioctl g c = λ view s. rw (c.in-Ioctl.is, c.or_else-in-Ioctl.ensures, c.unreached-in-Ioctl.ensures view s, c.unasked.ensures view s) refl
+
+pub returns-in-Push : goal.returns-in-Push
+returns-in-Push g c = λ view s.
+    rw (c.in-Push.is, c.or_else-in-Push-2.ensures, c.or_else-in-Push.ensures, c.unreached-in-Push.ensures view s, c.beyond-in-Push.ensures view s, c.unless-in-Push.ensures, c.is_known.ensures) refl

@@ -1,5 +1,5 @@
 -- The chunk is alone in hand.
-use Rattle.std.proofs.Common.{ℕ, ◌≡◌, sym, ap, subst, ◌∙◌, arith}
+use Rattle.std.proofs.Common.{ℕ, sym, ap, subst, ◌∙◌, arith}
 use Rattle.strm_types.specs.declared.spots.Spot.{Spot}
 use Rattle.strm_types.specs.Costs.{cost}
 use Rattle.strm_types.specs.Deliver.{tallied}

@@ -1,5 +1,5 @@
 -- What stands on a module's queue is what its call says.
-use Rattle.std.proofs.Common.{◌≡◌, length, ap, sym, ◌∙◌}
+use Rattle.std.proofs.Common.{length, ap, sym, ◌∙◌}
 use Rattle.strm_types.specs.declared.names.Place.TheVariants.{Ldterm}
 use Rattle.strm_types.specs.Queue.{bytes_of}
 use Rattle.strm_types.specs.State.{Stream, stream}

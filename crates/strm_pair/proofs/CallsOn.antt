@@ -1,0 +1,267 @@
+-- The calls of a turn of a module's queue, one after the other, up to the one that asks for no other.
+use Rattle.std.proofs.Common.{ℕ, zero, suc, ◌≡◌, ◌≤◌, ◌<◌, ◌+◌, ◌-◌, ◌*◌, Bool, true, false, List, [], ◌∷◌, ◌++◌, length, map, refl, sym, ap, subst, ◌∙◌, arith}
+use Rattle.std.specs.Prelude.{◌==◌, ◌&&◌, not, nat_lt, slice_index_or, None}
+use Rattle.std.specs.Bool.{OnTrue}
+use Rattle.std.specs.List.{AllByRecursion}
+use Rattle.std.proofs.lemmas.Bool.{false≢true}
+use Rattle.std.proofs.lemmas.Bool.Decides.{nat_tests}
+use Rattle.strm_types.specs.declared.answers.Turn.TheVariants.{Moved}
+use Rattle.strm_types.specs.declared.books.Book.{Book}
+use Rattle.strm_types.specs.declared.books.TheConstants.{BOOK_MAX}
+use Rattle.strm_types.specs.declared.limits.TheConstants.{HOPS}
+use Rattle.strm_types.specs.declared.names.Dir.{Dir}
+use Rattle.strm_types.specs.declared.names.Dir.TheVariants.{MasterToSlave, SlaveToMaster}
+use Rattle.strm_types.specs.declared.names.Place.TheVariants.{Driver}
+use Rattle.strm_types.specs.declared.names.QueueName.{QueueName}
+use Rattle.strm_types.specs.declared.names.Side.{Side}
+use Rattle.strm_types.specs.declared.names.Side.TheVariants.{Master, Slave}
+use Rattle.strm_types.specs.declared.names.Way.{Way}
+use Rattle.strm_types.specs.declared.names.Way.TheVariants.{Up, Down}
+use Rattle.strm_types.specs.declared.rules.Fates.{Fates}
+use Rattle.strm_types.specs.declared.spots.Spot.{Spot}
+use Rattle.strm_types.specs.Books as books
+use Rattle.strm_types.specs.Cells.{plain}
+use Rattle.strm_types.specs.Deliver.{Acted, Fate, Parcel, carried, in_turn, tallied}
+use Rattle.strm_types.specs.Input.{made_of, stages_done, to_treat}
+use Rattle.strm_types.specs.Kept.{AreIdle}
+use Rattle.strm_types.specs.Ldterms.{IsIdle, Stage, Between, Begun, Answered, new_ldterm}
+use Rattle.strm_types.specs.ModuleTurns.{module_acted, module_turn_ended, module_turned, moved_on}
+use Rattle.strm_types.specs.Puts.{SameEnds, put_in}
+use Rattle.strm_types.specs.Refused.{in_range}
+use Rattle.strm_types.specs.Stacked.{Module, module_serves}
+use Rattle.strm_types.specs.State.{State, Stream, book, stream, with_stream}
+use Rattle.strm_types.specs.TurnCalls.{Begins, Ends, Stopped, asks_on, bytes_left, called, echo_most, led, module_at, most_made, treated}
+use Rattle.strm_types.specs.TurnOutcomes.{TurnOutcome}
+use Rattle.strm_types.proofs.Booked.{book-made, made-within, made_in}
+use Rattle.strm_types.proofs.DeliveryHolds.{carried-holds, in_turn-holds}
+use Rattle.strm_types.proofs.LdtermStops.{serves-goes}
+use Rattle.strm_types.proofs.ModuleTurnCalls.{Reached, UnderWay, index-map, led-at, led-length, moves-within, reached-last, reached-next, under_way}
+use Rattle.strm_types.proofs.PutsKeep.{puts-same}
+use Rattle.strm_frame.specs.Serves.{stop_at}
+use Rattle.strm_ldterm.specs.Bounds.{turn_cost}
+use Rattle.strm_pair.specs.declared.calling.Call.{Call}
+use Rattle.strm_pair.specs.ModuleServed.{MayBook, TellsAs, TreatsAs, call_cost, stop_in}
+use Rattle.strm_pair.specs.ModuleTurned.{MayMove}
+use Rattle.strm_pair.proofs.Takings.{tallied-both}
+
+-- What calls that go on have led to so far: so many bytes were treated, by so many calls, each of which came a stage further.
+pub record GoOn (here : Spot) (bytes : ℕ) (s0 st : State ℕ) (f f' : Fates) : Type 0 where
+  pub gone : List (Fate ℕ)
+  pub reached : Reached here s0 true bytes gone st
+  pub tells : f' ≡ tallied gone f
+  pub count : ℕ
+  pub few : count ≤ 3 * bytes + stages_done (module_at here st).stage
+  pub books : (d : Dir) → (book d st).made ≤ (book d s0).made + echo_most * (3 * bytes + 2 * count)
+
+-- They go on, or the turn is at its end.
+abbrev pub Along : Bool → Spot → ℕ → State ℕ → State ℕ → Fates → Fates → Type 0
+Along true here bytes s0 st f f' = GoOn here bytes s0 st f f'
+Along false here bytes s0 st f f' = TreatsAs here bytes s0 st f f'
+
+-- how many stages of bytes are still to come at most
+abbrev pub still_to_come : Bool → Spot → State ℕ → ℕ
+still_to_come true here s = suc (3 * bytes_left here.way true (module_at here s) - stages_done (module_at here s).stage)
+still_to_come false here s = 0
+
+done-few : (stage : Stage ℕ) → stages_done stage ≤ 2
+done-few Between = omega arith
+done-few (Begun started c) = omega arith
+done-few (Answered echo) = omega arith
+
+begun-few : (stage : Stage ℕ) (l : Module ℕ) → stages_done stage ≤ 3 * to_treat (record l { stage = stage })
+begun-few Between l = omega arith
+begun-few (Begun started c) l = omega arith
+begun-few (Answered echo) l = omega arith
+
+-- the books stay in deliveries
+sent-books : (d : Dir) (sent : List (Parcel ℕ)) (s : State ℕ) → book d (in_turn (carried put_in HOPS) sent s).state ≡ book d s
+sent-books d sent s = of d
+  where
+    ends : SameEnds s (in_turn (carried put_in HOPS) sent s).state
+    ends = in_turn-holds (SameEnds s) (carried put_in HOPS) (carried-holds (SameEnds s) put_in (puts-same s) HOPS) sent s (record { master = refl; slave = refl; locked = refl; next_ioctl = refl; from_master = refl; from_slave = refl })
+
+    of : (d : Dir) → book d (in_turn (carried put_in HOPS) sent s).state ≡ book d s
+    of MasterToSlave = ends.from_master
+    of SlaveToMaster = ends.from_slave
+
+book-stays : (d : Dir) (side : Side) (t : Stream ℕ) (names : List QueueName) (s : State ℕ) → (book d (record (with_stream side t s) { enabled = names })).made ≡ (book d s).made
+book-stays MasterToSlave Master t names s = refl
+book-stays MasterToSlave Slave t names s = refl
+book-stays SlaveToMaster Master t names s = refl
+book-stays SlaveToMaster Slave t names s = refl
+
+module _ (here : Spot) where
+  -- what was made by a module is booked
+  acted-books : (d : Dir) (t : Acted ℕ (List (Module ℕ))) (s : State ℕ) → (book d (module_acted here t s).state).made ≡ (book d s).made + made_in d t.gone
+  acted-books d t s =
+      let was = book-stays d here.side (record (stream here.side s) { modules = t.state }) _ s in
+      book-made d t.gone _ ∙ ap (λ n. n + made_in d t.gone) was
+
+  made-few : (d : Dir) (told : List (Fate ℕ)) → made_in d told ≤ made_of told
+  made-few MasterToSlave told = omega (arith, made-within told)
+  made-few SlaveToMaster told = omega (arith, made-within told)
+
+  -- a call makes no more than it says
+  module _ (again : Bool) (call : Call) (s st : State ℕ) (tells : TellsAs here again call s) (state : st ≡ (led here again (stop_in call) s).state) where
+    called-books : (d : Dir) → (book d st).made ≤ (book d s).made + most_made call.bytes
+    called-books d =
+        let t = called here again (stop_in call) (stream here.side s).modules in
+        let w = module_acted here t s in
+        let is = ap (λ (v : State ℕ). (book d v).made) state ∙ ap (λ (b : Book). b.made) (sent-books d w.sent w.state) ∙ acted-books d t s in
+        omega (arith, is, made-few d t.gone, tells.made)
+
+  none-in : (call : Call) → call.stopped ≡ false → stop_in call ≡ None
+  none-in call goes = ap (λ b. stop_at b call.bytes) goes
+
+  not-stopped : (stopped : Bool) (more : Bool) → OnTrue stopped (more ≡ false) → more ≡ true → stopped ≡ false
+  not-stopped true more over works = absurd (false≢true (sym over ∙ works))
+  not-stopped false more over works = refl
+
+  -- A call that goes on comes a stage further at least, and leaves less.
+  record Further (again : Bool) (call : Call) (s st : State ℕ) : Type 0 where
+    pub stop : stop_in call ≡ None
+    pub treat : bytes_left here.way true (module_at here st) + call.bytes ≤ bytes_left here.way again (module_at here s)
+    pub done : suc (stages_done (module_at here s).stage) ≤ stages_done (module_at here st).stage + 3 * call.bytes
+    pub begun : stages_done (module_at here st).stage ≤ 3 * bytes_left here.way true (module_at here st)
+
+  further : (again : Bool) (call : Call) (s st : State ℕ) → TellsAs here again call s → st ≡ (led here again (stop_in call) s).state → here.at - 1 < length (stream here.side s).modules
+      → Begins here.way again (module_at here s) → call.again ≡ true → Further again call s st
+  further again call s st tells state low begins works =
+      let none = none-in call (not-stopped call.stopped call.again tells.over works) in
+      let i = here.at - 1 in
+      let ps = (stream here.side s).modules in
+      let l = module_at here s in
+      let t = module_serves plain here 0 again None l in
+      let asks = ap (λ o. asks_on here again o ps) (sym none) ∙ sym tells.asks ∙ works in
+      let more : t.again ≡ true = sym (index-map new_ldterm (λ p. (module_serves plain here 0 again None p).again) false i ps low) ∙ asks in
+      let bytes : call.bytes ≡ t.bytes = tells.bytes ∙ ap (λ o. treated here again o ps) none ∙ index-map new_ldterm (λ p. (module_serves plain here 0 again None p).bytes) 0 i ps low in
+      let g = serves-goes here again l begins more in
+      let at = ap (λ v. under_way (module_at here v)) (state ∙ ap (λ o. (led here again o s).state) none) ∙ led-at here again None s low in
+      let stage = ap (λ (x : UnderWay). stages_done x.stage) at in
+      let left = ap (λ w. bytes_left w true (module_at here st)) g.up ∙ ap (λ (x : UnderWay). bytes_left Up true (record (module_at here st) { stage = x.stage; in_work = x.in_work })) at in
+      record { stop = none; treat = omega (arith, g.treat, bytes, left); done = omega (arith, g.done, bytes, stage); begun = subst (λ w. stages_done (module_at here st).stage ≤ 3 * bytes_left w true (module_at here st)) (sym g.up) (begun-few (module_at here st).stage (module_at here st)) }
+
+  -- where a call stopped
+  stopped-at : (stopped : Bool) (again : Bool) (bytes : ℕ) (s : State ℕ) → bytes ≡ treated here again (stop_at stopped bytes) (stream here.side s).modules → OnTrue stopped (Ends here.way again (module_at here s) bytes)
+      → Stopped here again s (stop_at stopped bytes)
+  stopped-at true again bytes s is ends = (is, ends)
+  stopped-at false again bytes s is ends = tt
+
+  module _ (s0 : State ℕ) (again : Bool) (bytes : ℕ) (gone : List (Fate ℕ)) (s st : State ℕ) (r : Reached here s0 again bytes gone s) (call : Call) (tells : TellsAs here again call s)
+      (state : st ≡ (led here again (stop_in call) s).state) (f f' f'' : Fates) (was : f' ≡ tallied gone f) (told : f'' ≡ tallied (led here again (stop_in call) s).gone f') where
+    any_name : QueueName
+    any_name = record { side = here.side; place = Driver; way = here.way }
+
+    told-on : f'' ≡ tallied (gone ++ (led here again (stop_in call) s).gone) f
+    told-on = told ∙ ap (tallied (led here again (stop_in call) s).gone) was ∙ sym (tallied-both gone (led here again (stop_in call) s).gone f)
+
+    -- the turn goes on
+    goes-on : (count : ℕ) → count ≤ 3 * bytes + stages_done (module_at here s).stage → ((d : Dir) → (book d s).made ≤ (book d s0).made + echo_most * (3 * bytes + 2 * count))
+        → call.again ≡ true → GoOn here (bytes + call.bytes) s0 st f f''
+    goes-on count few held works =
+        let on = further again call s st tells state r.inside r.begins works in
+        let ps = (stream here.side s).modules in
+        let asks = ap (λ o. asks_on here again o ps) (sym on.stop) ∙ sym tells.asks ∙ works in
+        let next = reached-next here s0 again bytes gone s r asks in
+        let same = tells.bytes ∙ ap (λ o. treated here again o ps) on.stop in
+        let gone_is : gone ++ (led here again None s).gone ≡ gone ++ (led here again (stop_in call) s).gone = ap (λ o. gone ++ (led here again o s).gone) (sym on.stop) in
+        let state_is : (led here again None s).state ≡ st = ap (λ o. (led here again o s).state) (sym on.stop) ∙ sym state in
+        let at = subst (λ n. Reached here s0 true (bytes + n) (gone ++ (led here again None s).gone) (led here again None s).state) (sym same) next in
+        let there = subst (λ v. Reached here s0 true (bytes + call.bytes) (gone ++ (led here again None s).gone) v) state_is at in
+        record {
+          gone = gone ++ (led here again (stop_in call) s).gone;
+          reached = subst (λ told. Reached here s0 true (bytes + call.bytes) told st) gone_is there;
+          tells = told-on;
+          count = suc count;
+          few = omega (arith, few, on.done);
+          books = λ d. omega (arith, held d, called-books again call s st tells state d);
+        }
+
+    -- or it is at its end
+    ends-there : call.again ≡ false → TreatsAs here (bytes + call.bytes) s0 st f f''
+    ends-there over =
+        let ps = (stream here.side s).modules in
+        let stop = stop_in call in
+        let last = λ (name : QueueName). reached-last here s0 name again bytes gone s r stop (sym tells.asks ∙ over) (stopped-at call.stopped again call.bytes s tells.bytes tells.ends) in
+        let same : bytes + treated here again stop ps ≡ bytes + call.bytes = ap (λ n. bytes + n) (sym tells.bytes) in
+        let all = gone ++ (led here again stop s).gone in
+        let to : QueueName → ℕ → State ℕ → TurnOutcome ℕ = λ name n v. record { turn = Moved n; state = module_turn_ended name here (not (n == 0)) v; gone = all } in
+        record {
+          gone = all;
+          within = omega (arith, (last any_name).0, same);
+          stands = subst (λ v. here.at - 1 < length (stream here.side v).modules) (sym state) (omega (arith, r.inside, led-length here again stop s));
+          moves = λ name. ap (λ n. moved_on plain here name n s0) (sym same) ∙ (last name).1 ∙ ap (λ n. to name n (led here again stop s).state) same ∙ ap (to name (bytes + call.bytes)) (sym state);
+          tells = told-on;
+        }
+
+    pub along : (count : ℕ) → count ≤ 3 * bytes + stages_done (module_at here s).stage → ((d : Dir) → (book d s).made ≤ (book d s0).made + echo_most * (3 * bytes + 2 * count))
+        → (more : Bool) → call.again ≡ more → Along more here (bytes + call.bytes) s0 st f f''
+    along count few held true is = goes-on count few held is
+    along count few held false is = ends-there is
+
+    pub comes-closer : (more : Bool) → call.again ≡ more → still_to_come more here st < suc (3 * bytes_left here.way again (module_at here s) - stages_done (module_at here s).stage)
+    comes-closer true works =
+        let on = further again call s st tells state r.inside r.begins works in
+        omega (arith, on.treat, on.done, on.begun)
+    comes-closer false over = omega arith
+
+-- what a first call begins with
+module _ (here : Spot) where
+  idle-at : (i : ℕ) (ps : List (Module ℕ)) → AllByRecursion (λ p. IsIdle p) ps → i < length ps → IsIdle (slice_index_or ps i new_ldterm)
+  idle-at i [] idle low = absurd (omega (arith, low))
+  idle-at zero (l ∷ ls) idle low = idle.0
+  idle-at (suc i) (l ∷ ls) idle low = idle-at i ls idle.1 (omega (arith, low))
+
+  idle-on : (side : Side) (s : State ℕ) → AreIdle s → AllByRecursion (λ p. IsIdle p) (stream side s).modules
+  idle-on Master s idle = idle.master
+  idle-on Slave s idle = idle.slave
+
+  begins-idle : (way : Way) (l : Module ℕ) → IsIdle l → Begins way false l
+  begins-idle Up l idle = idle
+  begins-idle Down l idle = idle
+
+  pub first-begins : (s : State ℕ) → AreIdle s → here.at - 1 < length (stream here.side s).modules → Begins here.way false (module_at here s)
+  first-begins s idle low = begins-idle here.way (module_at here s) (idle-at (here.at - 1) (stream here.side s).modules (idle-on here.side s idle) low)
+
+  one-first : (way : Way) (l : Module ℕ) → turn_cost (record here { way = way }) false l ≤ 4
+  one-first Up l = omega arith
+  one-first Down l = omega arith
+
+  first-among : (i : ℕ) (ps : List (Module ℕ)) → slice_index_or (map (turn_cost here false) ps) i 0 ≤ 4
+  first-among i [] = omega arith
+  first-among zero (l ∷ ls) = one-first here.way l
+  first-among (suc i) (l ∷ ls) = first-among i ls
+
+  pub first-cost : (s : State ℕ) → call_cost here false s ≤ 4
+  first-cost s = first-among (here.at - 1) (stream here.side s).modules
+
+  -- the books have room for what a turn makes of one message
+  both-true : (a b : Bool) → (a && b) ≡ true → (a ≡ true) × (b ≡ true)
+  both-true true true h = (refl, refl)
+  both-true true false h = absurd (false≢true h)
+  both-true false b h = absurd (false≢true h)
+
+  made-low : (b : Book) → books.has_room b ≡ true → b.made < BOOK_MAX
+  made-low b room = let lt = (both-true (nat_lt b.written BOOK_MAX) (nat_lt b.made BOOK_MAX) room).1 in grind (arith, nat_tests)
+
+  pub book-low : (d : Dir) (s : State ℕ) → in_range s ≡ true → (book d s).made < BOOK_MAX
+  book-low MasterToSlave s room = made-low s.from_master (both-true (books.has_room s.from_master) (books.has_room s.from_slave) room).0
+  book-low SlaveToMaster s room = made-low s.from_slave (both-true (books.has_room s.from_master) (books.has_room s.from_slave) room).1
+
+  pub first-books : (s : State ℕ) → in_range s ≡ true → bytes_left here.way false (module_at here s) ≤ 16777216 → MayBook here false s
+  first-books s room few d = omega (arith, book-low d s room, few)
+
+  pub next-books : (bytes : ℕ) (s0 s : State ℕ) (f f' : Fates) → in_range s0 ≡ true → bytes_left here.way false (module_at here s0) ≤ 16777216 → GoOn here bytes s0 s f f' → MayBook here true s
+  next-books bytes s0 s f f' room few on d = omega (arith, book-low d s0 room, few, on.reached.within, on.few, on.books d, done-few (module_at here s).stage)
+
+-- a turn whose calls treated so many bytes
+pub turned-by : (name : QueueName) (here : Spot) (bytes : ℕ) (old s0 st : State ℕ) (f f' : Fates) → MayMove old s0 name here → (treats : TreatsAs here bytes s0 st f f')
+    → module_turned plain name (Moved bytes) old ≡ record { turn = Moved bytes; state = module_turn_ended name here (not (bytes == 0)) st; gone = treats.gone }
+turned-by name here bytes old s0 st f f' may treats =
+    let within = subst (λ v. bytes ≤ bytes_left here.way false (module_at here v)) may.stays treats.within in
+    may.moves (Moved bytes) ∙ moves-within here name bytes old (omega (arith, may.inside, may.within)) within ∙ ap (λ v. moved_on plain here name bytes v) (sym may.stays) ∙ treats.moves name
+
+-- bytes were taken where some were treated
+pub some-taken : (bytes : ℕ) → nat_lt 0 bytes ≡ not (bytes == 0)
+some-taken zero = refl
+some-taken (suc bytes) = grind (arith, nat_tests)

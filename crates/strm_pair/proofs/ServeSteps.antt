@@ -1,0 +1,240 @@
+-- Calls of a turn of a module's queue: what the stack of a side does, what is booked of it, and what comes next.
+use Rattle.std.proofs.Common.{ℕ, ◌≡◌, ◌≤◌, ◌<◌, ◌+◌, ◌-◌, Bool, true, false, cond, List, [], ◌∷◌, length, map, refl, sym, ap, subst, ◌∙◌, arith}
+use Rattle.std.specs.Prelude.{◌^◌, slice_index_or, HoldsAt, Option, None}
+use Rattle.std.specs.Bool.{OnTrue}
+use Rattle.strm_types.specs.declared.books.Book.{Book}
+use Rattle.strm_types.specs.declared.names.Dir.{Dir}
+use Rattle.strm_types.specs.declared.names.Dir.TheVariants.{MasterToSlave, SlaveToMaster}
+use Rattle.strm_types.specs.declared.names.Place.{Place}
+use Rattle.strm_types.specs.declared.names.QueueName.{QueueName}
+use Rattle.strm_types.specs.declared.names.Side.{Side}
+use Rattle.strm_types.specs.declared.names.Side.TheVariants.{Master, Slave}
+use Rattle.strm_types.specs.declared.names.Way.{Way}
+use Rattle.strm_types.specs.declared.names.Way.TheVariants.{Up, Down}
+use Rattle.strm_types.specs.declared.limits.TheConstants.{HOPS}
+use Rattle.strm_types.specs.declared.rules.Fates.{Fates}
+use Rattle.strm_types.specs.declared.spots.Spot.{Spot}
+use Rattle.strm_types.specs.Books.{with_made}
+use Rattle.strm_types.specs.Cells.{plain}
+use Rattle.strm_types.specs.Costs.{cost}
+use Rattle.strm_types.specs.Deliver.{Carried, Fate, Parcel, carried, in_turn, tallied}
+use Rattle.strm_types.specs.Earlier.{places_of}
+use Rattle.strm_types.specs.Input.{made_of}
+use Rattle.strm_types.specs.Ldterms.{new_ldterm}
+use Rattle.strm_types.specs.ModuleQueues.{at_place}
+use Rattle.strm_types.specs.Puts.{earlier_at, noted, put_in}
+use Rattle.strm_types.specs.Stacked.{Module, module_serves}
+use Rattle.strm_types.specs.State.{State, Stream, book, stream, with_stream}
+use Rattle.strm_types.specs.TurnCalls.{Begins, Ends, asks_on, bytes_left, called, module_at, most_made, treated}
+use Rattle.strm_types.proofs.Alone.{noted-same}
+use Rattle.strm_types.proofs.Booked.{between-counts, booked-on, made-within, made_in, master-told, slave-told}
+use Rattle.strm_types.proofs.LdtermStops.{serves-ends, serves-goes}
+use Rattle.strm_types.proofs.ModuleTurnCalls.{UnderWay, index-map, sent-stays, under_way}
+use Rattle.strm_blocks.specs.Blocks.{IsStore, StoreValue}
+use Rattle.strm_frame.specs.declared.service.Served.{Served}
+use Rattle.strm_frame.specs.declared.parcels.Sent.{Sent}
+use Rattle.strm_frame.specs.Hands.{AreIn, Handles, HasRoom, SamePool, Spends}
+use Rattle.strm_frame.specs.Outboxes.{cost_of, sent_of, times_sent, parcels_in}
+use Rattle.strm_frame.specs.Serves.{later_cost, stop_at}
+use Rattle.strm_ldterm.specs.Bounds.{turn_cost}
+use Rattle.strm_ldterm.specs.Turns.{needs}
+use Rattle.strm_pair.specs.declared.ends.End.{End}
+use Rattle.strm_pair.specs.declared.calling.Call.{Call}
+use Rattle.strm_pair.specs.declared.streams.Streams.{Streams}
+use Rattle.strm_pair.specs.ModuleServed.{ActsAs, CallsAs, IsKeptAll, MayBook, StackServes, TellsAs, acts_in, between, call_of, next_cost, stop_in}
+use Rattle.strm_pair.specs.Pairs.{state_in, end_at, with_end, AreBeside, kept_by}
+use Rattle.strm_pair.specs.Streams.{View}
+use Rattle.strm_pair.proofs.Takings.{tallied-both}
+use Rattle.strm_pair.proofs.ModuleSteps.{joint-hands, modules-are, other-stays, stack-changed, stack-state}
+
+-- what is so where something is, is so of what follows from it
+pub on-true : {P Q : Type 0} (b : Bool) → (P → Q) → OnTrue b P → OnTrue b Q
+on-true true follows holds = follows holds
+on-true false follows holds = tt
+
+-- it is so at a place
+pub holds-there : {P : Type 0} (Q : P → Type 0) (d : P) (i : ℕ) (ps : List P) → HoldsAt Q ps i → Q (slice_index_or ps i d)
+holds-there Q d i ps holds = holds d
+
+-- what is booked of a call, and what it told
+module _ (here : Spot) (again : Bool) (call : Call) (st : State ℕ) (tells : TellsAs here again call st) (begins : Begins here.way again (module_at here st)) (low : here.at - 1 < length (stream here.side st).modules) where
+  -- it treated no more than it might
+  within-by : (stopped : Bool) → OnTrue stopped (Ends here.way again (module_at here st) call.bytes) → call.bytes ≡ treated here again (stop_at stopped call.bytes) (stream here.side st).modules
+      → call.bytes ≤ bytes_left here.way again (module_at here st)
+  within-by true ends bytes = ends.treat
+  within-by false ends bytes =
+      let l = module_at here st in
+      let i = here.at - 1 in
+      let ps = (stream here.side st).modules in
+      let t = module_serves plain here 0 again None l in
+      let same : call.bytes ≡ t.bytes = bytes ∙ index-map new_ldterm (λ p. (module_serves plain here 0 again None p).bytes) 0 i ps low in
+      at t.again refl (omega (arith, same))
+    where
+      at : (more : Bool) → (module_serves plain here 0 again None (module_at here st)).again ≡ more → call.bytes ≤ (module_serves plain here 0 again None (module_at here st)).bytes → call.bytes ≤ bytes_left here.way again (module_at here st)
+      at true is most = let g = serves-goes here again (module_at here st) begins is in omega (arith, g.treat, most)
+      at false is most = let e = serves-ends here again (module_at here st) begins is in omega (arith, e.0.treat, most)
+
+  pub call-within : call.bytes ≤ bytes_left here.way again (module_at here st)
+  call-within = within-by call.stopped tells.ends tells.bytes
+
+  -- so what it made fits the books
+  abbrev told_in : List (Fate ℕ)
+  told_in = (called here again (stop_in call) (stream here.side st).modules).gone
+
+  most-made : made_of told_in ≤ most_made (bytes_left here.way again (module_at here st))
+  most-made = omega (arith, tells.made, call-within)
+
+  pub made-fits : MayBook here again st → (d : Dir) → (book d st).made + made_in d told_in < 2 ^ 64
+  made-fits may MasterToSlave = omega (arith, may MasterToSlave, most-made, made-within told_in)
+  made-fits may SlaveToMaster = omega (arith, may SlaveToMaster, most-made, made-within told_in)
+
+  -- and the counts tell it
+  pub master-between : MayBook here again st → (f f' : Fates) → f.made_from_master < 2 ^ 64 → f' ≡ tallied told_in f → between f.made_from_master f'.made_from_master ≡ made_in MasterToSlave told_in
+  master-between may f f' few is =
+      ap (λ (g : Fates). between f.made_from_master g.made_from_master) is
+      ∙ ap (between f.made_from_master) (master-told told_in f few)
+      ∙ between-counts f.made_from_master (made_in MasterToSlave told_in) few (omega (arith, made-fits may MasterToSlave))
+
+  pub slave-between : MayBook here again st → (f f' : Fates) → f.made_from_slave < 2 ^ 64 → f' ≡ tallied told_in f → between f.made_from_slave f'.made_from_slave ≡ made_in SlaveToMaster told_in
+  slave-between may f f' few is =
+      ap (λ (g : Fates). between f.made_from_slave g.made_from_slave) is
+      ∙ ap (between f.made_from_slave) (slave-told told_in f few)
+      ∙ between-counts f.made_from_slave (made_in SlaveToMaster told_in) few (omega (arith, made-fits may SlaveToMaster))
+
+module _ {S : Type 0} (view : View S) where
+  -- what the stack of a side keeps is in hand, where all that is in hand is kept
+  pub kept-in : (side : Side) (s : StoreValue) (p : Streams S) → IsKeptAll view s p → AreIn s (λ _. 0) (view.keeps (end_at side p).stack)
+  kept-in Master s p all = record { apart = λ i. omega (arith, all i) }
+  kept-in Slave s p all = record { apart = λ i. omega (arith, all i) }
+
+  pub all-in : (s : StoreValue) (p : Streams S) → IsKeptAll view s p → AreIn s (λ _. 0) (kept_by view p)
+  all-in s p all = record { apart = λ i. omega (arith, all i) }
+
+  -- as many modules stand there, whatever the store
+  pub within-any : (s t : StoreValue) (p : Streams S) (side : Side) (at : ℕ) → at ≤ length (stream side (state_in view.modules s p)).modules → at ≤ length (stream side (state_in view.modules t p)).modules
+  within-any s t p Master at low = omega (arith, low, view.long s t p.master.stack)
+  within-any s t p Slave at low = omega (arith, low, view.long s t p.slave.stack)
+
+-- the modules of a side whose stack is another one
+stack-modules : {S : Type 0} (view : View S) (side : Side) (t : StoreValue) (p : Streams S) (x : S) (names : List QueueName) (a b : Book)
+    → (stream side (state_in view.modules t (record (with_end side (record (end_at side p) { stack = x }) p) { enabled = names; from_master = a; from_slave = b }))).modules ≡ view.modules t x
+stack-modules view Master t p x names a b = refl
+stack-modules view Slave t p x names a b = refl
+
+-- the books stay where a stream changes, and the queues that are enabled do
+pub books-same : {S : Type 0} (side : Side) (e : End S) (p : Streams S) → ((with_end side e p).from_master ≡ p.from_master) × ((with_end side e p).from_slave ≡ p.from_slave) × ((with_end side e p).enabled ≡ p.enabled)
+books-same Master e p = (refl, refl, refl)
+books-same Slave e p = (refl, refl, refl)
+
+module _ {M S : Type 0} (name : M → ℕ) (view : View S) (s t : StoreValue) (p q : Streams S) (x : S) (here : Spot) (again : Bool) (served : Served M) (f f' : Fates) where
+  abbrev st : State ℕ
+  st = state_in view.modules s p
+
+  abbrev old : S
+  old = (end_at here.side p).stack
+
+  abbrev ms : List (Module ℕ)
+  ms = (stream here.side st).modules
+
+  -- what it tells of itself
+  pub tells-by : StackServes name view s t old x here again served f f' → TellsAs here again (call_of served) st
+  tells-by e =
+      let same = sym (modules-are view s p here.side) in
+      record {
+        bytes = e.bytes ∙ ap (treated here again (stop_in (call_of served))) same;
+        asks = e.asks ∙ ap (asks_on here again (stop_in (call_of served))) same;
+        ends = on-true served.stopped (holds-there (λ l. Ends here.way again l served.bytes) new_ldterm (here.at - 1) ms) (subst (λ ls. OnTrue served.stopped (HoldsAt (λ l. Ends here.way again l served.bytes) ls (here.at - 1))) same e.ends);
+        over = e.over;
+        made = subst (λ ls. made_of (called here again (stop_in (call_of served)) ls).gone ≤ most_made served.bytes) same e.made;
+      }
+
+  -- what the module does, and what is booked of it
+  pub acts-by : (place : Option Place) (earlier : Way → Option QueueName) (m n : ℕ) → IsStore s → IsKeptAll view s p → AreBeside view s p
+      → place ≡ slice_index_or (places_of ms) (here.at - 1) None → ((way : Way) → earlier way ≡ earlier_at here.side here.at st way)
+      → StackServes name view s t old x here again served f f'
+      → let told = (called here again (stop_in (call_of served)) ms).gone in m ≡ made_in MasterToSlave told → n ≡ made_in SlaveToMaster told
+      → q ≡ record (with_end here.side (record (end_at here.side p) { stack = x }) p) {
+        enabled = noted here.side place earlier served.acts.notes.items p.enabled;
+        from_master = with_made m p.from_master;
+        from_slave = with_made n p.from_slave;
+      }
+      → ActsAs name view s t p q here again (call_of served) (sent_of served.acts.sent) f f'
+  acts-by place earlier m n store all beside place_is earlier_is e m_is n_is q_is =
+      let call = call_of served in
+      let same = sym (modules-are view s p here.side) in
+      let did = called here again (stop_in call) ms in
+      let sent = λ (i : ℕ). times_sent name i (sent_of served.acts.sent) in
+      let stays = other-stays view here.side s t p (λ _. 0) (view.keeps x) sent store (all-in view s p all) e.hands e.pool in
+      let changed = with_end here.side (record (end_at here.side p) { stack = x }) p in
+      let names = noted here.side place earlier served.acts.notes.items p.enabled in
+      let queued = noted here.side (slice_index_or (places_of ms) (here.at - 1) None) (earlier_at here.side here.at st) did.notes p.enabled in
+      let notes : served.acts.notes.items ≡ did.notes = e.notes ∙ ap (λ ls. (called here again (stop_in call) ls).notes) same in
+      let names_is : names ≡ queued =
+      ap (λ ns. noted here.side place earlier ns p.enabled) notes
+      ∙ ap (λ pl. noted here.side pl earlier did.notes p.enabled) place_is
+      ∙ noted-same here.side (slice_index_or (places_of ms) (here.at - 1) None) earlier (earlier_at here.side here.at st) earlier_is did.notes p.enabled in
+      let booked_at : ℕ → ℕ → List QueueName → State ℕ → State ℕ = λ a b ns v. record v { enabled = ns; from_master = with_made a p.from_master; from_slave = with_made b p.from_slave } in
+      let on : Stream ℕ = record (stream here.side st) { modules = did.state } in
+      record {
+        state = ap (λ y. state_in view.modules t y) q_is
+            ∙ ap (booked_at m n names) (stack-state view s t p x beside here.side e.own stays did.state (e.state ∙ ap (λ ls. (called here again (stop_in call) ls).state) same))
+            ∙ ap (λ ns. booked_at m n ns (with_stream here.side on st)) names_is
+            ∙ ap (λ a. booked_at a n queued (with_stream here.side on st)) m_is
+            ∙ ap (λ b. booked_at (made_in MasterToSlave did.gone) b queued (with_stream here.side on st)) n_is
+            ∙ sym (booked-on here.side on queued did.gone st);
+        sent = e.sent ∙ ap (λ ls. (called here again (stop_in call) ls).sent) same;
+        tells = e.tells ∙ ap (λ ls. tallied (called here again (stop_in call) ls).gone f) same;
+        itself = tells-by e;
+        beside = subst (λ y. AreBeside view t y) (sym q_is) (stack-changed view s t p x beside here.side e.own stays e.held);
+        chains = e.chains;
+        falls = e.falls;
+        hands = subst (λ y. Handles s t (λ _. 0) (kept_by view p) (kept_by view y) sent) (sym q_is) (joint-hands view here.side s t p x (λ _. 0) sent e.hands);
+        room = subst (λ ls. HasRoom t (later_cost cost served.again (at_place (turn_cost here true) 0 here.at ls) (parcels_in name t (sent_of served.acts.sent)))) (sym (ap (λ y. (stream here.side (state_in view.modules t y)).modules) q_is ∙ stack-modules view here.side t p x names (with_made m p.from_master) (with_made n p.from_slave))) e.room;
+        pool = e.pool;
+      }
+
+-- what one more call may count on goes by how far the turn has come, which puts leave as it is
+abbrev stage_cost : Way → UnderWay → ℕ
+stage_cost Up u = needs u.stage
+stage_cost Down u = 4
+
+one-cost : (way : Way) (here : Spot) (l : Module ℕ) → turn_cost (record here { way = way }) true l ≡ stage_cost way (under_way l)
+one-cost Up here l = refl
+one-cost Down here l = refl
+
+all-cost : (here : Spot) (ls : List (Module ℕ)) → map (turn_cost here true) ls ≡ map (stage_cost here.way) (map under_way ls)
+all-cost here [] = refl
+all-cost here (l ∷ ls) = ap (λ n. n ∷ map (turn_cost here true) ls) (one-cost here.way here l) ∙ ap (λ ns. stage_cost here.way (under_way l) ∷ ns) (all-cost here ls)
+
+sent-cost : (here : Spot) (sent : List (Parcel ℕ)) (s : State ℕ) → next_cost here (in_turn (carried put_in HOPS) sent s).state ≡ next_cost here s
+sent-cost here sent s =
+    let u = (in_turn (carried put_in HOPS) sent s).state in
+    ap (λ ns. slice_index_or ns (here.at - 1) 0) (all-cost here (stream here.side u).modules ∙ ap (map (stage_cost here.way)) (sent-stays sent s here.side) ∙ sym (all-cost here (stream here.side s).modules))
+
+next-room : (s t : StoreValue) (again : Bool) (sent next next' : ℕ) → next' ≡ next → HasRoom s (sent + cond {A = ℕ} again next 0) → Spends s t sent 0 → OnTrue again (HasRoom t next')
+next-room s t true sent next next' same room spends = record { mblks = omega (arith, same, room.mblks, spends.mblks); dblks = omega (arith, same, room.dblks, spends.dblks) }
+next-room s t false sent next next' same room spends = tt
+
+-- a call whose messages are delivered
+module _ {M S : Type 0} (name : M → ℕ) (view : View S) (r s t : StoreValue) (o p q : Streams S) (here : Spot) (again : Bool) (call : Call) (sent_on : List (Sent M)) (f f' f'' : Fates) where
+  pub calls-by : IsKeptAll view r o → ActsAs name view r s o p here again call sent_on f f'
+      → (let u = in_turn (carried put_in HOPS) (parcels_in name s sent_on) (state_in view.modules s p) in f'' ≡ tallied u.gone f')
+      → (let u = in_turn (carried put_in HOPS) (parcels_in name s sent_on) (state_in view.modules s p) in state_in view.modules t q ≡ u.state)
+      → AreBeside view t q → Handles s t (λ i. times_sent name i sent_on) (kept_by view p) (kept_by view q) (λ _. 0)
+      → Spends s t (cost_of cost (parcels_in name s sent_on)) 0 → SamePool s t → CallsAs view r t o q here again call f f''
+  calls-by all a told state beside hands spends pool =
+      let st = state_in view.modules r o in
+      let w = acts_in here again call st in
+      let on : List (Parcel ℕ) → State ℕ → Carried ℕ (State ℕ) = λ ps v. in_turn (carried put_in HOPS) ps v in
+      let is = ap (λ ps. on ps (state_in view.modules s p)) a.sent ∙ ap (on w.sent) a.state in
+      let led_state = state ∙ ap (λ (u : Carried ℕ (State ℕ)). u.state) is in
+      record {
+        state = led_state;
+        tells = told ∙ ap (λ (u : Carried ℕ (State ℕ)). tallied u.gone f') is ∙ ap (tallied (on w.sent w.state).gone) a.tells ∙ sym (tallied-both w.gone (on w.sent w.state).gone f);
+        itself = a.itself;
+        beside = beside;
+        hand = λ i. omega (arith, all i, a.hands.counts i, hands.counts i);
+        room = next-room s t call.again (cost_of cost (parcels_in name s sent_on)) (next_cost here (state_in view.modules s p)) (next_cost here (state_in view.modules t q))
+            (ap (next_cost here) led_state ∙ sent-cost here w.sent w.state ∙ ap (next_cost here) (sym a.state)) a.room spends;
+        pool = record { mblks = pool.mblks ∙ a.pool.mblks; dblks = pool.dblks ∙ a.pool.dblks };
+      }

@@ -1,0 +1,20 @@
+-- What stands on a module's queue is what its call says.
+use Rattle.std.proofs.Common.{ap, sym, ◌∙◌}
+use Rattle.strm_types.specs.declared.names.Place.TheVariants.{Ldterm}
+use Rattle.strm_types.specs.State.{Stream, stream}
+use Rattle.strm_types.specs.TurnOutcomes.{first_size}
+use Rattle.strm_pair.specs.Named.{messages_named}
+use Rattle.strm_pair.specs.Pairs.{state_in}
+use Rattle.strm_pair.specs.Shows.{messages_in}
+use Rattle.strm_pair.proofs.streams.Streams.first_size.Goals as goal
+
+pub returns-in-Ldterm : goal.returns-in-Ldterm
+returns-in-Ldterm g c =
+    let s = g.B.Blocks.value c.args.store.now in
+    let modules = g.B.Stacks.view.modules in
+    let t = stream c.args.queue.side (state_in modules s c.args.self.now) in
+    let way = c.args.queue.way in
+    c.first_size_named.ensures
+    ∙ ap (λ place. first_size (messages_named place way (modules s c.end-end.result.now.stack))) c.in-Ldterm.is
+    ∙ ap (λ (u : Stream _). first_size (messages_named Ldterm way u.modules)) (c.end-end.ensures.stream modules s)
+    ∙ ap (λ place. first_size (messages_in place way t)) (sym c.in-Ldterm.is)

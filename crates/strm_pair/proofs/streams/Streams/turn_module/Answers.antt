@@ -1,0 +1,63 @@
+-- Where the module may serve, its calls are those of the turn's definition.
+use Rattle.std.proofs.Common.{ℕ, sym, ap, subst, ◌∙◌, arith}
+use Rattle.strm_types.specs.declared.answers.Turn.TheVariants.{Moved}
+use Rattle.strm_types.specs.Cells.{plain}
+use Rattle.strm_types.specs.Deliver.{tallied}
+use Rattle.strm_types.specs.Kept.{AreIdle}
+use Rattle.strm_types.specs.ModuleTurns.{module_turn_ended}
+use Rattle.strm_types.specs.TurnOutcomes.{TurnOutcome}
+use Rattle.strm_types.proofs.ModuleTurnKeeps.{module_turned-rests}
+use Rattle.strm_frame.proofs.Handing.{no-hand}
+use Rattle.strm_pair.specs.Framing.{rests}
+use Rattle.strm_pair.specs.Pairs.{state_in}
+use Rattle.strm_pair.proofs.CallsOn.{some-taken, turned-by}
+use Rattle.strm_pair.proofs.streams.Streams.turn_module.Goals as goal
+
+pub end_module_turn-requires-clause-within : goal.end_module_turn-requires-clause-within
+end_module_turn-requires-clause-within g c = let stands = c.call_on-bytes.ensures.treats.stands in let inside = c.in-Serves.ensures.begins.inside in omega arith
+
+pub returns-in-Serves-clause-turn : goal.returns-in-Serves-clause-turn
+returns-in-Serves-clause-turn g c =
+    let view = g.B.Stacks.view.modules in
+    let s = g.B.Blocks.value c.args.store.now in
+    let on = c.call_on-bytes in
+    sym (ap (λ (t : TurnOutcome ℕ). t.turn)
+    (turned-by c.args.name c.in-Serves.here on.result (state_in view s c.args.self.now) (state_in view s c.begin_module_turn.new.self) (state_in view (g.B.Blocks.value on.new.store) on.new.self)
+    c.args.told.now on.new.told c.in-Serves.ensures.begins on.ensures.treats))
+
+pub returns-in-Serves-clause-state : goal.returns-in-Serves-clause-state
+returns-in-Serves-clause-state g c =
+    let view = g.B.Stacks.view.modules in
+    let s = g.B.Blocks.value c.args.store.now in
+    let on = c.call_on-bytes in
+    let st = state_in view (g.B.Blocks.value on.new.store) on.new.self in
+    c.end_module_turn.ensures.state
+    ∙ ap (λ took. module_turn_ended c.args.name c.in-Serves.here took st) (some-taken on.result)
+    ∙ sym (ap (λ (t : TurnOutcome ℕ). t.state)
+    (turned-by c.args.name c.in-Serves.here on.result (state_in view s c.args.self.now) (state_in view s c.begin_module_turn.new.self) st
+    c.args.told.now on.new.told c.in-Serves.ensures.begins on.ensures.treats))
+
+pub returns-in-Serves-clause-told : goal.returns-in-Serves-clause-told
+returns-in-Serves-clause-told g c =
+    let view = g.B.Stacks.view.modules in
+    let s = g.B.Blocks.value c.args.store.now in
+    let on = c.call_on-bytes in
+    on.ensures.treats.tells
+    ∙ sym (ap (λ (t : TurnOutcome ℕ). tallied t.gone c.args.told.now)
+    (turned-by c.args.name c.in-Serves.here on.result (state_in view s c.args.self.now) (state_in view s c.begin_module_turn.new.self) (state_in view (g.B.Blocks.value on.new.store) on.new.self)
+    c.args.told.now on.new.told c.in-Serves.ensures.begins on.ensures.treats))
+
+-- Nothing of a turn is under way behind it, so that nothing is in hand.
+pub returns-in-Serves-clause-held : goal.returns-in-Serves-clause-held
+returns-in-Serves-clause-held g c =
+    let view = g.B.Stacks.view in
+    let s = g.B.Blocks.value c.args.store.now in
+    let on = c.call_on-bytes in
+    let t = g.B.Blocks.value on.new.store in
+    let old = state_in view.modules s c.args.self.now in
+    let q = c.end_module_turn.new.self in
+    let idle = subst AreIdle (sym (returns-in-Serves-clause-state g c)) (module_turned-rests plain c.args.name (Moved on.result) old c.requires.rests) in
+    record {
+      hand = no-hand t.hand (λ i. on.ensures.hand i ∙ sym (c.end_module_turn.ensures.keeps i) ∙ rests view t q c.end_module_turn.ensures.beside idle i);
+      beside = c.end_module_turn.ensures.beside;
+    }

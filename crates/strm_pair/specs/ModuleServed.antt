@@ -1,0 +1,119 @@
+-- What the calls of a turn of a module's queue did to the store, the streams and what has gone.
+use Rattle.std.specs.Prelude.{ℕ, ◌≡◌, ◌≤◌, ◌<◌, ◌+◌, ◌-◌, ◌==◌, ◌%◌, ◌^◌, Bool, true, false, not, List, length, Option, HoldsAt}
+use Rattle.std.specs.Bool.{OnTrue}
+use Rattle.strm_types.specs.declared.answers.Turn.TheVariants.{Moved}
+use Rattle.strm_types.specs.declared.names.Dir.{Dir}
+use Rattle.strm_types.specs.declared.names.QueueName.{QueueName}
+use Rattle.strm_types.specs.declared.rules.Fates.{Fates}
+use Rattle.strm_types.specs.declared.spots.Spot.{Spot}
+use Rattle.strm_types.specs.Cells.{plain}
+use Rattle.strm_types.specs.Costs.{cost}
+use Rattle.strm_types.specs.Deliver.{AreLower, Fate, Took, tallied}
+use Rattle.strm_types.specs.Input.{made_of}
+use Rattle.strm_types.specs.ModuleQueues.{at_place}
+use Rattle.strm_types.specs.ModuleTurns.{module_acted, module_turn_ended, moved_on}
+use Rattle.strm_types.specs.Puts.{far}
+use Rattle.strm_types.specs.State.{State, book, stream}
+use Rattle.strm_types.specs.TurnCalls.{Ends, asks_on, bytes_left, called, led, module_at, most_made, treated}
+use Rattle.strm_blocks.specs.Blocks.{StoreValue, times_in}
+use Rattle.strm_frame.specs.declared.parcels.Sent.{Sent}
+use Rattle.strm_frame.specs.declared.service.Served.{Served}
+use Rattle.strm_frame.specs.Hands.{Handles, HasRoom, OnlyOwn, SamePool}
+use Rattle.strm_frame.specs.Outboxes.{AreChains, parcels_in, sent_of, times_sent}
+use Rattle.strm_frame.specs.Serves.{later_cost, stop_at, stop_of}
+use Rattle.strm_ldterm.specs.Bounds.{turn_cost, turn_height}
+use Rattle.strm_pair.specs.declared.calling.Call.{Call}
+use Rattle.strm_pair.specs.declared.streams.Streams.{Streams}
+use Rattle.strm_pair.specs.Pairs.{state_in, AreBeside, kept_by}
+use Rattle.strm_pair.specs.Streams.{View}
+
+-- at how many bytes a call stopped for want of blocks, where it did
+abbrev pub stop_in : Call → Option ℕ
+stop_in call = stop_at call.stopped call.bytes
+
+-- how many numbers lie between two, modulo 2^64
+abbrev pub between : ℕ → ℕ → ℕ
+between before now = (now + (2 ^ 64 - before)) % 2 ^ 64
+
+-- how many blocks of each kind a call of the turn may count on, and one more of them
+abbrev pub call_cost : Spot → Bool → State ℕ → ℕ
+call_cost here again s = at_place (turn_cost here again) 0 here.at (stream here.side s).modules
+
+abbrev pub next_cost : Spot → State ℕ → ℕ
+next_cost here s = call_cost here true s
+
+-- what a call may make fits the books, however far it goes
+abbrev pub MayBook : Spot → Bool → State ℕ → Type 0
+MayBook here again s = (d : Dir) → (book d s).made + most_made (bytes_left here.way again (module_at here s)) < 2 ^ 64
+
+-- what the module at a place does in a call
+abbrev pub acts_in : Spot → Bool → Call → State ℕ → Took ℕ (State ℕ)
+acts_in here again call s = module_acted here (called here again (stop_in call) (stream here.side s).modules) s
+
+-- what a call tells of itself, which began with this state
+pub record TellsAs (here : Spot) (again : Bool) (call : Call) (s : State ℕ) : Type 0 where
+  pub bytes : call.bytes ≡ treated here again (stop_in call) (stream here.side s).modules
+  pub asks : call.again ≡ asks_on here again (stop_in call) (stream here.side s).modules
+  pub ends : OnTrue call.stopped (Ends here.way again (module_at here s) call.bytes)
+  pub over : OnTrue call.stopped (call.again ≡ false)
+  pub made : made_of (called here again (stop_in call) (stream here.side s).modules).gone ≤ most_made call.bytes
+
+-- A stack of modules served a call at a place.
+pub record StackServes {M S : Type 0} (name : M → ℕ) (view : View S) (old new : StoreValue) (x y : S) (here : Spot) (again : Bool) (served : Served M) (told told' : Fates) : Type 0 where
+  pub state : view.modules new y ≡ (called here again (stop_of served) (view.modules old x)).state
+  pub notes : served.acts.notes.items ≡ (called here again (stop_of served) (view.modules old x)).notes
+  pub sent : parcels_in name new (sent_of served.acts.sent) ≡ (called here again (stop_of served) (view.modules old x)).sent
+  pub tells : told' ≡ tallied (called here again (stop_of served) (view.modules old x)).gone told
+  pub bytes : served.bytes ≡ treated here again (stop_of served) (view.modules old x)
+  pub asks : served.again ≡ asks_on here again (stop_of served) (view.modules old x)
+  pub over : OnTrue served.stopped (served.again ≡ false)
+  pub ends : OnTrue served.stopped (HoldsAt (λ p. Ends here.way again p served.bytes) (view.modules old x) (here.at - 1))
+  pub made : made_of (called here again (stop_of served) (view.modules old x)).gone ≤ most_made served.bytes
+  pub held : view.IsHeld new y
+  pub own : OnlyOwn old new (view.owns x) (view.owns y)
+  pub chains : AreChains name new (sent_of served.acts.sent)
+  pub falls : AreLower far (turn_height here) (parcels_in name new (sent_of served.acts.sent))
+  pub hands : Handles old new (λ _. 0) (view.keeps x) (view.keeps y) (λ i. times_sent name i (sent_of served.acts.sent))
+  pub room : HasRoom new (later_cost cost served.again (at_place (turn_cost here true) 0 here.at (view.modules new y)) (parcels_in name new (sent_of served.acts.sent)))
+  pub pool : SamePool old new
+
+-- what a served call tells of itself
+abbrev pub call_of : {M : Type 0} → Served M → Call
+call_of served = record { bytes = served.bytes; stopped = served.stopped; again = served.again }
+
+-- The module at a place did what a call says. What it sent is in hand, beside what the stacks keep, and there are blocks enough for that and
+-- for one more call, where it asks for one.
+pub record ActsAs {M S : Type 0} (name : M → ℕ) (view : View S) (old new : StoreValue) (p q : Streams S) (here : Spot) (again : Bool) (call : Call) (sent_on : List (Sent M)) (told told' : Fates) : Type 0 where
+  pub state : state_in view.modules new q ≡ (acts_in here again call (state_in view.modules old p)).state
+  pub sent : parcels_in name new sent_on ≡ (acts_in here again call (state_in view.modules old p)).sent
+  pub tells : told' ≡ tallied (acts_in here again call (state_in view.modules old p)).gone told
+  pub itself : TellsAs here again call (state_in view.modules old p)
+  pub beside : AreBeside view new q
+  pub chains : AreChains name new sent_on
+  pub falls : AreLower far (turn_height here) (parcels_in name new sent_on)
+  pub hands : Handles old new (λ _. 0) (kept_by view p) (kept_by view q) (λ i. times_sent name i sent_on)
+  pub room : HasRoom new (later_cost cost call.again (next_cost here (state_in view.modules new q)) (parcels_in name new sent_on))
+  pub pool : SamePool old new
+
+-- all that is in hand is kept by the stacks
+abbrev pub IsKeptAll : {S : Type 0} → View S → StoreValue → Streams S → Type 0
+IsKeptAll view s p = (i : ℕ) → times_in i s.hand ≡ kept_by view p i
+
+-- A call did what it says, and what it sent is delivered.
+pub record CallsAs {S : Type 0} (view : View S) (old new : StoreValue) (p q : Streams S) (here : Spot) (again : Bool) (call : Call) (told told' : Fates) : Type 0 where
+  pub state : state_in view.modules new q ≡ (led here again (stop_in call) (state_in view.modules old p)).state
+  pub tells : told' ≡ tallied (led here again (stop_in call) (state_in view.modules old p)).gone told
+  pub itself : TellsAs here again call (state_in view.modules old p)
+  pub beside : AreBeside view new q
+  pub hand : IsKeptAll view new q
+  pub room : OnTrue call.again (HasRoom new (next_cost here (state_in view.modules new q)))
+  pub pool : SamePool old new
+
+-- Calls treated so many bytes of a turn, which would end here.
+pub record TreatsAs (here : Spot) (bytes : ℕ) (old new : State ℕ) (told told' : Fates) : Type 0 where
+  pub gone : List (Fate ℕ)
+  pub within : bytes ≤ bytes_left here.way false (module_at here old)
+  pub stands : here.at - 1 < length (stream here.side new).modules
+  pub moves : (name : QueueName) → moved_on plain here name bytes old
+      ≡ record { turn = Moved bytes; state = module_turn_ended name here (not (bytes == 0)) new; gone = gone }
+  pub tells : told' ≡ tallied gone told

@@ -1,0 +1,201 @@
+//! Calls of a turn of a module's queue, one after the other: what each sends is delivered before the next one (srv(9E); STREAMS
+//! Programming Guide, "Service Procedures").
+
+ghost use Rattle.std.specs.Prelude.{ℕ, ◌≡◌, ◌≤◌, ◌<◌, ◌+◌, ◌^◌, length, true, false};
+ghost use Rattle.strm_types.specs.declared.limits.TheConstants.{MODULES};
+ghost use Rattle.strm_types.specs.Books.{with_made};
+ghost use Rattle.strm_types.specs.Kept.{AreIdle};
+ghost use Rattle.strm_types.specs.Refused.{in_range};
+ghost use Rattle.strm_types.specs.State.{stream};
+ghost use Rattle.strm_types.specs.TurnCalls.{Begins, bytes_left, module_at};
+ghost use Rattle.strm_blocks.specs.Blocks.{StoreValue};
+ghost use Rattle.strm_frame.specs.Hands.{HasRoom};
+ghost use Rattle.strm_frame.specs.Outboxes.{sent_of};
+ghost use Rattle.strm_pair.specs.ModuleServed.{ActsAs, CallsAs, IsKeptAll, MayBook, StackServes, TreatsAs, between, call_cost, call_of};
+
+use crate::earlier::note;
+use crate::stacks::Stacks;
+use crate::streams::Streams;
+use strm_frame::{Served, deliver_all};
+use strm_types::{Fates, HOPS, Side, Spot};
+
+// How many bytes were made so far in each direction, modulo 2^64.
+#[derive(Clone, Copy)]
+struct Made {
+    from_master: u64,
+    from_slave: u64,
+}
+
+impl Made {
+    fn new(from_master: u64, from_slave: u64) -> Made
+        ensures counts { result ≡ record { from_master = from_master; from_slave = from_slave } }
+        ensures few { (from_master < 2 ^ 64) × (from_slave < 2 ^ 64) }
+    {
+        Made {
+            from_master,
+            from_slave,
+        }
+    }
+
+    // Those that are told.
+    fn of(told: &Fates) -> Made
+        ensures counts { result ≡ record { from_master = told.now.made_from_master; from_slave = told.now.made_from_slave } }
+        ensures few { (result.from_master < 2 ^ 64) × (result.from_slave < 2 ^ 64) }
+    {
+        Made::new(told.made_from_master, told.made_from_slave)
+    }
+
+    // How many more there are than before.
+    fn since(self, before: Made) -> Made
+        ensures { result ≡ record { from_master = between before.from_master self.from_master; from_slave = between before.from_slave self.from_slave } }
+    {
+        Made {
+            from_master: self.from_master.wrapping_sub(before.from_master),
+            from_slave: self.from_slave.wrapping_sub(before.from_slave),
+        }
+    }
+}
+
+// What a call of a turn did: how many bytes it treated, whether it stopped for want of blocks, and whether it asks for another one.
+#[derive(Clone, Copy)]
+pub(crate) struct Call {
+    bytes: usize,
+    stopped: bool,
+    again: bool,
+}
+
+impl<S: Drop> Streams<S> {
+    ghost use Rattle.strm_pair.specs.Pairs.{state_in, end_at, with_end, AreBeside, AreHeld, SamePool};
+
+    // Books what was made since so many had been, in each direction.
+    fn book_made(&mut self, before: Made, told: &Fates)
+        requires master { self.old.from_master.made + between before.from_master told.now.made_from_master < 2 ^ 64 }
+        requires slave { self.old.from_slave.made + between before.from_slave told.now.made_from_slave < 2 ^ 64 }
+        ensures { self.new ≡ record self.old {
+          from_master = with_made (between before.from_master told.now.made_from_master) self.old.from_master;
+          from_slave = with_made (between before.from_slave told.now.made_from_slave) self.old.from_slave;
+        } }
+    {
+        let made = Made::of(told).since(before);
+        self.from_master.made += made.from_master;
+        self.from_slave.made += made.from_slave;
+    }
+
+    // The stack of a side serves a call of a turn, and nothing else of the streams changes.
+    fn serve_at<B: Stacks<Stack = S>>(
+        &mut self,
+        store: &mut B,
+        here: Spot,
+        again: bool,
+        told: &mut Fates,
+    ) -> Served<B::Mp>
+        requires beside { AreBeside B.view (B.value store.old) self.old }
+        requires inside { 0 < here.at }
+        requires within { here.at ≤ length (stream here.side (state_in B.view.modules (B.value store.old) self.old)).modules }
+        requires begins { Begins here.way again (module_at here (state_in B.view.modules (B.value store.old) self.old)) }
+        requires hand { IsKeptAll B.view (B.value store.old) self.old }
+        requires room { HasRoom (B.value store.old) (call_cost here again (state_in B.view.modules (B.value store.old) self.old)) }
+        ensures streams { self.new ≡ with_end here.side (record (end_at here.side self.old) { stack = (end_at here.side self.new).stack }) self.old }
+        ensures serves { StackServes B.name B.view (B.value store.old) (B.value store.new) (end_at here.side self.old).stack (end_at here.side self.new).stack
+            here again result told.old told.new }
+    {
+        match here.side {
+            Side::Master => B::serve(&mut self.master.stack, store, here, again, told),
+            Side::Slave => B::serve(&mut self.slave.stack, store, here, again, told),
+        }
+    }
+
+    // The module at a place serves a call of a turn: what it says of its queues goes by how the stream was before, and what it made is
+    // booked.
+    fn act<B: Stacks<Stack = S>>(
+        &mut self,
+        store: &mut B,
+        here: Spot,
+        again: bool,
+        told: &mut Fates,
+    ) -> Served<B::Mp>
+        requires beside { AreBeside B.view (B.value store.old) self.old }
+        requires inside { 0 < here.at }
+        requires within { here.at ≤ length (stream here.side (state_in B.view.modules (B.value store.old) self.old)).modules }
+        requires begins { Begins here.way again (module_at here (state_in B.view.modules (B.value store.old) self.old)) }
+        requires hand { IsKeptAll B.view (B.value store.old) self.old }
+        requires room { HasRoom (B.value store.old) (call_cost here again (state_in B.view.modules (B.value store.old) self.old)) }
+        requires books { MayBook here again (state_in B.view.modules (B.value store.old) self.old) }
+        ensures { ActsAs B.name B.view (B.value store.old) (B.value store.new) self.old self.new here again
+            (call_of result) (sent_of result.acts.sent) told.old told.new }
+    {
+        store.audit();
+        let place = B::place(&self.end(here.side).stack, here.at);
+        let earlier = self.earlier::<B>(here.side, here.at);
+        let before = Made::of(told);
+        let served = self.serve_at(store, here, again, told);
+        note(
+            &mut self.enabled,
+            here.side,
+            place,
+            earlier,
+            served.acts.notes.as_slice(),
+        );
+        self.book_made(before, told);
+        served
+    }
+
+    // A call of a turn, and the delivery of what it sent.
+    fn call_module<B: Stacks<Stack = S>>(
+        &mut self,
+        store: &mut B,
+        here: Spot,
+        again: bool,
+        told: &mut Fates,
+    ) -> Call
+        requires beside { AreBeside B.view (B.value store.old) self.old }
+        requires inside { 0 < here.at }
+        requires low { here.at ≤ MODULES }
+        requires within { here.at ≤ length (stream here.side (state_in B.view.modules (B.value store.old) self.old)).modules }
+        requires begins { Begins here.way again (module_at here (state_in B.view.modules (B.value store.old) self.old)) }
+        requires hand { IsKeptAll B.view (B.value store.old) self.old }
+        requires room { HasRoom (B.value store.old) (call_cost here again (state_in B.view.modules (B.value store.old) self.old)) }
+        requires books { MayBook here again (state_in B.view.modules (B.value store.old) self.old) }
+        ensures { CallsAs B.view (B.value store.old) (B.value store.new) self.old self.new here again result told.old told.new }
+    {
+        let served = self.act(store, here, again, told);
+        store.audit();
+        let call = Call {
+            bytes: served.bytes,
+            stopped: served.stopped,
+            again: served.again,
+        };
+        deliver_all(store, self, HOPS, served.acts.sent, told);
+        call
+    }
+
+    /// The calls of a turn, until one asks for no other: how many bytes they treated.
+    pub(crate) fn call_on<B: Stacks<Stack = S>>(
+        &mut self,
+        store: &mut B,
+        here: Spot,
+        told: &mut Fates,
+    ) -> usize
+        requires held { AreHeld B.view (B.value store.old) self.old }
+        requires rests { AreIdle (state_in B.view.modules (B.value store.old) self.old) }
+        requires inside { 0 < here.at }
+        requires low { here.at ≤ MODULES }
+        requires within { here.at ≤ length (stream here.side (state_in B.view.modules (B.value store.old) self.old)).modules }
+        requires few { bytes_left here.way false (module_at here (state_in B.view.modules (B.value store.old) self.old)) ≤ 16777216 }
+        requires room { HasRoom (B.value store.old) 4 }
+        requires range { in_range (state_in B.view.modules (B.value store.old) self.old) ≡ true }
+        ensures treats { TreatsAs here result (state_in B.view.modules (B.value store.old) self.old)
+            (state_in B.view.modules (B.value store.new) self.new) told.old told.new }
+        ensures beside { AreBeside B.view (B.value store.new) self.new }
+        ensures hand { IsKeptAll B.view (B.value store.new) self.new }
+        ensures pool { SamePool (B.value store.old) (B.value store.new) }
+    {
+        let mut call = self.call_module(store, here, false, told);
+        let mut bytes = call.bytes;
+        while call.again {
+            call = self.call_module(store, here, true, told);
+            bytes += call.bytes;
+        }
+        bytes
+    }
+}
