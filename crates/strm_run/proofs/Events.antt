@@ -10,6 +10,8 @@ use Rattle.strm_types.specs.declared.events.FlushQueues.{FlushQueues}
 use Rattle.strm_types.specs.declared.entries.Entry.TheVariants.{Called, Turned}
 use Rattle.strm_types.specs.Cells as cells
 use Rattle.strm_types.specs.Names.{is_enabled}
+use Rattle.strm_types.specs.State.{State}
+use Rattle.strm_pair.specs.Shows.{first_at}
 use Rattle.strm_types.specs.TurnOutcomes.{TurnOutcome}
 use Rattle.strm_types.specs.Turns.{turned}
 use Rattle.strm_types.specs.Calls.{Request, Reply}
@@ -51,9 +53,9 @@ abbrev pub short_call : {A : Type 0} → Result A Refusal → Bool
 short_call (Ok answer) = false
 short_call (Err refusal) = is_enosr refusal
 
-abbrev pub short_turn : QueueName → Result Turn Refusal → Bool
-short_turn name (Ok turn) = is_some (reach name.place turn)
-short_turn name (Err refusal) = is_enosr refusal
+abbrev pub short_turn : QueueName → State ℕ → Result Turn Refusal → Bool
+short_turn name s (Ok turn) = is_some (reach name.place (first_at name s) turn)
+short_turn name s (Err refusal) = is_enosr refusal
 
 -- a call of the code, and a turn, happen as they do to the plain pair
 pub record CallHappens (old new : PairState) (caller : Caller) (asked : Request) (bytes : List ℕ) (r : Result (Answer ℕ) Refusal) : Type 0 where
@@ -62,7 +64,7 @@ pub record CallHappens (old new : PairState) (caller : Caller) (asked : Request)
 
 pub record TurnHappens (old new : PairState) (name : QueueName) (r : Result Turn Refusal) : Type 0 where
   pub supply : Supply
-  pub same : turn_of supply (plain old) name ≡ record { answer = r; pair = plain new; is_short = short_turn name r }
+  pub same : turn_of supply (plain old) name ≡ record { answer = r; pair = plain new; is_short = short_turn name old.state r }
 
 call_as : (P : Type 0) (o : Option Refusal) (old new : PairState) (caller : Caller) (asked : Request) (bytes : List ℕ) (r : Result (Answer ℕ) Refusal)
     → MatchOption o (IsOk r) (λ x. (r ≡ Err x) × ((new ≡ old) × P))
@@ -117,13 +119,13 @@ none-enough None None None false h = absurd cc
 
 -- a turn that is taken, with the account of how far it went
 turn_taken : (old new : PairState) (name : QueueName) (turn : Turn) → AddsEntry old new (Turned name turn)
-    → turned cells.plain name (turn_to (reach name.place turn) name old.state) old.state ≡ turned cells.plain name turn old.state
-    → turn_happens None (reach name.place turn) (plain old) name ≡ record { answer = Ok turn; pair = plain new; is_short = short_turn name (Ok turn) }
+    → turned cells.plain name (turn_to (reach name.place (first_at name old.state) turn) name old.state) old.state ≡ turned cells.plain name turn old.state
+    → turn_happens None (reach name.place (first_at name old.state) turn) (plain old) name ≡ record { answer = Ok turn; pair = plain new; is_short = short_turn name old.state (Ok turn) }
 turn_taken old new name turn adds goes =
     ap (λ (o : TurnOutcome ℕ). record {
       answer = Ok o.turn;
       pair = record { state = o.state; journal = old.journal ++ Turned name o.turn ∷ []; limits = old.limits };
-      is_short = short_turn name (Ok turn);
+      is_short = short_turn name old.state (Ok turn);
     }) goes
     ∙ (λ i. record {
       answer = Ok (adds.step.answered i);
@@ -132,12 +134,12 @@ turn_taken old new name turn adds goes =
         journal = old.journal ++ Turned name (adds.step.answered i) ∷ [];
         limits = old.limits;
       };
-      is_short = short_turn name (Ok turn);
+      is_short = short_turn name old.state (Ok turn);
     })
     ∙ (λ i. record {
       answer = Ok turn;
       pair = record { state = new.state; journal = sym adds.journal i; limits = sym adds.limits i };
-      is_short = short_turn name (Ok turn);
+      is_short = short_turn name old.state (Ok turn);
     })
 
 -- by what the pool had for it
@@ -152,7 +154,7 @@ turn_by has_blocks (Some refusal) old new name r is h adds = record {
   same =
       (λ i. turn_happens (turn_refused old.state old.journal old.limits (is_enough-supply_of has_blocks i) name) (told_of (supply_of has_blocks) name old.state) (plain old) name)
       ∙ ap (λ o. turn_happens o (told_of (supply_of has_blocks) name old.state) (plain old) name) is
-      ∙ (λ i. record { answer = sym h.0 i; pair = plain (sym h.1 i); is_short = short_turn name (sym h.0 i) });
+      ∙ (λ i. record { answer = sym h.0 i; pair = plain (sym h.1 i); is_short = short_turn name old.state (sym h.0 i) });
 }
 turn_by has_blocks None old new name (Err x) is h adds = cc
 turn_by has_blocks None old new name (Ok turn) is h adds =
@@ -161,7 +163,7 @@ turn_by has_blocks None old new name (Ok turn) is h adds =
       supply = account.supply;
       same =
           (λ i. turn_happens (turn_refused old.state old.journal old.limits (account.enough i) name) (account.told i) (plain old) name)
-          ∙ ap (λ o. turn_happens o (reach name.place turn) (plain old) name) (none-enough (unless (is_enabled name old.state.enabled) Einval) _ _ has_blocks is)
+          ∙ ap (λ o. turn_happens o (reach name.place (first_at name old.state) turn) (plain old) name) (none-enough (unless (is_enabled name old.state.enabled) Einval) _ _ has_blocks is)
           ∙ turn_taken old new name turn adds account.goes;
     }
 
@@ -189,7 +191,7 @@ answers_call old new caller asked bytes r found h line short = record {
 }
 
 pub answers_turn : (bytes : List ℕ) (old new : PairState) (name : QueueName) (r : Result Turn Refusal) (found : Answered)
-    → TurnHappens old new name r → line_of bytes found.line ≡ turn_line r → found.short ≡ short_turn name r
+    → TurnHappens old new name r → line_of bytes found.line ≡ turn_line r → found.short ≡ short_turn name old.state r
     → LeadsTo (λ account. by_turn name account (plain old)) found bytes (Some (plain new))
 unfolding by_turn
 answers_turn bytes old new name r found h line short = record {
@@ -259,7 +261,7 @@ or_false false = refl
 
 pub RunsTo-more : (turns taken : ℕ) (short : Bool) (begun : PlainPair) (old new : PairState) (name : QueueName) (turn : Turn) (r : Result Turn Refusal)
     → taken < turns → RunsTo turns taken short begun (plain old) → slice_get old.state.enabled 0 ≡ Some name
-    → TurnHappens old new name r → r ≡ Ok turn → RunsTo turns (taken + 1) (short || is_some (reach name.place turn)) begun (plain new)
+    → TurnHappens old new name r → r ≡ Ok turn → RunsTo turns (taken + 1) (short || is_some (reach name.place (first_at name old.state) turn)) begun (plain new)
 RunsTo-more turns taken short begun old new name turn r below so first h e = record {
   events = so.events ++ h.supply ∷ [];
   leads = λ account.
@@ -267,11 +269,11 @@ RunsTo-more turns taken short begun old new name turn r below so first h e = rec
       ∙ so.leads (h.supply ∷ account)
       ∙ (let left : turns - taken ≡ suc (turns - (taken + 1)) = omega arith in
       let rest = turns_of (turns - (taken + 1)) account (plain new) in
-      let here = is_some (reach name.place turn) in
+      let here = is_some (reach name.place (first_at name old.state) turn) in
       let count : taken + suc rest.count ≡ taken + 1 + rest.count = omega arith in
       ap (λ n. counted_by taken short (turns_of n (h.supply ∷ account) (plain old))) left
       ∙ ap (counted_by taken short) (turns_ok (turns - (taken + 1)) (h.supply ∷ account) (plain old) (plain new) name turn here first
-      (h.same ∙ ap (λ x. record { answer = x; pair = plain new; is_short = short_turn name x }) e))
+      (h.same ∙ ap (λ x. record { answer = x; pair = plain new; is_short = short_turn name old.state x }) e))
       ∙ (λ i. record { count = count i; pair = rest.pair; account = rest.account; is_short = or_assoc short here rest.is_short i }));
 }
 
@@ -310,7 +312,7 @@ run_refused bytes turns taken short begun old new name refusal r found below so 
     let left : turns - taken ≡ suc (turns - (taken + 1)) = omega arith in
     ap (λ n. turns_of n (h.supply ∷ account) (plain old)) left
     ∙ turns_err (turns - (taken + 1)) (h.supply ∷ account) (plain old) (plain new) name refusal (is_enosr refusal) first
-    (h.same ∙ ap (λ x. record { answer = x; pair = plain new; is_short = short_turn name x }) e))
+    (h.same ∙ ap (λ x. record { answer = x; pair = plain new; is_short = short_turn name old.state x }) e))
     line same
 
 pub run_all : (bytes : List ℕ) (turns : ℕ) (short : Bool) (begun : PlainPair) (old : PairState) (found : Answered) (taken : ℕ) → turns ≤ taken

@@ -1,13 +1,16 @@
--- A turn that moved nothing, and one of a queue that belongs to no module, leads to what a turn leads to that goes to the end of the first
--- message.
-use Rattle.std.proofs.Common.{◌≡◌, ℕ, zero, suc, ◌+◌, ◌-◌, ◌*◌, Bool, true, false, cond, List, [], ◌∷◌, map, min, Option, None, Some, is_some, slice_index_or, refl, sym, ap, ◌∙◌, arith}
+-- A turn that moved nothing, one of a queue that belongs to no module, and one that got to the end of its message lead to what a turn leads
+-- to that goes to the end of the first message.
+use Rattle.std.proofs.Common.{◌≡◌, ℕ, zero, suc, ◌+◌, ◌-◌, ◌*◌, ◌≤◌, Bool, true, false, cond, List, [], ◌∷◌, map, min, Option, None, Some, is_some, slice_index_or, refl, sym, ap, ◌∙◌, arith}
 use Rattle.std.proofs.lemmas.Bool.{eq-eqb}
+use Rattle.std.proofs.lemmas.Bool.Decides.{nat_tests}
+use Rattle.std.specs.Prelude.{nat_lt}
 use Rattle.strm_types.specs.declared.answers.Turn.{Turn}
 use Rattle.strm_types.specs.declared.answers.Turn.TheVariants.{Moved, Blocked, Idle}
 use Rattle.strm_types.specs.declared.names.Place.{Place}
 use Rattle.strm_types.specs.declared.names.Place.TheVariants.{Head, Ldterm, Driver}
 use Rattle.strm_types.specs.declared.names.QueueName.{QueueName}
 use Rattle.strm_types.specs.declared.names.Side.{Side}
+use Rattle.strm_types.specs.declared.names.Side.TheVariants.{Master, Slave}
 use Rattle.strm_types.specs.declared.names.Way.{Way}
 use Rattle.strm_types.specs.declared.names.Way.TheVariants.{Up, Down}
 use Rattle.strm_types.specs.declared.spots.Asks.{Asks}
@@ -17,14 +20,16 @@ use Rattle.strm_types.specs.Cells.{plain}
 use Rattle.strm_types.specs.Input.{input_begins, is_data, output_passes, passes, stages, stages_done, treats}
 use Rattle.strm_types.specs.Message.{Message}
 use Rattle.strm_types.specs.ModuleQueues.{at_place, messages_at}
-use Rattle.strm_types.specs.ModuleTurns.{Calls, again_at, asked_turn, calls, made_below, moved_by, moved_on, moved_within, place_named, turned_named}
+use Rattle.strm_types.specs.ModuleTurns.{Calls, again_at, asked_turn, calls, made_below, moved_by, moved_on, moved_within, place_named, turned_named, turned_there, waits_there, whole_module}
 use Rattle.strm_types.specs.Past.{has_room_past}
 use Rattle.strm_types.specs.Queue.{left_with}
 use Rattle.strm_types.specs.Stacked.{Module, module_asks, module_queue, module_rests, module_serves}
-use Rattle.strm_types.specs.State.{State, stream}
-use Rattle.strm_types.specs.TurnOutcomes.{TurnOutcome, first_size}
+use Rattle.strm_types.specs.State.{State, Stream, stream}
+use Rattle.strm_types.specs.TurnOutcomes.{TurnOutcome, first_size, stayed_put}
 use Rattle.strm_types.specs.Turns.{turned, turned_at, whole_turn}
 use Rattle.strm_types.specs.Names.{without}
+use Rattle.strm_pair.specs.Named.{messages_named}
+use Rattle.strm_pair.specs.Shows.{first_at}
 use Rattle.strm_run.specs.ScriptRun.{Supply, Enough, Within, is_enough, only, reach, told_of, turn_to}
 
 -- a turn that may treat no byte is at its end after one call
@@ -111,36 +116,81 @@ module _ (name : QueueName) (turn another : Turn) (s : State ℕ) (none : moved_
   stays-same Driver stays = refl
   stays-same Ldterm stays = named-same (place_named name.place (stream name.side s).modules) stays
 
+-- one that goes to the end of its message leads to the same by any number of bytes that gets so far
+module _ (side : Side) (at : ℕ) (way : Way) (name : QueueName) (s : State ℕ) where
+  abbrev first_there : ℕ
+  first_there = at_place (λ p. first_size (messages_at module_queue way p)) 0 at (stream side s).modules
+
+  module _ (n m : ℕ) (same : min n first_there ≡ min m first_there) where
+    asked-alike : (asks : Asks) → asked_turn plain (there side at way) asks name (Moved n) s ≡ asked_turn plain (there side at way) asks name (Moved m) s
+    asked-alike asked.Empty = refl
+    asked-alike asked.Held = refl
+    asked-alike asked.Free = ap (λ (k : ℕ). moved_on plain (there side at way) name k s) same
+    asked-alike (asked.Room band) =
+        ap (λ (k : ℕ). cond (has_room_past side way at band.0 s) (moved_on plain (there side at way) name k s) (waits_there band.0 (there side at way) s)) same
+
+    there-alike : turned_there plain (there side at way) name (Moved n) s ≡ turned_there plain (there side at way) name (Moved m) s
+    there-alike =
+        let ps = (stream side s).modules in
+        ap (λ (o : TurnOutcome ℕ). cond (at_place module_rests false at ps) o (stayed_put Blocked s)) (asked-alike (at_place (module_asks way) asked.Empty at ps))
+
+abbrev named : Side → Way → QueueName
+named side way = record { side = side; place = Ldterm; way = way }
+
+goes-whole : (side : Side) (way : Way) (n : ℕ) (s : State ℕ) (t : Stream ℕ) (ps : List (Module ℕ)) → (stream side s).modules ≡ ps → first_size (messages_named Ldterm way ps) ≤ n
+    → turned_named plain (named side way) (whole_module Ldterm way (record t { modules = ps })) s (place_named Ldterm ps) ≡ turned_named plain (named side way) (Moved n) s (place_named Ldterm ps)
+goes-whole side way n s t [] is whole = refl
+goes-whole side way n s t (p ∷ ps) is whole = there-alike side 1 way (named side way) s (first_size (messages_at module_queue way p)) n
+    (let first : first_there side 1 way (named side way) s ≡ first_size (messages_at module_queue way p) = ap (λ ps. at_place (λ p. first_size (messages_at module_queue way p)) 0 1 ps) is in omega (arith, first, whole))
+
 -- what an account says of a turn that was answered so
 pub record Accounted (turn : Turn) (name : QueueName) (s : State ℕ) : Type 0 where
   pub supply : Supply
   pub enough : is_enough supply ≡ true
-  pub told : told_of supply name s ≡ reach name.place turn
-  pub goes : turned plain name (turn_to (reach name.place turn) name s) s ≡ turned plain name turn s
+  pub told : told_of supply name s ≡ reach name.place (first_at name s) turn
+  pub goes : turned plain name (turn_to (reach name.place (first_at name s) turn) name s) s ≡ turned plain name turn s
 
-only-same : (n : ℕ) (place : Place) → only n (reach place (Moved n)) ≡ reach place (Moved n)
-only-same n Head = refl
-only-same n Driver = refl
-only-same n Ldterm = rw (eq-eqb n n refl) refl
+-- it stopped, or it didn't
+only-same : (n : ℕ) (b : Bool) → only n (cond b (Some n) None) ≡ cond b (Some n) None
+only-same n true = rw (eq-eqb n n refl) refl
+only-same n false = refl
+
+only-at : (n : ℕ) (place : Place) (size : ℕ) → only n (reach place size (Moved n)) ≡ reach place size (Moved n)
+only-at n Head size = refl
+only-at n Driver size = refl
+only-at n Ldterm size = only-same n (nat_lt n size)
+
+past-end : (n size : ℕ) → nat_lt n size ≡ false → size ≤ n
+past-end n size is = grind (arith, nat_tests)
 
 -- it went so far, or it goes as far as any
-goes-so : (n : ℕ) (place : Place) (name : QueueName) (s on : State ℕ) → turned_at plain place name (turn_to (reach place (Moved n)) name s) on ≡ turned_at plain place name (Moved n) on
-goes-so n Head name s on = refl
-goes-so n Driver name s on = refl
-goes-so n Ldterm name s on = refl
+goes-far : (side : Side) (way : Way) (n : ℕ) (s : State ℕ) → (b : Bool) → nat_lt n (first_at (named side way) s) ≡ b
+    → turned plain (named side way) (turn_to (cond b (Some n) None) (named side way) s) s ≡ turned plain (named side way) (Moved n) s
+goes-far side way n s true is = refl
+goes-far Master way n s false is =
+    goes-whole Master way n (record s { enabled = without (named Master way) s.enabled }) s.master s.master.modules refl (past-end n _ is)
+goes-far Slave way n s false is =
+    goes-whole Slave way n (record s { enabled = without (named Slave way) s.enabled }) s.slave s.slave.modules refl (past-end n _ is)
 
-blocked-reach : (place : Place) → reach place Blocked ≡ None
-blocked-reach Head = refl
-blocked-reach Driver = refl
-blocked-reach Ldterm = refl
+goes-so : (n : ℕ) (side : Side) (place : Place) (way : Way) (s : State ℕ) →
+    let name : QueueName = record { side = side; place = place; way = way } in
+    turned plain name (turn_to (reach place (first_at name s) (Moved n)) name s) s ≡ turned plain name (Moved n) s
+goes-so n side Head way s = refl
+goes-so n side Driver way s = refl
+goes-so n side Ldterm way s = goes-far side way n s (nat_lt n (first_at (named side way) s)) refl
 
-idle-reach : (place : Place) → reach place Idle ≡ None
-idle-reach Head = refl
-idle-reach Driver = refl
-idle-reach Ldterm = refl
+blocked-reach : (place : Place) (size : ℕ) → reach place size Blocked ≡ None
+blocked-reach Head size = refl
+blocked-reach Driver size = refl
+blocked-reach Ldterm size = refl
+
+idle-reach : (place : Place) (size : ℕ) → reach place size Idle ≡ None
+idle-reach Head size = refl
+idle-reach Driver size = refl
+idle-reach Ldterm size = refl
 
 -- it moved nothing
-stayed : (turn : Turn) (name : QueueName) (s : State ℕ) → moved_by turn ≡ 0 → Stays (turned plain name turn s) → reach name.place turn ≡ None → Accounted turn name s
+stayed : (turn : Turn) (name : QueueName) (s : State ℕ) → moved_by turn ≡ 0 → Stays (turned plain name turn s) → reach name.place (first_at name s) turn ≡ None → Accounted turn name s
 stayed turn name s none stays reached = record {
   supply = Enough;
   enough = refl;
@@ -154,8 +204,8 @@ pub accounted : (turn : Turn) (name : QueueName) (s : State ℕ) → (turned pla
 accounted (Moved n) name s answered = record {
   supply = Within n;
   enough = refl;
-  told = ap (λ turn. only n (reach name.place turn)) answered ∙ only-same n name.place;
-  goes = goes-so n name.place name s (record s { enabled = without name s.enabled });
+  told = ap (λ turn. only n (reach name.place (first_at name s) turn)) answered ∙ only-at n name.place (first_at name s);
+  goes = goes-so n name.side name.place name.way s;
 }
-accounted Blocked name s answered = stayed Blocked name s refl (λ n moved. let no : Blocked ≡ Moved n = sym answered ∙ moved in cc) (blocked-reach name.place)
-accounted Idle name s answered = stayed Idle name s refl (λ n moved. let no : Idle ≡ Moved n = sym answered ∙ moved in cc) (idle-reach name.place)
+accounted Blocked name s answered = stayed Blocked name s refl (λ n moved. let no : Blocked ≡ Moved n = sym answered ∙ moved in cc) (blocked-reach name.place (first_at name s))
+accounted Idle name s answered = stayed Idle name s refl (λ n moved. let no : Idle ≡ Moved n = sym answered ∙ moved in cc) (idle-reach name.place (first_at name s))

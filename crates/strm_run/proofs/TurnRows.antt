@@ -51,9 +51,10 @@ typed = record {
 abbrev turned_so : QueueName → Supply → Result Turn Refusal × Bool
 turned_so name supply = let happened = turn_of supply typed name in (happened.answer, happened.is_short)
 
--- It goes to the end of its message, or as far as its account says. It can't be said to go further than it does.
-pub turns-by-accounts : map (turned_so reading) (Enough ∷ Within 1 ∷ Within 9 ∷ TooFew ∷ [])
-    ≡ (Ok (Moved 3), false) ∷ (Ok (Moved 1), true) ∷ (Ok (Moved 3), false) ∷ (Err Enosr, true) ∷ []
+-- It goes to the end of its message, or as far as its account says, and its line is short where that is less. It can't be said to go further
+-- than it does.
+pub turns-by-accounts : map (turned_so reading) (Enough ∷ Within 1 ∷ Within 2 ∷ Within 3 ∷ Within 9 ∷ TooFew ∷ [])
+    ≡ (Ok (Moved 3), false) ∷ (Ok (Moved 1), true) ∷ (Ok (Moved 2), true) ∷ (Ok (Moved 3), false) ∷ (Ok (Moved 3), false) ∷ (Err Enosr, true) ∷ []
 unfolding turn_of carried cells_of band_of is_held is_high_priority size_of rank_of data_message
 turns-by-accounts = refl
 

@@ -43,8 +43,8 @@ Agrees account None bytes = script_lines account bytes ≡ plain_text bytes
 Agrees account (Some n) bytes =
     (rest : List ℕ) × (script_lines account bytes ≡ plain_lines (take (n - 1) (lines_of bytes)) ++ rest)
 
--- What a run wrote, by how it ended, for an account of which events the pool had enough blocks for and of how far turns went. The first
--- short line is the first in which an event got ENOSR, or of one of whose turns the account says how far it went.
+-- What a run wrote, by how it ended, for an account of which events the pool had enough blocks for and of which turns stopped how far within
+-- their message. The first short line is the first in which an event got ENOSR, or a turn stopped within its message.
 pub record IsScript (status : ScriptStatus) (short : Option ℕ) (bytes written : List ℕ) : Type 0 where
   pub account : List Supply
   pub wrote : Wrote status account bytes written

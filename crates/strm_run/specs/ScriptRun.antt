@@ -1,5 +1,5 @@
 -- What a script writes: its answers, in the order of its lines.
-use Rattle.std.specs.Prelude.{ℕ, zero, suc, nat_le, ◌&&◌, ◌||◌, ◌==◌, Bool, true, false, if◌then◌else◌, List, [], ◌∷◌, ◌++◌, length, map, Option, None, Some, option_map, is_some, Result, Ok, Err, unwrap_or, slice_get}
+use Rattle.std.specs.Prelude.{ℕ, zero, suc, nat_le, nat_lt, ◌&&◌, ◌||◌, ◌==◌, Bool, true, false, if◌then◌else◌, List, [], ◌∷◌, ◌++◌, length, map, Option, None, Some, option_map, is_some, Result, Ok, Err, unwrap_or, slice_get}
 use Rattle.strm_types.specs.declared.limits.Config.{Config}
 use Rattle.strm_types.specs.declared.answers.Turn.{Turn}
 use Rattle.strm_types.specs.declared.answers.Turn.TheVariants.{Moved, Blocked, Idle}
@@ -17,7 +17,7 @@ use Rattle.strm_types.specs.Names.{head_of, driver_of}
 use Rattle.strm_types.specs.Queue.{bytes_of}
 use Rattle.strm_types.specs.declared.names.Side.{Side}
 use Rattle.strm_types.specs.declared.events.FlushQueues.{FlushQueues}
-use Rattle.strm_pair.specs.Shows.{messages_at}
+use Rattle.strm_pair.specs.Shows.{first_at, messages_at}
 use Rattle.strm_types.specs.declared.entries.Entry.TheVariants.{Called, Turned}
 use Rattle.strm_types.specs.declared.events.Event.TheVariants as calls
 use Rattle.strm_types.specs.declared.kinds.Band as bands
@@ -43,7 +43,7 @@ use Rattle.strm_run.specs.declared.commands.NamedWanted.TheVariants as wanteds
 -- behind its end the pool has enough, and each turn goes to the end of its message.
 pub data Supply : Type 0 where
   Enough : Supply
-  Within : ℕ → Supply  -- for an event to begin; a turn of a module's queue went so many bytes far
+  Within : ℕ → Supply  -- for an event to begin; a turn of a module's queue stopped after so many bytes of its message
   TooFew : Supply
 
 abbrev pub is_enough : Supply → Bool
@@ -78,7 +78,7 @@ abbrev pub new_plain : ℕ → PlainPair
 new_plain blocks = record { state = opening; journal = []; limits = script_limits blocks }
 
 -- What an event was answered, and the pair behind it, and whether the pool was short of blocks for it: it got ENOSR, or it is a turn
--- of which the account says how far it went.
+-- that stopped within its message.
 pub record Happened (A : Type 0) : Type 0 where
   pub answer : Result A Refusal
   pub pair : PlainPair
@@ -112,24 +112,25 @@ call_happens None p caller asked =
 unfoldable pub call_of : Supply → PlainPair → Caller → Request → Happened (Reply)
 call_of supply p caller asked = call_happens (call_refusal supply p caller asked) p caller asked
 
--- How far a turn went that is answered so, if it may have stopped within its message, as turns of modules' queues may for want of
--- blocks (STREAMS Programming Guide, "Service Procedures"; bufcall(9F)).
-abbrev pub reach : Place → Turn → Option ℕ
-reach Head turn = None
-reach Driver turn = None
-reach Ldterm (Moved bytes) = Some bytes
-reach Ldterm Blocked = None
-reach Ldterm Idle = None
+-- How far a turn went that is answered so, if it stopped within its message, which had so many bytes, as turns of modules' queues may
+-- for want of blocks (STREAMS Programming Guide, "Service Procedures"; bufcall(9F)).
+abbrev pub reach : Place → ℕ → Turn → Option ℕ
+reach Head size turn = None
+reach Driver size turn = None
+reach Ldterm size (Moved bytes) = if nat_lt bytes size then Some bytes else None
+reach Ldterm size Blocked = None
+reach Ldterm size Idle = None
 
 -- the number that is there, where it is this one
 abbrev pub only : ℕ → Option ℕ → Option ℕ
 only bytes None = None
 only bytes (Some n) = if n == bytes then Some n else None
 
--- How far a turn of a queue went, where its account says so. It says nothing of a turn that doesn't go so far.
+-- How far a turn of a queue went, where its account says so. It says nothing of a turn that doesn't go so far, nor of one that goes to
+-- the end of its message.
 abbrev pub told_of : Supply → QueueName → State ℕ → Option ℕ
 told_of Enough name s = None
-told_of (Within bytes) name s = only bytes (reach name.place (turned plain name (Moved bytes) s).turn)
+told_of (Within bytes) name s = only bytes (reach name.place (first_at name s) (turned plain name (Moved bytes) s).turn)
 told_of TooFew name s = None
 
 -- the answer of a turn that goes as far as is told of it, and else to the end of its message

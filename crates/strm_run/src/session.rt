@@ -42,7 +42,7 @@ const JOURNAL_BYTES: usize = 262144;
 pub struct Answered {
     /// The line that answers it.
     pub line: Line,
-    /// Whether a call or a turn got ENOSR, or a turn may have stopped within its message for want of blocks.
+    /// Whether a call or a turn got ENOSR, or a turn stopped within its message for want of blocks.
     pub short: bool,
 }
 
@@ -260,16 +260,15 @@ fn show(pair: &Pair<TableStore>, side: Side) -> Answered
     }
 }
 
-/// Whether a turn that is answered so may have stopped within its message: only one of a module's queue may, and only where it moved
-/// something.
-fn may_have_stopped(name: QueueName, turn: Turn) -> bool
-    ensures { result ≡ is_some (reach name.place turn) }
+/// Whether a turn that is answered so stopped within its message, which had so many bytes: only one of a module's queue may.
+fn has_stopped(place: Place, size: usize, turn: Turn) -> bool
+    ensures { result ≡ is_some (reach place size turn) }
 {
-    match name.place {
+    match place {
         Place::Head => false,
         Place::Driver => false,
         Place::Ldterm => match turn {
-            Turn::Moved(_) => true,
+            Turn::Moved(bytes) => bytes < size,
             Turn::Blocked => false,
             Turn::Idle => false,
         },
@@ -280,10 +279,11 @@ fn may_have_stopped(name: QueueName, turn: Turn) -> bool
 fn turn(pair: &mut Pair<TableStore>, name: QueueName) -> Answered
     ensures { Leads (by_turn name) result pair.old pair.new }
 {
+    let size = pair.first_size(name);
     match pair.turn(name) {
         Ok(turn) => Answered {
             line: Line::Turned(turn),
-            short: may_have_stopped(name, turn),
+            short: has_stopped(name.place, size, turn),
         },
         Err(refusal) => Answered {
             line: Line::Refused(refusal),
@@ -309,9 +309,10 @@ fn run(pair: &mut Pair<TableStore>, turns: u32) -> Answered
             let line = Line::Ran(taken);
             return Answered { line, short };
         };
+        let size = pair.first_size(name);
         match pair.turn(name) {
             Ok(turn) => {
-                let stopped = may_have_stopped(name, turn);
+                let stopped = has_stopped(name.place, size, turn);
                 let so_far = either_short(short, stopped);
                 short = so_far;
             }

@@ -1,10 +1,13 @@
-//! Scripts run from memory to memory: the titled scenes of `scripts`, `messages` and `ioctls`, and readers, writers and lines that no
-//! scene can show.
+//! Scripts run from memory to memory: the titled scenes of `scripts`, `messages`, `ioctls`, `keys`, `echo` and `turns`, and readers,
+//! writers and lines that no scene can show.
 
+mod echo;
 mod ioctls;
+mod keys;
 mod messages;
 mod no_memory;
 mod scripts;
+mod turns;
 
 use crate::script::{ScriptEnd, ScriptStatus, run_script};
 use crate::tests::scripts::Scene;
@@ -108,6 +111,16 @@ fn each_scene_answers_as_it_says(rt: HostRuntime) -> Result<(), Fail> {
     plays_scenes(&rt, rt.alloc(), &scripts::STREAMS)?;
     plays_scenes(&rt, rt.alloc(), &messages::MESSAGES)?;
     plays_scenes(&rt, rt.alloc(), &ioctls::IOCTLS)?;
+    plays_scenes(&rt, rt.alloc(), &keys::LINES)?;
+    plays_scenes(&rt, rt.alloc(), &keys::EDITING)?;
+    plays_scenes(&rt, rt.alloc(), &keys::SIGNALS)?;
+    plays_scenes(&rt, rt.alloc(), &keys::FLOW)?;
+    plays_scenes(&rt, rt.alloc(), &turns::TAKEN_OFF)?;
+    plays_scenes(&rt, rt.alloc(), &turns::FEW_BLOCKS)?;
+    plays_scenes(&rt, rt.alloc(), &echo::BYTES)?;
+    plays_scenes(&rt, rt.alloc(), &echo::RUBBING_OUT)?;
+    plays_scenes(&rt, rt.alloc(), &echo::FULL)?;
+    plays_scenes(&rt, rt.alloc(), &echo::NEWLINES)?;
     plays_scenes(&rt, rt.alloc(), &scripts::LINES_AND_TEXTS)
 }
 

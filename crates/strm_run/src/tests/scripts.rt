@@ -490,7 +490,7 @@ read s 5
 "#,
     ),
     (
-        "No module is known yet",
+        "No module of another name than ldterm is known",
         WELL,
         r#"open
   ok
@@ -504,7 +504,9 @@ pop s
   err EINVAL
 push s foo
   err EINVAL
-push s ldterm
+push s ptem
+  err EINVAL
+push s pckt
   err EINVAL
 "#,
     ),

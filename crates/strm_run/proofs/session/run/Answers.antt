@@ -23,7 +23,7 @@ returns-in-Err c = λ bytes.
 pub loop-taken-preserved : goal.loop-taken-preserved
 loop-taken-preserved c =
     let l = c.loop-taken in
-    rw (c.either_short-so_far.ensures, c.may_have_stopped-stopped.ensures)
+    rw (c.either_short-so_far.ensures, c.has_stopped-stopped.ensures, c.first_size-size.ensures)
     (RunsTo-more c.args.turns l.taken l.short (plain c.args.pair.now) l.pair c.turn.new.self c.in-Some.name c.in-Ok.turn c.turn.result
     c.loop-taken-test.true l.invariant (sym c.first_enabled.ensures ∙ c.in-Some.is)
     (TurnHappens-from l.pair c.turn.new.self c.in-Some.name c.turn.result c.turn.ensures.refused c.turn.ensures.adds)

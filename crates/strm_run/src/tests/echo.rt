@@ -1,0 +1,456 @@
+//! What ldterm echoes of what is typed (termio(7I): ECHO, ECHOE, ECHOK, ECHOCTL, ECHOKE). A scene has a title, how its script
+//! ends, and its text: commands stand at the margin, and the answer to each stands under it, indented by two spaces.
+
+use super::WELL;
+use super::scripts::Scene;
+
+/// What is echoed of bytes.
+pub const BYTES: [Scene; 7] = [
+    (
+        "Bytes that are shown are echoed as they are",
+        WELL,
+        r#"open
+  ok
+unlock
+  ok
+slave
+  ok
+push s ldterm
+  ok
+write m "aZ~\xff"
+  ok 4
+run 50
+  ran 4
+read m 100
+  data 4 "aZ~\xff"
+"#,
+    ),
+    (
+        "Control bytes are echoed as a letter behind ^",
+        WELL,
+        r#"open
+  ok
+unlock
+  ok
+slave
+  ok
+push s ldterm
+  ok
+write m "\x01\x1b\x00\x16\x7f"
+  ok 5
+run 50
+  ran 4
+read m 100
+  data 8 "^A^[^@^?"
+"#,
+    ),
+    (
+        "TAB is echoed as it is",
+        WELL,
+        r#"open
+  ok
+unlock
+  ok
+slave
+  ok
+push s ldterm
+  ok
+write m "a\tb"
+  ok 3
+run 50
+  ran 4
+read m 100
+  data 3 "a\tb"
+"#,
+    ),
+    (
+        "NL behind LNEXT is echoed as a control byte",
+        WELL,
+        r#"open
+  ok
+unlock
+  ok
+slave
+  ok
+push s ldterm
+  ok
+write m "\x16\n"
+  ok 2
+run 50
+  ran 4
+read m 100
+  data 2 "^J"
+"#,
+    ),
+    (
+        "Signal keys are echoed",
+        WELL,
+        r#"open
+  ok
+unlock
+  ok
+slave
+  ok
+push s ldterm
+  ok
+write m "\x1a"
+  ok 1
+run 50
+  ran 4
+read m 100
+  data 2 "^Z"
+write m "\x1c"
+  ok 1
+run 50
+  ran 4
+read m 100
+  data 2 "^\\"
+write m "\x03"
+  ok 1
+run 50
+  ran 4
+read m 100
+  data 2 "^C"
+"#,
+    ),
+    (
+        "EOF, LNEXT, STOP and START are not",
+        WELL,
+        r#"open
+  ok
+unlock
+  ok
+slave
+  ok
+push s ldterm
+  ok
+write m "a\x04\x13\x11\x16"
+  ok 5
+run 50
+  ran 6
+read m 100
+  data 1 "a"
+"#,
+    ),
+    (
+        "The echo of a turn is one message",
+        WELL,
+        r#"open
+  ok
+unlock
+  ok
+slave
+  ok
+push s ldterm
+  ok
+write m "ab"
+  ok 2
+write m "c"
+  ok 1
+run 50
+  ran 8
+get m
+  msg 0 - "ab" -
+get m
+  msg 0 - "c" -
+get m
+  err EAGAIN
+"#,
+    ),
+];
+
+/// What is echoed of keys that edit.
+pub const RUBBING_OUT: [Scene; 7] = [
+    (
+        "ERASE rubs out one column",
+        WELL,
+        r#"open
+  ok
+unlock
+  ok
+slave
+  ok
+push s ldterm
+  ok
+write m "ab\x7f"
+  ok 3
+run 50
+  ran 4
+read m 100
+  data 5 "ab\x08 \x08"
+"#,
+    ),
+    (
+        "It rubs out two of a control byte",
+        WELL,
+        r#"open
+  ok
+unlock
+  ok
+slave
+  ok
+push s ldterm
+  ok
+write m "a\x01\x7f"
+  ok 3
+run 50
+  ran 4
+read m 100
+  data 9 "a^A\x08 \x08\x08 \x08"
+"#,
+    ),
+    (
+        "It rubs out as many of a TAB as it has from its column on",
+        WELL,
+        r#"open
+  ok
+unlock
+  ok
+slave
+  ok
+push s ldterm
+  ok
+write m "ab\t\x7f"
+  ok 4
+run 50
+  ran 4
+read m 100
+  data 21 "ab\t\x08 \x08\x08 \x08\x08 \x08\x08 \x08\x08 \x08\x08 \x08"
+"#,
+    ),
+    (
+        "It rubs out nothing of an empty line",
+        WELL,
+        r#"open
+  ok
+unlock
+  ok
+slave
+  ok
+push s ldterm
+  ok
+write m "\x7f"
+  ok 1
+run 50
+  ran 2
+read m 100
+  err EAGAIN
+"#,
+    ),
+    (
+        "WERASE rubs out the blanks and the word",
+        WELL,
+        r#"open
+  ok
+unlock
+  ok
+slave
+  ok
+push s ldterm
+  ok
+write m "ab cd \x17"
+  ok 7
+run 50
+  ran 4
+read m 100
+  data 15 "ab cd \x08 \x08\x08 \x08\x08 \x08"
+"#,
+    ),
+    (
+        "KILL rubs out the line",
+        WELL,
+        r#"open
+  ok
+unlock
+  ok
+slave
+  ok
+push s ldterm
+  ok
+write m "a\x01b\x15"
+  ok 4
+run 50
+  ran 4
+read m 100
+  data 16 "a^Ab\x08 \x08\x08 \x08\x08 \x08\x08 \x08"
+"#,
+    ),
+    (
+        "KILL of an empty line rubs out nothing",
+        WELL,
+        r#"open
+  ok
+unlock
+  ok
+slave
+  ok
+push s ldterm
+  ok
+write m "\x15"
+  ok 1
+run 50
+  ran 2
+read m 100
+  err EAGAIN
+"#,
+    ),
+];
+
+/// What is echoed where there is no room.
+pub const FULL: [Scene; 2] = [
+    (
+        "A byte for which a full line has no room rings the bell",
+        WELL,
+        r#"open
+  ok
+unlock
+  ok
+slave
+  ok
+push s ldterm
+  ok
+write m "xxxxxxxxxxxxxxxxxxxxxxxxxxxxxxxxxxxxxxxxxxxxxxxxxxxxxxxxxxxxxxxxxxxxxxxxxxxxxxxxxxxxxxxxxxxxxxxxxxxxxxxxxxxxxxxxxxxxxxxxxxxxxxxxxxxxxxxxxxxxxxxxxxxxxxxxxxxxxxxxxxxxxxxxxxxxxxxxxxxxxxxxxxxxxxxxxxxxxxxxxxxxxxxxxxxxxxxxxxxxxxxxxxxxxxxxxxxxxxxxxxxxxxxxxxxxxxxy"
+  ok 256
+run 50
+  ran 4
+read m 300
+  data 256 "xxxxxxxxxxxxxxxxxxxxxxxxxxxxxxxxxxxxxxxxxxxxxxxxxxxxxxxxxxxxxxxxxxxxxxxxxxxxxxxxxxxxxxxxxxxxxxxxxxxxxxxxxxxxxxxxxxxxxxxxxxxxxxxxxxxxxxxxxxxxxxxxxxxxxxxxxxxxxxxxxxxxxxxxxxxxxxxxxxxxxxxxxxxxxxxxxxxxxxxxxxxxxxxxxxxxxxxxxxxxxxxxxxxxxxxxxxxxxxxxxxxxxxxxxxxxxxx\x07"
+"#,
+    ),
+    (
+        "Where 512 bytes wait, the echo of a key is dropped whole",
+        WELL,
+        r#"open
+  ok
+unlock
+  ok
+slave
+  ok
+push s ldterm
+  ok
+write m "xxxxxxxxxxxxxxxxxxxxxxxxxxxxxxxxxxxxxxxxxxxxxxxxxxxxxxxxxxxxxxxxxxxxxxxxxxxxxxxxxxxxxxxxxxxxxxxxxxxxxxxxxxxxxxxxxxxxxxxxxxxxxxxxxxxxxxxxxxxxxxxxxxxxxxxxxxxxxxxxxxxxxxxxxxxxxxxxxxxxxxxxxxxxxxxxxxxxxxxxxxxxxxxxxxxxxxxxxxxxxxxxxxxxxxxxxxxxxxxxxxxxxxxxxxxxxxx\n"
+  ok 256
+turn m.drv.w
+  ok 256
+turn s.ldterm.r
+  ok 256
+write m "xxxxxxxxxxxxxxxxxxxxxxxxxxxxxxxxxxxxxxxxxxxxxxxxxxxxxxxxxxxxxxxxxxxxxxxxxxxxxxxxxxxxxxxxxxxxxxxxxxxxxxxxxxxxxxxxxxxxxxxxxxxxxxxxxxxxxxxxxxxxxxxxxxxxxxxxxxxxxxxxxxxxxxxxxxxxxxxxxxxxxxxxxxxxxxxxxxxxxxxxxxxxxxxxxxxxxxxxxxxxxxxxxxxxxxxxxxxxxxxxxxxxxxxxxxxxxxx\n"
+  ok 256
+turn m.drv.w
+  ok 256
+turn s.ldterm.r
+  ok 256
+write m "a"
+  ok 1
+turn m.drv.w
+  ok 1
+turn s.ldterm.r
+  ok 1
+show s
+  show s head.r 2 512 ldterm.r 0 0 ldterm.w 2 512 drv.w 0 0
+"#,
+    ),
+];
+
+/// What is echoed with a newline in it, while nothing processes output.
+pub const NEWLINES: [Scene; 5] = [
+    (
+        "What is typed, edited and ended is echoed as it shows",
+        WELL,
+        r#"open
+  ok
+unlock
+  ok
+slave
+  ok
+push s ldterm
+  ok
+write m "lx\x7fs\n"
+  ok 5
+run 50
+  ran 4
+read s 100
+  data 3 "ls\n"
+read m 100
+  data 7 "lx\x08 \x08s\n"
+"#,
+    ),
+    (
+        "NL is echoed",
+        WELL,
+        r#"open
+  ok
+unlock
+  ok
+slave
+  ok
+push s ldterm
+  ok
+write m "a\n"
+  ok 2
+run 50
+  ran 4
+read m 100
+  data 2 "a\n"
+"#,
+    ),
+    (
+        "Lines that are ended in one turn are echoed in one message",
+        WELL,
+        r#"open
+  ok
+unlock
+  ok
+slave
+  ok
+push s ldterm
+  ok
+write m "a\n\x7fb\n"
+  ok 5
+run 50
+  ran 4
+get m
+  msg 0 - "a\nb\n" -
+get m
+  err EAGAIN
+"#,
+    ),
+    (
+        "CR is echoed as the NL that it is taken as",
+        WELL,
+        r#"open
+  ok
+unlock
+  ok
+slave
+  ok
+push s ldterm
+  ok
+write m "a\r"
+  ok 2
+run 50
+  ran 4
+read m 100
+  data 2 "a\n"
+"#,
+    ),
+    (
+        "REPRINT is echoed, a newline, and the line once more",
+        WELL,
+        r#"open
+  ok
+unlock
+  ok
+slave
+  ok
+push s ldterm
+  ok
+write m "a\tb\x01\x12"
+  ok 5
+run 50
+  ran 4
+read m 100
+  data 13 "a\tb^A^R\na\tb^A"
+"#,
+    ),
+];

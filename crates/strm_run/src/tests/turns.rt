@@ -1,0 +1,285 @@
+//! Turns of ldterm's queues, what takes from them, and turns that stop within their message. A scene has a title, how its script ends, and its text: commands stand at the
+//! margin, and the answer to each stands under it, indented by two spaces.
+
+use super::WELL;
+use super::scripts::Scene;
+use crate::script::{ScriptEnd, ScriptStatus};
+
+/// The line, the queues and what takes from them.
+pub const TAKEN_OFF: [Scene; 6] = [
+    (
+        "Turns of ldterm's queues, one by one",
+        WELL,
+        r#"open
+  ok
+unlock
+  ok
+slave
+  ok
+push s ldterm
+  ok
+write m "a"
+  ok 1
+turn s.ldterm.r
+  err EINVAL
+turn m.drv.w
+  ok 1
+show s
+  show s head.r 0 0 ldterm.r 1 1 ldterm.w 0 0 drv.w 0 0
+turn s.ldterm.r
+  ok 1
+show s
+  show s head.r 0 0 ldterm.r 0 0 ldterm.w 1 1 drv.w 0 0
+turn s.ldterm.w
+  ok 1
+show s
+  show s head.r 0 0 ldterm.r 0 0 ldterm.w 0 0 drv.w 1 1
+turn s.drv.w
+  ok 1
+turn s.ldterm.w
+  err EINVAL
+read m 9
+  data 1 "a"
+"#,
+    ),
+    (
+        "A flush of the read side takes the line",
+        WELL,
+        r#"open
+  ok
+unlock
+  ok
+slave
+  ok
+push s ldterm
+  ok
+write m "ab"
+  ok 2
+run 50
+  ran 4
+flush s r
+  ok
+write m "c\n"
+  ok 2
+run 50
+  ran 4
+read s 100
+  data 2 "c\n"
+"#,
+    ),
+    (
+        "So does one of band 0, and one of another band doesn't",
+        WELL,
+        r#"open
+  ok
+unlock
+  ok
+slave
+  ok
+push s ldterm
+  ok
+write m "ab"
+  ok 2
+run 50
+  ran 4
+flush s r 0
+  ok
+write m "cd"
+  ok 2
+run 50
+  ran 4
+flush s r 1
+  ok
+write m "e\n"
+  ok 2
+run 50
+  ran 4
+read s 100
+  data 4 "cde\n"
+"#,
+    ),
+    (
+        "A pop takes the line, and then bytes come as they are",
+        WELL,
+        r#"open
+  ok
+unlock
+  ok
+slave
+  ok
+push s ldterm
+  ok
+write m "ab"
+  ok 2
+run 50
+  ran 4
+pop s
+  ok
+read s 9
+  err EAGAIN
+write m "c\r"
+  ok 2
+run 50
+  ran 1
+read s 9
+  data 2 "c\r"
+"#,
+    ),
+    (
+        "A stream has one ldterm",
+        WELL,
+        r#"open
+  ok
+unlock
+  ok
+slave
+  ok
+push s ldterm
+  ok
+look s
+  name ldterm
+push s ldterm
+  err EINVAL
+push s foo
+  err EINVAL
+pop m
+  err EINVAL
+pop s
+  ok
+look s
+  err EINVAL
+pop s
+  err EINVAL
+push s ldterm
+  ok
+"#,
+    ),
+    (
+        "A module that isn't there, a second ldterm, and a pop of the other side",
+        WELL,
+        r#"open
+  ok
+slave
+  err EAGAIN
+unlock
+  ok
+slave
+  ok
+push s foo
+  err EINVAL
+push s ldterm
+  ok
+push s ldterm
+  err EINVAL
+pop m
+  err EINVAL
+"#,
+    ),
+];
+
+// A script in whose line 6 a turn stopped within its message, and one in whose line 7 it did.
+const SHORT_AT_6: ScriptEnd = ScriptEnd {
+    status: ScriptStatus::Whole,
+    short: Some(6),
+};
+
+const SHORT_AT_7: ScriptEnd = ScriptEnd {
+    status: ScriptStatus::Whole,
+    short: Some(7),
+};
+
+/// Turns where few blocks are free.
+pub const FEW_BLOCKS: [Scene; 4] = [
+    (
+        "A turn stops within its message where too few blocks are left, and the next one goes on",
+        SHORT_AT_6,
+        r#"open 33
+  ok
+unlock
+  ok
+slave
+  ok
+push s ldterm
+  ok
+write m "ab"
+  ok 2
+run 2
+  ran 2
+show s
+  show s head.r 0 0 ldterm.r 1 1 ldterm.w 1 1 drv.w 0 0
+flush s w
+  ok
+run 50
+  ran 4
+read m 9
+  data 1 "b"
+write m "\n"
+  ok 1
+run 50
+  ran 2
+read s 9
+  data 3 "ab\n"
+"#,
+    ),
+    (
+        "A turn stops, and with what it left the next one is refused",
+        SHORT_AT_6,
+        r#"open 33
+  ok
+unlock
+  ok
+slave
+  ok
+push s ldterm
+  ok
+write m "ab"
+  ok 2
+run 50
+  ran 2
+run 50
+  ran 0
+turn s.ldterm.r
+  err ENOSR
+"#,
+    ),
+    (
+        "So does one by its name",
+        SHORT_AT_7,
+        r#"open 33
+  ok
+unlock
+  ok
+slave
+  ok
+push s ldterm
+  ok
+write m "ab"
+  ok 2
+turn m.drv.w
+  ok 2
+turn s.ldterm.r
+  ok 1
+show s
+  show s head.r 0 0 ldterm.r 1 1 ldterm.w 1 1 drv.w 0 0
+"#,
+    ),
+    (
+        "With one block more the turn goes to the end of its message",
+        WELL,
+        r#"open 34
+  ok
+unlock
+  ok
+slave
+  ok
+push s ldterm
+  ok
+write m "ab"
+  ok 2
+run 50
+  ran 4
+read m 9
+  data 2 "ab"
+"#,
+    ),
+];
