@@ -12,9 +12,9 @@ Words = List (Bor (List ℕ))
 abbrev pub word : Words → ℕ → List ℕ
 word words i = (slice_index_or words i (record { ref_ptr = (0, 0); now = [] })).now
 
--- seven numbers in the ranges of a plan
+-- eight numbers in the ranges of a plan
 pub record IsPlan (words : Words) : Type 0 where
-  pub seven : length words ≡ 7
+  pub eight : length words ≡ 8
   pub pairs : IsNumber (word words 0)
   pub rounds : IsNumber (word words 1)
   pub size : IsNumber (word words 2)
@@ -22,10 +22,13 @@ pub record IsPlan (words : Words) : Type 0 where
   pub blocks : IsNumber (word words 4)
   pub entries : IsNumber (word words 5)
   pub warm : IsNumber (word words 6)
+  pub typed : IsNumber (word words 7)
   pub small : number_of (word words 2) ≤ 4096
   pub some_blocks : 0 < number_of (word words 4)
   pub few_blocks : number_of (word words 4) ≤ 65536
   pub warm_or_not : number_of (word words 6) ≤ 1
+  pub typed_or_not : number_of (word words 7) ≤ 1
+  pub line : number_of (word words 7) ≡ 1 → number_of (word words 2) ≤ 256
 
 -- a plan has the numbers that the words spell
 pub record Says (words : Words) (plan : Plan) : Type 0 where
@@ -36,6 +39,7 @@ pub record Says (words : Words) (plan : Plan) : Type 0 where
   pub blocks : plan.blocks ≡ number_of (word words 4)
   pub entries : plan.entries ≡ number_of (word words 5)
   pub warm : plan.warm ≡ (number_of (word words 6) == 1)
+  pub typed : plan.typed ≡ (number_of (word words 7) == 1)
 
 -- how many bytes the rounds of a plan ask for
 abbrev pub bytes_asked : Plan → ℕ

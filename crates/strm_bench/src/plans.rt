@@ -1,10 +1,11 @@
 //! What is to be measured.
 
-ghost use Rattle.std.specs.Prelude.{◌≤◌, ◌<◌};
+ghost use Rattle.std.specs.Prelude.{◌≡◌, ◌≤◌, ◌<◌, true};
 
 /// A plan: so many pairs one after the other, on each so many rounds of a write of `size` bytes, a turn and a read,
 /// while `standing` messages of one byte stand on the slave's head. A warm plan makes each pair as new after its rounds,
-/// and makes them again, on memory that was written before.
+/// and makes them again, on memory that was written before. In a typed plan a line discipline stands on the slave: each write is a
+/// line, which goes up as one, and its echo is read too.
 #[derive(Clone, Copy)]
 pub struct Plan {
     pub pairs: u32,
@@ -14,7 +15,9 @@ pub struct Plan {
     pub blocks: u32,
     pub entries: u32,
     pub warm: bool,
+    pub typed: bool,
     pub ghost some_blocks: { 0 < blocks },
     pub ghost few_blocks: { blocks ≤ 65536 },
     pub ghost small: { size ≤ 4096 },
+    pub ghost line: { typed ≡ true → size ≤ 256 },
 }

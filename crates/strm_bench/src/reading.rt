@@ -7,13 +7,13 @@ ghost use Rattle.strm_bench.specs.Plans.{IsPlan, Says};
 
 use crate::plans::Plan;
 
-/// The plan that seven words say, each a number: blocks from 1 to 65536, a size of at most 4096, and a last one of 0 or 1,
-/// which is 1 for a warm plan.
+/// The plan that eight words say, each a number: blocks from 1 to 65536, a size of at most 4096, and two last ones of 0 or 1, which
+/// are 1 for a warm plan and for a typed one, whose size is at most 256.
 pub fn read_plan(words: &[&str]) -> Option<Plan>
     ensures known { IsSome result ↔ IsPlan words.now }
     ensures numbers { IfSome result (Says words.now) }
 {
-    let [pairs, rounds, size, standing, blocks, entries, warm] = *words else {
+    let [pairs, rounds, size, standing, blocks, entries, warm, typed] = *words else {
         return None;
     };
     let pairs = number(pairs)?;
@@ -23,7 +23,11 @@ pub fn read_plan(words: &[&str]) -> Option<Plan>
     let blocks = number(blocks)?;
     let entries = number(entries)?;
     let warm = number(warm)?;
-    if blocks == 0 || blocks > 65536 || size > 4096 || warm > 1 {
+    let typed = number(typed)?;
+    if blocks == 0 || blocks > 65536 || size > 4096 || warm > 1 || typed > 1 {
+        return None;
+    }
+    if typed == 1 && size > 256 {
         return None;
     }
     Some(Plan {
@@ -34,6 +38,7 @@ pub fn read_plan(words: &[&str]) -> Option<Plan>
         blocks,
         entries,
         warm: warm == 1,
+        typed: typed == 1,
     })
 }
 

@@ -8,13 +8,17 @@ use crate::plans::Plan;
 use std::alloc::Global;
 use strm_blocks::TableStore;
 use strm_pair::Pair;
-use strm_types::{Caller, Config, Content, Event, Side};
+use strm_types::{Caller, Config, Content, Event, ModuleName, Side};
 
 const MASTER: Caller = Caller { side: Side::Master };
 
 const SLAVE: Caller = Caller { side: Side::Slave };
 
 static BYTES: [u8; 4096] = [b'z'; 4096];
+
+// A line as long as one may be, with its delimiter.
+static LINE: &[u8; 256] =
+    b"zzzzzzzzzzzzzzzzzzzzzzzzzzzzzzzzzzzzzzzzzzzzzzzzzzzzzzzzzzzzzzzzzzzzzzzzzzzzzzzzzzzzzzzzzzzzzzzzzzzzzzzzzzzzzzzzzzzzzzzzzzzzzzzzzzzzzzzzzzzzzzzzzzzzzzzzzzzzzzzzzzzzzzzzzzzzzzzzzzzzzzzzzzzzzzzzzzzzzzzzzzzzzzzzzzzzzzzzzzzzzzzzzzzzzzzzzzzzzzzzzzzzzzzzzzzzzzz\n";
 
 // A new pair of a plan's sizes.
 fn new_pair(alloc: Global, plan: &Plan) -> Option<Pair<TableStore>> {
@@ -51,6 +55,23 @@ fn opens(pair: &mut Pair<TableStore>, out: &mut Content) -> bool {
         && calls(pair, SLAVE, &Event::OpenSlave, out)
 }
 
+// Pushes a line discipline on the slave; whether it was granted.
+fn pushes(pair: &mut Pair<TableStore>, out: &mut Content) -> bool {
+    let event = Event::Push {
+        name: Some(ModuleName::Ldterm),
+    };
+    calls(pair, SLAVE, &event, out)
+}
+
+// What a plan writes in each round: bytes, or the end of a line.
+fn written(plan: &Plan) -> &'static [u8] {
+    let size = plan.size as usize;
+    if plan.typed {
+        return &LINE[256 - size..];
+    }
+    &BYTES[..size]
+}
+
 // A write on the master, and the turns that carry it to the slave's head; whether all went well.
 fn sends(pair: &mut Pair<TableStore>, bytes: &[u8], out: &mut Content) -> bool {
     if !calls(pair, MASTER, &Event::Write { bytes }, out) {
@@ -67,6 +88,11 @@ fn sends(pair: &mut Pair<TableStore>, bytes: &[u8], out: &mut Content) -> bool {
     true
 }
 
+// A read of what is echoed on the master, in a typed plan; whether it was granted.
+fn echoes(pair: &mut Pair<TableStore>, plan: &Plan, out: &mut Content) -> bool {
+    !plan.typed || calls(pair, MASTER, &Event::Read { n: 4096 }, out)
+}
+
 // A read of up to so many bytes on the slave; whether it was granted.
 fn reads(pair: &mut Pair<TableStore>, n: u32, out: &mut Content) -> bool
     ensures { OnTrue result (length out.new.items ≤ n) }
@@ -79,7 +105,7 @@ fn rounds(pair: &mut Pair<TableStore>, plan: &Plan) -> Option<u64>
     ensures { IfSome result (λ bytes. bytes ≤ plan.now.rounds * plan.now.size) }
 {
     let mut out = Content::new();
-    if !opens(pair, &mut out) {
+    if !opens(pair, &mut out) || (plan.typed && !pushes(pair, &mut out)) {
         return None;
     }
     for _ in 0..plan.standing {
@@ -88,9 +114,11 @@ fn rounds(pair: &mut Pair<TableStore>, plan: &Plan) -> Option<u64>
         }
     }
     let mut read = 0u64;
-    let bytes = &BYTES[..plan.size as usize];
     for _ in 0..plan.rounds {
-        if !sends(pair, bytes, &mut out) || !reads(pair, plan.size, &mut out) {
+        if !sends(pair, written(plan), &mut out) || !echoes(pair, plan, &mut out) {
+            return None;
+        }
+        if !reads(pair, plan.size, &mut out) {
             return None;
         }
         read = read.saturating_add(out.len() as u64);

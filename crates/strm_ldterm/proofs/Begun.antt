@@ -29,7 +29,7 @@ use Rattle.strm_ldterm.proofs.Finished.{work-splits, work-shown, work-is, work-h
 use Rattle.strm_ldterm.proofs.Flushed.{alters-none}
 use Rattle.strm_ldterm.proofs.Proceeding.{proceeds-alters}
 use Rattle.strm_ldterm.proofs.Sends.{sends-made, sends-none}
-use Rattle.strm_ldterm.proofs.Skipped.{left-none}
+use Rattle.strm_ldterm.proofs.Skipped.{left-all, left-none}
 
 module _ {M : Type 0} (name : M → ℕ) where
   -- Another message has come for the one in work.
@@ -89,30 +89,37 @@ module _ {M : Type 0} (name : M → ℕ) where
         ap (λ o. record (ldterm_in name s x) { in_work = option_map (left_of rest) (kept_in name s o) }) none
         ∙ sym (ap (λ o. record (ldterm_in name s x) { in_work = kept_in name s o }) none)
 
-    pub idle-proceeds : x.in_work ≡ None → (f : Fates) → IsHeld name s x
-        → Proceeds name s s x (record x { in_work = None }) 0 [] [] f f (sends [] (with_left (drop 1 (cells_left (ldterm_in name s x))) (ldterm_in name s x)))
-    idle-proceeds none f held =
+    pub idle-proceeds : x.in_work ≡ None → (f : Fates) → IsHeld name s x → (rest : List ℕ)
+        → Proceeds name s s x (record x { in_work = None }) 0 [] [] f f (sends [] (with_left rest (ldterm_in name s x)))
+    idle-proceeds none f held rest =
         let p = ldterm_in name s x in
-        proceeds-alters name s s x (record x { in_work = None }) f (with_left (drop 1 (cells_left p)) p) (subst (λ o. Alters name s s x (record x { in_work = o })) none (alters-none name s x held))
-        (sym (ap (λ o. record p { in_work = option_map (left_of (drop 1 (cells_left p))) (kept_in name s o) }) none))
+        proceeds-alters name s s x (record x { in_work = None }) f (with_left rest p) (subst (λ o. Alters name s s x (record x { in_work = o })) none (alters-none name s x held))
+        (sym (ap (λ o. record p { in_work = option_map (left_of rest) (kept_in name s o) }) none))
 
     -- a message is
     module _ (m : M) (there : x.in_work ≡ Some m) where
       pub busy-cells : cells_left (ldterm_in name s x) ≡ cells_of (message_in s (name m))
       busy-cells = ap (λ o. cells_left (record (ldterm_in name s x) { in_work = o })) (work-shown name s x m there)
 
-      pub busy-left : with_left (drop 1 (cells_left (ldterm_in name s x))) (ldterm_in name s x)
-          ≡ record (ldterm_in name s x) { in_work = Some (left_of (drop 1 (cells_of (message_in s (name m)))) (message_in s (name m))) }
-      busy-left =
-          ap (λ c. with_left (drop 1 c) (ldterm_in name s x)) busy-cells
-          ∙ ap (λ o. record (ldterm_in name s x) { in_work = option_map (left_of (drop 1 (cells_of (message_in s (name m))))) o }) (work-shown name s x m there)
+      pub busy-left : (n : ℕ) → with_left (drop n (cells_left (ldterm_in name s x))) (ldterm_in name s x)
+          ≡ record (ldterm_in name s x) { in_work = Some (left_of (drop n (cells_of (message_in s (name m)))) (message_in s (name m))) }
+      busy-left n =
+          ap (λ c. with_left (drop n c) (ldterm_in name s x)) busy-cells
+          ∙ ap (λ o. record (ldterm_in name s x) { in_work = option_map (left_of (drop n (cells_of (message_in s (name m))))) o }) (work-shown name s x m there)
+
+      -- all that is left of it is the message
+      pub busy-all : IsHeld name s x → with_left (cells_left (ldterm_in name s x)) (ldterm_in name s x) ≡ ldterm_in name s x
+      busy-all held =
+          busy-left 0
+          ∙ ap (λ (w : Message ℕ). record (ldterm_in name s x) { in_work = Some w }) (left-all s (name m) (work-is name s x m there held))
+          ∙ sym (ap (λ o. record (ldterm_in name s x) { in_work = o }) (work-shown name s x m there))
 
       pub busy-byte : (o : Option ℕ) → IsHeld name s x → MatchOption o (cells_of (message_in s (name m)) ≡ []) (λ byte. cells_of (message_in s (name m)) ≡ byte ∷ drop 1 (cells_of (message_in s (name m))))
           → MatchOption o ((cells_left (ldterm_in name s x) ≡ []) × (with_left (drop 1 (cells_left (ldterm_in name s x))) (ldterm_in name s x) ≡ ldterm_in name s x))
           (λ byte. cells_left (ldterm_in name s x) ≡ byte ∷ drop 1 (cells_left (ldterm_in name s x)))
       busy-byte None held none = (
         busy-cells ∙ none,
-        busy-left ∙ ap (λ (w : Message ℕ). record (ldterm_in name s x) { in_work = Some w }) (left-none s (name m) (work-is name s x m there held) none)
+        busy-left 1 ∙ ap (λ (w : Message ℕ). record (ldterm_in name s x) { in_work = Some w }) (left-none s (name m) (work-is name s x m there held) none)
             ∙ sym (ap (λ o. record (ldterm_in name s x) { in_work = o }) (work-shown name s x m there)),
       )
       busy-byte (Some byte) held is = busy-cells ∙ is ∙ ap (λ c. byte ∷ drop 1 c) (sym busy-cells)

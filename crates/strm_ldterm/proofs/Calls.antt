@@ -200,44 +200,53 @@ module _ {M : Type 0} (name : M → ℕ) where
     short : length notes ≤ 2
     short = let f = fits here p0 n stage within in let a = ahead-short here (3 * n) p0 f in let e = ap length r.does.noted in omega arith
 
-    module _ (s' : StoreValue) (x' : Ldterm M) (notes' : List Note) (sent' : List (Sent M)) (t' : Fates) (some : 0 < left) (b : Proceeds name s s' x x' 27 notes' sent' t t' (ahead here 3 p)) where
-      three : 3 + stages_done p.stage ≤ 3 * to_treat p
-      three = let z = none-done p.stage ran-stage in let a = all-left p ran-stage in let l = ran-left in omega arith
+    -- and so many more, in blocks of which so many are taken
+    module _ (s' : StoreValue) (x' : Ldterm M) (k j : ℕ) (notes' : List Note) (sent' : List (Sent M)) (t' : Fates) (most : j ≤ left) (b : Proceeds name s s' x x' k notes' sent' t t' (ahead here (3 * j) p)) where
+      more : 3 * j + stages_done p.stage ≤ 3 * to_treat p
+      more = let z = none-done p.stage ran-stage in let a = all-left p ran-stage in let l = ran-left in omega arith
 
       pub notes-fit : length notes + length notes' ≤ 4
-      notes-fit = let a = short in let c = ahead-short here 3 p three in let e = ap length b.noted in omega arith
+      notes-fit = let a = short in let c = ahead-short here (3 * j) p more in let e = ap length b.noted in omega arith
 
       module _ (st : IsStore s) where
-        joined : Proceeds name s0 s' x0 x' (all_free s0) (notes ++ notes') sent' t0 t' (ahead here (3 * n + 3) p0)
+        joined : Proceeds name s0 s' x0 x' (all_free s0) (notes ++ notes') sent' t0 t' (ahead here (3 * n + 3 * j) p0)
         joined =
-            takes-any s0 s' x0 x' (all_free s0 + 27) (notes ++ notes') sent' t0 t' (ahead here (3 * n + 3) p0)
-            (subst (Proceeds name s0 s' x0 x' (all_free s0 + 27) (notes ++ notes') sent' t0 t') (sym (ahead-more here (3 * n) 3 p0))
-            (proceeds-joined name s0 s x0 x (all_free s0) notes t0 t (ahead here (3 * n) p0) st r.does s' x' 27 notes' sent' t' (ahead here 3) b))
+            takes-any s0 s' x0 x' (all_free s0 + k) (notes ++ notes') sent' t0 t' (ahead here (3 * n + 3 * j) p0)
+            (subst (Proceeds name s0 s' x0 x' (all_free s0 + k) (notes ++ notes') sent' t0 t') (sym (ahead-more here (3 * n) (3 * j) p0))
+            (proceeds-joined name s0 s x0 x (all_free s0) notes t0 t (ahead here (3 * n) p0) st r.does s' x' k notes' sent' t' (ahead here (3 * j)) b))
 
-        pub ran-next : sent' ≡ [] → Ran s0 s' here x0 x' bytes (left - 1) (notes ++ notes') t0 t'
+        pub ran-next : sent' ≡ [] → Ran s0 s' here x0 x' bytes (left - j) (notes ++ notes') t0 t'
         ran-next quiet = record {
           fewer = (let f = r.fewer in omega arith);
           does =
-              (let f = r.fewer in let e : 3 * n + 3 ≡ 3 * (bytes - (left - 1)) = omega arith in
-              subst (λ k. Proceeds name s0 s' x0 x' (all_free s0) (notes ++ notes') [] t0 t' (ahead here k p0)) e
-              (subst (λ out. Proceeds name s0 s' x0 x' (all_free s0) (notes ++ notes') out t0 t' (ahead here (3 * n + 3) p0)) quiet joined));
+              (let f = r.fewer in let e : 3 * n + 3 * j ≡ 3 * (bytes - (left - j)) = omega arith in
+              subst (λ i. Proceeds name s0 s' x0 x' (all_free s0) (notes ++ notes') [] t0 t' (ahead here i p0)) e
+              (subst (λ out. Proceeds name s0 s' x0 x' (all_free s0) (notes ++ notes') out t0 t' (ahead here (3 * n + 3 * j) p0)) quiet joined));
         }
 
-        pub runs-into : is_none_left sent' ≡ false → HasRoom s' (leaves (stage_in x'.stage)) × (0 < stages_left (stage_in x'.stage)) → RunsInto name s0 s' here x0 x' bytes left (notes ++ notes') sent' t0 t'
-        runs-into sent behind = record {
-          fewer = r.fewer;
-          some = some;
-          sends = sent;
-          does = joined;
-          under_way = behind.1;
-          room = behind.0;
-          treat =
-              (let q = (ahead here 3 p).state in
-              let out : is_none_left (ahead here 3 p).sent ≡ false = sym (ap is_none_left b.parcels) ∙ parcels-none name s' sent' ∙ sent in
-              let under : 0 < stages_left q.stage = (let e = ap (λ (v : ldterms.Ldterm ℕ). stages_left v.stage) b.state in let u = behind.1 in omega arith) in
-              let l = ran-left in
-              ap to_treat b.state ∙ treat-after here p ran-stage (omega arith) out under ∙ l);
-        }
+    -- a run of so many, and all that is noted
+    pub ran-run : (s' : StoreValue) (x' : Ldterm M) (j : ℕ) (notes' all : List Note) (t' : Fates) → IsStore s → j ≤ length (cells_left p) → all ≡ notes ++ notes' → Proceeds name s s' x x' 2 notes' [] t t' (ahead here (3 * j) p)
+        → Ran s0 s' here x0 x' bytes (left - j) all t0 t'
+    ran-run s' x' j notes' all t' st within joined b =
+        subst (λ ns. Ran s0 s' here x0 x' bytes (left - j) ns t0 t') (sym joined) (ran-next s' x' 2 j notes' [] t' (let l = ran-left in omega arith) b st refl)
+
+    -- or one that has sent something
+    pub runs-into : (s' : StoreValue) (x' : Ldterm M) (notes' : List Note) (sent' : List (Sent M)) (t' : Fates) → 0 < left → Proceeds name s s' x x' 27 notes' sent' t t' (ahead here 3 p) → IsStore s
+        → is_none_left sent' ≡ false → HasRoom s' (leaves (stage_in x'.stage)) × (0 < stages_left (stage_in x'.stage)) → RunsInto name s0 s' here x0 x' bytes left (notes ++ notes') sent' t0 t'
+    runs-into s' x' notes' sent' t' some b st sent behind = record {
+      fewer = r.fewer;
+      some = some;
+      sends = sent;
+      does = joined s' x' 27 1 notes' sent' t' some b st;
+      under_way = behind.1;
+      room = behind.0;
+      treat =
+          (let q = (ahead here 3 p).state in
+          let out : is_none_left (ahead here 3 p).sent ≡ false = sym (ap is_none_left b.parcels) ∙ parcels-none name s' sent' ∙ sent in
+          let under : 0 < stages_left q.stage = (let e = ap (λ (v : ldterms.Ldterm ℕ). stages_left v.stage) b.state in let u = behind.1 in omega arith) in
+          let l = ran-left in
+          ap to_treat b.state ∙ treat-after here p ran-stage (omega arith) out under ∙ l);
+    }
 
 -- calls of the procedure
 module _ (here : Spot) (p : ldterms.Ldterm ℕ) where

@@ -34,13 +34,13 @@ use Rattle.strm_ldterm.proofs.Grows.{grown-lists, grown-pool, grown-times, grown
 use Rattle.strm_ldterm.proofs.Last.{zero-last}
 
 -- the last message grows
-grown-last : (here : Spot) (bytes : List ℕ) (ms : List (Message ℕ)) (m : Message ℕ) → grown plain here bytes (ms ++ m ∷ []) ≡ ms ++ data_message (cells_of m ++ bytes) ∷ []
+pub grown-last : (here : Spot) (bytes : List ℕ) (ms : List (Message ℕ)) (m : Message ℕ) → grown plain here bytes (ms ++ m ∷ []) ≡ ms ++ data_message (cells_of m ++ bytes) ∷ []
 grown-last here bytes [] m = refl
 grown-last here bytes (k ∷ []) m = refl
 grown-last here bytes (k ∷ l ∷ ms) m = ap (λ xs. k ∷ xs) (grown-last here bytes (l ∷ ms) m)
 
 -- an ordinary message of data has rank 0
-data-rank : (bytes : List ℕ) → rank_of (data_message bytes) ≡ 0
+pub data-rank : (bytes : List ℕ) → rank_of (data_message bytes) ≡ 0
 unfolding rank_of data_message is_high_priority
 data-rank bytes = refl
 

@@ -2,6 +2,7 @@ mod Columns
 mod EchoBytes
 mod LineEnds
 mod PlainBytes
+pub mod PlainRuns
 mod Runs
 pub mod Fresh
 pub mod Last
@@ -32,6 +33,8 @@ pub mod Signals
 pub mod Cleared
 pub mod Struck
 pub mod Treated
+pub mod RunsDone
+pub mod Marks
 pub mod Calls
 pub mod Freeing
 pub mod Turned

@@ -16,11 +16,11 @@ and-false : (x y : Bool) → y ≡ false → (x && y) ≡ false
 and-false true y h = h
 and-false false y h = refl
 
-or-left : (x y : Bool) → (x || y) ≡ false → x ≡ false
+pub or-left : (x y : Bool) → (x || y) ≡ false → x ≡ false
 or-left true y h = h
 or-left false y h = refl
 
-or-right : (x y : Bool) → (x || y) ≡ false → y ≡ false
+pub or-right : (x y : Bool) → (x || y) ≡ false → y ≡ false
 or-right true y h = absurd (let e : true ≡ false = h in cc)
 or-right false y h = h
 

@@ -26,3 +26,10 @@ last_run run rest whole n split none few =
     let all : run ≡ whole = sym (append-nil run) ∙ ap (λ l. run ++ l) (sym none) ∙ split in
     let taken = take_all run n few in
     (subst (λ l. run ≡ take n l) all taken.0, none ∙ subst (λ l. [] ≡ drop n l) all taken.1)
+
+-- the first ones of the first ones
+pub take-twice : {C : Type 0} (n m : ℕ) (l : List C) → n ≤ m → take n (take m l) ≡ take n l
+take-twice zero m l few = refl
+take-twice (suc n) zero l few = absurd (omega (arith, few))
+take-twice (suc n) (suc m) [] few = refl
+take-twice (suc n) (suc m) (x ∷ l) few = ap (λ k. x ∷ k) (take-twice n m l (omega (arith, few)))

@@ -1,7 +1,8 @@
 -- Blocks and bytes that leave the front of a message of data in hand.
 use Rattle.std.proofs.lemmas.Bool.{cases_eq}
-use Rattle.std.proofs.Common.{inl, inr, ℕ, ◌≡◌, ◌≢◌, ◌≤◌, ◌<◌, ◌+◌, false, cond, eqb, List, [], ◌∷◌, ◌++◌, length, drop, refl, sym, ap, subst, ◌∙◌, arith}
+use Rattle.std.proofs.Common.{inl, inr, ℕ, ◌≡◌, ◌≢◌, ◌≤◌, ◌<◌, ◌+◌, false, cond, eqb, List, [], ◌∷◌, ◌++◌, length, take, drop, refl, sym, ap, subst, ◌∙◌, arith, append_assoc, take-append-drop}
 use Rattle.std.specs.Prelude.{slice_index_or}
+use Rattle.std.proofs.Math.Seq.{drop-append_seam}
 use Rattle.std.proofs.lemmas.List.Sums.{sum_by-cons}
 use Rattle.strm_types.specs.declared.kinds.MsgKind.TheVariants as kinds
 use Rattle.strm_types.specs.Input.{left_of}
@@ -66,7 +67,7 @@ data-from chain b rest one kind all band = record {
   low = omega (arith, band, one.low);
 }
 
-no-bytes : (l : List ℕ) → length l ≡ 0 → l ≡ []
+pub no-bytes : (l : List ℕ) → length l ≡ 0 → l ≡ []
 no-bytes [] none = refl
 no-bytes (x ∷ l) none = absurd (omega arith)
 
@@ -210,56 +211,52 @@ none-shown (b ∷ []) one kind single none =
 pub skipped-none : (s t : StoreValue) (i j : ℕ) → Becomes s t i j (message_in s i) → length (in_hand t j) ≡ 1 → length (block_at 0 (in_hand t j)).bytes ≡ 0 → cells_of (message_in s i) ≡ []
 skipped-none s t i j b single none = ap cells_of (sym b.shows) ∙ none-shown (in_hand t j) b.is.chain b.is.kind single none
 
--- the next byte of a message whose first block has one
-pub record LessShown (chain new : List Block) (byte : ℕ) : Type 0 where
+-- A message whose first block has lost bytes at its front.
+pub record LessShown (chain new : List Block) (gone : List ℕ) : Type 0 where
   pub one : IsChain new
   pub kind : (block_at 0 new).kind ≡ kinds.Data
-  pub shows : message_of new ≡ left_of (drop 1 (cells_of (message_of chain))) (message_of chain)
-  pub cells : cells_of (message_of chain) ≡ byte ∷ drop 1 (cells_of (message_of chain))
+  pub shows : message_of new ≡ left_of (drop (length gone) (cells_of (message_of chain))) (message_of chain)
+  pub cells : cells_of (message_of chain) ≡ gone ++ drop (length gone) (cells_of (message_of chain))
   pub same : length new ≡ length chain
   pub names : (d : ℕ) → names_of d new ≡ names_of d chain
 
-pub without-byte : (chain : List Block) → IsChain chain → (block_at 0 chain).kind ≡ kinds.Data → (length (block_at 0 chain).bytes ≡ 0 → ⊥)
-    → LessShown chain (with_block 0 (trimmed_head 1 (block_at 0 chain)) chain) (slice_index_or (block_at 0 chain).bytes 0 0)
-without-byte [] one kind some = absurd (let l = one.some in omega arith)
-without-byte (b ∷ rest) one kind some = at b.bytes refl
-  where
-    less : Block
-    less = trimmed_head 1 b
+pub without-front : (chain : List Block) (n : ℕ) → IsChain chain → (block_at 0 chain).kind ≡ kinds.Data → LessShown chain (with_block 0 (trimmed_head n (block_at 0 chain)) chain) (take n (block_at 0 chain).bytes)
+without-front [] n one kind = absurd (let l = one.some in omega arith)
+without-front (b ∷ rest) n one kind =
+    let less = trimmed_head n b in
+    let all = one.all_data kind in
+    let new = data-from (b ∷ rest) less rest one kind all refl in
+    let m = message_of (b ∷ rest) in
+    let gone = take n b.bytes in
+    let shown = shown-bytes (b ∷ rest) one kind in
+    let parts : cells_of m ≡ gone ++ (drop n b.bytes ++ bytes_of rest) =
+    ap cells_of shown ∙ data_in-cells b.band (bytes_of (b ∷ rest)) ∙ ap (λ l. l ++ bytes_of rest) (sym (take-append-drop n b.bytes)) ∙ append_assoc gone (drop n b.bytes) (bytes_of rest) in
+    let left : drop (length gone) (cells_of m) ≡ drop n b.bytes ++ bytes_of rest = ap (drop (length gone)) parts ∙ drop-append_seam gone (drop n b.bytes ++ bytes_of rest) in
+    record {
+      one = new;
+      kind = kind;
+      shows = shown-bytes (less ∷ rest) new kind ∙ sym (ap (λ c. left_of c m) left ∙ ap (left_of (drop n b.bytes ++ bytes_of rest)) shown);
+      cells = parts ∙ ap (λ c. gone ++ c) (sym left);
+      same = refl;
+      names = λ d. let y = sum_by-cons (λ (x : Block). cond {A = ℕ} (eqb x.number d) 1 0) b rest in
+          let z = sum_by-cons (λ (x : Block). cond {A = ℕ} (eqb x.number d) 1 0) less rest in omega arith;
+    }
 
-    at : (l : List ℕ) → b.bytes ≡ l → LessShown (b ∷ rest) (less ∷ rest) (slice_index_or b.bytes 0 0)
-    at [] e = absurd (some (ap length e))
-    at (x ∷ xs) e =
-        let all = one.all_data kind in
-        let new = data-from (b ∷ rest) less rest one kind all refl in
-        let m = message_of (b ∷ rest) in
-        let shown = shown-bytes (b ∷ rest) one kind in
-        let cells : cells_of m ≡ x ∷ (xs ++ bytes_of rest) = ap cells_of shown ∙ data_in-cells b.band (bytes_of (b ∷ rest)) ∙ ap (λ l. l ++ bytes_of rest) e in
-        record {
-          one = new;
-          kind = kind;
-          shows =
-              shown-bytes (less ∷ rest) new kind
-              ∙ ap (λ l. data_in b.band (drop 1 l ++ bytes_of rest)) e
-              ∙ sym (ap (λ c. left_of (drop 1 c) m) cells ∙ ap (left_of (xs ++ bytes_of rest)) shown);
-          cells = cells ∙ ap (λ y. y ∷ (xs ++ bytes_of rest)) (sym (ap (λ l. slice_index_or l 0 0) e)) ∙ ap (λ c. slice_index_or b.bytes 0 0 ∷ drop 1 c) (sym cells);
-          same = refl;
-          names = λ d. let y = sum_by-cons (λ (x : Block). cond {A = ℕ} (eqb x.number d) 1 0) b rest in
-              let z = sum_by-cons (λ (x : Block). cond {A = ℕ} (eqb x.number d) 1 0) less rest in omega arith;
-        }
-
-module _ (s t : StoreValue) (i : ℕ) (is : IsInHand s i) (msg : IsData s i) (some : length (block_at 0 (in_hand s i)).bytes ≡ 0 → ⊥) (after : t ≡ changed s i (with_block 0 (trimmed_head 1 (block_at 0 (in_hand s i))) (in_hand s i))) where
+module _ (s t : StoreValue) (i n : ℕ) (is : IsInHand s i) (msg : IsData s i) (after : t ≡ changed s i (with_block 0 (trimmed_head n (block_at 0 (in_hand s i))) (in_hand s i))) where
   abbrev left : List Block
-  left = with_block 0 (trimmed_head 1 (block_at 0 (in_hand s i))) (in_hand s i)
+  left = with_block 0 (trimmed_head n (block_at 0 (in_hand s i))) (in_hand s i)
 
-  less : LessShown (in_hand s i) left (slice_index_or (block_at 0 (in_hand s i)).bytes 0 0)
-  less = without-byte (in_hand s i) msg.chain msg.kind some
+  abbrev pub front : List ℕ
+  front = take n (block_at 0 (in_hand s i)).bytes
+
+  less : LessShown (in_hand s i) left front
+  less = without-front (in_hand s i) n msg.chain msg.kind
 
   left-is : in_hand t i ≡ left
   left-is = ap (λ v. in_hand v i) after ∙ in_hand-changed s i left is
 
-  pub byte-is : cells_of (message_in s i) ≡ slice_index_or (block_at 0 (in_hand s i)).bytes 0 0 ∷ drop 1 (cells_of (message_in s i))
-  byte-is = less.cells
+  pub front-is : cells_of (message_in s i) ≡ front ++ drop (length front) (cells_of (message_in s i))
+  front-is = less.cells
 
   trimmed : Shifts s (changed s i left) (once i) (once i) 0
   trimmed =
@@ -272,20 +269,41 @@ module _ (s t : StoreValue) (i : ℕ) (is : IsInHand s i) (msg : IsData s i) (so
         pool = record { mblks = refl; dblks = refl };
       }
 
-  pub byte-becomes : Becomes s t i i (left_of (drop 1 (cells_of (message_in s i))) (message_in s i))
-  byte-becomes = record {
+  pub front-becomes : Becomes s t i i (left_of (drop (length front) (cells_of (message_in s i))) (message_in s i))
+  front-becomes = record {
     lists = ap (λ v. v.lists) after;
     hands = subst (λ v. Shifts s v (once i) (once i) 0) (sym after) trimmed;
     is = record { chain = subst IsChain (sym left-is) less.one; kind = ap (λ c. (block_at 0 c).kind) left-is ∙ less.kind };
     shows = ap message_of left-is ∙ less.shows;
   }
 
+-- the next byte, where there is one
+take-one : (l : List ℕ) → (length l ≡ 0 → ⊥) → take 1 l ≡ slice_index_or l 0 0 ∷ []
+take-one [] some = absurd (some refl)
+take-one (x ∷ l) some = refl
+
+module _ (s t : StoreValue) (i : ℕ) (is : IsInHand s i) (msg : IsData s i) (some : length (block_at 0 (in_hand s i)).bytes ≡ 0 → ⊥) (after : t ≡ changed s i (with_block 0 (trimmed_head 1 (block_at 0 (in_hand s i))) (in_hand s i))) where
+  first : take 1 (block_at 0 (in_hand s i)).bytes ≡ slice_index_or (block_at 0 (in_hand s i)).bytes 0 0 ∷ []
+  first = take-one (block_at 0 (in_hand s i)).bytes some
+
+  pub byte-is : cells_of (message_in s i) ≡ slice_index_or (block_at 0 (in_hand s i)).bytes 0 0 ∷ drop 1 (cells_of (message_in s i))
+  byte-is = front-is s t i 1 is msg after ∙ ap (λ l. l ++ drop (length l) (cells_of (message_in s i))) first
+
+  pub byte-becomes : Becomes s t i i (left_of (drop 1 (cells_of (message_in s i))) (message_in s i))
+  byte-becomes = subst (λ l. Becomes s t i i (left_of (drop (length l) (cells_of (message_in s i))) (message_in s i))) first (front-becomes s t i 1 is msg after)
+
+-- all cells of a message of data are the message
+data-is : (s : StoreValue) (i : ℕ) → IsData s i → message_in s i ≡ data_in (block_at 0 (in_hand s i)).band (cells_of (message_in s i))
+data-is s i msg =
+    let chain = in_hand s i in
+    let shown = shown-bytes chain msg.chain msg.kind in
+    shown ∙ ap (data_in (block_at 0 chain).band) (sym (ap cells_of shown ∙ data_in-cells (block_at 0 chain).band (bytes_of chain)))
+
+pub left-all : (s : StoreValue) (i : ℕ) → IsData s i → left_of (cells_of (message_in s i)) (message_in s i) ≡ message_in s i
+left-all s i msg = let is = data-is s i msg in ap (left_of (cells_of (message_in s i))) is ∙ sym is
+
 -- where no byte is left, nothing is taken
 pub left-none : (s : StoreValue) (i : ℕ) → IsData s i → cells_of (message_in s i) ≡ [] → left_of (drop 1 (cells_of (message_in s i))) (message_in s i) ≡ message_in s i
 left-none s i msg none =
-    let chain = in_hand s i in
     let m = message_in s i in
-    let band = (block_at 0 chain).band in
-    let shown = shown-bytes chain msg.chain msg.kind in
-    let is : m ≡ data_in band (cells_of m) = shown ∙ ap (data_in band) (sym (ap cells_of shown ∙ data_in-cells band (bytes_of chain))) in
-    ap (λ c. left_of (drop 1 c) m) none ∙ ap (left_of []) is ∙ sym (is ∙ ap (data_in band) none)
+    ap (λ c. left_of (drop 1 c) m) none ∙ ap (λ c. left_of c m) (sym none) ∙ left-all s i msg

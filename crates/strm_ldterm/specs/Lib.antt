@@ -19,3 +19,4 @@ pub mod Served
 pub mod ServedLaws
 pub mod Freeing
 pub mod Bounds
+pub mod PlainRuns

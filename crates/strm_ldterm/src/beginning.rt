@@ -39,8 +39,8 @@ fn drop_first<B: Blocks>(store: &mut B, message: B::Mp) -> B::Mp
     rest
 }
 
-// Frees blocks without bytes at the front of a message of data, up to one that has some; the last one stays.
-fn skip_empty<B: Blocks>(store: &mut B, mut message: B::Mp) -> B::Mp
+/// Frees blocks without bytes at the front of a message of data, up to one that has some; the last one stays.
+pub(crate) fn skip_empty<B: Blocks>(store: &mut B, mut message: B::Mp) -> B::Mp
     requires in_hand { IsInHand (B.value store.old) (B.name message) }
     requires is { IsData (B.value store.old) (B.name message) }
     ensures became { Becomes (B.value store.old) (B.value store.new) (B.name message) (B.name result)

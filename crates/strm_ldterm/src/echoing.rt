@@ -131,6 +131,34 @@ fn let_stand<B: Blocks>(
     )
 }
 
+/// Lets bytes stand last on the write queue as the turn's echo, or behind what stands of it, at least one and at most 256: band 0 isn't
+/// full. They take one block of each kind at most.
+pub(crate) fn stand_run<B: Blocks>(
+    ldterm: &mut Ldterm<B::Mp>,
+    store: &mut B,
+    run: &[u8],
+) -> ArrayVec<Note, 4>
+    requires held { IsHeld B.name (B.value store.old) ldterm.old }
+    requires kept { AreIn (B.value store.old) (λ _. 0) (keeps B.name ldterm.old) }
+    requires few { length run.now ≤ 256 }
+    requires room { HasRoom (B.value store.old) 1 }
+    ensures { (here : Spot) (f : Fates) → let s = B.value store.old in let p = ldterm_in B.name s ldterm.old in
+        Proceeds B.name s (B.value store.new) ldterm.old ldterm.new 1 result.items [] f f
+        (record (if is_some ldterm.old.echo then echo_grows plain here run.now p else echo_stands plain here run.now p) { gone = [] }) }
+{
+    match ldterm.echo.take() {
+        Some(echo) => {
+            ldterm.echo = Some(grow(store, echo, run));
+            ArrayVec::new()
+        }
+        None => {
+            store.audit();
+            ldterm.echo = Some(begin(store, run));
+            note_if(enables(&ldterm.write_queue), Note::Enable(Way::Down))
+        }
+    }
+}
+
 /// Echoes a byte, which is the last of what a byte does. Its echo is told as made in the direction of the write queue, and where band 0
 /// of that queue isn't full it stands last there: the turn's echo is one message, which grows. The first byte that is echoed begins it,
 /// and that enables the queue as `putq(9F)` says. Where band 0 is full before, none of the echo stands, and all of it is told as gone

@@ -14,6 +14,7 @@ mod ldterm;
 mod lines;
 mod module;
 mod opening;
+mod pasting;
 mod putting;
 mod queues;
 mod reading;

@@ -1,6 +1,6 @@
 //! The unfinished line of input, and what is typed into it (termio(7I): "Canonical Mode Input Processing", ERASE, WERASE, KILL).
 
-ghost use Rattle.std.specs.Prelude.{◌≡◌, ◌-◌, ◌≤◌, [], true, length, not, take, if◌then◌else◌};
+ghost use Rattle.std.specs.Prelude.{◌≡◌, ◌+◌, ◌-◌, ◌≤◌, ◌++◌, [], true, length, not, take, if◌then◌else◌};
 ghost use Rattle.strm_types.specs.Lines.{edited, has_room, is_blank, without_end, without_word, Types, ErasesByte, ErasesWord, ErasesAll};
 
 use arrayvec::ArrayVec;
@@ -100,6 +100,16 @@ impl Line {
         ensures { self.new ≡ edited is_blank (Types byte) self.old }
     {
         self.bytes.push(byte);
+    }
+
+    /// Adds bytes, where there is room for all of them.
+    pub(crate) fn extend(&mut self, bytes: &[u8])
+        requires { length self.old + length bytes.now ≤ LINE_MAX }
+        ensures { self.new ≡ self.old ++ bytes.now }
+    {
+        let Ok(()) = self.bytes.try_extend_from_slice(bytes) else {
+            unreachable!()
+        };
     }
 
     /// ERASE: takes the last byte. Tells how many bytes went.

@@ -79,6 +79,17 @@ pub fn count<B: Blocks>(ldterm: &Ldterm<B::Mp>, store: &B, way: Way, band: Band)
     }
 }
 
+/// How many bytes more leave band 0 of the write queue at its high-water mark, so that it isn't full before the last of them; 0 where
+/// it is full. The turn's echo counts there.
+pub(crate) fn echo_room<B: Blocks>(ldterm: &Ldterm<B::Mp>, store: &B) -> usize
+    requires { IsHeld B.name (B.value store.now) ldterm.now }
+    ensures { let q = (ldterm_in B.name (B.value store.now) ldterm.now).write_queue in
+        0 < result → count_of 0 q.messages + result ≤ (flow_of 0 q).high }
+{
+    let counted = count(ldterm, store, Way::Down, Band(0));
+    ldterm.write_queue.flows[0].high.saturating_sub(counted)
+}
+
 /// How many messages stand on its queue of a way, and how many bytes they have. The turn's echo stands on the write queue.
 pub fn sizes<B: Blocks>(ldterm: &Ldterm<B::Mp>, store: &B, way: Way) -> (usize, usize)
     requires held { IsHeld B.name (B.value store.now) ldterm.now }

@@ -15,6 +15,7 @@ ghost use Rattle.strm_ldterm.specs.Turns.{needs, stages_left};
 use crate::finishing::finish;
 use crate::ldterm::{Ldterm, Stage};
 use crate::opening::{InputBegun, Passed, begin_input, pass_down};
+use crate::pasting::treat_run;
 use crate::striking::{join, resume, treat_byte};
 use arrayvec::ArrayVec;
 use strm_blocks::Blocks;
@@ -57,7 +58,8 @@ fn work_left<B: Blocks>(ldterm: &Ldterm<B::Mp>, store: &B) -> usize
     booked_size(store, message)
 }
 
-// Treats the bytes that are left of the message in work, until one sends something or blocks are few.
+// Treats the bytes that are left of the message in work, until one sends something or blocks are few: plain bytes at once, and one that
+// isn't plain by itself.
 fn treat_bytes<B: Blocks>(
     ldterm: &mut Ldterm<B::Mp>,
     store: &mut B,
@@ -76,6 +78,13 @@ fn treat_bytes<B: Blocks>(
     let mut notes = ArrayVec::new();
     let mut left = bytes;
     while left > 0 && !are_few(store) {
+        store.audit();
+        let ran = treat_run(ldterm, store, here, told);
+        notes = join(notes, ran.notes);
+        left -= ran.bytes;
+        if left == 0 || are_few(store) {
+            return Run::Out { notes, left };
+        }
         store.audit();
         let more = treat_byte(ldterm, store, here, told);
         notes = join(notes, more.notes);

@@ -189,7 +189,7 @@ const SHORT_AT_7: ScriptEnd = ScriptEnd {
 };
 
 /// Turns where few blocks are free.
-pub const FEW_BLOCKS: [Scene; 4] = [
+pub const FEW_BLOCKS: [Scene; 5] = [
     (
         "A turn stops within its message where too few blocks are left, and the next one goes on",
         SHORT_AT_6,
@@ -201,7 +201,7 @@ slave
   ok
 push s ldterm
   ok
-write m "ab"
+write m "a\x01"
   ok 2
 run 2
   ran 2
@@ -212,13 +212,13 @@ flush s w
 run 50
   ran 4
 read m 9
-  data 1 "b"
+  data 2 "^A"
 write m "\n"
   ok 1
 run 50
   ran 2
 read s 9
-  data 3 "ab\n"
+  data 3 "a\x01\n"
 "#,
     ),
     (
@@ -232,7 +232,7 @@ slave
   ok
 push s ldterm
   ok
-write m "ab"
+write m "a\x01"
   ok 2
 run 50
   ran 2
@@ -253,7 +253,7 @@ slave
   ok
 push s ldterm
   ok
-write m "ab"
+write m "a\x01"
   ok 2
 turn m.drv.w
   ok 2
@@ -274,12 +274,33 @@ slave
   ok
 push s ldterm
   ok
-write m "ab"
+write m "a\x01"
   ok 2
 run 50
   ran 4
 read m 9
-  data 2 "ab"
+  data 3 "a^A"
+"#,
+    ),
+    (
+        "Plain bytes are treated together, and the turn doesn't stop between them",
+        WELL,
+        r#"open 33
+  ok
+unlock
+  ok
+slave
+  ok
+push s ldterm
+  ok
+write m "ab"
+  ok 2
+turn m.drv.w
+  ok 2
+turn s.ldterm.r
+  ok 2
+show s
+  show s head.r 0 0 ldterm.r 0 0 ldterm.w 1 2 drv.w 0 0
 "#,
     ),
 ];

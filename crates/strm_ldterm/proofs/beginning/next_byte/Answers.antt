@@ -26,7 +26,7 @@ returns-in_default-clause-did g c = λ f.
     let x = c.args.ldterm.now in
     let p = ldterm_in name s x in
     subst (λ o. Proceeds name s s x (record x { in_work = o }) 0 [] [] f f (sends [] (with_left (drop 1 (cells_left p)) p))) (sym c.take.ensures.after)
-    (idle-proceeds name s x (sym c.take.ensures.value ∙ c.in_default.is) f c.requires.held)
+    (idle-proceeds name s x (sym c.take.ensures.value ∙ c.in_default.is) f c.requires.held (drop 1 (cells_left p)))
 
 pub returns-clause-did : goal.returns-clause-did
 returns-clause-did g c = λ f.
@@ -38,7 +38,7 @@ returns-clause-did g c = λ f.
     let r = c.take_byte-message.result.0 in
     let there : x.in_work ≡ Some m = sym c.take.ensures.value ∙ c.in-Some.is in
     let w = message_in s (name m) in
-    subst (λ (q : ldterms.Ldterm ℕ). Proceeds name s t x (record x { in_work = Some r }) 0 [] [] f f (sends [] q)) (sym (busy-left name s x m there))
+    subst (λ (q : ldterms.Ldterm ℕ). Proceeds name s t x (record x { in_work = Some r }) 0 [] [] f f (sends [] q)) (sym (busy-left name s x m there 1))
     (work-comes name s t x m r (left_of (drop 1 (cells_of w)) w) there c.audit-2.ensures c.requires.held c.requires.kept c.take_byte-message.ensures.became f)
 
 pub returns-clause-byte : goal.returns-clause-byte

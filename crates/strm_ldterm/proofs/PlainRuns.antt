@@ -1,0 +1,382 @@
+-- Plain bytes that are treated at once are treated one after the other.
+use Rattle.std.proofs.Common.{ℕ, ◌≡◌, ◌≤◌, ◌<◌, ◌+◌, ◌*◌, ◌%◌, ◌^◌, Bool, true, false, cond, List, [], ◌∷◌, ◌++◌, length, drop, refl, sym, ap, ◌∙◌, arith, append-nil, append_assoc, length-append}
+use Rattle.std.proofs.lemmas.Bool.{false≢true}
+use Rattle.std.proofs.lemmas.Bool.Decides.{nat_tests}
+use Rattle.std.proofs.lemmas.List.Sums.{sum_by-cons}
+use Rattle.std.specs.List.{AllByRecursion, list_any}
+use Rattle.std.specs.Prelude.{not, ◌&&◌, ◌||◌, ◌==◌, nat_lt, Option, None, Some, option_map}
+use Rattle.strm_types.specs.declared.keys.Key.TheVariants.{Ordinary}
+use Rattle.strm_types.specs.declared.keys.Stroke.{Stroke}
+use Rattle.strm_types.specs.declared.keys.TheConstants.{LINE_MAX}
+use Rattle.strm_types.specs.declared.names.Dir.{Dir}
+use Rattle.strm_types.specs.declared.names.Dir.TheVariants.{MasterToSlave, SlaveToMaster}
+use Rattle.strm_types.specs.declared.names.Way.TheVariants.{Down}
+use Rattle.strm_types.specs.declared.rules.Fates.{Fates}
+use Rattle.strm_types.specs.declared.spots.Note.{Note}
+use Rattle.strm_types.specs.declared.spots.Note.TheVariants.{Enable}
+use Rattle.strm_types.specs.declared.spots.Spot.{Spot}
+use Rattle.strm_types.specs.declared.termios.Termios.{Termios}
+use Rattle.strm_types.specs.Cells.{plain}
+use Rattle.strm_types.specs.Deliver.{Comes, tallied}
+use Rattle.strm_types.specs.Echo.{echo_of, is_control}
+use Rattle.strm_types.specs.Input.{begins_next, cells_left, left_of, next_stage, with_left}
+use Rattle.strm_types.specs.Keys.{carriage_return, lowered, newline, stripped, stroke_of}
+use Rattle.strm_types.specs.Ldterms.{Ldterm, Between, Begun, sends}
+use Rattle.strm_types.specs.Lines.{has_room}
+use Rattle.strm_types.specs.Message.{Message, band_of, cells_of, data_message, is_high_priority, rank_of, size_of}
+use Rattle.strm_types.specs.Queue.{count_of, flow_of, is_full, is_none_left, put, put_enables}
+use Rattle.strm_types.specs.Rules.{made_more}
+use Rattle.strm_types.specs.Termios.{echo, icanon}
+use Rattle.strm_types.specs.Typing.{added, echo_dir, echo_grows, echo_stands, echoed, grown}
+use Rattle.strm_ldterm.specs.PlainRuns.{is_plain, run_done, run_echoed, typed_run}
+use Rattle.strm_ldterm.specs.Turns.{ahead, one_after}
+use Rattle.strm_ldterm.proofs.EchoStands.{data-enables, data-rank, echoed-room, grown-last}
+use Rattle.strm_ldterm.proofs.Grows.{cells-data}
+use Rattle.strm_ldterm.proofs.Last.{count-last, zero-last}
+use Rattle.strm_ldterm.proofs.PlainBytes.{or-left, stroke_of-plain}
+use Rattle.strm_ldterm.proofs.Strikes.{added-raw, added-room, told-append}
+use Rattle.strm_ldterm.proofs.Struck.{struck-echoed}
+use Rattle.strm_ldterm.proofs.Turning.{Acts, ahead-more, ahead-two}
+
+and-left : (x y : Bool) → (x && y) ≡ true → x ≡ true
+and-left true y e = refl
+and-left false y e = e
+
+and-right : (x y : Bool) → (x && y) ≡ true → y ≡ true
+and-right true y e = e
+and-right false y e = absurd (false≢true e)
+
+not-true : (x : Bool) → not x ≡ true → x ≡ false
+not-true true e = sym e
+not-true false e = refl
+
+-- a plain byte is taken as itself
+module _ (t : Termios) (b : ℕ) (is : is_plain t b ≡ true) where
+  no-control : is_control b ≡ false
+  no-control = not-true (is_control b) (and-left (not (is_control b)) (lowered t (stripped t b) == b && not (list_any (λ c. c == b) t.control)) is)
+
+  others : (lowered t (stripped t b) == b && not (list_any (λ c. c == b) t.control)) ≡ true
+  others = and-right (not (is_control b)) (lowered t (stripped t b) == b && not (list_any (λ c. c == b) t.control)) is
+
+  same : lowered t (stripped t b) ≡ b
+  same = (let e = and-left (lowered t (stripped t b) == b) (not (list_any (λ c. c == b) t.control)) others in grind (arith, nat_tests))
+
+  none : list_any (λ c. c == b) t.control ≡ false
+  none = not-true (list_any (λ c. c == b) t.control) (and-right (lowered t (stripped t b) == b) (not (list_any (λ c. c == b) t.control)) others)
+
+  no-newline : (b == newline) ≡ false
+  no-newline = (let high = or-left (nat_lt b 32) (b == 127) no-control in grind (arith, nat_tests))
+
+  no-return : (b == carriage_return) ≡ false
+  no-return = (let high = or-left (nat_lt b 32) (b == 127) no-control in grind (arith, nat_tests))
+
+  no-key : (b == newline || (b == carriage_return || list_any (λ c. c == b) t.control)) ≡ false
+  no-key = rw (no-newline, no-return) none
+
+  plain-stroke : record { key = Ordinary; byte = b; literal = false } ≡ stroke_of t false b
+  plain-stroke = stroke_of-plain t false b (stripped t b) b false refl refl (sym same) (sym no-key) refl
+
+  plain-echo : (before after : List ℕ) → (icanon t && not (has_room before)) ≡ false → cond (echo t) (b ∷ []) [] ≡ echo_of t before after (record { key = Ordinary; byte = b; literal = false })
+  plain-echo before after room = sym (rw (room, no-newline, no-control) refl)
+
+-- the last message of a queue is an ordinary one
+pub record EndsPlain (ms : List (Message ℕ)) : Type 0 where
+  pub before : List (Message ℕ)
+  pub cells : List ℕ
+  pub is : ms ≡ before ++ data_message cells ∷ []
+
+-- What holds before a run that is treated at once.
+pub record Runs (lines echoes : Bool) (run rest : List ℕ) (p : Ldterm ℕ) : Type 0 where
+  pub canonical : icanon p.termios ≡ lines
+  pub under : echo p.termios ≡ echoes
+  pub between : p.stage ≡ Between
+  pub running : p.stopped ≡ false
+  pub free : p.after_lnext ≡ false
+  pub front : cells_left p ≡ run ++ rest
+  pub all : AllByRecursion (λ b. is_plain p.termios b ≡ true) run
+  pub line : lines ≡ true → length p.line + length run ≤ LINE_MAX
+  pub room : echoes ≡ true → count_of 0 p.write_queue.messages + length run ≤ (flow_of 0 p.write_queue).high
+  pub last : p.echoing ≡ true → EndsPlain p.write_queue.messages
+
+module _ (here : Spot) where
+  -- what a run does, with nothing hidden behind a mode: in canonical mode or not, and under ECHO or not
+  abbrev typed_as : Bool → List ℕ → Ldterm ℕ → Ldterm ℕ
+  typed_as lines run p = record p { line = cond lines (p.line ++ run) p.line; gathered = cond lines p.gathered (p.gathered ++ run) }
+
+  abbrev noted_as : Bool → Bool → List ℕ → Ldterm ℕ → List Note
+  noted_as echoes grows run p = cond echoes (cond grows [] (cond (put_enables (data_message run) p.write_queue) (Enable Down ∷ []) [])) []
+
+  abbrev stands_as : Bool → Bool → List ℕ → List (Message ℕ) → List (Message ℕ)
+  stands_as echoes grows run ms = cond echoes (cond grows (grown plain here run ms) (put (data_message run) ms)) ms
+
+  abbrev echoed_as : Bool → List ℕ → Ldterm ℕ → Acts
+  echoed_as echoes run p = record {
+    state = record p { write_queue = record p.write_queue { messages = stands_as echoes p.echoing run p.write_queue.messages }; echoing = cond echoes true p.echoing };
+    notes = noted_as echoes p.echoing run p;
+    sent = [];
+    gone = cond echoes (Comes (echo_dir plain here) run ∷ []) [];
+  }
+
+  abbrev done_as : Bool → Bool → List ℕ → Ldterm ℕ → Acts
+  done_as lines echoes run p = echoed_as echoes run (typed_as lines run (with_left (drop (length run) (cells_left p)) p))
+
+  typed-as : (lines : Bool) (run : List ℕ) (p : Ldterm ℕ) → icanon p.termios ≡ lines → typed_run run p ≡ typed_as lines run p
+  typed-as lines run p is = ap (λ v. cond {A = Ldterm ℕ} v (record p { line = p.line ++ run }) (record p { gathered = p.gathered ++ run })) is ∙ at lines
+    where
+      at : (v : Bool) → cond v (record p { line = p.line ++ run }) (record p { gathered = p.gathered ++ run }) ≡ typed_as v run p
+      at true = refl
+      at false = refl
+
+  echoed-as : (echoes : Bool) (run : List ℕ) (p : Ldterm ℕ) → echo p.termios ≡ echoes → run_echoed here run p ≡ echoed_as echoes run p
+  echoed-as echoes run p is = ap (λ v. cond {A = Acts} v (cond p.echoing (echo_grows plain here run p) (echo_stands plain here run p)) (sends [] p)) is ∙ at echoes
+    where
+      grows : (v : Bool) → cond {A = Acts} v (echo_grows plain here run (record p { echoing = v })) (echo_stands plain here run (record p { echoing = v })) ≡ echoed_as true run (record p { echoing = v })
+      grows true = refl
+      grows false = refl
+
+      at : (v : Bool) → cond {A = Acts} v (cond p.echoing (echo_grows plain here run p) (echo_stands plain here run p)) (sends [] p) ≡ echoed_as v run p
+      at true = grows p.echoing
+      at false = refl
+
+  pub done-as : (lines echoes : Bool) (run : List ℕ) (p : Ldterm ℕ) → icanon p.termios ≡ lines → echo p.termios ≡ echoes → run_done here run p ≡ done_as lines echoes run p
+  done-as lines echoes run p canonical under =
+      let q = with_left (drop (length run) (cells_left p)) p in
+      ap (run_echoed here run) (typed-as lines run q canonical) ∙ echoed-as echoes run (typed_as lines run q) under
+
+  -- one byte of it
+  module _ (lines echoes : Bool) (c : ℕ) (more rest : List ℕ) (p : Ldterm ℕ) (r : Runs lines echoes (c ∷ more) rest p) where
+    -- with what is known of it written out
+    abbrev ready : Ldterm ℕ
+    ready = record p { stopped = false; after_lnext = false; stage = Between }
+
+    ready-is : p ≡ ready
+    ready-is =
+        ap (λ v. record p { stopped = v }) r.running
+        ∙ ap (λ v. record p { stopped = false; after_lnext = v }) r.free
+        ∙ ap (λ st. record p { stopped = false; after_lnext = false; stage = st }) r.between
+
+    abbrev begun : Ldterm ℕ
+    begun = record (with_left (more ++ rest) ready) { stage = Begun false c }
+
+    begins : next_stage plain here 0 ready ≡ sends [] begun
+    begins = ap (λ cells. begins_next plain here cells ready) r.front
+
+    abbrev typed : Ldterm ℕ
+    typed = typed_as lines (c ∷ []) (with_left (more ++ rest) ready)
+
+    has-room : (v : Bool) → lines ≡ v → (v && not (has_room p.line)) ≡ false
+    has-room false is = refl
+    has-room true is = (let few = r.line is in let room : has_room p.line ≡ true = grind (arith, nat_tests) in ap not room)
+
+    added-as : (v : Bool) → lines ≡ v → added plain here c begun ≡ sends [] (typed_as v (c ∷ []) begun)
+    added-as false is = added-raw here c begun (r.canonical ∙ is)
+    added-as true is =
+        let few = r.line is in
+        let room : has_room p.line ≡ true = grind (arith, nat_tests) in
+        added-room here c begun (r.canonical ∙ is) room
+        ∙ ap (λ v. sends [] (record begun { line = cond v (p.line ++ c ∷ []) p.line })) room
+
+    abbrev echo_bytes : List ℕ
+    echo_bytes = cond echoes (c ∷ []) []
+
+    not-full : echoes ≡ true → is_full 0 p.write_queue ≡ false
+    not-full is = (let few = r.room is in grind (arith, nat_tests))
+
+    echo-as : (v : Bool) → echoes ≡ v → echoed plain here 0 (cond v (c ∷ []) []) typed ≡ cond {A = Acts} v (cond p.echoing (echo_grows plain here (c ∷ []) typed) (echo_stands plain here (c ∷ []) typed)) (sends [] typed)
+    echo-as false is = refl
+    echo-as true is = echoed-room here typed (c ∷ []) (λ none. omega (arith, none)) (not-full is)
+
+    struck-as : ahead here 2 begun ≡ echoed plain here 0 echo_bytes typed
+    struck-as =
+        let stroke : Stroke = record { key = Ordinary; byte = c; literal = false } in
+        let t = added plain here c begun in
+        let is = added-as lines refl in
+        let shown : echo_bytes ≡ echo_of p.termios p.line t.state.line stroke =
+        ap (λ v. cond v (c ∷ []) []) (sym r.under) ∙ plain-echo p.termios c r.all.0 p.line t.state.line (ap (λ v. v && not (has_room p.line)) r.canonical ∙ has-room lines refl) in
+        ahead-two here begun
+        ∙ sym (struck-echoed here false c begun stroke [] echo_bytes (plain-stroke p.termios c r.all.0) refl (ap (λ (u : Acts). is_none_left u.sent) is) shown)
+        ∙ ap (λ (u : Acts). one_after (record u { state = record u.state { stage = Between }; notes = [] }) (echoed plain here 0 echo_bytes)) is
+
+    pub one-byte : ahead here 3 p ≡ done_as lines echoes (c ∷ []) p
+    one-byte =
+        ap (ahead here 3) ready-is
+        ∙ ap (λ u. one_after u (ahead here 2)) begins
+        ∙ struck-as
+        ∙ echo-as echoes refl
+        ∙ sym (ap (λ v. cond {A = Acts} v (cond p.echoing (echo_grows plain here (c ∷ []) typed) (echo_stands plain here (c ∷ []) typed)) (sends [] typed)) r.under)
+        ∙ echoed-as echoes (c ∷ []) typed r.under
+        ∙ ap (λ cells. echoed_as echoes (c ∷ []) (typed_as lines (c ∷ []) (with_left (drop 1 cells) ready))) (sym r.front)
+        ∙ ap (done_as lines echoes (c ∷ [])) (sym ready-is)
+
+  -- What is left of the message in work once a first byte, and then others, are taken off it.
+  left-cells : (work : Option (Message ℕ)) (p : Ldterm ℕ) (c : ℕ) (xs ys : List ℕ) → cells_left (record p { in_work = work }) ≡ c ∷ xs → cells_left (record p { in_work = option_map (left_of ys) work }) ≡ ys
+  unfolding cells_of
+  left-cells None p c xs ys is = absurd (let e = ap length is in omega arith)
+  left-cells (Some m) p c xs ys is = refl
+
+  left-twice : (work : Option (Message ℕ)) (xs ys : List ℕ) → option_map (left_of ys) (option_map (left_of xs) work) ≡ option_map (left_of ys) work
+  left-twice None xs ys = refl
+  left-twice (Some m) xs ys = refl
+
+  -- a message of data of these bytes
+  data-size : (bytes : List ℕ) → count_of 0 (data_message bytes ∷ []) ≡ length bytes
+  unfolding band_of size_of data_message is_high_priority cells_of
+  data-size bytes = omega (arith, sum_by-cons (λ (m : Message ℕ). cond {A = ℕ} (band_of m == 0) (size_of m) 0) (data_message bytes) [])
+
+  put-data : (bytes : List ℕ) (ms : List (Message ℕ)) → put (data_message bytes) ms ≡ ms ++ data_message bytes ∷ []
+  put-data bytes ms = zero-last rank_of (data_message bytes) ms (data-rank bytes)
+
+  grown-twice : (xs ys : List ℕ) (ms : List (Message ℕ)) → grown plain here ys (grown plain here xs ms) ≡ grown plain here (xs ++ ys) ms
+  grown-twice xs ys [] = refl
+  grown-twice xs ys (m ∷ []) = ap (λ cells. data_message (cells ++ ys) ∷ []) (cells-data (cells_of m ++ xs)) ∙ ap (λ cells. data_message cells ∷ []) (append_assoc (cells_of m) xs ys)
+  grown-twice xs ys (m ∷ n ∷ ms) = behind (grown plain here xs (n ∷ ms)) (some (n ∷ ms) (omega arith)) ∙ ap (λ l. m ∷ l) (grown-twice xs ys (n ∷ ms))
+    where
+      some : (l : List (Message ℕ)) → 0 < length l → 0 < length (grown plain here xs l)
+      some [] e = absurd (omega arith)
+      some (a ∷ []) e = omega arith
+      some (a ∷ b ∷ l) e = omega arith
+
+      behind : (l : List (Message ℕ)) → 0 < length l → grown plain here ys (m ∷ l) ≡ m ∷ grown plain here ys l
+      behind [] e = absurd (omega arith)
+      behind (a ∷ l) e = refl
+
+  grown-put : (xs ys : List ℕ) (ms : List (Message ℕ)) → grown plain here ys (put (data_message xs) ms) ≡ put (data_message (xs ++ ys)) ms
+  grown-put xs ys ms =
+      ap (grown plain here ys) (put-data xs ms)
+      ∙ grown-last here ys ms (data_message xs)
+      ∙ ap (λ cells. ms ++ data_message (cells ++ ys) ∷ []) (cells-data xs)
+      ∙ sym (put-data (xs ++ ys) ms)
+
+  -- counts of what was made, one after the other
+  wraps : (a b n : ℕ) → ((a + b) % 2 ^ 64 + n) % 2 ^ 64 ≡ (a + (b + n)) % 2 ^ 64
+  wraps a b n = omega arith
+
+  made-twice : (d : Dir) (a b : ℕ) (f : Fates) → made_more d b (made_more d a f) ≡ made_more d (a + b) f
+  made-twice MasterToSlave a b f = ap (λ n. record f { made_from_master = n }) (wraps f.made_from_master a b)
+  made-twice SlaveToMaster a b f = ap (λ n. record f { made_from_slave = n }) (wraps f.made_from_slave a b)
+
+  -- the same but for how often it was told what was made
+  pub record SameDone (t u : Acts) : Type 0 where
+    pub state : t.state ≡ u.state
+    pub notes : t.notes ≡ u.notes
+    pub sent : t.sent ≡ u.sent
+    pub told : (f : Fates) → tallied t.gone f ≡ tallied u.gone f
+
+  -- a byte and then more of them
+  module _ (lines echoes : Bool) (c : ℕ) (more rest : List ℕ) (p : Ldterm ℕ) (r : Runs lines echoes (c ∷ more) rest p) where
+    abbrev first : Acts
+    first = done_as lines echoes (c ∷ []) p
+
+    lines-join : (v : Bool) (old : List ℕ) → cond v (cond v (old ++ c ∷ []) old ++ more) (cond v (old ++ c ∷ []) old) ≡ cond v (old ++ c ∷ more) old
+    lines-join true old = append_assoc old (c ∷ []) more
+    lines-join false old = refl
+
+    gathers-join : (v : Bool) (old : List ℕ) → cond v (cond v old (old ++ c ∷ [])) (cond v old (old ++ c ∷ []) ++ more) ≡ cond v old (old ++ c ∷ more)
+    gathers-join true old = refl
+    gathers-join false old = append_assoc old (c ∷ []) more
+
+    stands-join : (v grows : Bool) (ms : List (Message ℕ)) → stands_as v (cond v true grows) more (stands_as v grows (c ∷ []) ms) ≡ stands_as v grows (c ∷ more) ms
+    stands-join true true ms = grown-twice (c ∷ []) more ms
+    stands-join true false ms = grown-put (c ∷ []) more ms
+    stands-join false grows ms = refl
+
+    grows-join : (v grows : Bool) → cond v true (cond v true grows) ≡ cond v true grows
+    grows-join true grows = refl
+    grows-join false grows = refl
+
+    left-join : option_map (left_of (drop (length more) (cells_left first.state))) first.state.in_work ≡ option_map (left_of (drop (length (c ∷ more)) (cells_left p))) p.in_work
+    left-join =
+        ap (λ cells. option_map (left_of (drop (length more) cells)) first.state.in_work) (left-cells p.in_work p c (more ++ rest) (drop 1 (cells_left p)) r.front)
+        ∙ left-twice p.in_work (drop 1 (cells_left p)) (drop (length more) (drop 1 (cells_left p)))
+        ∙ ap (λ cells. option_map (left_of cells) p.in_work) (ap (λ cells. drop (length more) (drop 1 cells)) r.front ∙ sym (ap (drop (length (c ∷ more))) r.front))
+
+    notes-join : (v grows : Bool) → noted_as v grows (c ∷ []) p ++ noted_as v (cond v true grows) more first.state ≡ noted_as v grows (c ∷ more) p
+    notes-join true true = refl
+    notes-join true false =
+        append-nil (noted_as true false (c ∷ []) p)
+        ∙ ap (λ v. cond {A = List Note} v (Enable Down ∷ []) []) (data-enables (c ∷ []) p.write_queue ∙ sym (data-enables (c ∷ more) p.write_queue))
+    notes-join false grows = refl
+
+    told-join : (v : Bool) (f : Fates) → tallied (cond v (Comes (echo_dir plain here) (c ∷ []) ∷ []) [] ++ cond v (Comes (echo_dir plain here) more ∷ []) []) f ≡ tallied (cond v (Comes (echo_dir plain here) (c ∷ more) ∷ []) []) f
+    told-join true f = made-twice (echo_dir plain here) 1 (length more) f ∙ ap (λ n. made_more (echo_dir plain here) n f) (omega arith)
+    told-join false f = refl
+
+    all-join : (work work' : Option (Message ℕ)) (l l' g g' : List ℕ) (ms ms' : List (Message ℕ)) (v v' : Bool) → work ≡ work' → l ≡ l' → g ≡ g' → ms ≡ ms' → v ≡ v'
+        → record p { in_work = work; line = l; gathered = g; write_queue = record p.write_queue { messages = ms }; echoing = v } ≡ record p { in_work = work'; line = l'; gathered = g'; write_queue = record p.write_queue { messages = ms' }; echoing = v' }
+    all-join work work' l l' g g' ms ms' v v' a b d e f = rw (a, b, d, e, f) refl
+
+    state-join : (done_as lines echoes more first.state).state ≡ (done_as lines echoes (c ∷ more) p).state
+    state-join = all-join _ _ _ _ _ _ _ _ _ _ left-join (lines-join lines p.line) (gathers-join lines p.gathered) (stands-join echoes p.echoing p.write_queue.messages) (grows-join echoes p.echoing)
+
+    -- what holds behind the first byte
+    counts-next : (v grows : Bool) → echoes ≡ v → p.echoing ≡ grows → v ≡ true → count_of 0 (stands_as v grows (c ∷ []) p.write_queue.messages) ≡ count_of 0 p.write_queue.messages + 1
+    counts-next false grows is g v = absurd (false≢true v)
+    counts-next true true is g v =
+        let l = r.last g in
+        let ms = p.write_queue.messages in
+        let then : grown plain here (c ∷ []) ms ≡ l.before ++ data_message (l.cells ++ c ∷ []) ∷ [] =
+        ap (grown plain here (c ∷ [])) l.is ∙ grown-last here (c ∷ []) l.before (data_message l.cells) ∙ ap (λ cells. l.before ++ data_message (cells ++ c ∷ []) ∷ []) (cells-data l.cells) in
+        let a = ap (count_of 0) then ∙ count-last 0 l.before (data_message (l.cells ++ c ∷ []) ∷ []) in
+        let b = ap (count_of 0) l.is ∙ count-last 0 l.before (data_message l.cells ∷ []) in
+        let d = data-size (l.cells ++ c ∷ []) in
+        let e = data-size l.cells in
+        let f = length-append l.cells (c ∷ []) in
+        omega arith
+    counts-next true false is g v =
+        let ms = p.write_queue.messages in
+        let a = ap (count_of 0) (put-data (c ∷ []) ms) ∙ count-last 0 ms (data_message (c ∷ []) ∷ []) in
+        let d = data-size (c ∷ []) in
+        omega arith
+
+    last-next : (v grows : Bool) → p.echoing ≡ grows → cond v true grows ≡ true → EndsPlain (stands_as v grows (c ∷ []) p.write_queue.messages)
+    last-next false grows g is = r.last (g ∙ is)
+    last-next true true g is =
+        let l = r.last g in
+        record {
+          before = l.before;
+          cells = l.cells ++ c ∷ [];
+          is = ap (grown plain here (c ∷ [])) l.is ∙ grown-last here (c ∷ []) l.before (data_message l.cells) ∙ ap (λ cells. l.before ++ data_message (cells ++ c ∷ []) ∷ []) (cells-data l.cells);
+        }
+    last-next true false g is = record { before = p.write_queue.messages; cells = c ∷ []; is = put-data (c ∷ []) p.write_queue.messages }
+
+    line-next : (v : Bool) → lines ≡ v → v ≡ true → length (cond v (p.line ++ c ∷ []) p.line) + length more ≤ LINE_MAX
+    line-next false is v = absurd (false≢true v)
+    line-next true is v = (let few = r.line is in let l = length-append p.line (c ∷ []) in omega arith)
+
+    next-runs : Runs lines echoes more rest first.state
+    next-runs = record {
+      canonical = r.canonical;
+      under = r.under;
+      between = r.between;
+      running = r.running;
+      free = r.free;
+      front = left-cells p.in_work p c (more ++ rest) (drop 1 (cells_left p)) r.front ∙ ap (drop 1) r.front;
+      all = r.all.1;
+      line = λ v. line-next lines refl v;
+      room = λ v. (let n = counts-next echoes p.echoing refl refl v in let few = r.room v in omega arith);
+      last = λ v. last-next echoes p.echoing refl v;
+    }
+
+    pub runs-on : SameDone (ahead here (3 * length more) first.state) (done_as lines echoes more first.state) → SameDone (ahead here (3 * length (c ∷ more)) p) (done_as lines echoes (c ∷ more) p)
+    runs-on s =
+        let u = ahead here (3 * length more) first.state in
+        let joined : Acts = record { state = u.state; notes = first.notes ++ u.notes; sent = u.sent; gone = first.gone ++ u.gone } in
+        let is : ahead here (3 * length (c ∷ more)) p ≡ joined =
+        ap (λ n. ahead here n p) (let e : 3 * length (c ∷ more) ≡ 3 + 3 * length more = omega arith in e)
+        ∙ ahead-more here 3 (3 * length more) p
+        ∙ ap (λ t. one_after t (ahead here (3 * length more))) (one-byte lines echoes c more rest p r) in
+        record {
+          state = ap (λ (t : Acts). t.state) is ∙ s.state ∙ state-join;
+          notes = ap (λ (t : Acts). t.notes) is ∙ ap (λ ns. first.notes ++ ns) s.notes ∙ notes-join echoes p.echoing;
+          sent = ap (λ (t : Acts). t.sent) is ∙ s.sent;
+          told = λ f. ap (λ (t : Acts). tallied t.gone f) is ∙ told-append first.gone u.gone f ∙ s.told (tallied first.gone f) ∙ sym (told-append first.gone (done_as lines echoes more first.state).gone f) ∙ told-join echoes f;
+        }
+
+  same-done : (t u : Acts) → t ≡ u → SameDone t u
+  same-done t u is = record { state = ap (λ (a : Acts). a.state) is; notes = ap (λ (a : Acts). a.notes) is; sent = ap (λ (a : Acts). a.sent) is; told = λ f. ap (λ (a : Acts). tallied a.gone f) is }
+
+  pub runs-done : (lines echoes : Bool) (run rest : List ℕ) (p : Ldterm ℕ) → 0 < length run → Runs lines echoes run rest p → SameDone (ahead here (3 * length run) p) (done_as lines echoes run p)
+  runs-done lines echoes [] rest p some r = absurd (omega arith)
+  runs-done lines echoes (c ∷ []) rest p some r = same-done (ahead here 3 p) (done_as lines echoes (c ∷ []) p) (one-byte lines echoes c [] rest p r)
+  runs-done lines echoes (c ∷ d ∷ more) rest p some r =
+      runs-on lines echoes c (d ∷ more) rest p r (runs-done lines echoes (d ∷ more) rest (done_as lines echoes (c ∷ []) p).state (omega arith) (next-runs lines echoes c (d ∷ more) rest p r))

@@ -1,0 +1,147 @@
+-- Runs of plain bytes on a store.
+use Rattle.std.proofs.Common.{ℕ, ◌≡◌, ◌≤◌, ◌<◌, ◌+◌, ◌*◌, Bool, true, false, cond, List, [], ◌∷◌, ◌++◌, length, drop, refl, sym, ap, subst, ◌∙◌, arith, length-append}
+use Rattle.std.proofs.lemmas.Bool.{false≢true}
+use Rattle.std.specs.List.{AllByRecursion}
+use Rattle.std.specs.Option.{option_to_list}
+use Rattle.std.specs.Prelude.{Option, None, Some, is_some, IfSome, slice_index_or}
+use Rattle.strm_types.specs.declared.rules.Fates.{Fates}
+use Rattle.strm_types.specs.declared.spots.Note.{Note}
+use Rattle.strm_types.specs.declared.spots.Spot.{Spot}
+use Rattle.strm_types.specs.declared.termios.Termios.{Termios}
+use Rattle.strm_types.specs.declared.keys.TheConstants.{LINE_MAX}
+use Rattle.strm_types.specs.Input.{cells_left, with_left}
+use Rattle.strm_types.specs.Ldterms as ldterms
+use Rattle.strm_types.specs.Ldterms.{sends}
+use Rattle.strm_types.specs.Message.{Message, cells_of}
+use Rattle.strm_types.specs.Termios.{echo, icanon}
+use Rattle.strm_types.specs.Typing.{echo_grows, echo_stands}
+use Rattle.strm_types.specs.Cells.{plain}
+use Rattle.strm_blocks.specs.Blocks.{StoreValue, IsStore}
+use Rattle.strm_frame.specs.Outboxes.{message_in}
+use Rattle.strm_queue.specs.Stored.{queue_in}
+use Rattle.strm_ldterm.specs.declared.ldterm.Ldterm.{Ldterm}
+use Rattle.strm_ldterm.specs.Does.{Proceeds}
+use Rattle.strm_ldterm.specs.PlainRuns.{MayRun, is_plain, run_echoed, typed_run}
+use Rattle.strm_ldterm.specs.Stands.{IsHeld, IsOrdinary, kept_in, ldterm_in, stage_in}
+use Rattle.strm_ldterm.specs.Turns.{ahead, stages_left}
+use Rattle.strm_ldterm.proofs.Begun.{busy-all, idle-left}
+use Rattle.strm_ldterm.proofs.Grows.{ordinary-is}
+use Rattle.strm_ldterm.proofs.Joining.{proceeds-joined, takes-more}
+use Rattle.strm_ldterm.proofs.PlainRuns.{EndsPlain, Runs, done-as, runs-done}
+use Rattle.strm_ldterm.proofs.Treated.{none-under-way}
+
+-- bytes that aren't marked are plain
+pub all-plain : (t : Termios) (odd : List Bool) (run : List ℕ) → ((b : ℕ) → slice_index_or odd b true ≡ false → is_plain t b ≡ true) → AllByRecursion (λ b. slice_index_or odd b true ≡ false) run
+    → AllByRecursion (λ b. is_plain t b ≡ true) run
+all-plain t odd [] is all = tt
+all-plain t odd (b ∷ run) is all = (is b all.0, all-plain t odd run is all.1)
+
+-- fewer bytes may be treated at once too
+pub may-fewer : (p : ldterms.Ldterm ℕ) (m n : ℕ) → n ≤ m → MayRun m p → MayRun n p
+may-fewer p m n few may = record {
+  running = may.running;
+  free = may.free;
+  line = λ v. let l = may.line v in omega arith;
+  room = λ v. let l = may.room v in omega arith;
+}
+
+-- by the mode
+pub typed-lines : (p : ldterms.Ldterm ℕ) (run : List ℕ) → icanon p.termios ≡ true → sends [] (typed_run run p) ≡ sends [] (record p { line = p.line ++ run })
+typed-lines p run lines = rw lines refl
+
+pub typed-raw : (p : ldterms.Ldterm ℕ) (run : List ℕ) → icanon p.termios ≡ false → sends [] (typed_run run p) ≡ sends [] (record p { gathered = p.gathered ++ run })
+typed-raw p run raw = rw raw refl
+
+-- a run isn't longer than what it is the front of
+pub front-short : (run cells : List ℕ) → cells ≡ run ++ drop (length run) cells → length run ≤ length cells
+front-short run cells is = let l = ap length is ∙ length-append run (drop (length run) cells) in omega arith
+
+-- and under ECHO
+module _ (here : Spot) (p : ldterms.Ldterm ℕ) (run : List ℕ) where
+  pub unechoed : echo p.termios ≡ false → run_echoed here run p ≡ sends [] p
+  unechoed quiet = rw quiet refl
+
+  pub echoed-so : echo p.termios ≡ true → run_echoed here run p ≡ cond p.echoing (echo_grows plain here run p) (echo_stands plain here run p)
+  echoed-so loud = rw loud refl
+
+module _ {M : Type 0} (name : M → ℕ) where
+  -- what a turn echoes stands last as an ordinary message
+  echo-last : (s : StoreValue) (x : Ldterm M) → IsHeld name s x → is_some x.echo ≡ true → EndsPlain (ldterm_in name s x).write_queue.messages
+  echo-last s x held some = at x.echo held.echoes some
+    where
+      at : (o : Option M) → IfSome o (λ m. IsOrdinary s (name m)) → is_some o ≡ true → EndsPlain ((queue_in s x.write_queue).messages ++ option_to_list (kept_in name s o))
+      at None is some = absurd (false≢true some)
+      at (Some m) is some = record {
+        before = (queue_in s x.write_queue).messages;
+        cells = cells_of (message_in s (name m));
+        is = ap (λ (w : Message ℕ). (queue_in s x.write_queue).messages ++ w ∷ []) (ordinary-is s (name m) is);
+      }
+
+  -- where no byte is taken, all is left
+  pub left-whole : (s : StoreValue) (x : Ldterm M) → IsHeld name s x → with_left (cells_left (ldterm_in name s x)) (ldterm_in name s x) ≡ ldterm_in name s x
+  left-whole s x held = at x.in_work refl
+    where
+      at : (o : Option M) → x.in_work ≡ o → with_left (cells_left (ldterm_in name s x)) (ldterm_in name s x) ≡ ldterm_in name s x
+      at None there = idle-left name s x there (cells_left (ldterm_in name s x))
+      at (Some m) there = busy-all name s x m there held
+
+  module _ (s s1 : StoreValue) (x x1 : Ldterm M) (here : Spot) (run : List ℕ) (t : Fates) (held : IsHeld name s x)
+      (front : Proceeds name s s1 x x1 0 [] [] t t (sends [] (with_left (drop (length run) (cells_left (ldterm_in name s x))) (ldterm_in name s x)))) where
+    abbrev p : ldterms.Ldterm ℕ
+    p = ldterm_in name s x
+
+    -- no byte is plain
+    pub no-run : (notes : List Note) → run ≡ [] → notes ≡ [] → Proceeds name s s1 x x1 2 notes [] t t (ahead here 0 p)
+    no-run notes none quiet =
+        subst (λ ns. Proceeds name s s1 x x1 2 ns [] t t (sends [] p)) (sym quiet)
+        (takes-more name s s1 x x1 0 2 [] [] t t (sends [] p) (omega arith)
+        (subst (λ (q : ldterms.Ldterm ℕ). Proceeds name s s1 x x1 0 [] [] t t (sends [] q)) (ap (λ l. with_left (drop (length l) (cells_left p)) p) none ∙ left-whole s x held) front))
+
+    -- what it is set to, and its line, are the same
+    pub same-termios : x1.termios ≡ x.termios
+    same-termios = ap (λ (q : ldterms.Ldterm ℕ). q.termios) front.state
+
+    pub same-line : x1.line ≡ x.line
+    same-line = ap (λ (q : ldterms.Ldterm ℕ). q.line) front.state
+
+    pub line-room : (most : ℕ) → length run ≤ most → MayRun most p → icanon x1.termios ≡ true → length x1.line + length run ≤ LINE_MAX
+    line-room most few may is = let l = may.line (ap icanon (sym same-termios) ∙ is) in let e = ap length same-line in omega arith
+
+    module _ (s2 : StoreValue) (x2 : Ldterm M) (st1 : IsStore s1) (typed : Proceeds name s1 s2 x1 x2 1 [] [] t t (sends [] (typed_run run (ldterm_in name s1 x1)))) where
+      pub typed-on : Proceeds name s s2 x x2 1 [] [] t t (sends [] (typed_run run (with_left (drop (length run) (cells_left p)) p)))
+      typed-on = proceeds-joined name s s1 x x1 0 [] t t (sends [] (with_left (drop (length run) (cells_left p)) p)) st1 front s2 x2 1 [] [] t (λ q. sends [] (typed_run run q)) typed
+
+      -- all of a run was done, and so it was treated byte by byte
+      pub run-treated : (s3 : StoreValue) (x3 : Ldterm M) (notes : List Note) (t3 : Fates) (most : ℕ) → IsStore s2 → Proceeds name s2 s3 x2 x3 1 notes [] t t3 (run_echoed here run (ldterm_in name s2 x2))
+          → stages_left (stage_in x.stage) ≡ 0 → 0 < length run → length run ≤ most → cells_left p ≡ run ++ drop (length run) (cells_left p) → AllByRecursion (λ b. is_plain x.termios b ≡ true) run → MayRun most p
+          → Proceeds name s s3 x x3 2 notes [] t t3 (ahead here (3 * length run) p)
+      run-treated s3 x3 notes t3 most st2 echoed stage some few is all may =
+          let fits = may-fewer p most (length run) few may in
+          let runs : Runs (icanon p.termios) (echo p.termios) run (drop (length run) (cells_left p)) p = record {
+            canonical = refl;
+            under = refl;
+            between = none-under-way p.stage stage;
+            running = fits.running;
+            free = fits.free;
+            front = is;
+            all = all;
+            line = fits.line;
+            room = fits.room;
+            last = λ v. echo-last s x held v;
+          } in
+          let same = runs-done here (icanon p.termios) (echo p.termios) run (drop (length run) (cells_left p)) p some runs in
+          let did = subst (Proceeds name s s3 x x3 2 notes [] t t3) (done-as here (icanon p.termios) (echo p.termios) run p refl refl)
+          (proceeds-joined name s s2 x x2 1 [] t t (sends [] (typed_run run (with_left (drop (length run) (cells_left p)) p))) st2 typed-on s3 x3 1 notes [] t3 (run_echoed here run) echoed) in
+          record {
+            state = did.state ∙ sym same.state;
+            noted = did.noted ∙ sym same.notes;
+            parcels = did.parcels ∙ sym same.sent;
+            told = did.told ∙ sym (same.told t);
+            held = did.held;
+            own = did.own;
+            chains = did.chains;
+            hands = did.hands;
+            mblks = did.mblks;
+            dblks = did.dblks;
+            pool = did.pool;
+          }

@@ -1,0 +1,40 @@
+-- Runs of plain bytes: they stand in the line, or wait to go up, and are echoed as themselves, and do nothing else (termio(7I): "Canonical
+-- Mode Input Processing", "Non-Canonical Mode Input Processing", ECHO).
+use Rattle.std.specs.Prelude.{ℕ, ◌≡◌, ◌≤◌, ◌+◌, Bool, true, false, not, ◌&&◌, ◌==◌, if◌then◌else◌, List, [], ◌++◌, length, drop}
+use Rattle.std.specs.List.{list_any}
+use Rattle.strm_types.specs.declared.keys.TheConstants.{LINE_MAX}
+use Rattle.strm_types.specs.declared.spots.Spot.{Spot}
+use Rattle.strm_types.specs.declared.termios.Termios.{Termios}
+use Rattle.strm_types.specs.Cells.{plain}
+use Rattle.strm_types.specs.Deliver.{Acted}
+use Rattle.strm_types.specs.Echo.{is_control}
+use Rattle.strm_types.specs.Input.{cells_left, with_left}
+use Rattle.strm_types.specs.Keys.{lowered, stripped}
+use Rattle.strm_types.specs.Ldterms.{Ldterm, sends}
+use Rattle.strm_types.specs.Queue.{count_of, flow_of}
+use Rattle.strm_types.specs.Termios.{echo, icanon}
+use Rattle.strm_types.specs.Typing.{echo_grows, echo_stands}
+
+-- A byte that is no key in any mode, is taken as itself, and is echoed as itself.
+abbrev pub is_plain : Termios → ℕ → Bool
+is_plain t b = not (is_control b) && (lowered t (stripped t b) == b && not (list_any (λ c. c == b) t.control))
+
+-- it stands in the line, or waits to go up where no lines are made
+abbrev pub typed_run : List ℕ → Ldterm ℕ → Ldterm ℕ
+typed_run run p = if icanon p.termios then record p { line = p.line ++ run } else record p { gathered = p.gathered ++ run }
+
+-- and is echoed as itself
+abbrev pub run_echoed : Spot → List ℕ → Ldterm ℕ → Acted ℕ (Ldterm ℕ)
+run_echoed here run p = if echo p.termios then (if p.echoing then echo_grows plain here run p else echo_stands plain here run p) else sends [] p
+
+-- what a run does that is taken off the front of the message in work
+abbrev pub run_done : Spot → List ℕ → Ldterm ℕ → Acted ℕ (Ldterm ℕ)
+run_done here run p = run_echoed here run (typed_run run (with_left (drop (length run) (cells_left p)) p))
+
+-- So many plain bytes may be treated at once: output isn't stopped, no LNEXT stands before them, the line has room for them, and band 0 of
+-- the write queue isn't full before the last one is echoed.
+pub record MayRun (bytes : ℕ) (p : Ldterm ℕ) : Type 0 where
+  pub running : p.stopped ≡ false
+  pub free : p.after_lnext ≡ false
+  pub line : icanon p.termios ≡ true → length p.line + bytes ≤ LINE_MAX
+  pub room : echo p.termios ≡ true → count_of 0 p.write_queue.messages + bytes ≤ (flow_of 0 p.write_queue).high

@@ -1,0 +1,250 @@
+//! Runs of plain bytes in a turn, which are treated at once: lines that are pasted, or sent by a program (termio(7I): "Canonical Mode
+//! Input Processing", "Non-Canonical Mode Input Processing", ECHO).
+
+ghost use Rattle.std.specs.Prelude.{ℕ, ◌≡◌, ◌<◌, ◌≤◌, ◌+◌, ◌*◌, ◌++◌, ◌==◌, [], true, false, length, drop, take, slice_index_or};
+ghost use Rattle.std.specs.List.{AllByRecursion, list_any};
+ghost use Rattle.strm_types.specs.declared.keys.TheConstants.{LINE_MAX};
+ghost use Rattle.strm_types.specs.declared.rules.Fates.{Fates};
+ghost use Rattle.strm_types.specs.Input.{cells_left, left_of, with_left};
+ghost use Rattle.strm_types.specs.Ldterms.{sends};
+ghost use Rattle.strm_types.specs.Message.{cells_of};
+ghost use Rattle.strm_types.specs.Termios.{icanon};
+ghost use Rattle.strm_blocks.specs.Blocks.{IsInHand};
+ghost use Rattle.strm_frame.specs.Hands.{AreIn, HasRoom};
+ghost use Rattle.strm_frame.specs.Outboxes.{message_in};
+ghost use Rattle.strm_ldterm.specs.Becoming.{Becomes};
+ghost use Rattle.strm_ldterm.specs.Does.{Proceeds};
+ghost use Rattle.strm_ldterm.specs.PlainRuns.{MayRun, is_plain, run_echoed, typed_run};
+ghost use Rattle.strm_ldterm.specs.Stands.{IsData, IsHeld, keeps, ldterm_in, stage_in};
+ghost use Rattle.strm_ldterm.specs.Turns.{ahead, stages_left};
+
+use crate::beginning::skip_empty;
+use crate::echoes::RUN_MAX;
+use crate::echoing::stand_run;
+use crate::flushing::direction_at;
+use crate::ldterm::Ldterm;
+use crate::queues::echo_room;
+use crate::typing::gather;
+use arrayvec::ArrayVec;
+use bitflags::Flags;
+use strm_blocks::Blocks;
+use strm_types::{Fates, InputModes, LINE_MAX, LocalModes, Note, Spot, Termios, Way};
+
+/// What became of plain bytes that were treated at once: how many they were, and what is noted of their echo.
+#[derive(Drop)]
+pub(crate) struct Ran {
+    pub bytes: usize,
+    pub notes: ArrayVec<Note, 4>,
+}
+
+// Marks the bytes from one up to another, in a mode that says so.
+fn mark(odd: &mut [bool; 256], mode: bool, from: usize, to: usize)
+    requires { to ≤ 256 }
+    ensures stays { (b : ℕ) → slice_index_or odd.new b true ≡ false → slice_index_or odd.old b true ≡ false }
+    ensures marked { (b : ℕ) → mode ≡ true → from ≤ b → b < to → slice_index_or odd.new b true ≡ true }
+{
+    if !mode {
+        return;
+    }
+    for at in from..to {
+        odd[at] = true;
+    }
+}
+
+// Marks each of these bytes.
+fn mark_each(odd: &mut [bool; 256], bytes: &[u8])
+    ensures stays { (b : ℕ) → slice_index_or odd.new b true ≡ false → slice_index_or odd.old b true ≡ false }
+    ensures none { (b : ℕ) → slice_index_or odd.new b true ≡ false → list_any (λ c. c == b) bytes.now ≡ false }
+{
+    for at in 0..bytes.len() {
+        odd[usize::from(bytes[at])] = true;
+    }
+}
+
+// The bytes that aren't plain: those that may be keys, are taken as other ones, or are echoed as other ones. One pass over the control
+// bytes.
+fn odd_bytes(termios: &Termios) -> [bool; 256]
+    ensures { (b : ℕ) → slice_index_or result b true ≡ false → is_plain termios.now b ≡ true }
+{
+    let mut odd = [false; 256];
+    mark(&mut odd, true, 0, 32);
+    mark(&mut odd, true, 127, 128);
+    mark(
+        &mut odd,
+        termios.iflag.contains(InputModes::ISTRIP),
+        128,
+        256,
+    );
+    mark(&mut odd, termios.iflag.contains(InputModes::IUCLC), 65, 91);
+    mark_each(&mut odd, &termios.control);
+    odd
+}
+
+// How many bytes at the front aren't marked.
+fn plain_len(odd: &[bool; 256], bytes: &[u8]) -> usize
+    ensures within { result ≤ length bytes.now }
+    ensures plain { AllByRecursion (λ b. slice_index_or odd.now b true ≡ false) (take result bytes.now) }
+{
+    for at in 0..bytes.len() {
+        if odd[usize::from(bytes[at])] {
+            return at;
+        }
+    }
+    bytes.len()
+}
+
+// Takes bytes that aren't marked off the front of a message of data, as far as its first block that has some has them, and so many at
+// most: adjmsg(9F).
+fn take_plain<B: Blocks>(
+    store: &mut B,
+    message: B::Mp,
+    odd: &[bool; 256],
+    most: usize,
+) -> (B::Mp, ArrayVec<u8, RUN_MAX>)
+    requires in_hand { IsInHand (B.value store.old) (B.name message) }
+    requires is { IsData (B.value store.old) (B.name message) }
+    ensures became { let m = message_in (B.value store.old) (B.name message) in
+        Becomes (B.value store.old) (B.value store.new) (B.name message) (B.name result.0)
+        (left_of (drop (length result.1.items) (cells_of m)) m) }
+    ensures front { let cells = cells_of (message_in (B.value store.old) (B.name message)) in
+        cells ≡ result.1.items ++ drop (length result.1.items) cells }
+    ensures plain { AllByRecursion (λ b. slice_index_or odd.now b true ≡ false) result.1.items }
+    ensures few { length result.1.items ≤ most }
+{
+    let message = skip_empty(store, message);
+    store.audit();
+    let bytes = store.bytes_at(&message, 0);
+    let within = bytes.len().min(most);
+    let taken = plain_len(odd, &bytes[..within]);
+    let mut run = ArrayVec::new();
+    let Ok(()) = run.try_extend_from_slice(&bytes[..taken]) else {
+        unreachable!()
+    };
+    store.trim_head(&message, 0, taken);
+    (message, run)
+}
+
+// Takes plain bytes off the front of the message in work, so many at most.
+fn take_front<B: Blocks>(
+    ldterm: &mut Ldterm<B::Mp>,
+    store: &mut B,
+    most: usize,
+) -> ArrayVec<u8, RUN_MAX>
+    requires held { IsHeld B.name (B.value store.old) ldterm.old }
+    requires kept { AreIn (B.value store.old) (λ _. 0) (keeps B.name ldterm.old) }
+    ensures did { (f : Fates) → let s = B.value store.old in let p = ldterm_in B.name s ldterm.old in
+        Proceeds B.name s (B.value store.new) ldterm.old ldterm.new 0 [] [] f f
+        (sends [] (with_left (drop (length result.items) (cells_left p)) p)) }
+    ensures front { let cells = cells_left (ldterm_in B.name (B.value store.old) ldterm.old) in
+        cells ≡ result.items ++ drop (length result.items) cells }
+    ensures plain { AllByRecursion (λ b. is_plain ldterm.old.termios b ≡ true) result.items }
+    ensures few { length result.items ≤ most }
+{
+    let Some(message) = ldterm.in_work.take() else {
+        return ArrayVec::new();
+    };
+    let odd = odd_bytes(&ldterm.termios);
+    store.audit();
+    let (message, run) = take_plain(store, message, &odd, most);
+    store.audit();
+    ldterm.in_work = Some(message);
+    run
+}
+
+// How many plain bytes may be treated at once, where any may.
+fn run_room<B: Blocks>(ldterm: &Ldterm<B::Mp>, store: &B) -> usize
+    requires { IsHeld B.name (B.value store.now) ldterm.now }
+    ensures may { 0 < result → MayRun result (ldterm_in B.name (B.value store.now) ldterm.now) }
+{
+    if ldterm.stopped || ldterm.after_lnext {
+        return 0;
+    }
+    let typed = if ldterm.termios.lflag.contains(LocalModes::ICANON) {
+        LINE_MAX - ldterm.line.len()
+    } else {
+        RUN_MAX
+    };
+    if !ldterm.termios.lflag.contains(LocalModes::ECHO) {
+        return typed;
+    }
+    typed.min(echo_room(ldterm, store))
+}
+
+// Plain bytes stand in the line, or wait to go up together where no lines are made.
+fn type_run<B: Blocks>(ldterm: &mut Ldterm<B::Mp>, store: &mut B, run: &[u8])
+    requires held { IsHeld B.name (B.value store.old) ldterm.old }
+    requires kept { AreIn (B.value store.old) (λ _. 0) (keeps B.name ldterm.old) }
+    requires some { 0 < length run.now }
+    requires few { length run.now ≤ 256 }
+    requires line { icanon ldterm.old.termios ≡ true → length ldterm.old.line + length run.now ≤ LINE_MAX }
+    requires room { HasRoom (B.value store.old) 1 }
+    ensures { (f : Fates) → let s = B.value store.old in
+        Proceeds B.name s (B.value store.new) ldterm.old ldterm.new 1 [] [] f f
+        (sends [] (typed_run run.now (ldterm_in B.name s ldterm.old))) }
+{
+    if ldterm.termios.lflag.contains(LocalModes::ICANON) {
+        ldterm.line.extend(run);
+    } else {
+        gather(ldterm, store, run);
+    }
+}
+
+// Plain bytes are echoed as themselves under ECHO, where band 0 of the write queue has room for them.
+fn echo_run<B: Blocks>(
+    ldterm: &mut Ldterm<B::Mp>,
+    store: &mut B,
+    here: Spot,
+    run: &[u8],
+    told: &mut Fates,
+) -> ArrayVec<Note, 4>
+    requires held { IsHeld B.name (B.value store.old) ldterm.old }
+    requires kept { AreIn (B.value store.old) (λ _. 0) (keeps B.name ldterm.old) }
+    requires few { length run.now ≤ 256 }
+    requires room { HasRoom (B.value store.old) 1 }
+    ensures { let s = B.value store.old in
+        Proceeds B.name s (B.value store.new) ldterm.old ldterm.new 1 result.items [] told.old told.new
+        (run_echoed here run.now (ldterm_in B.name s ldterm.old)) }
+{
+    if ldterm.termios.lflag.contains(LocalModes::ECHO) {
+        told.tell_made(direction_at(Way::Down, here.side), run.len());
+        return stand_run(ldterm, store, run);
+    }
+    ArrayVec::new()
+}
+
+/// Treats plain bytes at the front of the message in work at once, as many as its first block has of them, the line has room for, and
+/// can be echoed before the write queue is full: just as if they were treated one after the other. They take two blocks of each kind at
+/// most. The cost is a step for each byte, and a pass over a table of 256 bytes.
+pub(crate) fn treat_run<B: Blocks>(
+    ldterm: &mut Ldterm<B::Mp>,
+    store: &mut B,
+    here: Spot,
+    told: &mut Fates,
+) -> Ran
+    requires held { IsHeld B.name (B.value store.old) ldterm.old }
+    requires kept { AreIn (B.value store.old) (λ _. 0) (keeps B.name ldterm.old) }
+    requires room { HasRoom (B.value store.old) 2 }
+    requires stage { stages_left (stage_in ldterm.old.stage) ≡ 0 }
+    ensures does { let s = B.value store.old in
+        Proceeds B.name s (B.value store.new) ldterm.old ldterm.new 2 result.notes.items [] told.old told.new
+        (ahead here (3 * result.bytes) (ldterm_in B.name s ldterm.old)) }
+    ensures within { result.bytes ≤ length (cells_left (ldterm_in B.name (B.value store.old) ldterm.old)) }
+{
+    let most = run_room(ldterm, store);
+    let front = take_front(ldterm, store, most);
+    let run = front.as_slice();
+    if run.is_empty() {
+        return Ran {
+            bytes: 0,
+            notes: ArrayVec::new(),
+        };
+    }
+    store.audit();
+    type_run(ldterm, store, run);
+    store.audit();
+    let notes = echo_run(ldterm, store, here, run, told);
+    Ran {
+        bytes: run.len(),
+        notes,
+    }
+}
