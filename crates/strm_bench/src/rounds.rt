@@ -67,7 +67,8 @@ fn pushes(pair: &mut Pair<TableStore>, out: &mut Content) -> bool {
 fn written(plan: &Plan) -> &'static [u8] {
     let size = plan.size as usize;
     if plan.typed {
-        return &LINE[256 - size..];
+        let line = &LINE[..];
+        return &line[256 - size..];
     }
     &BYTES[..size]
 }
