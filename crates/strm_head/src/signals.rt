@@ -5,7 +5,7 @@ ghost use Rattle.strm_types.specs.Signals.{has_signal, is_signal, signal_in, wit
 
 use arrayvec::ArrayVec;
 use std::marker::Model;
-use strm_types::{SIGNAL_LAST, SIGNALS_MAX};
+use strm_types::{SIGNALS_MAX, signal_in};
 
 /// The signals that wait, a byte each, in the order in which they came first: numbers from 1 to 31, each once. Contracts see
 /// them as a list.
@@ -23,16 +23,6 @@ impl Model for Signals {
     ghost view = { λ s. s.numbers.items };
 
     ghost invariant = { λ s. AreSignals s.numbers.items };
-}
-
-// The signal that the bytes of an M_SIG or an M_PCSIG name: one byte, from 1 to 31.
-fn signal_in(bytes: &[u8]) -> Option<u8>
-    ensures { result ≡ signal_in bytes.now }
-{
-    match bytes {
-        [number] if *number != 0 && usize::from(*number) <= SIGNAL_LAST => Some(*number),
-        _ => None,
-    }
 }
 
 impl Signals {

@@ -1,6 +1,9 @@
+pub mod Replied
+pub mod Costing
 pub mod Doing
 pub mod Flushed
 pub mod Made
+pub mod Behind
 pub mod Putting
 pub mod Read
 pub mod Taken

@@ -6,10 +6,15 @@ mod answering;
 mod drivers;
 mod flushing;
 mod making;
+mod module;
+mod payloads;
+pub mod ptem;
+mod replies;
 mod taking;
 
 pub use drivers::put;
 pub use making::make;
+pub use ptem::Ptem;
 
 #[cfg(test)]
 mod tests;

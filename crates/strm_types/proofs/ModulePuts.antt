@@ -96,7 +96,7 @@ module _ {C : Type 0} (here : Spot) (m : Message C) (some : 0 < here.at) (few : 
   lower-append [] qs first second = second
   lower-append (p ∷ ps) qs first second = (first.0, lower-append ps qs first.1 second)
 
-  onward-lower : Lower (onward here.way here m ∷ [])
+  pub onward-lower : Lower (onward here.way here m ∷ [])
   onward-lower = (subst (λ way. far_at way (is_turned m) (toward here.way here).at < far_at here.way (is_turned m) here.at) (sym (toward-way here.way here)) (onward-less here.way (is_turned m) here some few), tt)
 
   sends-none : (t : Acted C (Ldterm C)) → t.sent ≡ [] → Lower t.sent

@@ -68,7 +68,7 @@ module _ {C D : Type 0} (f : C → D) where
   part-forgets None = refl
   part-forgets (Some cells) = refl
 
-  parts-forget : (m : Message C) → has_parts (map_message f m) ≡ has_parts m
+  pub parts-forget : (m : Message C) → has_parts (map_message f m) ≡ has_parts m
   unfolding map_message
   parts-forget m = ap (λ b. b || is_part (option_map (map f) m.body)) (part-forgets m.control) ∙ ap (λ b. is_part m.control || b) (part-forgets m.body)
 

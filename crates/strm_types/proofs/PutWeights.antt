@@ -47,7 +47,7 @@ module _ {C : Type 0} (p : C → Bool) where
   HeadKeeps t n = weight p t.state.queue.messages + (weight_sent p t.sent + weight_gone p t.gone) ≡ n + weight_made p t.gone
 
   -- nor has a message without parts
-  no-parts : (m : Message C) → has_parts m ≡ false → weight_of p m ≡ 0
+  pub no-parts : (m : Message C) → has_parts m ≡ false → weight_of p m ≡ 0
   unfolding weight_of cells_of
   no-parts m none = at m.control m.body none
     where

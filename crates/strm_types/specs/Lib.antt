@@ -63,3 +63,6 @@ pub mod TurnCalls
 pub mod Earlier
 pub mod Pushes
 pub mod Past
+pub mod Winsizes
+pub mod Acks
+pub mod Ptems

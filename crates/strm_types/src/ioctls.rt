@@ -1,6 +1,7 @@
 //! The headers of ioctl messages (streamio(7I): I_STR; sys/stream.h: `struct iocblk`).
 
 ghost use Rattle.std.specs.Prelude.{◌≡◌, ◌≤◌, ◌+◌, length, Some};
+ghost use Rattle.strm_types.specs.Acks.{acked};
 ghost use Rattle.strm_types.specs.Ioctls.{asking, ioc_bytes, read_ioc, refused, word_at, word_bytes};
 
 use crate::refusals::Refusal;
@@ -88,6 +89,17 @@ impl Ioc {
     {
         Ioc {
             error: u32::from(Refusal::Einval.number()),
+            result: 0,
+            ..*self
+        }
+    }
+
+    /// The header of the answer that the command was obeyed (streamio(7I): I_STR).
+    pub fn acked(&self) -> Ioc
+        ensures { result ≡ acked self.now }
+    {
+        Ioc {
+            error: 0,
             result: 0,
             ..*self
         }

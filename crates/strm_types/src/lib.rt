@@ -1,7 +1,7 @@
 //! What every crate of the stack speaks of: sides, queues, kinds of message, the calls on a pair with their
 //! answers and refusals, and the entries of a pair's journal. `specs/` holds the definitions that every contract
-//! cites, one file for each subject; `laws`, `head_laws`, `put_laws` and `line_laws` hold what follows from them, each law the
-//! contract of a function.
+//! cites, one file for each subject; `laws`, `head_laws`, `put_laws`, `line_laws` and `ptem_laws` hold what follows from them, each law
+//! the contract of a function.
 #![tactic(auto)]
 
 mod answers;
@@ -20,12 +20,15 @@ pub mod line_laws;
 mod modes;
 mod names;
 mod options;
+pub mod ptem_laws;
 pub mod put_laws;
 mod refusals;
 mod rules;
+mod signals;
 mod slots;
 mod spots;
 mod termios;
+mod winsize;
 
 pub use answers::{Answer, Content, ReadBytes, Turn};
 pub use books::{BOOK_MAX, Book};
@@ -45,6 +48,8 @@ pub use names::{Dir, ModuleName, Openness, Place, QueueName, Side, Way, line};
 pub use options::{Marks, Options};
 pub use refusals::{NoMemory, Refusal};
 pub use rules::{Fates, RULES, Rule};
+pub use signals::signal_in;
 pub use slots::Slot;
 pub use spots::{Across, Asks, Note, Spot};
 pub use termios::{ControlChar, InputModes, LocalModes, OutputModes, Termios};
+pub use winsize::Winsize;

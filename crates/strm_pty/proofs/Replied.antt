@@ -1,0 +1,127 @@
+-- Puts at ptem, step by step.
+use Rattle.std.proofs.Common.{ℕ, ◌≡◌, ◌<◌, ◌≤◌, ◌+◌, Bool, true, false, cond, List, [], ◌∷◌, refl, sym, ap, subst, ◌∙◌, arith}
+use Rattle.std.specs.Prelude.{◌&&◌, not, Some}
+use Rattle.strm_types.specs.declared.kinds.MsgKind.{MsgKind}
+use Rattle.strm_types.specs.declared.kinds.MsgKind.TheVariants.{Ioctl, Iocack, Pcsig}
+use Rattle.strm_types.specs.declared.ioctls.Ioc.{Ioc}
+use Rattle.strm_types.specs.declared.limits.TheConstants.{MODULES}
+use Rattle.strm_types.specs.declared.names.Way.TheVariants.{Up, Down}
+use Rattle.strm_types.specs.declared.spots.Spot.{Spot}
+use Rattle.strm_types.specs.declared.winsize.Winsize.{Winsize}
+use Rattle.strm_types.specs.Acks.{payload}
+use Rattle.strm_types.specs.Deliver.{Acted, Parcel, toward}
+use Rattle.strm_types.specs.Flush.{is_data_kind}
+use Rattle.strm_types.specs.Ioctls.{read_ioc}
+use Rattle.strm_types.specs.Message.{Message, has_parts}
+use Rattle.strm_types.specs.Ptems as plain
+use Rattle.strm_types.specs.Ptems.{asked_above, asked_below, asked_by_header, asked_on_way, is_asked, is_ioctl, ptem_cost, ptem_passes, ptem_puts, ptem_sends, window_signal}
+use Rattle.strm_types.specs.Winsizes.{same_winsize}
+use Rattle.strm_blocks.specs.Blocks.{StoreValue, block_at, in_hand}
+use Rattle.strm_msg.specs.Messages.{IsChain}
+use Rattle.strm_msg.proofs.Chains.{kind-is}
+use Rattle.strm_msg.proofs.MadePlain.{parts-same}
+use Rattle.strm_frame.specs.declared.modules.Acts.{Acts}
+use Rattle.strm_frame.specs.declared.parcels.Sent.{Sent}
+use Rattle.strm_frame.specs.Outboxes.{cost_of, message_in, sent_of}
+use Rattle.strm_frame.proofs.Handing.{one-chains, one-hands, one-parts}
+use Rattle.strm_pty.specs.declared.ptem.Ptem.{Ptem}
+use Rattle.strm_pty.specs.Beside.{Answers, ptem_in}
+use Rattle.strm_pty.specs.Does.{Makes, Swaps}
+use Rattle.strm_pty.proofs.Costing.{pass-cost}
+use Rattle.strm_pty.proofs.Doing.{makes-none}
+
+-- the kinds that ptem makes have no parts
+pub ack-plain : is_data_kind Iocack ≡ false
+unfolding is_data_kind
+ack-plain = refl
+
+pub ioctl-plain : is_data_kind Ioctl ≡ false
+unfolding is_data_kind
+ioctl-plain = refl
+
+pub signal-plain : is_data_kind Pcsig ≡ false
+unfolding is_data_kind
+signal-plain = refl
+
+-- what it looks at in hand has no parts
+ioctl-asked : (kind : MsgKind) (parts : Bool) → (is_ioctl kind && not parts) ≡ true → is_data_kind kind ≡ false
+unfolding is_data_kind
+ioctl-asked Ioctl parts is = refl
+ioctl-asked _ parts is = absurd (cc)
+
+pub asked-plain : (s : StoreValue) (i : ℕ) → is_asked (message_in s i) ≡ true → is_data_kind (block_at 0 (in_hand s i)).kind ≡ false
+asked-plain s i is = ap is_data_kind (sym (kind-is (in_hand s i))) ∙ ioctl-asked (message_in s i).kind (has_parts (message_in s i)) is
+
+-- A message in hand is looked at where it is an M_IOCTL.
+pub asked-is : (s : StoreValue) (i : ℕ) (kind : MsgKind) → IsChain (in_hand s i) → kind ≡ (block_at 0 (in_hand s i)).kind → is_ioctl kind ≡ true → is_asked (message_in s i) ≡ true
+asked-is s i kind chain kind_is is =
+    let m = message_in s i in
+    let ioctl : is_ioctl m.kind ≡ true = ap is_ioctl (kind-is (in_hand s i) ∙ sym kind_is) ∙ is in
+    let none : has_parts m ≡ false = parts-same (in_hand s i) chain ∙ ap is_data_kind (sym kind_is) ∙ no-data kind is in
+    ap (λ parts. is_ioctl m.kind && not parts) none ∙ ap (λ b. b && true) ioctl
+  where
+    no-data : (kind : MsgKind) → is_ioctl kind ≡ true → is_data_kind kind ≡ false
+    no-data kind is = ioctl-asked kind false (ap (λ b. b && true) is)
+
+pub asked-not : (s : StoreValue) (i : ℕ) (kind : MsgKind) → kind ≡ (block_at 0 (in_hand s i)).kind → is_ioctl kind ≡ false → is_asked (message_in s i) ≡ false
+asked-not s i kind kind_is is =
+    let m = message_in s i in
+    ap (λ b. b && not (has_parts m)) (ap is_ioctl (kind-is (in_hand s i) ∙ sym kind_is) ∙ is)
+
+-- what becomes of it then, and else
+module _ (here : Spot) (m : Message ℕ) (p : plain.Ptem) where
+  abbrev by_asked : Bool → Acted ℕ plain.Ptem
+  by_asked asked = cond asked (asked_by_header here (read_ioc m.plain) m p) (ptem_passes here m p)
+
+  pub puts-other : is_asked m ≡ false → ptem_puts here m p ≡ ptem_passes here m p
+  puts-other is = ap by_asked is
+
+  pub puts-above : (ioc : Ioc) → is_asked m ≡ true → read_ioc m.plain ≡ Some ioc → here.way ≡ Down → ptem_puts here m p ≡ asked_above here ioc (payload m.plain) m p
+  puts-above ioc is header way = ap by_asked is ∙ ap (λ o. asked_by_header here o m p) header ∙ ap (λ w. asked_on_way w here ioc (payload m.plain) m p) way
+
+  pub puts-below : (ioc : Ioc) → is_asked m ≡ true → read_ioc m.plain ≡ Some ioc → here.way ≡ Up → ptem_puts here m p ≡ asked_below here ioc (payload m.plain) m p
+  puts-below ioc is header way = ap by_asked is ∙ ap (λ o. asked_by_header here o m p) header ∙ ap (λ w. asked_on_way w here ioc (payload m.plain) m p) way
+
+module _ {M : Type 0} (name : M → ℕ) where
+  -- the same messages to the same spots
+  pub makes-as : (s t : StoreValue) (n : ℕ) (a b : List (Sent M)) (ps qs : List (Parcel ℕ)) → Makes name s t n a ps → b ≡ a → ps ≡ qs → Makes name s t n b qs
+  makes-as s t n a b ps qs makes made is = subst (λ xs. Makes name s t n b xs) is (subst (λ xs. Makes name s t n xs ps) (sym made) makes)
+
+  pub no-signal : (s : StoreValue) (here : Spot) (v w : Winsize) → same_winsize v w ≡ true → Makes name s s 1 [] (window_signal here v w)
+  no-signal s here v w is = rw is (makes-none name s 1 [] refl)
+
+  -- an M_IOCTL was freed, and what is sent was made
+  pub swaps-answers : (s t : StoreValue) (x : Ptem) (i n most : ℕ) (acts : Acts M) (ps : List (Parcel ℕ)) → acts.notes.items ≡ [] → Swaps name s t i n (sent_of acts.sent) ps
+      → n + cost_of ptem_cost ps ≤ most → Answers name s t x i most acts (ptem_sends ps (ptem_in x))
+  swaps-answers s t x i n most acts ps none swaps few = record {
+    state = refl;
+    notes = none;
+    sent = swaps.sent;
+    lists = swaps.lists;
+    chains = swaps.chains;
+    hands = record {
+      counts = λ j. let c = swaps.hands.counts j in omega arith;
+      others = λ j gone kept some. swaps.hands.others j gone some;
+    };
+    spends = record { mblks = (let c = swaps.hands.mblks in omega arith); dblks = (let c = swaps.hands.dblks in omega arith) };
+    pool = swaps.hands.pool;
+  }
+
+  -- a message goes on
+  pub passes-answers : (s : StoreValue) (x : Ptem) (sent : Sent M) (acts : Acts M) (here : Spot) → acts.notes.items ≡ [] → sent_of acts.sent ≡ sent ∷ [] → sent.to ≡ toward here.way here
+      → IsChain (in_hand s (name sent.message)) → 0 < here.at → here.at ≤ MODULES
+      → Answers name s s x (name sent.message) (ptem_cost here (message_in s (name sent.message))) acts (ptem_passes here (message_in s (name sent.message)) (ptem_in x))
+  unfolding cost_of
+  passes-answers s x sent acts here none one place chain some few =
+      let m = message_in s (name sent.message) in
+      let low = pass-cost here m some few in
+      record {
+        state = refl;
+        notes = none;
+        sent = one-parts name s sent (sent_of acts.sent) one ∙ ap (λ (to : Spot). record { to = to; message = m } ∷ []) place;
+        lists = refl;
+        chains = one-chains name s sent (sent_of acts.sent) one chain;
+        hands = one-hands name s sent (λ _. 0) (sent_of acts.sent) one;
+        spends = record { mblks = omega arith; dblks = omega arith };
+        pool = record { mblks = refl; dblks = refl };
+      }

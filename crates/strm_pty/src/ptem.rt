@@ -1,0 +1,334 @@
+//! The module ptem: the ioctls of a terminal on a pseudoterminal (ptem(7M), termio(7I)).
+
+ghost use Rattle.std.specs.Prelude.{◌≡◌, ◌<◌, ◌≤◌, ◌||◌, ◌==◌, true, [], ◌∷◌};
+ghost use Rattle.strm_types.specs.declared.limits.TheConstants.{MODULES};
+ghost use Rattle.strm_types.specs.declared.names.Way.TheVariants.{Up, Down};
+ghost use Rattle.strm_types.specs.Acks.{payload};
+ghost use Rattle.strm_types.specs.Ptems as plain;
+ghost use Rattle.strm_types.specs.Ptems.{acks, asked_above, asked_below, is_asked, is_ioctl, new_ptem, ptem_cost};
+ghost use Rattle.strm_types.specs.Ptems.{ptem_passes, ptem_puts, sets_termios, signal_told, termios_set, window_set, window_told};
+ghost use Rattle.strm_types.specs.Signals.{signal_in};
+ghost use Rattle.strm_types.specs.Termios.{read_termios, termios_bytes};
+ghost use Rattle.strm_types.specs.Winsizes.{read_winsize, winsize_bytes};
+ghost use Rattle.strm_blocks.specs.Blocks.{IsInHand, in_hand};
+ghost use Rattle.strm_msg.specs.Messages.{IsChain};
+ghost use Rattle.strm_frame.specs.Hands.{HasRoom};
+ghost use Rattle.strm_frame.specs.Outboxes.{message_in};
+ghost use Rattle.strm_pty.specs.Beside.{Answers, ptem_in};
+
+use crate::making::header_of;
+use crate::payloads::payload_of;
+use crate::replies::{ack, confirm, hear, nak, raise};
+use arrayvec::ArrayVec;
+use strm_blocks::Blocks;
+use strm_frame::{Acts, Outbox, Sent};
+use strm_types::{
+    Ioc, MsgKind, Spot, TCGETS, TCSETS, TCSETSF, TCSETSW, TIOCGWINSZ, TIOCSIGNAL, TIOCSWINSZ,
+    Termios, Way, Winsize, signal_in,
+};
+
+/// What the terminal is set to. It keeps no messages, and no lists of a store are its own.
+#[derive(Clone, Copy, Debug, Drop, PartialEq, Eq)]
+pub struct Ptem {
+    pub termios: Termios,
+    /// The size of the terminal's window.
+    pub window: Winsize,
+}
+
+impl Ptem {
+    /// The module as it is pushed.
+    pub fn new() -> Ptem
+        ensures { ptem_in result ≡ new_ptem }
+    {
+        Ptem {
+            termios: Termios::new(),
+            window: Winsize::new(),
+        }
+    }
+}
+
+// Whether messages of a kind are looked at: M_IOCTL.
+fn is_ioctl(kind: MsgKind) -> bool
+    ensures { result ≡ is_ioctl kind }
+{
+    matches!(kind, MsgKind::Ioctl)
+}
+
+// Whether a command sets the termios.
+fn sets_termios(command: u32) -> bool
+    ensures { result ≡ sets_termios command }
+{
+    command == TCSETS || command == TCSETSW || command == TCSETSF
+}
+
+// Whether a command is another one.
+fn is_command(command: u32, other: u32) -> bool
+    ensures { result ≡ (command == other) }
+{
+    command == other
+}
+
+// Sends a message on to the next place.
+fn pass_on<B: Blocks>(ptem: &Ptem, store: &B, here: Spot, message: B::Mp) -> Acts<B::Mp>
+    requires in_hand { IsInHand (B.value store.now) (B.name message) }
+    requires chain { IsChain (in_hand (B.value store.now) (B.name message)) }
+    requires inside { 0 < here.at }
+    requires small { here.at ≤ MODULES }
+    ensures { let s = B.value store.now in let m = message_in s (B.name message) in
+        Answers B.name s s ptem.now (B.name message) (ptem_cost here m) result (ptem_passes here m (ptem_in ptem.now)) }
+{
+    let _ = ptem;
+    let _ = store;
+    Acts {
+        notes: ArrayVec::new(),
+        sent: Outbox::one(Sent {
+            to: here.toward(here.way),
+            message,
+        }),
+    }
+}
+
+// TCGETS: the termios is told.
+fn tell_termios<B: Blocks>(
+    ptem: &Ptem,
+    store: &mut B,
+    here: Spot,
+    ioc: Ioc,
+    message: B::Mp,
+) -> Acts<B::Mp>
+    requires in_hand { IsInHand (B.value store.old) (B.name message) }
+    requires asked { is_asked (message_in (B.value store.old) (B.name message)) ≡ true }
+    requires down { here.way ≡ Down }
+    requires room { HasRoom (B.value store.old) 3 }
+    requires inside { 0 < here.at }
+    requires small { here.at ≤ MODULES }
+    ensures { let s = B.value store.old in let m = message_in s (B.name message) in
+        Answers B.name s (B.value store.new) ptem.now (B.name message) (ptem_cost here m) result
+        (acks Up here ioc (termios_bytes ptem.now.termios) (ptem_in ptem.now)) }
+{
+    let bytes = ptem.termios.bytes();
+    ack(store, here, ioc, &bytes, message)
+}
+
+// TIOCGWINSZ: the size of the window is told.
+fn tell_window<B: Blocks>(
+    ptem: &Ptem,
+    store: &mut B,
+    here: Spot,
+    ioc: Ioc,
+    message: B::Mp,
+) -> Acts<B::Mp>
+    requires in_hand { IsInHand (B.value store.old) (B.name message) }
+    requires asked { is_asked (message_in (B.value store.old) (B.name message)) ≡ true }
+    requires down { here.way ≡ Down }
+    requires room { HasRoom (B.value store.old) 3 }
+    requires inside { 0 < here.at }
+    requires small { here.at ≤ MODULES }
+    ensures { let s = B.value store.old in let m = message_in s (B.name message) in
+        Answers B.name s (B.value store.new) ptem.now (B.name message) (ptem_cost here m) result
+        (acks Up here ioc (winsize_bytes ptem.now.window) (ptem_in ptem.now)) }
+{
+    let bytes = ptem.window.bytes();
+    ack(store, here, ioc, &bytes, message)
+}
+
+// TCSETS, TCSETSW, TCSETSF: the termios is set.
+fn set_termios<B: Blocks>(
+    ptem: &mut Ptem,
+    store: &mut B,
+    here: Spot,
+    ioc: Ioc,
+    message: B::Mp,
+) -> Acts<B::Mp>
+    requires in_hand { IsInHand (B.value store.old) (B.name message) }
+    requires asked { is_asked (message_in (B.value store.old) (B.name message)) ≡ true }
+    requires down { here.way ≡ Down }
+    requires room { HasRoom (B.value store.old) 3 }
+    requires inside { 0 < here.at }
+    requires small { here.at ≤ MODULES }
+    ensures { let s = B.value store.old in let m = message_in s (B.name message) in let given = payload m.plain in
+        Answers B.name s (B.value store.new) ptem.new (B.name message) (ptem_cost here m) result
+        (termios_set here ioc given (read_termios given) (ptem_in ptem.old)) }
+{
+    let given = payload_of(store, &message);
+    let Some(termios) = Termios::read(given.as_slice()) else {
+        return nak(store, here, Way::Up, ioc, message);
+    };
+    ptem.termios = termios;
+    let windows = (ptem.window, ptem.window);
+    confirm(store, here, ioc, given.as_slice(), windows, message)
+}
+
+// TIOCSWINSZ from above: the size of the window is set.
+fn set_window<B: Blocks>(
+    ptem: &mut Ptem,
+    store: &mut B,
+    here: Spot,
+    ioc: Ioc,
+    message: B::Mp,
+) -> Acts<B::Mp>
+    requires in_hand { IsInHand (B.value store.old) (B.name message) }
+    requires asked { is_asked (message_in (B.value store.old) (B.name message)) ≡ true }
+    requires down { here.way ≡ Down }
+    requires room { HasRoom (B.value store.old) 3 }
+    requires inside { 0 < here.at }
+    requires small { here.at ≤ MODULES }
+    ensures { let s = B.value store.old in let m = message_in s (B.name message) in let given = payload m.plain in
+        Answers B.name s (B.value store.new) ptem.new (B.name message) (ptem_cost here m) result
+        (window_set here ioc given (read_winsize given) (ptem_in ptem.old)) }
+{
+    let given = payload_of(store, &message);
+    let Some(window) = Winsize::read(given.as_slice()) else {
+        return nak(store, here, Way::Up, ioc, message);
+    };
+    let windows = (ptem.window, window);
+    ptem.window = window;
+    confirm(store, here, ioc, given.as_slice(), windows, message)
+}
+
+// TIOCSWINSZ from below: the other side has set the size of the window.
+fn hear_window<B: Blocks>(
+    ptem: &mut Ptem,
+    store: &mut B,
+    here: Spot,
+    ioc: Ioc,
+    message: B::Mp,
+) -> Acts<B::Mp>
+    requires in_hand { IsInHand (B.value store.old) (B.name message) }
+    requires asked { is_asked (message_in (B.value store.old) (B.name message)) ≡ true }
+    requires up { here.way ≡ Up }
+    requires room { HasRoom (B.value store.old) 2 }
+    requires inside { 0 < here.at }
+    requires small { here.at ≤ MODULES }
+    ensures { let s = B.value store.old in let m = message_in s (B.name message) in
+        Answers B.name s (B.value store.new) ptem.new (B.name message) (ptem_cost here m) result
+        (window_told here ioc (read_winsize (payload m.plain)) (ptem_in ptem.old)) }
+{
+    let given = payload_of(store, &message);
+    let Some(window) = Winsize::read(given.as_slice()) else {
+        return nak(store, here, Way::Down, ioc, message);
+    };
+    let windows = (ptem.window, window);
+    ptem.window = window;
+    hear(store, here, ioc, windows, message)
+}
+
+// TIOCSIGNAL from below: the other side has sent a signal.
+fn hear_signal<B: Blocks>(
+    ptem: &Ptem,
+    store: &mut B,
+    here: Spot,
+    ioc: Ioc,
+    message: B::Mp,
+) -> Acts<B::Mp>
+    requires in_hand { IsInHand (B.value store.old) (B.name message) }
+    requires asked { is_asked (message_in (B.value store.old) (B.name message)) ≡ true }
+    requires up { here.way ≡ Up }
+    requires room { HasRoom (B.value store.old) 2 }
+    requires inside { 0 < here.at }
+    requires small { here.at ≤ MODULES }
+    ensures { let s = B.value store.old in let m = message_in s (B.name message) in
+        Answers B.name s (B.value store.new) ptem.now (B.name message) (ptem_cost here m) result
+        (signal_told here ioc (signal_in (payload m.plain)) (ptem_in ptem.now)) }
+{
+    let given = payload_of(store, &message);
+    match signal_in(given.as_slice()) {
+        None => nak(store, here, Way::Down, ioc, message),
+        Some(signal) => raise(store, here, ioc, signal, message),
+    }
+}
+
+// An M_IOCTL that comes down, by its command.
+fn put_above<B: Blocks>(
+    ptem: &mut Ptem,
+    store: &mut B,
+    here: Spot,
+    ioc: Ioc,
+    message: B::Mp,
+) -> Acts<B::Mp>
+    requires in_hand { IsInHand (B.value store.old) (B.name message) }
+    requires chain { IsChain (in_hand (B.value store.old) (B.name message)) }
+    requires asked { is_asked (message_in (B.value store.old) (B.name message)) ≡ true }
+    requires down { here.way ≡ Down }
+    requires room { HasRoom (B.value store.old) 3 }
+    requires inside { 0 < here.at }
+    requires small { here.at ≤ MODULES }
+    ensures { let s = B.value store.old in let m = message_in s (B.name message) in
+        Answers B.name s (B.value store.new) ptem.new (B.name message) (ptem_cost here m) result
+        (asked_above here ioc (payload m.plain) m (ptem_in ptem.old)) }
+{
+    if is_command(ioc.command, TCGETS) {
+        return tell_termios(ptem, store, here, ioc, message);
+    }
+    if is_command(ioc.command, TIOCGWINSZ) {
+        return tell_window(ptem, store, here, ioc, message);
+    }
+    if sets_termios(ioc.command) {
+        return set_termios(ptem, store, here, ioc, message);
+    }
+    if is_command(ioc.command, TIOCSWINSZ) {
+        return set_window(ptem, store, here, ioc, message);
+    }
+    pass_on(ptem, store, here, message)
+}
+
+// An M_IOCTL that comes up from the other side, by its command.
+fn put_below<B: Blocks>(
+    ptem: &mut Ptem,
+    store: &mut B,
+    here: Spot,
+    ioc: Ioc,
+    message: B::Mp,
+) -> Acts<B::Mp>
+    requires in_hand { IsInHand (B.value store.old) (B.name message) }
+    requires chain { IsChain (in_hand (B.value store.old) (B.name message)) }
+    requires asked { is_asked (message_in (B.value store.old) (B.name message)) ≡ true }
+    requires up { here.way ≡ Up }
+    requires room { HasRoom (B.value store.old) 2 }
+    requires inside { 0 < here.at }
+    requires small { here.at ≤ MODULES }
+    ensures { let s = B.value store.old in let m = message_in s (B.name message) in
+        Answers B.name s (B.value store.new) ptem.new (B.name message) (ptem_cost here m) result
+        (asked_below here ioc (payload m.plain) m (ptem_in ptem.old)) }
+{
+    if is_command(ioc.command, TIOCSWINSZ) {
+        return hear_window(ptem, store, here, ioc, message);
+    }
+    if is_command(ioc.command, TIOCSIGNAL) {
+        return hear_signal(ptem, store, here, ioc, message);
+    }
+    pass_on(ptem, store, here, message)
+}
+
+/// Puts a message in hand here, on its way up or down, and says what it does: `put(9E)`.
+///
+/// An M_IOCTL that comes down is answered up: TCGETS and TIOCGWINSZ with what the terminal is set to, TCSETS, TCSETSW, TCSETSF and
+/// TIOCSWINSZ with what they set, of which an M_IOCTL of number 0 then tells the other side. One that comes up from there is answered down:
+/// TIOCSWINSZ sets the window, and TIOCSIGNAL sends a signal up. Where the window changed, SIGWINCH goes up. A payload of another length than
+/// 35, 8 or 1 bytes, or no signal from 1 to 31, is answered with M_IOCNAK, EINVAL. All else goes on.
+///
+/// It takes three blocks of each kind at most for an M_IOCTL that comes down, two for one that comes up, and none for others. The cost is a step for
+/// each block of the message.
+pub fn put<B: Blocks>(ptem: &mut Ptem, store: &mut B, here: Spot, message: B::Mp) -> Acts<B::Mp>
+    requires in_hand { IsInHand (B.value store.old) (B.name message) }
+    requires chain { IsChain (in_hand (B.value store.old) (B.name message)) }
+    requires room { let s = B.value store.old in HasRoom s (ptem_cost here (message_in s (B.name message))) }
+    requires inside { 0 < here.at }
+    requires small { here.at ≤ MODULES }
+    ensures { let s = B.value store.old in let m = message_in s (B.name message) in
+        Answers B.name s (B.value store.new) ptem.new (B.name message) (ptem_cost here m) result
+        (ptem_puts here m (ptem_in ptem.old)) }
+{
+    store.audit();
+    let kind = store.kind(&message, 0);
+    if !is_ioctl(kind) {
+        return pass_on(ptem, store, here, message);
+    }
+    let Some(ioc) = header_of(store, &message) else {
+        return pass_on(ptem, store, here, message);
+    };
+    match here.way {
+        Way::Down => put_above(ptem, store, here, ioc, message),
+        Way::Up => put_below(ptem, store, here, ioc, message),
+    }
+}
