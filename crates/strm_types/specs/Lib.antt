@@ -63,3 +63,5 @@ pub mod TurnCalls
 pub mod Earlier
 pub mod Pushes
 pub mod Past
+pub mod Output
+pub mod OutputTurns
