@@ -17,3 +17,8 @@ made-long cells dir n (b ∷ bytes) = let more = made-long cells dir (suc n) byt
 pub made-forget : {C : Type 0} (cells : Cells C) → AreCells cells → (dir : Dir) (n : ℕ) (bytes : List ℕ) → cells_made plain dir n bytes ≡ map cells.byte (cells_made cells dir n bytes)
 made-forget cells are dir n [] = refl
 made-forget cells are dir n (b ∷ bytes) = ap (λ rest. b ∷ rest) (made-forget cells are dir (suc n) bytes) ∙ ap (λ c. c ∷ map cells.byte (cells_made cells dir (suc n) bytes)) (sym (are.byte_made dir n b))
+
+-- plain bytes are the same whichever cells they are
+pub made-same : (dir : Dir) (a b : ℕ) (bytes : List ℕ) → cells_made plain dir a bytes ≡ cells_made plain dir b bytes
+made-same dir a b [] = refl
+made-same dir a b (x ∷ bytes) = ap (λ rest. x ∷ rest) (made-same dir (suc a) (suc b) bytes)

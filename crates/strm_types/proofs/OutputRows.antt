@@ -12,11 +12,12 @@ use Rattle.strm_types.specs.declared.rules.Rule.TheVariants.{Replaced, Onocr}
 use Rattle.strm_types.specs.declared.spots.Asks.TheVariants as asked
 use Rattle.strm_types.specs.declared.termios.Termios.{Termios}
 use Rattle.strm_types.specs.Cells.{Tagged, Written, Made, plain, tagged}
-use Rattle.strm_types.specs.Deliver.{Goes, Comes}
+use Rattle.strm_types.specs.Deliver.{Fate, Goes, Comes, Parcel}
 use Rattle.strm_types.specs.Ldterms.{Ldterm}
-use Rattle.strm_types.specs.Message.{Message, cells_of, size_of}
+use Rattle.strm_types.specs.Message.{Message, cells_of, is_high_priority, rank_of, size_of}
 use Rattle.strm_types.specs.Output.{Output, made_for, post, posts, raised}
 use Rattle.strm_types.specs.OutputTurns.{output_asks, output_serves}
+use Rattle.strm_types.specs.Service.{Serving}
 use Rattle.strm_types.specs.Termios.{first_termios}
 use Rattle.strm_types.proofs.LdtermRows.{at, down, protocol, queue_with, to_write, waiting}
 use Rattle.strm_types.proofs.Samples.{ordinary, without_parts}
@@ -155,7 +156,7 @@ pub others-are-free : map (λ stopped. map (λ kind. output_asks (writing 0x5 st
 others-are-free = refl
 
 -- M_DATA of a band under OPOST: what its bytes give, in one message of that band
-pub output-is-posted : output_serves plain (at Slave Down) 3 (banded 2 (97 ∷ 10 ∷ []) ∷ ordinary (98 ∷ []) ∷ []) (writing 0x5 false (banded 2 (97 ∷ 10 ∷ []) ∷ ordinary (98 ∷ []) ∷ [])) ≡ record {
+pub output-is-posted : output_serves plain (at Slave Down) None 3 (banded 2 (97 ∷ 10 ∷ []) ∷ ordinary (98 ∷ []) ∷ []) (writing 0x5 false (banded 2 (97 ∷ 10 ∷ []) ∷ ordinary (98 ∷ []) ∷ [])) ≡ record {
   acted = record { state = behind 0x5 0 (ordinary (98 ∷ []) ∷ []); notes = []; sent = down (banded 2 (97 ∷ 13 ∷ 10 ∷ [])) ∷ []; gone = Comes SlaveToMaster (13 ∷ []) ∷ [] };
   bytes = 2;
   again = false;
@@ -164,12 +165,12 @@ unfolding cells_of size_of
 output-is-posted = refl
 
 -- of the master's stream in the other direction
-pub masters-output : (output_serves plain (at Master Down) 3 (ordinary (10 ∷ []) ∷ []) (writing 0x5 false [])).acted.gone ≡ Comes MasterToSlave (13 ∷ []) ∷ []
+pub masters-output : (output_serves plain (at Master Down) None 3 (ordinary (10 ∷ []) ∷ []) (writing 0x5 false [])).acted.gone ≡ Comes MasterToSlave (13 ∷ []) ∷ []
 unfolding cells_of size_of
 masters-output = refl
 
 -- without OPOST it goes down as it is, whatever else is set, and the column stays
-pub output-is-raw : output_serves plain (at Slave Down) 3 (banded 2 (97 ∷ 10 ∷ 13 ∷ []) ∷ []) (writing 0xfffffffe false (banded 2 (97 ∷ 10 ∷ 13 ∷ []) ∷ [])) ≡ record {
+pub output-is-raw : output_serves plain (at Slave Down) None 3 (banded 2 (97 ∷ 10 ∷ 13 ∷ []) ∷ []) (writing 0xfffffffe false (banded 2 (97 ∷ 10 ∷ 13 ∷ []) ∷ [])) ≡ record {
   acted = record { state = behind 0xfffffffe 6 []; notes = []; sent = down (banded 2 (97 ∷ 10 ∷ 13 ∷ [])) ∷ []; gone = [] };
   bytes = 3;
   again = false;
@@ -178,7 +179,7 @@ unfolding cells_of size_of
 output-is-raw = refl
 
 -- A message whose bytes give nothing sends none; one without bytes goes down.
-pub nothing-is-left : output_serves plain (at Slave Down) 3 (ordinary (13 ∷ 13 ∷ []) ∷ []) (record (writing 0x11 false []) { column = 0 }) ≡ record {
+pub nothing-is-left : output_serves plain (at Slave Down) None 3 (ordinary (13 ∷ 13 ∷ []) ∷ []) (record (writing 0x11 false []) { column = 0 }) ≡ record {
   acted = record { state = behind 0x11 0 []; notes = []; sent = []; gone = Goes SlaveToMaster Onocr (13 ∷ []) ∷ Goes SlaveToMaster Onocr (13 ∷ []) ∷ [] };
   bytes = 2;
   again = false;
@@ -186,7 +187,7 @@ pub nothing-is-left : output_serves plain (at Slave Down) 3 (ordinary (13 ∷ 13
 unfolding cells_of size_of
 nothing-is-left = refl
 
-pub empty-message : output_serves plain (at Slave Down) 3 (banded 1 [] ∷ []) (writing 0xffffffff false []) ≡ record {
+pub empty-message : output_serves plain (at Slave Down) None 3 (banded 1 [] ∷ []) (writing 0xffffffff false []) ≡ record {
   acted = record { state = behind 0xffffffff 6 []; notes = []; sent = down (banded 1 []) ∷ []; gone = [] };
   bytes = 0;
   again = false;
@@ -195,7 +196,7 @@ unfolding cells_of size_of
 empty-message = refl
 
 -- M_PROTO goes down as it is, with its control part, under OPOST too, and so does an M_IOCTL
-pub protocols-pass : output_serves plain (at Slave Down) 3 (protocol 2 (10 ∷ []) (10 ∷ 13 ∷ []) ∷ to_write) (writing 0xffffffff false []) ≡ record {
+pub protocols-pass : output_serves plain (at Slave Down) None 3 (protocol 2 (10 ∷ []) (10 ∷ 13 ∷ []) ∷ to_write) (writing 0xffffffff false []) ≡ record {
   acted = record { state = behind 0xffffffff 6 to_write; notes = []; sent = down (protocol 2 (10 ∷ []) (10 ∷ 13 ∷ [])) ∷ []; gone = [] };
   bytes = 3;
   again = false;
@@ -203,7 +204,7 @@ pub protocols-pass : output_serves plain (at Slave Down) 3 (protocol 2 (10 ∷ [
 unfolding cells_of size_of
 protocols-pass = refl
 
-pub ioctls-pass : output_serves plain (at Slave Down) 3 (without_parts Ioctl (10 ∷ 13 ∷ []) ∷ []) (writing 0xffffffff false []) ≡ record {
+pub ioctls-pass : output_serves plain (at Slave Down) None 3 (without_parts Ioctl (10 ∷ 13 ∷ []) ∷ []) (writing 0xffffffff false []) ≡ record {
   acted = record { state = behind 0xffffffff 6 []; notes = []; sent = down (without_parts Ioctl (10 ∷ 13 ∷ [])) ∷ []; gone = [] };
   bytes = 2;
   again = false;
@@ -211,5 +212,27 @@ pub ioctls-pass : output_serves plain (at Slave Down) 3 (without_parts Ioctl (10
 unfolding cells_of size_of
 ioctls-pass = refl
 
-pub nothing-stands : output_serves plain (at Slave Down) 3 [] (writing 0x5 false []) ≡ record { acted = record { state = writing 0x5 false []; notes = []; sent = []; gone = [] }; bytes = 0; again = false }
+pub nothing-stands : output_serves plain (at Slave Down) None 3 [] (writing 0x5 false []) ≡ record { acted = record { state = writing 0x5 false []; notes = []; sent = []; gone = [] }; bytes = 0; again = false }
 nothing-stands = refl
+
+-- A turn that stops treats so many bytes, and what is left goes back in front of those of its band. One that stops at its end leaves none, and one
+-- that treats nothing sends nothing.
+abbrev stopped_at : ℕ → Message ℕ → Serving ℕ (Ldterm ℕ)
+stopped_at most m = output_serves plain (at Slave Down) (Some most) 3 (m ∷ ordinary (98 ∷ []) ∷ []) (writing 0x5 false [])
+
+abbrev leaves : ℕ → ℕ → List (Message ℕ) → List (Parcel ℕ) → List (Fate ℕ) → Serving ℕ (Ldterm ℕ)
+leaves bytes column messages sent gone = record { acted = record { state = behind 0x5 column messages; notes = []; sent = sent; gone = gone }; bytes = bytes; again = false }
+
+pub output-stops : map (λ most. stopped_at most (banded 2 (97 ∷ 10 ∷ 99 ∷ []))) (0 ∷ 1 ∷ 2 ∷ 3 ∷ 4 ∷ [])
+    ≡ leaves 0 6 (banded 2 (97 ∷ 10 ∷ 99 ∷ []) ∷ ordinary (98 ∷ []) ∷ []) [] []
+    ∷ leaves 1 7 (banded 2 (10 ∷ 99 ∷ []) ∷ ordinary (98 ∷ []) ∷ []) (down (banded 2 (97 ∷ [])) ∷ []) []
+    ∷ leaves 2 0 (banded 2 (99 ∷ []) ∷ ordinary (98 ∷ []) ∷ []) (down (banded 2 (97 ∷ 13 ∷ 10 ∷ [])) ∷ []) (Comes SlaveToMaster (13 ∷ []) ∷ [])
+    ∷ replicate 2 (leaves 3 1 (ordinary (98 ∷ []) ∷ []) (down (banded 2 (97 ∷ 13 ∷ 10 ∷ 99 ∷ [])) ∷ []) (Comes SlaveToMaster (13 ∷ []) ∷ []))
+unfolding cells_of size_of rank_of is_high_priority
+output-stops = refl
+
+-- one that passes does so whole
+pub others-dont-stop : map (λ m. stopped_at 1 m) (protocol 2 (10 ∷ []) (10 ∷ 13 ∷ []) ∷ ordinary [] ∷ [])
+    ≡ leaves 3 6 (ordinary (98 ∷ []) ∷ []) (down (protocol 2 (10 ∷ []) (10 ∷ 13 ∷ [])) ∷ []) [] ∷ leaves 0 6 (ordinary (98 ∷ []) ∷ []) (down (ordinary []) ∷ []) [] ∷ []
+unfolding cells_of size_of
+others-dont-stop = refl

@@ -20,7 +20,7 @@ use Rattle.strm_types.specs.Output.{Motion, Newline, Return, Tab, Backspace, Con
 use Rattle.strm_types.specs.Places.{weight_gone, weight_made}
 use Rattle.strm_types.specs.Termios.{ocrnl, onlcr, onlret, onocr, xtabs}
 use Rattle.strm_types.proofs.DeliveryKeeps.{gone-append, made-append}
-use Rattle.strm_types.proofs.MadeCells.{made-both, made-forget, made-long}
+use Rattle.strm_types.proofs.MadeCells.{made-both, made-forget, made-long, made-same}
 use Rattle.strm_types.proofs.Weights.{count-join}
 
 -- a byte's output, in front of that of the bytes behind it
@@ -192,3 +192,25 @@ module _ {C : Type 0} (cells : Cells C) (are : AreCells cells) (dir : Dir) where
       ∙ ap (λ g. in_front (map f given) g (map_output f u)) (told-forgets p.given made c)
       ∙ ap (λ g. record { given = g; column = u.column; told = map (map_fate f) told ++ map (map_fate f) u.told }) (sym (map-append f given u.given))
       ∙ ap (λ g. record { given = map f (given ++ u.given); column = u.column; told = g }) (sym (map-append (map_fate f) told u.told))
+
+-- plain bytes give the same, however many were made before
+module _ (dir : Dir) where
+  given-same : (given : Given) (a b : ℕ) (c : ℕ) → given_for plain dir given a c ≡ given_for plain dir given b c
+  given-same (Byte x) a b c = refl
+  given-same Ended a b c = refl
+  given-same (Spaces columns) a b c = made-same dir a b (replicate columns space)
+  given-same Nothing a b c = refl
+
+  told-same : (given : Given) (a b : ℕ) (c : ℕ) → told_for plain dir given a c ≡ told_for plain dir given b c
+  told-same (Byte x) a b c = refl
+  told-same Ended a b c = refl
+  told-same (Spaces columns) a b c = ap (λ xs. Comes dir xs ∷ Goes dir Replaced (c ∷ []) ∷ []) (made-same dir a b (replicate columns space))
+  told-same Nothing a b c = refl
+
+  pub posts-same : (a b : ℕ) (t : Termios) (column : ℕ) (xs : List ℕ) → posts plain dir a t column xs ≡ posts plain dir b t column xs
+  posts-same a b t column [] = refl
+  posts-same a b t column (c ∷ xs) =
+      let p = post t column c in
+      ap (λ u. in_front (given_for plain dir p.given a c) (told_for plain dir p.given a c) u) (posts-same (a + made_for p.given) (b + made_for p.given) t p.column xs)
+      ∙ ap (λ g. in_front g (told_for plain dir p.given a c) (posts plain dir (b + made_for p.given) t p.column xs)) (given-same p.given a b c)
+      ∙ ap (λ g. in_front (given_for plain dir p.given b c) g (posts plain dir (b + made_for p.given) t p.column xs)) (told-same p.given a b c)

@@ -1,6 +1,6 @@
 -- Turns of ldterm's write queue: what stands there goes down, and the bytes of M_DATA are output characters (termio(7I): "Output Modes";
 -- ldterm(7M), "Write-side Behavior"; srv(9E), bcanput(9F)).
-use Rattle.std.specs.Prelude.{ℕ, Bool, true, false, if◌then◌else◌, List, [], ◌∷◌, map, None, Some}
+use Rattle.std.specs.Prelude.{ℕ, Bool, true, false, ◌&&◌, if◌then◌else◌, List, [], ◌∷◌, length, map, take, drop, Option, None, Some, unwrap_or}
 use Rattle.strm_types.specs.declared.kinds.MsgKind.{MsgKind}
 use Rattle.strm_types.specs.declared.kinds.MsgKind.TheVariants.{Data, Proto}
 use Rattle.strm_types.specs.declared.names.Dir.{Dir}
@@ -10,7 +10,8 @@ use Rattle.strm_types.specs.declared.spots.Asks.TheVariants as asked
 use Rattle.strm_types.specs.declared.spots.Spot.{Spot}
 use Rattle.strm_types.specs.Cells.{Cells}
 use Rattle.strm_types.specs.Deliver.{Fate}
-use Rattle.strm_types.specs.Ldterms.{Ldterm, onward, sends, with_queue_at}
+use Rattle.strm_types.specs.Input.{back_on, is_data, left_of, nothing_served}
+use Rattle.strm_types.specs.Ldterms.{Ldterm, onward}
 use Rattle.strm_types.specs.Message.{Message, cells_of, size_of}
 use Rattle.strm_types.specs.Names.{direction_at}
 use Rattle.strm_types.specs.Output.{posts}
@@ -26,9 +27,12 @@ asked_of_output false Data band = asked.Room (record { 0 = band })
 asked_of_output stopped Proto band = asked.Room (record { 0 = band })
 asked_of_output stopped _ band = asked.Free
 
--- What a message gives that goes down: messages, none or one, the column behind it, and what is told.
+-- What becomes of a message whose turn it is: messages that go down, none or one; what is left of it, if anything; how many bytes were treated;
+-- the column behind them; and what is told.
 pub record Outgoing (C : Type 0) : Type 0 where
   pub messages : List (Message C)
+  pub left : Option (Message C)
+  pub bytes : ℕ
   pub column : ℕ
   pub told : List (Fate C)
 
@@ -42,7 +46,7 @@ module _ {C : Type 0} where
 
   -- a message that goes down as it is
   abbrev pub unchanged : Message C → Ldterm C → Outgoing C
-  unchanged m p = record { messages = m ∷ []; column = p.column; told = [] }
+  unchanged m p = record { messages = m ∷ []; left = None; bytes = size_of m; column = p.column; told = [] }
 
   -- the same message with what its bytes give; where they give nothing there is none
   abbrev pub with_given : List C → Message C → List (Message C)
@@ -54,30 +58,38 @@ module _ {C : Type 0} (cells : Cells C) (here : Spot) where
   abbrev pub output_dir : Dir
   output_dir = direction_at Down here.side
 
-  -- M_DATA under OPOST, by its bytes: one without bytes goes down as it is
-  abbrev pub posted : ℕ → List C → Message C → Ldterm C → Outgoing C
-  posted made [] m p = unchanged m p
-  posted made (c ∷ rest) m p =
-      let t = posts cells output_dir made p.termios p.column (c ∷ rest) in
-      record { messages = with_given t.given m; column = t.column; told = t.told }
+  -- Bytes of M_DATA are output under OPOST: all of them, or so many at most where blocks are few. One without bytes goes down as it is.
+  abbrev pub posted : Option ℕ → ℕ → List C → Message C → Ldterm C → Outgoing C
+  posted stop made [] m p = unchanged m p
+  posted stop made (c ∷ rest) m p =
+      let most = unwrap_or stop (length (c ∷ rest)) in
+      let treated = take most (c ∷ rest) in
+      let t = posts cells output_dir made p.termios p.column treated in
+      record {
+        messages = with_given t.given m;
+        left = Some (left_of (drop most (c ∷ rest)) m);
+        bytes = length treated;
+        column = t.column;
+        told = t.told;
+      }
 
   -- A message, by its kind. So many cells were made before in the direction of output.
-  abbrev pub outgoing : MsgKind → ℕ → Message C → Ldterm C → Outgoing C
-  outgoing Data made m p = if opost p.termios then posted made (cells_of m) m p else unchanged m p
-  outgoing _ made m p = unchanged m p
+  abbrev pub outgoing : Option ℕ → ℕ → Message C → Ldterm C → Outgoing C
+  outgoing stop made m p = if is_data m.kind && opost p.termios then posted stop made (cells_of m) m p else unchanged m p
 
-  -- a turn of the write queue, of these messages
-  abbrev pub output_serves : ℕ → List (Message C) → Ldterm C → Serving C (Ldterm C)
-  output_serves made [] p = record { acted = sends [] p; bytes = 0; again = false }
-  output_serves made (m ∷ rest) p =
-      let t = outgoing m.kind made m p in
+  -- A turn of the write queue, of these messages. It goes as far as it may, or stops for want of blocks when so many bytes are treated: what is
+  -- left of the message goes back to the front of the queue then.
+  abbrev pub output_serves : Option ℕ → ℕ → List (Message C) → Ldterm C → Serving C (Ldterm C)
+  output_serves stop made [] p = nothing_served cells here p
+  output_serves stop made (m ∷ rest) p =
+      let t = outgoing stop made m p in
       record {
         acted = record {
-          state = record (with_queue_at Down (left_with rest p.write_queue) p) { column = t.column };
+          state = record p { write_queue = back_on t.left (left_with rest p.write_queue); column = t.column };
           notes = [];
           sent = map (onward Down here) t.messages;
           gone = t.told;
         };
-        bytes = size_of m;
+        bytes = t.bytes;
         again = false;
       }

@@ -2,7 +2,7 @@
 
 /// The greatest column of a terminal's carriage that is told. One that would pass it is lowered by 65,528, a multiple of 8, so that tabs
 /// stop where they did.
-pub const COLUMN_MAX: usize = 65_535;
+pub const COLUMN_MAX: u16 = 65_535;
 
 /// What a byte gives that goes out under OPOST (termio(7I): "Output Modes").
 #[derive(Clone, Copy, Debug, PartialEq, Eq)]
@@ -12,7 +12,7 @@ pub enum Given {
     /// A newline behind a carriage return that is made for it, under ONLCR.
     Ended,
     /// So many spaces, which are made in place of a TAB, under XTABS.
-    Spaces(usize),
+    Spaces(u8),
     /// Nothing: it is a carriage return at column 0, under ONOCR.
     Nothing,
 }
@@ -21,5 +21,5 @@ pub enum Given {
 #[derive(Clone, Copy, Debug, PartialEq, Eq)]
 pub struct Posted {
     pub given: Given,
-    pub column: usize,
+    pub column: u16,
 }

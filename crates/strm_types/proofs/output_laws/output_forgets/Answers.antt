@@ -6,7 +6,7 @@ pub returns-clause-posts : goal.returns-clause-posts
 returns-clause-posts g c = λ cells dir made t column xs are. posts-forget cells are dir made t column xs
 
 pub returns-clause-serves : goal.returns-clause-serves
-returns-clause-serves g c = λ cells here made ms l are. output-forgets cells are here made ms l
+returns-clause-serves g c = λ cells here stop made ms l are. output-forgets cells are here stop made ms l
 
 pub returns-clause-asks : goal.returns-clause-asks
 returns-clause-asks g c = λ cells l. asks-forget cells.byte l

@@ -6,4 +6,4 @@ pub returns-clause-posts : goal.returns-clause-posts
 returns-clause-posts g c = λ p cells dir made t column xs ignores. posts-keep p cells ignores dir made t column xs
 
 pub returns-clause-serves : goal.returns-clause-serves
-returns-clause-serves g c = λ p cells here made l ignores. output-keeps p cells ignores here made l
+returns-clause-serves g c = λ p cells here stop made l ignores. output-keeps p cells ignores here stop made l
