@@ -8,14 +8,13 @@ use Rattle.strm_types.specs.declared.keys.Key.{Key}
 use Rattle.strm_types.specs.declared.keys.Key.TheVariants.{Stop, Start, Intr, Quit, Susp, Ignored, Eof, Erase, Kill, Werase, Reprint, Lnext, Delimiter, Ordinary}
 use Rattle.strm_types.specs.declared.keys.TheConstants.{LINE_MAX}
 use Rattle.strm_types.specs.declared.kinds.MsgKind.TheVariants as kinds
-use Rattle.strm_types.specs.declared.names.Dir.{Dir}
 use Rattle.strm_types.specs.declared.names.Way.{Way}
 use Rattle.strm_types.specs.declared.names.Way.TheVariants.{Up, Down}
 use Rattle.strm_types.specs.declared.rules.Rule.{Rule}
 use Rattle.strm_types.specs.declared.rules.Rule.TheVariants.{EraseKey, Erased, Killed, Flushed, SignalKey, LineFull, LineOver}
 use Rattle.strm_types.specs.declared.spots.Spot.{Spot}
 use Rattle.strm_types.specs.Cells.{bytes_of, cells_made, plain}
-use Rattle.strm_types.specs.Deliver.{Acted, Fate, Goes, Comes}
+use Rattle.strm_types.specs.Deliver.{Acted, Fate}
 use Rattle.strm_types.specs.Flushing.{flush_bytes, flush_message}
 use Rattle.strm_types.specs.Input.{begins_next, cells_left, input_begins, is_data, ldterm_serves, made_of, next_stage, output_passes, passes, stage_at, stages, stages_done, to_treat, treats, with_left}
 use Rattle.strm_types.specs.Keys.{restarts}
@@ -29,6 +28,7 @@ use Rattle.strm_types.specs.TurnCalls.{IsShort, echo_most, most_made}
 use Rattle.strm_types.specs.Typing.{added, bare, begins, both_ways, dropped, echo_dir, echo_grows, echo_lost, echo_stands, echoed, edits, gathered_up, is_blank_cell, is_lnext, lost, sigint, signals, sigquit, sigtstp, strikes, stroke_at, struck, up_alone}
 use Rattle.strm_types.proofs.EchoSizes.{echo-few}
 use Rattle.strm_types.proofs.LdtermStops.{stages-work}
+use Rattle.strm_types.proofs.MadeCells.{made-both, made-long}
 
 -- an edit that takes bytes leaves a line no longer
 module _ (test : ℕ → Bool) where
@@ -59,15 +59,6 @@ typed-few blank c line few = at (has_room line) refl
         below : (a b : ℕ) → nat_lt a b ≡ true → suc a ≤ b
         below a b is = grind (arith, nat_tests)
     at false is = few
-
-made-both : (a b : List (Fate ℕ)) → made_of (a ++ b) ≡ made_of a + made_of b
-made-both [] b = omega arith
-made-both (Comes dir cells ∷ a) b = let more = made-both a b in omega arith
-made-both (Goes dir rule cells ∷ a) b = let more = made-both a b in omega arith
-
-cells-made-long : (dir : Dir) (n : ℕ) (bytes : List ℕ) → length (cells_made plain dir n bytes) ≡ length bytes
-cells-made-long dir n [] = refl
-cells-made-long dir n (b ∷ bytes) = let more = cells-made-long dir (suc n) bytes in omega arith
 
 module _ (here : Spot) where
   abbrev lost_at : Rule → List ℕ → List (Fate ℕ)
@@ -159,7 +150,7 @@ module _ (here : Spot) where
       new = cells_made plain (echo_dir plain here) made (b ∷ bytes)
 
       size : length new ≤ echo_most
-      size = omega (arith, cells-made-long (echo_dir plain here) made (b ∷ bytes))
+      size = omega (arith, made-long plain (echo_dir plain here) made (b ∷ bytes))
 
       at : (full echoing : Bool) → Makes (cond full (echo_lost plain here new (record l { stage = Between })) (cond echoing (echo_grows plain here new (record l { stage = Between })) (echo_stands plain here new (record l { stage = Between }))))
       at true echoing = record { short = record { line = line; echo = omega arith }; few = omega (arith, size) }

@@ -24,7 +24,7 @@ abbrev joined_made : {E : Type 0} → Acted E (Ldterm E) → Acted E (Ldterm E) 
 joined_made t u = record { state = u.state; notes = t.notes ++ u.notes; sent = u.sent; gone = t.gone ++ u.gone }
 
 module _ {C D : Type 0} (f : C → D) where
-  left_of-forgets : (rest : List C) (m : Message C) → left_of (map f rest) (map_message f m) ≡ map_message f (left_of rest m)
+  pub left_of-forgets : (rest : List C) (m : Message C) → left_of (map f rest) (map_message f m) ≡ map_message f (left_of rest m)
   unfolding map_message
   left_of-forgets rest m = refl
 
@@ -77,7 +77,7 @@ module _ {C D : Type 0} (f : C → D) where
           ap (λ gone. record (joined_made (image f t) (image f u)) { gone = gone }) (sym (map-append (map_fate f) t.gone u.gone))
       at false = refl
 
-  back_on-forgets : (work : Option (Message C)) (q : Queue C) → back_on (option_map (map_message f) work) (map_queue f q) ≡ map_queue f (back_on work q)
+  pub back_on-forgets : (work : Option (Message C)) (q : Queue C) → back_on (option_map (map_message f) work) (map_queue f q) ≡ map_queue f (back_on work q)
   back_on-forgets None q = refl
   back_on-forgets (Some m) q =
       ap (λ xs. cond (is_none_left xs) (map_queue f q) (record (map_queue f q) { messages = put_back (map_message f m) (map_messages f q.messages) })) (cells-forget f m)

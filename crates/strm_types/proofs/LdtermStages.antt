@@ -20,7 +20,7 @@ use Rattle.strm_types.specs.Ldterms.{Ldterm, Stage, Between, Begun, Answered, on
 use Rattle.strm_types.specs.Lines.{ErasesByte, ErasesWord, Types, edited, has_room}
 use Rattle.strm_types.specs.Message.{Message, cells_of, data_message, weight_of}
 use Rattle.strm_types.specs.Places.{weight_sent}
-use Rattle.strm_types.specs.Queue.{is_full, is_none_left, left_with, put, put_back, weight}
+use Rattle.strm_types.specs.Queue.{Queue, is_full, is_none_left, left_with, put, put_back, weight}
 use Rattle.strm_types.specs.Message.{rank_of}
 use Rattle.strm_types.specs.Termios.{icanon, imaxbel, noflsh}
 use Rattle.strm_types.specs.Typing.{added, bare, begins, both_ways, echo_dir, dropped, echoed, echo_grows, echo_lost, echo_stands, gathered_up, grown, is_blank_cell, is_lnext, lost, sigint, signals, sigquit, sigtstp, up_alone, stroke_at, strikes, struck}
@@ -157,6 +157,16 @@ module _ {C : Type 0} (cells : Cells C) (here : Spot) where
       at (Begun started c) ready = elim ready [ inl idle ↦ absurd (cc (idle.0)) | inr comes ↦ inr (comes.0, let e = comes.1 in omega arith) ]
       at (Answered echo) ready = elim ready [ inl idle ↦ absurd (cc (idle.0)) | inr comes ↦ echoed-comes n comes.0 made echo l (let e = comes.1 in omega arith) ]
 
+-- what is left of a message goes back with its cells
+module _ {C : Type 0} (p : C → Bool) where
+  pub back-weighs : (left : Option (Message C)) (q : Queue C) → weight p (back_on left q).messages ≡ weight p q.messages + weight_in_work p left
+  back-weighs None q = omega arith
+  back-weighs (Some m) q = at (cells_of m) refl
+    where
+      at : (xs : List C) → cells_of m ≡ xs → weight p (cond (is_none_left xs) q (record q { messages = put_back m q.messages })).messages ≡ weight p q.messages + weight_of p m
+      at [] is = omega (arith, sym (weight-whole p m) ∙ ap (λ ys. count_by p ys) is)
+      at (c ∷ rest) is = omega (arith, weight-put_back p m q.messages)
+
 module _ {C : Type 0} (p : C → Bool) (cells : Cells C) (here : Spot) (ignores : IgnoresMapping cells p) where
   weight-left : (m : Message C) (c : C) (rest : List C) → cells_of m ≡ c ∷ rest → weight_of p m ≡ count_by p (c ∷ []) + weight_of p (left_of rest m)
   unfolding weight_of cells_of
@@ -221,15 +231,7 @@ module _ {C : Type 0} (p : C → Bool) (cells : Cells C) (here : Spot) (ignores 
   finished-keeps : (l : Ldterm C) → Comes3 cells here 0 l → ActedKeeps p (finished cells here l) (ldterm_weight p l)
   finished-keeps l ready =
       let between : weight_begun p l.stage ≡ 0 = elim ready [ inl idle ↦ ap (λ s. weight_begun p s) idle.0 | inr comes ↦ ended-between l.stage comes.0 comes.1 ] in
-      omega (arith, gathered-keeps p cells here l.gathered, back l.in_work)
-    where
-      back : (in_work : Option (Message C)) → weight p (back_on in_work l.read_queue).messages ≡ weight p l.read_queue.messages + weight_in_work p in_work
-      back None = omega arith
-      back (Some m) = left (cells_of m) refl
-        where
-          left : (xs : List C) → cells_of m ≡ xs → weight p (cond (is_none_left xs) l.read_queue (record l.read_queue { messages = put_back m l.read_queue.messages })).messages ≡ weight p l.read_queue.messages + weight_of p m
-          left [] is = omega (arith, sym (weight-whole p m) ∙ ap (λ ys. count_by p ys) is)
-          left (c ∷ rest) is = omega (arith, weight-put_back p m l.read_queue.messages)
+      omega (arith, gathered-keeps p cells here l.gathered, back-weighs p l.in_work l.read_queue)
 
   pub stages-comes-keep : (n made : ℕ) (l : Ldterm C) → EchoStands l → Comes3 cells here n l → ActedKeeps p (stages cells here n made l) (ldterm_weight p l)
   stages-comes-keep zero made l stands ready = finished-keeps l ready

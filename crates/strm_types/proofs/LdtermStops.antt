@@ -4,7 +4,6 @@ use Rattle.std.proofs.Common.{ℕ, zero, suc, ◌≡◌, ◌≤◌, ◌<◌, ◌
 use Rattle.std.specs.Prelude.{◌&&◌, Option, None, Some, is_some}
 use Rattle.std.proofs.lemmas.Bool.{false≢true}
 use Rattle.strm_types.specs.declared.kinds.MsgKind.TheVariants as kinds
-use Rattle.strm_types.specs.declared.names.Dir.{Dir}
 use Rattle.strm_types.specs.declared.names.Way.{Way}
 use Rattle.strm_types.specs.declared.names.Way.TheVariants.{Up, Down}
 use Rattle.strm_types.specs.declared.spots.Spot.{Spot}
@@ -21,12 +20,9 @@ use Rattle.strm_types.specs.TurnCalls.{Begins, Ends, bytes_left}
 use Rattle.strm_types.specs.TurnOutcomes.{first_size}
 use Rattle.strm_types.specs.Typing.{bare, begins, echo_dir, echo_grows, echo_lost, echo_stands, echoed, is_lnext, stroke_at, struck}
 use Rattle.strm_types.proofs.LdtermStages.{strikes-stay}
+use Rattle.strm_types.proofs.MadeCells.{made-same}
 
 module _ (here : Spot) where
-  made-same : (dir : Dir) (a b : ℕ) (bytes : List ℕ) → cells_made plain dir a bytes ≡ cells_made plain dir b bytes
-  made-same dir a b [] = refl
-  made-same dir a b (x ∷ xs) = ap (λ (more : List ℕ). x ∷ more) (made-same dir (suc a) (suc b) xs)
-
   echoed-same : (a b : ℕ) (echo : List ℕ) (l : Ldterm ℕ) → echoed plain here a echo l ≡ echoed plain here b echo l
   echoed-same a b [] l = refl
   echoed-same a b (x ∷ xs) l =

@@ -1,5 +1,5 @@
 -- Forgetting the origins of cells commutes with what typed bytes do.
-use Rattle.std.proofs.Common.{ℕ, suc, ◌≡◌, ◌-◌, Bool, true, false, cond, List, [], ◌∷◌, ◌++◌, length, take, drop, map, refl, sym, ap, ◌∙◌}
+use Rattle.std.proofs.Common.{ℕ, ◌≡◌, ◌-◌, Bool, true, false, cond, List, [], ◌∷◌, ◌++◌, length, take, drop, map, refl, sym, ap, ◌∙◌}
 use Rattle.std.specs.Prelude.{not, ◌&&◌, nat_lt}
 use Rattle.std.proofs.lemmas.List.{take-map, drop-map, length-map, map-append}
 use Rattle.strm_types.specs.declared.flushing.FlushAsked.{FlushAsked}
@@ -8,7 +8,6 @@ use Rattle.strm_types.specs.declared.keys.Key.TheVariants.{Stop, Start, Intr, Qu
 use Rattle.strm_types.specs.declared.kinds.MsgKind.{MsgKind}
 use Rattle.strm_types.specs.declared.kinds.MsgKind.TheVariants as kinds
 use Rattle.strm_types.specs.declared.keys.TheConstants.{LINE_MAX}
-use Rattle.strm_types.specs.declared.names.Dir.{Dir}
 use Rattle.strm_types.specs.declared.names.Way.TheVariants.{Up, Down}
 use Rattle.strm_types.specs.declared.rules.Rule.{Rule}
 use Rattle.strm_types.specs.declared.rules.Rule.TheVariants.{EraseKey, Erased, Killed, EofKey, SignalKey, FlowKey, LineFull, LineOver, Flushed}
@@ -31,6 +30,7 @@ use Rattle.strm_types.specs.Termios.{icanon, imaxbel, noflsh}
 use Rattle.strm_types.specs.Typing.{added, bare, begins, both_ways, dropped, echo_dir, echo_grows, echo_lost, echo_stands, echoed, gathered_up, goes_up, grown, is_blank_cell, is_lnext, line_sent, lost, sigint, signals, sigquit, sigtstp, stops, strikes, stroke_at, struck, up_alone}
 use Rattle.strm_types.proofs.Forgetting.{cells-forget, full-forgets, none-forgets, put_enables-forgets, put_on-forgets}
 use Rattle.strm_types.proofs.LdtermPutForgets.{image, either-agrees, line_gone-forgets}
+use Rattle.strm_types.proofs.MadeCells.{made-forget}
 use Rattle.strm_types.proofs.PlainCells.{bytes-plain}
 
 module _ {C D : Type 0} (f : C → D) where
@@ -206,11 +206,6 @@ module _ {C : Type 0} (cells : Cells C) (are : AreCells cells) (here : Spot) whe
       ∙ ap (λ before. struck_made started (is_none_left l.write_queue.messages) (echo_of l.termios before (bytes_of plain (map f t.state.line)) stroke) (image f t)) (bytes-plain (map f l.line))
       ∙ ap (λ after. struck_made started (is_none_left l.write_queue.messages) (echo_of l.termios (map f l.line) after stroke) (image f t)) (bytes-plain (map f t.state.line))
 
-  -- the cells that an echo makes
-  made-forget : (dir : Dir) (n : ℕ) (bytes : List ℕ) → cells_made plain dir n bytes ≡ map f (cells_made cells dir n bytes)
-  made-forget dir n [] = refl
-  made-forget dir n (b ∷ bytes) = ap (λ rest. b ∷ rest) (made-forget dir (suc n) bytes) ∙ ap (λ c. c ∷ map f (cells_made cells dir (suc n) bytes)) (sym (are.byte_made dir n b))
-
   grown-forgets : (new : List C) (ms : List (Message C)) → grown plain here (map f new) (map_messages f ms) ≡ map_messages f (grown cells here new ms)
   grown-forgets new [] = refl
   grown-forgets new (m ∷ []) =
@@ -233,7 +228,7 @@ module _ {C : Type 0} (cells : Cells C) (are : AreCells cells) (here : Spot) whe
   echoed-forgets made [] l = refl
   echoed-forgets made (b ∷ bytes) l =
       let new = cells_made cells (echo_dir cells here) made (b ∷ bytes) in
-      ap (λ xs. cond (is_full 0 (map_queue f l.write_queue)) (echo_lost plain here xs (map_ldterm f l)) (cond l.echoing (echo_grows plain here xs (map_ldterm f l)) (echo_stands plain here xs (map_ldterm f l)))) (made-forget (echo_dir cells here) made (b ∷ bytes))
+      ap (λ xs. cond (is_full 0 (map_queue f l.write_queue)) (echo_lost plain here xs (map_ldterm f l)) (cond l.echoing (echo_grows plain here xs (map_ldterm f l)) (echo_stands plain here xs (map_ldterm f l)))) (made-forget cells are (echo_dir cells here) made (b ∷ bytes))
       ∙ ap (λ full. cond full (echo_lost plain here (map f new) (map_ldterm f l)) (cond l.echoing (echo_grows plain here (map f new) (map_ldterm f l)) (echo_stands plain here (map f new) (map_ldterm f l)))) (full-forgets f 0 l.write_queue)
       ∙ either-agrees f (is_full 0 l.write_queue) (echo_lost cells here new l) (cond l.echoing (echo_grows cells here new l) (echo_stands cells here new l))
       (echo_lost plain here (map f new) (map_ldterm f l)) (cond l.echoing (echo_grows plain here (map f new) (map_ldterm f l)) (echo_stands plain here (map f new) (map_ldterm f l)))

@@ -66,3 +66,5 @@ pub mod Past
 pub mod Winsizes
 pub mod Acks
 pub mod Ptems
+pub mod Output
+pub mod OutputTurns

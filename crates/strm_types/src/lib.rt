@@ -1,7 +1,7 @@
 //! What every crate of the stack speaks of: sides, queues, kinds of message, the calls on a pair with their
 //! answers and refusals, and the entries of a pair's journal. `specs/` holds the definitions that every contract
-//! cites, one file for each subject; `laws`, `head_laws`, `put_laws`, `line_laws` and `ptem_laws` hold what follows from them, each law
-//! the contract of a function.
+//! cites, one file for each subject; `laws`, `head_laws`, `put_laws`, `line_laws`, `ptem_laws` and `output_laws` hold what follows
+//! from them, each law the contract of a function.
 #![tactic(auto)]
 
 mod answers;
@@ -20,6 +20,8 @@ pub mod line_laws;
 mod modes;
 mod names;
 mod options;
+mod output;
+pub mod output_laws;
 pub mod ptem_laws;
 pub mod put_laws;
 mod refusals;
@@ -46,6 +48,7 @@ pub use limits::{
 pub use modes::{ControlMode, Mode, Prio, ReadMode, Wanted};
 pub use names::{Dir, ModuleName, Openness, Place, QueueName, Side, Way, line};
 pub use options::{Marks, Options};
+pub use output::{COLUMN_MAX, Given, Posted};
 pub use refusals::{NoMemory, Refusal};
 pub use rules::{Fates, RULES, Rule};
 pub use signals::signal_in;

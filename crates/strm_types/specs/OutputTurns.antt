@@ -1,0 +1,95 @@
+-- Turns of ldterm's write queue: what stands there goes down, and the bytes of M_DATA are output characters (termio(7I): "Output Modes";
+-- ldterm(7M), "Write-side Behavior"; srv(9E), bcanput(9F)).
+use Rattle.std.specs.Prelude.{ℕ, Bool, true, false, ◌&&◌, if◌then◌else◌, List, [], ◌∷◌, length, map, take, drop, Option, None, Some, unwrap_or}
+use Rattle.strm_types.specs.declared.kinds.MsgKind.{MsgKind}
+use Rattle.strm_types.specs.declared.kinds.MsgKind.TheVariants.{Data, Proto}
+use Rattle.strm_types.specs.declared.names.Dir.{Dir}
+use Rattle.strm_types.specs.declared.names.Way.TheVariants.{Down}
+use Rattle.strm_types.specs.declared.spots.Asks.{Asks}
+use Rattle.strm_types.specs.declared.spots.Asks.TheVariants as asked
+use Rattle.strm_types.specs.declared.spots.Spot.{Spot}
+use Rattle.strm_types.specs.Cells.{Cells}
+use Rattle.strm_types.specs.Deliver.{Fate}
+use Rattle.strm_types.specs.Input.{back_on, is_data, left_of, nothing_served}
+use Rattle.strm_types.specs.Ldterms.{Ldterm, onward}
+use Rattle.strm_types.specs.Message.{Message, cells_of, size_of}
+use Rattle.strm_types.specs.Names.{direction_at}
+use Rattle.strm_types.specs.Output.{posts}
+use Rattle.strm_types.specs.Queue.{left_with}
+use Rattle.strm_types.specs.Service.{Serving}
+use Rattle.strm_types.specs.Termios.{opost}
+
+-- What a message asks that stands first, while output is stopped (true) or not: M_DATA waits while it is stopped, whatever room there is
+-- ahead, and asks else for room in its band, as M_PROTO does in either case. What else stands there is free to go.
+abbrev pub asked_of_output : Bool → MsgKind → ℕ → Asks
+asked_of_output true Data band = asked.Held
+asked_of_output false Data band = asked.Room (record { 0 = band })
+asked_of_output stopped Proto band = asked.Room (record { 0 = band })
+asked_of_output stopped _ band = asked.Free
+
+-- What becomes of a message whose turn it is: messages that go down, none or one; what is left of it, if anything; how many bytes were treated;
+-- the column behind them; and what is told.
+pub record Outgoing (C : Type 0) : Type 0 where
+  pub messages : List (Message C)
+  pub left : Option (Message C)
+  pub bytes : ℕ
+  pub column : ℕ
+  pub told : List (Fate C)
+
+module _ {C : Type 0} where
+  abbrev pub output_asks : Ldterm C → Asks
+  output_asks p = of_first p.write_queue.messages
+    where
+      of_first : List (Message C) → Asks
+      of_first [] = asked.Empty
+      of_first (m ∷ rest) = asked_of_output p.stopped m.kind m.band
+
+  -- a message that goes down as it is
+  abbrev pub unchanged : Message C → Ldterm C → Outgoing C
+  unchanged m p = record { messages = m ∷ []; left = None; bytes = size_of m; column = p.column; told = [] }
+
+  -- the same message with what its bytes give; where they give nothing there is none
+  abbrev pub with_given : List C → Message C → List (Message C)
+  with_given [] m = []
+  with_given (c ∷ given) m = record m { control = None; body = Some (c ∷ given) } ∷ []
+
+module _ {C : Type 0} (cells : Cells C) (here : Spot) where
+  -- the direction of output
+  abbrev pub output_dir : Dir
+  output_dir = direction_at Down here.side
+
+  -- Bytes of M_DATA are output under OPOST: all of them, or so many at most where blocks are few. One without bytes goes down as it is.
+  abbrev pub posted : Option ℕ → ℕ → List C → Message C → Ldterm C → Outgoing C
+  posted stop made [] m p = unchanged m p
+  posted stop made (c ∷ rest) m p =
+      let most = unwrap_or stop (length (c ∷ rest)) in
+      let treated = take most (c ∷ rest) in
+      let t = posts cells output_dir made p.termios p.column treated in
+      record {
+        messages = with_given t.given m;
+        left = Some (left_of (drop most (c ∷ rest)) m);
+        bytes = length treated;
+        column = t.column;
+        told = t.told;
+      }
+
+  -- A message, by its kind. So many cells were made before in the direction of output.
+  abbrev pub outgoing : Option ℕ → ℕ → Message C → Ldterm C → Outgoing C
+  outgoing stop made m p = if is_data m.kind && opost p.termios then posted stop made (cells_of m) m p else unchanged m p
+
+  -- A turn of the write queue, of these messages. It goes as far as it may, or stops for want of blocks when so many bytes are treated: what is
+  -- left of the message goes back to the front of the queue then.
+  abbrev pub output_serves : Option ℕ → ℕ → List (Message C) → Ldterm C → Serving C (Ldterm C)
+  output_serves stop made [] p = nothing_served cells here p
+  output_serves stop made (m ∷ rest) p =
+      let t = outgoing stop made m p in
+      record {
+        acted = record {
+          state = record p { write_queue = back_on t.left (left_with rest p.write_queue); column = t.column };
+          notes = [];
+          sent = map (onward Down here) t.messages;
+          gone = t.told;
+        };
+        bytes = t.bytes;
+        again = false;
+      }
