@@ -42,3 +42,5 @@ pub mod Onward
 pub mod Falls
 pub mod Spending
 pub mod Spared
+pub mod Pouring
+pub mod Poured

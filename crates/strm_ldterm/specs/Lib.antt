@@ -20,3 +20,4 @@ pub mod ServedLaws
 pub mod Freeing
 pub mod Bounds
 pub mod PlainRuns
+pub mod Posting

@@ -80,8 +80,8 @@ fn take_byte<B: Blocks>(store: &mut B, message: B::Mp) -> (B::Mp, Option<u8>)
     (message, Some(byte))
 }
 
-// Takes the next byte of the message in work, if there is one.
-fn next_byte<B: Blocks>(ldterm: &mut Ldterm<B::Mp>, store: &mut B) -> Option<u8>
+/// Takes the next byte of the message in work, if there is one.
+pub(crate) fn next_byte<B: Blocks>(ldterm: &mut Ldterm<B::Mp>, store: &mut B) -> Option<u8>
     requires held { IsHeld B.name (B.value store.old) ldterm.old }
     requires kept { AreIn (B.value store.old) (λ _. 0) (keeps B.name ldterm.old) }
     ensures did { (f : Fates) → let s = B.value store.old in let p = ldterm_in B.name s ldterm.old in

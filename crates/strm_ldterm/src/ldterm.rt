@@ -33,7 +33,7 @@ pub struct Ldterm<Mp> {
     pub termios: Termios,
     pub stopped: bool,
     pub after_lnext: bool,
-    pub column: usize,
+    pub column: u16,
     pub line: Line,
     pub read_queue: Queue,
     pub write_queue: Queue,

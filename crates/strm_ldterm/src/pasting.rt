@@ -37,8 +37,8 @@ pub(crate) struct Ran {
     pub notes: ArrayVec<Note, 4>,
 }
 
-// Marks the bytes from one up to another, in a mode that says so.
-fn mark(odd: &mut [bool; 256], mode: bool, from: usize, to: usize)
+/// Marks the bytes from one up to another, in a mode that says so.
+pub(crate) fn mark(odd: &mut [bool; 256], mode: bool, from: usize, to: usize)
     requires { to ≤ 256 }
     ensures stays { (b : ℕ) → slice_index_or odd.new b true ≡ false → slice_index_or odd.old b true ≡ false }
     ensures marked { (b : ℕ) → mode ≡ true → from ≤ b → b < to → slice_index_or odd.new b true ≡ true }
@@ -124,10 +124,11 @@ fn take_plain<B: Blocks>(
     (message, run)
 }
 
-// Takes plain bytes off the front of the message in work, so many at most.
-fn take_front<B: Blocks>(
+/// Takes bytes that aren't marked off the front of the message in work, as many as its first block has of them, and so many at most.
+pub(crate) fn take_front<B: Blocks>(
     ldterm: &mut Ldterm<B::Mp>,
     store: &mut B,
+    odd: &[bool; 256],
     most: usize,
 ) -> ArrayVec<u8, RUN_MAX>
     requires held { IsHeld B.name (B.value store.old) ldterm.old }
@@ -137,15 +138,14 @@ fn take_front<B: Blocks>(
         (sends [] (with_left (drop (length result.items) (cells_left p)) p)) }
     ensures front { let cells = cells_left (ldterm_in B.name (B.value store.old) ldterm.old) in
         cells ≡ result.items ++ drop (length result.items) cells }
-    ensures plain { AllByRecursion (λ b. is_plain ldterm.old.termios b ≡ true) result.items }
+    ensures plain { AllByRecursion (λ b. slice_index_or odd.now b true ≡ false) result.items }
     ensures few { length result.items ≤ most }
 {
     let Some(message) = ldterm.in_work.take() else {
         return ArrayVec::new();
     };
-    let odd = odd_bytes(&ldterm.termios);
     store.audit();
-    let (message, run) = take_plain(store, message, &odd, most);
+    let (message, run) = take_plain(store, message, odd, most);
     store.audit();
     ldterm.in_work = Some(message);
     run
@@ -230,8 +230,9 @@ pub(crate) fn treat_run<B: Blocks>(
         (ahead here (3 * result.bytes) (ldterm_in B.name s ldterm.old)) }
     ensures within { result.bytes ≤ length (cells_left (ldterm_in B.name (B.value store.old) ldterm.old)) }
 {
+    let odd = odd_bytes(&ldterm.termios);
     let most = run_room(ldterm, store);
-    let front = take_front(ldterm, store, most);
+    let front = take_front(ldterm, store, &odd, most);
     let run = front.as_slice();
     if run.is_empty() {
         return Ran {

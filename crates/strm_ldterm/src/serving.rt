@@ -37,8 +37,8 @@ pub(crate) enum Run<Mp> {
     },
 }
 
-// Whether fewer blocks of some kind are free than a byte may take.
-fn are_few<B: Blocks>(store: &B) -> bool
+/// Whether fewer blocks of some kind are free than a byte may take.
+pub(crate) fn are_few<B: Blocks>(store: &B) -> bool
     ensures { result ≡ nat_lt (least_free (B.value store.now)) STOP_BLOCKS }
 {
     let (message_blocks, data_blocks) = store.free_blocks();

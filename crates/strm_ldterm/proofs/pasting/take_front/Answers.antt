@@ -11,7 +11,6 @@ use Rattle.strm_ldterm.specs.Stands.{ldterm_in}
 use Rattle.strm_ldterm.specs.Does.{Proceeds}
 use Rattle.strm_ldterm.proofs.Finished.{work-can}
 use Rattle.strm_ldterm.proofs.Begun.{busy-cells, busy-left, idle-cells, idle-proceeds, work-comes}
-use Rattle.strm_ldterm.proofs.RunsDone.{all-plain}
 use Rattle.strm_ldterm.proofs.pasting.take_front.Goals as goal
 
 pub take_plain-message-requires-clause-in_hand : goal.take_plain-message-requires-clause-in_hand
@@ -61,4 +60,4 @@ returns-clause-front g c =
     cells ∙ c.take_plain-message.ensures.front ∙ ap (λ l. run ++ drop (length run) l) (sym cells)
 
 pub returns-clause-plain : goal.returns-clause-plain
-returns-clause-plain g c = all-plain c.args.ldterm.now.termios c.odd_bytes-odd.result c.take_plain-message.result.1.items c.odd_bytes-odd.ensures c.take_plain-message.ensures.plain
+returns-clause-plain g c = c.take_plain-message.ensures.plain

@@ -8,7 +8,7 @@ use Rattle.strm_ldterm.specs.Does.{Proceeds}
 use Rattle.strm_ldterm.specs.PlainRuns.{is_plain}
 use Rattle.strm_ldterm.specs.Stands.{ldterm_in}
 use Rattle.strm_ldterm.proofs.Joining.{still-kept}
-use Rattle.strm_ldterm.proofs.RunsDone.{front-short, line-room, no-run, run-treated}
+use Rattle.strm_ldterm.proofs.RunsDone.{all-plain, front-short, line-room, no-run, run-treated}
 use Rattle.strm_ldterm.proofs.Skipped.{no-bytes}
 use Rattle.strm_ldterm.proofs.pasting.treat_run.Goals as goal
 
@@ -87,7 +87,7 @@ returns-clause-does g c =
     (g.B.Blocks.value c.type_run.new.store) c.type_run.new.ldterm c.audit.ensures (c.type_run.ensures t)
     (g.B.Blocks.value c.echo_run-notes.new.store) c.echo_run-notes.new.ldterm c.echo_run-notes.result.items c.echo_run-notes.new.told most c.audit-2.ensures c.echo_run-notes.ensures
     c.requires.stage some few (subst (λ l. cells ≡ l ++ drop (length l) cells) is front.front)
-    (subst (AllByRecursion (λ b. is_plain x.termios b ≡ true)) is front.plain) (c.run_room-most.ensures.may (omega arith))
+    (subst (AllByRecursion (λ b. is_plain x.termios b ≡ true)) is (all-plain x.termios c.odd_bytes-odd.result c.take_front-front.result.items c.odd_bytes-odd.ensures front.plain)) (c.run_room-most.ensures.may (omega arith))
 
 pub returns-clause-within : goal.returns-clause-within
 returns-clause-within g c =

@@ -1,0 +1,52 @@
+-- Output on plain bytes: what bytes of the message in work give is gathered, to go down together (termio(7I): "Output Modes"; ldterm(7M)).
+use Rattle.std.specs.Prelude.{ℕ, ◌≡◌, ◌≤◌, ◌<◌, ◌-◌, ◌==◌, Bool, not, ◌&&◌, List, [], ◌∷◌, ◌++◌, take, drop, replicate}
+use Rattle.strm_types.specs.declared.limits.TheConstants.{STOP_BLOCKS}
+use Rattle.strm_types.specs.declared.output.Given.{Given}
+use Rattle.strm_types.specs.declared.output.Given.TheVariants.{Byte, Ended, Spaces, Nothing}
+use Rattle.strm_types.specs.declared.rules.Fates.{Fates}
+use Rattle.strm_types.specs.declared.spots.Spot.{Spot}
+use Rattle.strm_types.specs.declared.termios.Termios.{Termios}
+use Rattle.strm_types.specs.Cells.{plain}
+use Rattle.strm_types.specs.Deliver.{Acted}
+use Rattle.strm_types.specs.Echo.{is_control}
+use Rattle.strm_types.specs.Input.{cells_left, with_left}
+use Rattle.strm_types.specs.Keys.{carriage_return, newline}
+use Rattle.strm_types.specs.Ldterms as ldterms
+use Rattle.strm_types.specs.Output.{posts, raised, space}
+use Rattle.strm_types.specs.OutputTurns.{output_dir}
+use Rattle.strm_blocks.specs.Blocks.{StoreValue}
+use Rattle.strm_frame.specs.Serves.{least_free}
+use Rattle.strm_ldterm.specs.declared.ldterm.Ldterm.{Ldterm}
+use Rattle.strm_ldterm.specs.Called.{all_free}
+use Rattle.strm_ldterm.specs.Does.{Proceeds}
+use Rattle.strm_ldterm.specs.Stands.{ldterm_in}
+
+-- A byte that goes out as itself and moves the carriage on by a column, wherever it stands.
+abbrev pub is_printed : Termios → ℕ → Bool
+is_printed t b = not (is_control b) && (raised t b == b)
+
+-- the bytes that a byte gives
+abbrev pub bytes_given : Given → List ℕ
+bytes_given (Byte b) = b ∷ []
+bytes_given Ended = carriage_return ∷ newline ∷ []
+bytes_given (Spaces columns) = replicate columns space
+bytes_given Nothing = []
+
+-- The first bytes of the message in work go out, so many: what they give is gathered, behind what was gathered before.
+abbrev pub poured : Spot → ℕ → ldterms.Ldterm ℕ → Acted ℕ (ldterms.Ldterm ℕ)
+poured here n p =
+    let cells = cells_left p in
+    let t = posts plain (output_dir plain here) 0 p.termios p.column (take n cells) in
+    record {
+      state = record (with_left (drop n cells) p) { gathered = p.gathered ++ t.given; column = t.column };
+      notes = [];
+      sent = [];
+      gone = t.told;
+    }
+
+module _ {M : Type 0} (name : M → ℕ) (old new : StoreValue) (here : Spot) (x x' : Ldterm M) where
+  -- Of so many bytes of the message in work all went out but those that are left, and these only where blocks are few.
+  pub record PoursAs (bytes left : ℕ) (t t' : Fates) : Type 0 where
+    pub fewer : left ≤ bytes
+    pub does : Proceeds name old new x x' (all_free old) [] [] t t' (poured here (bytes - left) (ldterm_in name old x))
+    pub stops : 0 < left → least_free new < STOP_BLOCKS
