@@ -35,6 +35,7 @@ use Rattle.strm_types.specs.Write.{chunk_count}
 use Rattle.strm_types.specs.Message.{Message, cells_of, size_of, is_held, is_high_priority, rank_of, band_of, data_message}
 use Rattle.strm_types.specs.Names.{driver_of, is_closed}
 use Rattle.strm_types.specs.Refused.{blocks_asked, blocks_taken, is_known, is_a_band, has_no_data, at_end, in_range, refused, turn_refused}
+use Rattle.strm_types.specs.Stacked.{OfLdterm}
 use Rattle.strm_types.specs.State.{State, Stream}
 use Rattle.strm_types.proofs.Samples.{head_with, flow, queue, ordinary, proto, urgent, options}
 
@@ -71,8 +72,8 @@ stored-changes = refl
 
 -- arguments
 
-pub ldterm-alone-is-known : map is_known (None ∷ Some Ldterm ∷ Some Ptem ∷ Some Pckt ∷ []) ≡ false ∷ true ∷ false ∷ false ∷ []
-ldterm-alone-is-known = refl
+pub ldterm-and-ptem-are-known : map is_known (None ∷ Some Ldterm ∷ Some Ptem ∷ Some Pckt ∷ []) ≡ false ∷ true ∷ true ∷ false ∷ []
+ldterm-and-ptem-are-known = refl
 
 pub bands-up-to-seven : map is_a_band (None ∷ band 0 ∷ band 7 ∷ band 8 ∷ band 255 ∷ []) ≡ true ∷ true ∷ true ∷ false ∷ false ∷ []
 bands-up-to-seven = refl
@@ -161,17 +162,17 @@ pops-want-room-in-the-books = refl
 pub bands-are-asked-for-before-the-books : map (answers (Flush flushes.Both (band 8))) (booked Open false) ≡ whatever (always Einval)
 bands-are-asked-for-before-the-books = refl
 
-pub modules-are-asked-for-before-the-books : map (λ name. map (answers (Push name)) (booked Open false)) (None ∷ Some Ptem ∷ []) ≡ whatever (always Einval) ∷ whatever (always Einval) ∷ []
+pub modules-are-asked-for-before-the-books : map (λ name. map (answers (Push name)) (booked Open false)) (None ∷ Some Pckt ∷ []) ≡ whatever (always Einval) ∷ whatever (always Einval) ∷ []
 modules-are-asked-for-before-the-books = refl
 
-pub pushes-want-room-in-the-books : map (answers (Push (Some Ldterm))) (booked Open false) ≡ ranged (at_last None)
+pub pushes-want-room-in-the-books : map (λ name. map (answers (Push (Some name))) (booked Open false)) (Ldterm ∷ Ptem ∷ []) ≡ ranged (at_last None) ∷ ranged (at_last None) ∷ []
 pushes-want-room-in-the-books = refl
 
--- where an ldterm stands, another one is refused, and it may be taken off and looked at
+-- where an ldterm stands, another one is refused and a ptem isn't, and it may be taken off and looked at
 abbrev stacked : State ℕ
-stacked = pair (end Open false [] []) (record (end Open false [] []) { modules = new_ldterm ∷ [] }) (book 0 0) (book 0 0)
+stacked = pair (end Open false [] []) (record (end Open false [] []) { modules = OfLdterm new_ldterm ∷ [] }) (book 0 0) (book 0 0)
 
-pub one-ldterm-stands-on-a-stream : map (λ asked. answers asked stacked) (Push (Some Ldterm) ∷ Pop ∷ Look ∷ []) ≡ at_last (Some Einval) ∷ at_last None ∷ at_last None ∷ []
+pub one-ldterm-stands-on-a-stream : map (λ asked. answers asked stacked) (Push (Some Ldterm) ∷ Push (Some Ptem) ∷ Pop ∷ Look ∷ []) ≡ at_last (Some Einval) ∷ at_last None ∷ at_last None ∷ at_last None ∷ []
 one-ldterm-stands-on-a-stream = refl
 
 pub looks-and-closes-want-no-room-in-the-books : map (answers Look) (booked Open false) ≡ whatever (at_last (Some Einval))

@@ -10,12 +10,11 @@ use Rattle.strm_types.specs.Closes.{and_then, closed_at, driver_emptied, ended, 
 use Rattle.strm_types.specs.Deliver.{Carried}
 use Rattle.strm_types.specs.Emptied.{of_all}
 use Rattle.strm_types.specs.Kept.{NothingUnread, state_weight}
-use Rattle.strm_types.specs.Ldterms.{IsIdle}
 use Rattle.strm_types.specs.Names.{is_open}
 use Rattle.strm_types.specs.Places.{weight_gone, weight_made}
 use Rattle.strm_types.specs.Pushes.{all_taken, head_above, modules_emptied, popped, pushed_named, top_taken, with_modules}
 use Rattle.strm_types.specs.Queue.{weight}
-use Rattle.strm_types.specs.Stacked.{Module}
+use Rattle.strm_types.specs.Stacked.{Module, IsAtRest}
 use Rattle.strm_types.specs.State.{Head, State, stream}
 use Rattle.strm_types.proofs.Deliveries.{delivered-unread}
 use Rattle.strm_types.proofs.DeliveryKeeps.{gone-append, made-append}
@@ -25,7 +24,7 @@ use Rattle.strm_types.proofs.PushKeeps.{modules_emptied-keeps}
 
 -- the modules of a side
 abbrev AreIdleAt : {C : Type 0} → Side → State C → Type 0
-AreIdleAt side s = AllByRecursion (λ l. IsIdle l) (stream side s).modules
+AreIdleAt side s = AllByRecursion (λ l. IsAtRest l) (stream side s).modules
 
 module _ {C : Type 0} (p : C → Bool) where
   -- what a pair comes to that had so many cells

@@ -8,7 +8,7 @@ use Rattle.strm_types.specs.declared.events.FlushQueues.TheVariants.{Read, Write
 use Rattle.strm_types.specs.declared.kinds.Band.{Band}
 use Rattle.strm_types.specs.declared.names.Dir.{Dir}
 use Rattle.strm_types.specs.declared.names.Dir.TheVariants.{MasterToSlave, SlaveToMaster}
-use Rattle.strm_types.specs.declared.names.ModuleName.TheVariants.{Ptem}
+use Rattle.strm_types.specs.declared.names.ModuleName.TheVariants.{Pckt}
 use Rattle.strm_types.specs.declared.names.Openness.{Openness}
 use Rattle.strm_types.specs.declared.names.Openness.TheVariants.{Never, Open, Closed}
 use Rattle.strm_types.specs.declared.names.QueueName.{QueueName}
@@ -178,8 +178,8 @@ pub flush-call : map (λ asked. called plain (caller Master) asked (pair banded 
 unfolding carried is_data_kind is_high_priority size_of cells_of
 flush-call = refl
 
--- pushes, pops and looks change nothing yet
-pub other-calls-change-nothing : map (λ asked. called plain (caller Slave) asked (ones Open Open)) (events.Push (Some Ptem) ∷ events.Pop ∷ events.Look ∷ []) ≡ replicate 3 (record { answer = Done; state = ones Open Open })
+-- pushes of what isn't built, and pops and looks where no module stands, change nothing
+pub other-calls-change-nothing : map (λ asked. called plain (caller Slave) asked (ones Open Open)) (events.Push (Some Pckt) ∷ events.Pop ∷ events.Look ∷ []) ≡ replicate 3 (record { answer = Done; state = ones Open Open })
 other-calls-change-nothing = refl
 
 -- writers that are let go

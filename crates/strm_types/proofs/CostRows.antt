@@ -1,7 +1,7 @@
 -- How many blocks a delivery takes at most, and a put itself, case by case.
 use Rattle.std.proofs.Common.{ℕ, ◌≡◌, List, [], ◌∷◌, map, refl}
 use Rattle.std.specs.Prelude.{Some}
-use Rattle.strm_types.specs.declared.kinds.MsgKind.TheVariants.{Flush, Ioctl}
+use Rattle.strm_types.specs.declared.kinds.MsgKind.TheVariants.{Flush, Ioctl, Iocack}
 use Rattle.strm_types.specs.declared.names.Side.TheVariants.{Slave}
 use Rattle.strm_types.specs.declared.names.Way.{Way}
 use Rattle.strm_types.specs.declared.names.Way.TheVariants.{Up, Down}
@@ -20,9 +20,12 @@ costs way m = at_each (λ here. cost here m) way
 abbrev own : Way → Message ℕ → List ℕ
 own way m = at_each (λ here. takes here m) way
 
--- an M_IOCTL, an M_FLUSH with FLUSHR, and one with FLUSHR and FLUSHW
+-- an M_IOCTL, an M_IOCACK, an M_FLUSH with FLUSHR, and one with FLUSHR and FLUSHW
 abbrev asks : Message ℕ
 asks = without_parts Ioctl (header 1 7 0)
+
+abbrev answers : Message ℕ
+answers = without_parts Iocack (header 1 7 0)
 
 abbrev reads : Message ℕ
 reads = without_parts Flush (1 ∷ [])
@@ -56,10 +59,10 @@ data-takes = refl
 
 -- what is answered, or makes others
 
-pub ioctl-down : costs Down asks ≡ 4 ∷ 3 ∷ 3 ∷ 3 ∷ 3 ∷ []
+pub ioctl-down : costs Down asks ≡ 4 ∷ 24 ∷ 17 ∷ 10 ∷ 3 ∷ []
 ioctl-down = refl
 
-pub ioctl-up : costs Up asks ≡ 4 ∷ 4 ∷ 4 ∷ 4 ∷ 4 ∷ []
+pub ioctl-up : costs Up asks ≡ 4 ∷ 5 ∷ 5 ∷ 5 ∷ 5 ∷ []
 ioctl-up = refl
 
 pub reads-down : costs Down reads ≡ 0 ∷ 3 ∷ 3 ∷ 3 ∷ 3 ∷ []
@@ -77,7 +80,17 @@ ioctl-takes = refl
 pub reads-take : own Up reads ≡ 0 ∷ 0 ∷ 0 ∷ 0 ∷ 1 ∷ []
 reads-take = refl
 
--- that parts take nothing is so on the way down behind the head, and nowhere else
+-- what an M_IOCACK gives rise to on its way up
+pub answer-up : costs Up answers ≡ 0 ∷ 2 ∷ 4 ∷ 6 ∷ 6 ∷ []
+answer-up = refl
+
+pub answer-down : costs Down answers ≡ 0 ∷ 3 ∷ 3 ∷ 3 ∷ 3 ∷ []
+answer-down = refl
+
+pub parted-answer : (costs Up (parted answers) ∷ costs Down (parted answers) ∷ []) ≡ (0 ∷ 0 ∷ 0 ∷ 0 ∷ 0 ∷ []) ∷ (0 ∷ 0 ∷ 0 ∷ 0 ∷ 0 ∷ []) ∷ []
+parted-answer = refl
+
+-- that parts take nothing is so on the way down behind the head, and elsewhere they take what the same kind takes at a head
 
 pub parted-down : costs Down (parted asks) ≡ 4 ∷ 0 ∷ 0 ∷ 0 ∷ 0 ∷ []
 parted-down = refl

@@ -13,16 +13,21 @@ use Rattle.strm_types.specs.declared.names.Way.{Way}
 use Rattle.strm_types.specs.declared.names.Way.TheVariants.{Up, Down}
 use Rattle.strm_types.specs.Earlier.{NoModules, before_among, before_at, before_by, before_driver, before_head, modules_on, places_of}
 use Rattle.strm_types.specs.ModuleQueues.{first_place, has_queue, last_place, place_before, place_past}
-use Rattle.strm_types.specs.Names.{before}
-use Rattle.strm_types.specs.Stacked.{Module, map_module, module_queue}
+use Rattle.strm_types.specs.Names.{before, place_of}
+use Rattle.strm_types.specs.Stacked.{Module, OfLdterm, OfPtem, map_module, module_name, module_queue}
 use Rattle.strm_types.specs.State.{State, stream, map_state}
 
 module _ {C D : Type 0} (f : C → D) where
   abbrev images : List (Module C) → List (Module D)
   images ps = map (map_module f) ps
 
-  queue-forgets : (way : Way) (p : Module C) → has_queue module_queue way (map_module f p) ≡ has_queue module_queue way p
-  queue-forgets way p = refl
+  pub queue-forgets : (way : Way) (p : Module C) → has_queue module_queue way (map_module f p) ≡ has_queue module_queue way p
+  queue-forgets way (OfLdterm l) = refl
+  queue-forgets way (OfPtem p) = refl
+
+  pub name-forgets : (p : Module C) → module_name (map_module f p) ≡ module_name p
+  name-forgets (OfLdterm l) = refl
+  name-forgets (OfPtem p) = refl
 
   first-forgets : (way : Way) (place : ℕ) (ps : List (Module C)) → first_place module_queue way place (images ps) ≡ first_place module_queue way place ps
   first-forgets way place [] = refl
@@ -46,7 +51,7 @@ module _ {C D : Type 0} (f : C → D) where
 
   pub places-forget : (ps : List (Module C)) → places_of (images ps) ≡ places_of ps
   places-forget [] = refl
-  places-forget (p ∷ ps) = ap (λ qs. places_of (p ∷ []) ++ qs) (places-forget ps)
+  places-forget (p ∷ ps) = ap (λ name. place_of name ∷ places_of (images ps)) (name-forgets p) ∙ ap (λ qs. place_of (module_name p) ∷ qs) (places-forget ps)
 
   before_among-forgets : (side : Side) (way : Way) (at : ℕ) (ps : List (Module C)) → before_among side way at (images ps) ≡ before_among side way at ps
   before_among-forgets side way at ps =

@@ -20,11 +20,11 @@ use Rattle.strm_types.specs.declared.names.Side.TheVariants.{Master, Slave}
 use Rattle.strm_types.specs.declared.refusals.Refusal.TheVariants.{Einval, Enxio}
 use Rattle.strm_types.specs.Cells.{Cells, cells_written, bytes_of}
 use Rattle.strm_types.specs.Names.{direction_from, direction_of, head_of, is_open}
-use Rattle.strm_types.specs.Ldterms.{IsIdle}
 use Rattle.strm_types.specs.Message.{Message}
 use Rattle.strm_types.specs.Pushes.{named_by}
 use Rattle.strm_types.specs.Queue.{Queue, weight, left_with, relieved}
 use Rattle.strm_types.specs.Books.{with_written}
+use Rattle.strm_types.specs.Stacked.{IsAtRest}
 use Rattle.strm_types.specs.State.{State, stream, book, opening, with_book}
 use Rattle.strm_types.specs.Reads.{Drawn, head_draw, none_went, queue_drawn, read_fates, read_gone, read_lets_go, read_queue, takes_none}
 use Rattle.strm_types.specs.Calls.{Request, Reply, read_at, write_sent, wrote, get_at, mode_set, ioctl_sent, called}
@@ -99,7 +99,7 @@ module _ {C : Type 0} where
     mode-keeps Slave (chosen.Read mode) s = refl
     mode-keeps Slave (chosen.Control mode) s = refl
 
-    idle-at : (side : Side) (s : State C) → AreIdle s → AllByRecursion (λ l. IsIdle l) (stream side s).modules
+    idle-at : (side : Side) (s : State C) → AreIdle s → AllByRecursion (λ l. IsAtRest l) (stream side s).modules
     idle-at Master s idle = idle.master
     idle-at Slave s idle = idle.slave
 

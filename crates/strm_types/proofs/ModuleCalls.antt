@@ -18,7 +18,7 @@ use Rattle.strm_types.specs.Message.{Message}
 use Rattle.strm_types.specs.Modules.{act_among, put_among}
 use Rattle.strm_types.specs.Places.{weight_gone, weight_made, weight_sent}
 use Rattle.strm_types.specs.Queue.{left_with}
-use Rattle.strm_types.specs.Stacked.{Module, module_puts, module_serves, module_weight, modules_weight}
+use Rattle.strm_types.specs.Stacked.{Module, OfLdterm, OfPtem, IsAtRest, module_puts, module_serves, module_weight, modules_weight}
 use Rattle.strm_types.proofs.LdtermOrderly.{orderly-echo, puts-orderly, serves-orderly}
 use Rattle.strm_types.proofs.LdtermProgress.{serves-leaves}
 use Rattle.strm_types.proofs.LdtermPutStays.{puts-stay}
@@ -32,6 +32,11 @@ abbrev pub IsReady : {C : Type 0} → Bool → Way → ℕ → Ldterm C → Type
 IsReady true Up left l = IsOrderly l × (stages_done l.stage ≤ 3 * left)
 IsReady true Down left l = IsIdle l
 IsReady false way left l = IsIdle l
+
+-- the same of any module; what one without queues wants is nothing
+abbrev pub IsReadyAt : {C : Type 0} → Bool → Way → ℕ → Module C → Type 0
+IsReadyAt again way left (OfLdterm l) = IsReady again way left l
+IsReadyAt again way left (OfPtem p) = Unit {0}
 
 module _ {C : Type 0} where
   idle-orderly : (l : Ldterm C) → IsIdle l → IsOrderly l
@@ -58,10 +63,16 @@ module _ {C : Type 0} where
   down-idle false left l ready = ready
 
   -- a put leaves it so
-  pub puts-ready : (again : Bool) (way : Way) (left : ℕ) (here : Spot) (m : Message C) (l : Module C) → IsReady again way left l → IsReady again way left (module_puts here m l).state
-  puts-ready true Up left here m l ready = (puts-orderly here m l ready.0, subst (λ stage. stages_done stage ≤ 3 * left) (sym (puts-stay here m l).stage) ready.1)
-  puts-ready true Down left here m l ready = puts-idle here m l ready
-  puts-ready false way left here m l ready = puts-idle here m l ready
+  pub puts-ready : (again : Bool) (way : Way) (left : ℕ) (here : Spot) (m : Message C) (q : Module C) → IsReadyAt again way left q → IsReadyAt again way left (module_puts here m q).state
+  puts-ready again way left here m (OfPtem q) ready = tt
+  puts-ready true Up left here m (OfLdterm l) ready = (puts-orderly here m l ready.0, subst (λ stage. stages_done stage ≤ 3 * left) (sym (puts-stay here m l).stage) ready.1)
+  puts-ready true Down left here m (OfLdterm l) ready = puts-idle here m (OfLdterm l) ready
+  puts-ready false way left here m (OfLdterm l) ready = puts-idle here m (OfLdterm l) ready
+
+  -- a module is ready for the first call of a turn where nothing of one is under way
+  pub first-ready : (way : Way) (left : ℕ) (q : Module C) → IsAtRest q → IsReadyAt false way left q
+  first-ready way left (OfLdterm l) rests = rests
+  first-ready way left (OfPtem q) rests = tt
 
   none-of : (o : Option (Message C)) → is_some o ≡ false → o ≡ None
   none-of None is = refl
@@ -107,13 +118,13 @@ module _ {C : Type 0} (cells : Cells C) where
 abbrev pub OneIs : {C : Type 0} → (Module C → Type 0) → ℕ → List (Module C) → Type 0
 OneIs Is i [] = Unit {0}
 OneIs Is zero (l ∷ ls) = Is l × AllIdle ls
-OneIs Is (suc i) (l ∷ ls) = IsIdle l × OneIs Is i ls
+OneIs Is (suc i) (l ∷ ls) = IsAtRest l × OneIs Is i ls
 
 module _ {C : Type 0} where
-  pub one-of-idle : (i : ℕ) (ps : List (Module C)) → AllIdle ps → OneIs (λ l. IsIdle l) i ps
-  one-of-idle i [] idle = tt
-  one-of-idle zero (l ∷ ls) idle = (idle.0, idle.1)
-  one-of-idle (suc i) (l ∷ ls) idle = (idle.0, one-of-idle i ls idle.1)
+  pub one-of-idle : (Is : Module C → Type 0) → ((q : Module C) → IsAtRest q → Is q) → (i : ℕ) (ps : List (Module C)) → AllIdle ps → OneIs Is i ps
+  one-of-idle Is from i [] idle = tt
+  one-of-idle Is from zero (l ∷ ls) idle = (from l idle.0, idle.1)
+  one-of-idle Is from (suc i) (l ∷ ls) idle = (idle.0, one-of-idle Is from i ls idle.1)
 
   pub one-puts : (Is : Module C → Type 0) → ((here : Spot) (m : Message C) (l : Module C) → Is l → Is (module_puts here m l).state)
       → (i j : ℕ) (here : Spot) (m : Message C) (ps : List (Module C)) → OneIs Is i ps → OneIs Is i (put_among module_puts j here m ps).state
@@ -126,7 +137,7 @@ module _ {C : Type 0} where
 -- a call of the one at a place
 module _ {C : Type 0} (cells : Cells C) (here : Spot) (made : ℕ) (again : Bool) (left : ℕ) where
   abbrev Ready : Module C → Type 0
-  Ready l = IsReady again here.way left l
+  Ready l = IsReadyAt again here.way left l
 
   abbrev acts : Module C → Acted C (Module C)
   acts l = (module_serves cells here made again (Some left) l).acted
@@ -137,29 +148,45 @@ module _ {C : Type 0} (cells : Cells C) (here : Spot) (made : ℕ) (again : Bool
   abbrev asks : Module C → Bool
   asks l = (module_serves cells here made again (Some left) l).again
 
+  module-near : (q : Module C) → AllByRecursion (λ (x : Parcel C). x.to.at ≤ suc here.at) (acts q).sent
+  module-near (OfLdterm l) = serves-near cells here made again (Some left) l
+  module-near (OfPtem q) = tt
+
+  module-goes : (q : Module C) → Ready q → asks q ≡ true → IsReadyAt true here.way (left - treated q) (acts q).state
+  module-goes (OfLdterm l) ready works = goes-at cells here.way here again made left l ready works
+  module-goes (OfPtem q) ready works = tt
+
+  module-rests : (q : Module C) → Ready q → asks q ≡ false → IsAtRest (acts q).state
+  module-rests (OfLdterm l) ready over = rests-at cells here.way here again made left l ready over
+  module-rests (OfPtem q) ready over = tt
+
   pub among-near : (i : ℕ) (ps : List (Module C)) → AllByRecursion (λ (q : Parcel C). q.to.at ≤ suc here.at) (act_among acts i ps).sent
   among-near i [] = tt
-  among-near zero (l ∷ ls) = serves-near cells here made again (Some left) l
+  among-near zero (l ∷ ls) = module-near l
   among-near (suc i) (l ∷ ls) = among-near i ls
 
   pub among-goes : (i : ℕ) (ps : List (Module C)) → OneIs Ready i ps → slice_index_or (map asks ps) i false ≡ true
-      → OneIs (λ l. IsReady true here.way (left - slice_index_or (map treated ps) i 0) l) i (act_among acts i ps).state
+      → OneIs (λ l. IsReadyAt true here.way (left - slice_index_or (map treated ps) i 0) l) i (act_among acts i ps).state
   among-goes i [] one works = tt
-  among-goes zero (l ∷ ls) one works = (goes-at cells here.way here again made left l one.0 works, one.1)
+  among-goes zero (l ∷ ls) one works = (module-goes l one.0 works, one.1)
   among-goes (suc i) (l ∷ ls) one works = (one.0, among-goes i ls one.1 works)
 
   pub among-rests : (i : ℕ) (ps : List (Module C)) → OneIs Ready i ps → slice_index_or (map asks ps) i false ≡ false → AllIdle (act_among acts i ps).state
   among-rests i [] one over = tt
-  among-rests zero (l ∷ ls) one over = (rests-at cells here.way here again made left l one.0 over, one.1)
+  among-rests zero (l ∷ ls) one over = (module-rests l one.0 over, one.1)
   among-rests (suc i) (l ∷ ls) one over = (one.0, among-rests i ls one.1 over)
 
   module _ (p : C → Bool) (ignores : IgnoresMapping cells p) where
+    module-keeps : (q : Module C) → Ready q → let t = acts q in module_weight p t.state + (weight_sent p t.sent + weight_gone p t.gone) ≡ module_weight p q + weight_made p t.gone
+    module-keeps (OfLdterm l) ready = serves-keep p cells ignores here made again (Some left) l (orderly-echo l (ready-orderly again here.way left l ready)) (ready-may again here.way left l ready)
+    module-keeps (OfPtem q) ready = refl
+
     pub among-keeps : (i : ℕ) (ps : List (Module C)) → OneIs Ready i ps → let t = act_among acts i ps in
         modules_weight p t.state + (weight_sent p t.sent + weight_gone p t.gone) ≡ modules_weight p ps + weight_made p t.gone
     among-keeps i [] one = omega arith
     among-keeps zero (l ∷ ls) one =
         let t = acts l in
-        let kept = serves-keep p cells ignores here made again (Some left) l (orderly-echo l (ready-orderly again here.way left l one.0)) (ready-may again here.way left l one.0) in
+        let kept = module-keeps l one.0 in
         omega (arith, kept, sum_by-cons (module_weight p) l ls, sum_by-cons (module_weight p) t.state ls)
     among-keeps (suc i) (l ∷ ls) one =
         let t = act_among acts i ls in

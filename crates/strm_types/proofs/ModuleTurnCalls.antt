@@ -2,6 +2,7 @@
 -- before that. What all of them treated is how far the turn went.
 use Rattle.std.proofs.Common.{ℕ, zero, suc, ◌≡◌, ◌≤◌, ◌<◌, ◌+◌, ◌-◌, ◌*◌, Bool, true, false, cond, List, [], ◌∷◌, ◌++◌, length, map, refl, sym, ap, subst, ◌∙◌, arith}
 use Rattle.std.specs.Prelude.{◌==◌, not, min, slice_index_or, Option, None, Some, is_some}
+use Rattle.std.proofs.lemmas.Bool.{false≢true}
 use Rattle.std.proofs.lemmas.List.{append_assoc, length-map}
 use Rattle.strm_types.specs.declared.answers.Turn.TheVariants.{Moved, Blocked}
 use Rattle.strm_types.specs.declared.limits.TheConstants.{HOPS}
@@ -18,16 +19,16 @@ use Rattle.strm_types.specs.Books.{with_made}
 use Rattle.strm_types.specs.Cells.{plain}
 use Rattle.strm_types.specs.Deliver.{Acted, Fate, Goes, Comes, Parcel, carried, in_turn}
 use Rattle.strm_types.specs.Input.{stages_done, to_treat}
-use Rattle.strm_types.specs.Ldterms.{Stage, new_ldterm}
+use Rattle.strm_types.specs.Ldterms.{Stage, ldterm_puts, new_ldterm}
 use Rattle.strm_types.specs.Message.{Message}
 use Rattle.strm_types.specs.ModuleQueues.{at_place, messages_at}
 use Rattle.strm_types.specs.ModuleTurns.{Calls, again_at, booked, bytes_at, call_at, calls, made_below, module_acted, module_turn_ended, moved_on, moved_within}
 use Rattle.strm_types.specs.Modules.{act_among, put_among}
 use Rattle.strm_types.specs.Puts.{put_in}
 use Rattle.strm_types.specs.Service.{Serving}
-use Rattle.strm_types.specs.Stacked.{Module, module_puts, module_queue, module_serves}
+use Rattle.strm_types.specs.Stacked.{Module, OfLdterm, OfPtem, module_puts, module_queue, module_serves, served_by}
 use Rattle.strm_types.specs.State.{State, book, stream, with_book, with_stream}
-use Rattle.strm_types.specs.TurnCalls.{Begins, Ends, Stopped, asks_on, bytes_left, called, led, module_at, treated}
+use Rattle.strm_types.specs.TurnCalls.{Begins, Ends, Stopped, asks_on, bytes_left, called, ldterm_of, led, module_at, treated}
 use Rattle.strm_types.specs.TurnOutcomes.{TurnOutcome, first_size, stayed_put}
 use Rattle.strm_types.proofs.DeliveryHolds.{carried-holds, in_turn-holds}
 use Rattle.strm_types.proofs.LdtermPutStays.{puts-stay}
@@ -62,15 +63,39 @@ pub record UnderWay : Type 0 where
   pub in_work : Option (Message ℕ)
 
 abbrev pub under_way : Module ℕ → UnderWay
-under_way l = record { stage = l.stage; in_work = l.in_work }
+under_way p = let l = ldterm_of p in record { stage = l.stage; in_work = l.in_work }
+
+-- what stands at a place of no module
+abbrev pub none_there : Module ℕ
+none_there = OfLdterm new_ldterm
+
+-- what is known of calls of ldterm's service procedure is so of any module's
+module _ (here : Spot) (again : Bool) where
+  module-goes : (p : Module ℕ) → Begins here.way again (ldterm_of p) → let t = module_serves plain here 0 again None p in t.again ≡ true → GoesOn here.way again (ldterm_of p) t.bytes (ldterm_of t.acted.state)
+  module-goes (OfLdterm l) begins works = serves-goes here again l begins works
+  module-goes (OfPtem p) begins works = absurd (false≢true works)
+
+  module-alike : (p : Module ℕ) → let t = module_serves plain here 0 again None p in t.again ≡ true → (left made : ℕ) → stages_done (ldterm_of t.acted.state).stage + 3 * t.bytes ≤ 3 * left → module_serves plain here made again (Some left) p ≡ t
+  module-alike (OfLdterm l) works left made fits = ap (served_by OfLdterm) (serves-alike here again l works left made fits)
+  module-alike (OfPtem p) works left made fits = refl
+
+  module-ends : (p : Module ℕ) → Begins here.way again (ldterm_of p) → let t = module_serves plain here 0 again None p in t.again ≡ false
+      → Ends here.way again (ldterm_of p) t.bytes × ((made : ℕ) → module_serves plain here made again (Some t.bytes) p ≡ t)
+  module-ends (OfLdterm l) begins over = let e = serves-ends here again l begins over in (e.0, λ made. ap (served_by OfLdterm) (e.1 made))
+  module-ends (OfPtem p) begins over = (record { treat = omega arith; done = omega arith }, λ made. refl)
+
+  module-made : (stop : Option ℕ) (p : Module ℕ) (made : ℕ) → module_serves plain here made again stop p ≡ module_serves plain here 0 again stop p
+  module-made stop (OfLdterm l) made = ap (served_by OfLdterm) (serves-made here again stop l made)
+  module-made stop (OfPtem p) made = refl
 
 ways : (a b : Stage ℕ) (c d : Option (Message ℕ)) → a ≡ b → c ≡ d → (let x : UnderWay = record { stage = a; in_work = c } in let y : UnderWay = record { stage = b; in_work = d } in x ≡ y)
 ways a b c d same work = ap (λ (x : Stage ℕ). let v : UnderWay = record { stage = x; in_work = c } in v) same ∙ ap (λ (x : Option (Message ℕ)). let v : UnderWay = record { stage = b; in_work = x } in v) work
 
 put-stays : (j : ℕ) (to : Spot) (m : Message ℕ) (ps : List (Module ℕ)) → map under_way (put_among module_puts j to m ps).state ≡ map under_way ps
 put-stays j to m [] = refl
-put-stays zero to m (l ∷ ls) =
-    let q = (module_puts to m l).state in
+put-stays zero to m (OfPtem p ∷ ls) = refl
+put-stays zero to m (OfLdterm l ∷ ls) =
+    let q = (ldterm_puts to m l).state in
     let same = puts-stay to m l in
     ap (λ x. x ∷ map under_way ls) (ways q.stage l.stage q.in_work l.in_work same.stage same.work)
 put-stays (suc j) to m (l ∷ ls) = ap (λ xs. under_way l ∷ xs) (put-stays j to m ls)
@@ -132,13 +157,13 @@ module _ (here : Spot) where
         let qs = (stream here.side (led here again stop s).state).modules in
         let i = here.at - 1 in
         let acts : Module ℕ → Acted ℕ (Module ℕ) = λ p. (module_serves plain here 0 again stop p).acted in
-        let none = under_way new_ldterm in
+        let none = under_way none_there in
         let same = led-length s in
         let long = act-length acts i ps in
-        sym (index-map new_ldterm under_way none i qs (omega (arith, low, same)))
+        sym (index-map none_there under_way none i qs (omega (arith, low, same)))
         ∙ ap (λ xs. slice_index_or xs i none) (led-under-way s)
-        ∙ index-map new_ldterm under_way none i (called here again stop ps).state (omega (arith, low, long))
-        ∙ ap under_way (act-index new_ldterm acts i ps low)
+        ∙ index-map none_there under_way none i (called here again stop ps).state (omega (arith, low, long))
+        ∙ ap under_way (act-index none_there acts i ps low)
 
   -- the calls behind some that have led to this
   abbrev pub behind : List (Fate ℕ) → ℕ → Calls ℕ → Calls ℕ
@@ -166,9 +191,9 @@ module _ (here : Spot) where
       let f : Module ℕ → Serving ℕ (Module ℕ) = λ p. module_serves plain here made again (Some left) p in
       let g : Module ℕ → Serving ℕ (Module ℕ) = λ p. module_serves plain here 0 again stop p in
       next-same more left s (call_at plain here made again left ps) (called here again stop ps) (bytes_at plain here made again left ps) (treated here again stop ps) (again_at plain here made again left ps) (asks_on here again stop ps)
-      (act-alike new_ldterm (λ p. (f p).acted) (λ p. (g p).acted) i ps (ap (λ (t : Serving ℕ (Module ℕ)). t.acted) (alike made)))
-      (index-map new_ldterm (λ p. (f p).bytes) 0 i ps low ∙ ap (λ (t : Serving ℕ (Module ℕ)). t.bytes) (alike made) ∙ sym (index-map new_ldterm (λ p. (g p).bytes) 0 i ps low))
-      (index-map new_ldterm (λ p. (f p).again) false i ps low ∙ ap (λ (t : Serving ℕ (Module ℕ)). t.again) (alike made) ∙ sym (index-map new_ldterm (λ p. (g p).again) false i ps low))
+      (act-alike none_there (λ p. (f p).acted) (λ p. (g p).acted) i ps (ap (λ (t : Serving ℕ (Module ℕ)). t.acted) (alike made)))
+      (index-map none_there (λ p. (f p).bytes) 0 i ps low ∙ ap (λ (t : Serving ℕ (Module ℕ)). t.bytes) (alike made) ∙ sym (index-map none_there (λ p. (g p).bytes) 0 i ps low))
+      (index-map none_there (λ p. (f p).again) false i ps low ∙ ap (λ (t : Serving ℕ (Module ℕ)). t.again) (alike made) ∙ sym (index-map none_there (λ p. (g p).again) false i ps low))
 
   module _ (s0 : State ℕ) where
     -- What the calls of a turn have led to so far, of which the next one is the first (false) or not: whatever the bytes are that the rest
@@ -176,15 +201,15 @@ module _ (here : Spot) where
     pub record Reached (again : Bool) (bytes : ℕ) (gone : List (Fate ℕ)) (s : State ℕ) : Type 0 where
       pub made : ℕ
       pub inside : here.at - 1 < length (stream here.side s).modules
-      pub begins : Begins here.way again (module_at here s)
-      pub few : made ≤ 3 * bytes + stages_done (module_at here s).stage
-      pub within : bytes + bytes_left here.way again (module_at here s) ≤ bytes_left here.way false (module_at here s0)
-      pub goes : (left more : ℕ) → stages_done (module_at here s).stage ≤ 3 * left → calls plain here (made + more) false (bytes + left) s0 ≡ behind gone bytes (calls plain here more again left s)
+      pub begins : Begins here.way again (ldterm_of (module_at here s))
+      pub few : made ≤ 3 * bytes + stages_done (ldterm_of (module_at here s)).stage
+      pub within : bytes + bytes_left here.way again (ldterm_of (module_at here s)) ≤ bytes_left here.way false (ldterm_of (module_at here s0))
+      pub goes : (left more : ℕ) → stages_done (ldterm_of (module_at here s)).stage ≤ 3 * left → calls plain here (made + more) false (bytes + left) s0 ≡ behind gone bytes (calls plain here more again left s)
 
     none-behind : (v : Calls ℕ) → behind [] 0 v ≡ v
     none-behind v = ap (λ (n : ℕ). record { state = v.state; gone = v.gone; bytes = n; ended = v.ended }) (let e : 0 + v.bytes ≡ v.bytes = omega arith in e)
 
-    pub reached-first : here.at - 1 < length (stream here.side s0).modules → Begins here.way false (module_at here s0) → Reached false 0 [] s0
+    pub reached-first : here.at - 1 < length (stream here.side s0).modules → Begins here.way false (ldterm_of (module_at here s0)) → Reached false 0 [] s0
     reached-first low begins = record {
       made = 0;
       inside = low;
@@ -211,7 +236,7 @@ module _ (here : Spot) where
         record {
           made = suc r.made;
           inside = omega (arith, r.inside, led-length again None s);
-          begins = subst (λ w. Begins w true q) (sym g.up) (ap (λ (x : UnderWay). is_some x.in_work) at ∙ g.work);
+          begins = subst (λ w. Begins w true (ldterm_of q)) (sym g.up) (ap (λ (x : UnderWay). is_some x.in_work) at ∙ g.work);
           few = omega (arith, r.few, g.done, bytes_is, done);
           within = omega (arith, r.within, g.treat, bytes_is, left_is);
           goes = goes;
@@ -233,24 +258,24 @@ module _ (here : Spot) where
         b = treated here again None ps
 
         works : t.again ≡ true
-        works = sym (index-map new_ldterm (λ p. (module_serves plain here 0 again None p).again) false (here.at - 1) ps r.inside) ∙ asks
+        works = sym (index-map none_there (λ p. (module_serves plain here 0 again None p).again) false (here.at - 1) ps r.inside) ∙ asks
 
         bytes_is : b ≡ t.bytes
-        bytes_is = index-map new_ldterm (λ p. (module_serves plain here 0 again None p).bytes) 0 (here.at - 1) ps r.inside
+        bytes_is = index-map none_there (λ p. (module_serves plain here 0 again None p).bytes) 0 (here.at - 1) ps r.inside
 
-        g : GoesOn here.way again l t.bytes t.acted.state
-        g = serves-goes here again l r.begins works
+        g : GoesOn here.way again (ldterm_of l) t.bytes (ldterm_of t.acted.state)
+        g = module-goes here again l r.begins works
 
         at : under_way q ≡ under_way t.acted.state
         at = led-at again None s r.inside
 
-        done : stages_done q.stage ≡ stages_done t.acted.state.stage
+        done : stages_done (ldterm_of q).stage ≡ stages_done (ldterm_of t.acted.state).stage
         done = ap (λ (x : UnderWay). stages_done x.stage) at
 
-        left_is : bytes_left here.way true q ≡ to_treat t.acted.state
-        left_is = ap (λ w. bytes_left w true q) g.up ∙ ap (λ (x : UnderWay). to_treat (record q { stage = x.stage; in_work = x.in_work })) at
+        left_is : bytes_left here.way true (ldterm_of q) ≡ to_treat (ldterm_of t.acted.state)
+        left_is = ap (λ w. bytes_left w true (ldterm_of q)) g.up ∙ ap (λ (x : UnderWay). to_treat (record (ldterm_of q) { stage = x.stage; in_work = x.in_work })) at
 
-        goes : (left more : ℕ) → stages_done q.stage ≤ 3 * left → calls plain here (suc r.made + more) false (bytes + b + left) s0 ≡ behind (gone ++ (led here again None s).gone) (bytes + b) (calls plain here more true left (led here again None s).state)
+        goes : (left more : ℕ) → stages_done (ldterm_of q).stage ≤ 3 * left → calls plain here (suc r.made + more) false (bytes + b + left) s0 ≡ behind (gone ++ (led here again None s).gone) (bytes + b) (calls plain here more true left (led here again None s).state)
         goes left more fits =
             let w = module_acted here (called here again None ps) s in
             let u = in_turn (carried put_in HOPS) w.sent w.state in
@@ -258,7 +283,7 @@ module _ (here : Spot) where
             ap (λ n. calls plain here n false (bytes + b + left) s0) (let e : suc r.made + more ≡ r.made + suc more = omega arith in e)
             ∙ ap (λ n. calls plain here (r.made + suc more) false n s0) (let e : bytes + b + left ≡ bytes + (b + left) = omega arith in e)
             ∙ r.goes (b + left) (suc more) (omega (arith, g.done, bytes_is, done, fits))
-            ∙ ap (behind gone bytes) (call-same more (b + left) again None s r.inside (λ made. serves-alike here again l works (b + left) made (omega (arith, bytes_is, done, fits))))
+            ∙ ap (behind gone bytes) (call-same more (b + left) again None s r.inside (λ made. module-alike here again l works (b + left) made (omega (arith, bytes_is, done, fits))))
             ∙ ap (λ x. behind gone bytes (next_of more (b + left) (called here again None ps) b x s)) asks
             ∙ ap (λ n. let v = calls plain here more true n u.state in behind gone bytes (record { state = v.state; gone = w.gone ++ u.gone ++ v.gone; bytes = b + v.bytes; ended = v.ended })) (let e : b + left - b ≡ left = omega arith in e)
             ∙ both-behind gone w.gone u.gone bytes b v
@@ -276,20 +301,20 @@ module _ (here : Spot) where
       abbrev IsLast : Option ℕ → Type 0
       IsLast stop =
           let b = treated here again stop (stream here.side s).modules in
-          Ends here.way again (module_at here s) b × ((made : ℕ) → module_serves plain here made again (Some b) (module_at here s) ≡ module_serves plain here 0 again stop (module_at here s))
+          Ends here.way again (ldterm_of (module_at here s)) b × ((made : ℕ) → module_serves plain here made again (Some b) (module_at here s) ≡ module_serves plain here 0 again stop (module_at here s))
 
       last-is : (stop : Option ℕ) → asks_on here again stop (stream here.side s).modules ≡ false → Stopped here again s stop → IsLast stop
       last-is None over _ =
           let ps = (stream here.side s).modules in
           let l = module_at here s in
           let i = here.at - 1 in
-          let over : (module_serves plain here 0 again None l).again ≡ false = sym (index-map new_ldterm (λ p. (module_serves plain here 0 again None p).again) false i ps r.inside) ∙ over in
-          let bytes_is = index-map new_ldterm (λ p. (module_serves plain here 0 again None p).bytes) 0 i ps r.inside in
-          let e = serves-ends here again l r.begins over in
+          let over : (module_serves plain here 0 again None l).again ≡ false = sym (index-map none_there (λ p. (module_serves plain here 0 again None p).again) false i ps r.inside) ∙ over in
+          let bytes_is = index-map none_there (λ p. (module_serves plain here 0 again None p).bytes) 0 i ps r.inside in
+          let e = module-ends here again l r.begins over in
           (record { treat = let a = e.0.treat in omega (arith, bytes_is); done = let a = e.0.done in omega (arith, bytes_is) }, λ made. ap (λ n. module_serves plain here made again (Some n) l) bytes_is ∙ e.1 made)
       last-is (Some n) over is =
           let l = module_at here s in
-          (subst (λ b. Ends here.way again l b) is.0 is.1, λ made. ap (λ b. module_serves plain here made again (Some b) l) (sym is.0) ∙ serves-made here again (Some n) l made)
+          (subst (λ b. Ends here.way again (ldterm_of l) b) is.0 is.1, λ made. ap (λ b. module_serves plain here made again (Some b) l) (sym is.0) ∙ module-made here again (Some n) l made)
 
       last-moves : (stop : Option ℕ) → asks_on here again stop (stream here.side s).modules ≡ false → IsLast stop → moved_on plain here name (all stop) s0 ≡ ended stop
       last-moves stop over is =
@@ -306,20 +331,22 @@ module _ (here : Spot) where
 
       -- The turn went so far, and led to that.
       pub reached-last : (stop : Option ℕ) → asks_on here again stop (stream here.side s).modules ≡ false → Stopped here again s stop
-          → (all stop ≤ bytes_left here.way false (module_at here s0)) × (moved_on plain here name (all stop) s0 ≡ ended stop)
+          → (all stop ≤ bytes_left here.way false (ldterm_of (module_at here s0))) × (moved_on plain here name (all stop) s0 ≡ ended stop)
       reached-last stop over stopped =
           let is = last-is stop over stopped in
           (let treat = is.0.treat in omega (arith, r.within, treat), last-moves stop over is)
 
-  whole : (way : Way) (l : Module ℕ) → bytes_left way false l ≡ first_size (messages_at module_queue way l)
-  whole Up l = refl
-  whole Down l = refl
+  whole : (way : Way) (p : Module ℕ) → bytes_left way false (ldterm_of p) ≡ first_size (messages_at module_queue way p)
+  whole Up (OfLdterm l) = refl
+  whole Down (OfLdterm l) = refl
+  whole Up (OfPtem p) = refl
+  whole Down (OfPtem p) = refl
 
   -- and no further than to the end of the first message
-  pub moves-within : (name : QueueName) (bytes : ℕ) (s : State ℕ) → here.at - 1 < length (stream here.side s).modules → bytes ≤ bytes_left here.way false (module_at here s)
+  pub moves-within : (name : QueueName) (bytes : ℕ) (s : State ℕ) → here.at - 1 < length (stream here.side s).modules → bytes ≤ bytes_left here.way false (ldterm_of (module_at here s))
       → moved_within plain here name (Moved bytes) s ≡ moved_on plain here name bytes s
   moves-within name bytes s low within =
       let ps = (stream here.side s).modules in
-      let size = index-map new_ldterm (λ p. first_size (messages_at module_queue here.way p)) 0 (here.at - 1) ps low in
+      let size = index-map none_there (λ p. first_size (messages_at module_queue here.way p)) 0 (here.at - 1) ps low in
       let first = whole here.way (module_at here s) in
       ap (λ n. moved_on plain here name n s) (let e : min bytes (at_place (λ p. first_size (messages_at module_queue here.way p)) 0 here.at ps) ≡ bytes = omega (arith, size, first, within) in e)

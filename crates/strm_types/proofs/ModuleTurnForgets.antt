@@ -21,7 +21,7 @@ use Rattle.strm_types.specs.Books.{with_made}
 use Rattle.strm_types.specs.Cells.{Cells, AreCells, plain}
 use Rattle.strm_types.specs.Deliver.{Acted, Carried, Fate, Goes, Comes, Took, carried, in_turn}
 use Rattle.strm_types.specs.Earlier.{places_of}
-use Rattle.strm_types.specs.LdtermOrigins.{map_stage}
+use Rattle.strm_types.specs.LdtermOrigins.{map_ldterm, map_serving, map_stage}
 use Rattle.strm_types.specs.LdtermTurns.{is_between}
 use Rattle.strm_types.specs.Ldterms.{Between, Begun, Answered, Stage}
 use Rattle.strm_types.specs.Message.{Message, map_message}
@@ -34,7 +34,7 @@ use Rattle.strm_types.specs.Past.{has_room_past, writer_waits}
 use Rattle.strm_types.specs.Puts.{earlier_at, noted, put_in}
 use Rattle.strm_types.specs.Queue.{Queue, is_none_left, map_messages, map_queue, relieved}
 use Rattle.strm_types.specs.Service.{Serving, end_relieves, has_more, turn_ended, turn_relieves}
-use Rattle.strm_types.specs.Stacked.{Module, map_module, module_asks, module_queue, module_rests, module_serves, with_module_queue}
+use Rattle.strm_types.specs.Stacked.{Module, OfLdterm, OfPtem, map_module, module_asks, module_queue, module_rests, module_serves, served_by, with_module_queue}
 use Rattle.strm_types.specs.State.{State, Stream, book, stream, with_book, with_stream, map_state, map_stream}
 use Rattle.strm_types.specs.TurnOutcomes.{TurnOutcome, first_size, map_turn_outcome, stayed_put}
 use Rattle.strm_types.proofs.DeliveryForgets.{carried-agrees, in_turn-agrees, map-join}
@@ -71,8 +71,9 @@ module _ {C D : Type 0} (f : C → D) where
   asked-same way (m ∷ ms) = ap (λ kind. asked_by way kind (map_message f m).band) (kind-forgets f m) ∙ ap (λ band. asked_by way m.kind band) (named_band-forgets f m)
 
   asks-same : (way : Way) (p : Module C) → module_asks way (map_module f p) ≡ module_asks way p
-  asks-same Up p = asked-same Up p.read_queue.messages
-  asks-same Down p = asked-same Down p.write_queue.messages
+  asks-same Up (OfLdterm l) = asked-same Up l.read_queue.messages
+  asks-same Down (OfLdterm l) = asked-same Down l.write_queue.messages
+  asks-same way (OfPtem p) = refl
 
   between-same : (x : Stage C) → is_between (map_stage f x) ≡ is_between x
   between-same Between = refl
@@ -88,22 +89,20 @@ module _ {C D : Type 0} (f : C → D) where
   gathered-same (x ∷ xs) = refl
 
   rests-same : (p : Module C) → module_rests (map_module f p) ≡ module_rests p
-  rests-same p =
-      ap (λ b. not b && (is_none_left (map f p.gathered) && (not p.echoing && is_between (map_module f p).stage))) (work-same p.in_work)
-      ∙ ap (λ b. not (is_some p.in_work) && (b && (not p.echoing && is_between (map_module f p).stage))) (gathered-same p.gathered)
+  rests-same (OfPtem p) = refl
+  rests-same (OfLdterm p) =
+      ap (λ b. not b && (is_none_left (map f p.gathered) && (not p.echoing && is_between (map_stage f p.stage)))) (work-same p.in_work)
+      ∙ ap (λ b. not (is_some p.in_work) && (b && (not p.echoing && is_between (map_stage f p.stage)))) (gathered-same p.gathered)
       ∙ ap (λ b. not (is_some p.in_work) && (is_none_left p.gathered && (not p.echoing && b))) (between-same p.stage)
 
+  first-same : (ms : List (Message C)) → first_size (map_messages f ms) ≡ first_size ms
+  first-same [] = refl
+  first-same (m ∷ ms) = size-forgets f m
+
   size-same : (way : Way) (p : Module C) → first_size (messages_at module_queue way (map_module f p)) ≡ first_size (messages_at module_queue way p)
-  size-same Up p = first-same p.read_queue.messages
-    where
-      first-same : (ms : List (Message C)) → first_size (map_messages f ms) ≡ first_size ms
-      first-same [] = refl
-      first-same (m ∷ ms) = size-forgets f m
-  size-same Down p = first-same p.write_queue.messages
-    where
-      first-same : (ms : List (Message C)) → first_size (map_messages f ms) ≡ first_size ms
-      first-same [] = refl
-      first-same (m ∷ ms) = size-forgets f m
+  size-same Up (OfLdterm l) = first-same l.read_queue.messages
+  size-same Down (OfLdterm l) = first-same l.write_queue.messages
+  size-same way (OfPtem p) = refl
 
   -- the end of a turn
   ended-same : (took : Bool) (q : Queue C) → turn_ended took (map_queue f q) ≡ map_queue f (turn_ended took q)
@@ -116,8 +115,9 @@ module _ {C D : Type 0} (f : C → D) where
       at false = refl
 
   changed-same : (way : Way) (took : Bool) (p : Module C) → queue_changed module_queue with_module_queue way (turn_ended took) (map_module f p) ≡ map_module f (queue_changed module_queue with_module_queue way (turn_ended took) p)
-  changed-same Up took p = ap (λ q. record (map_module f p) { read_queue = q }) (ended-same took p.read_queue)
-  changed-same Down took p = ap (λ q. record (map_module f p) { write_queue = q }) (ended-same took p.write_queue)
+  changed-same Up took (OfLdterm l) = ap (λ q. OfLdterm (record (map_ldterm f l) { read_queue = q })) (ended-same took l.read_queue)
+  changed-same Down took (OfLdterm l) = ap (λ q. OfLdterm (record (map_ldterm f l) { write_queue = q })) (ended-same took l.write_queue)
+  changed-same way took (OfPtem p) = refl
 
   queue_ended-same : (here : Spot) (took : Bool) (t : Stream C) → queue_ended here took (map_stream f t) ≡ map_stream f (queue_ended here took t)
   queue_ended-same here took t =
@@ -134,12 +134,14 @@ module _ {C D : Type 0} (f : C → D) where
   relieves-same took q = ap (λ b. took && b) (relieves_from-forgets f 0 q.messages q.flows)
 
   end_relieves-same : (took : Bool) (way : Way) (p : Module C) → end_relieves module_queue took way (map_module f p) ≡ end_relieves module_queue took way p
-  end_relieves-same took Up p = relieves-same took p.read_queue
-  end_relieves-same took Down p = relieves-same took p.write_queue
+  end_relieves-same took Up (OfLdterm l) = relieves-same took l.read_queue
+  end_relieves-same took Down (OfLdterm l) = relieves-same took l.write_queue
+  end_relieves-same took way (OfPtem p) = refl
 
   more-same : (way : Way) (p : Module C) → has_more module_queue way (map_module f p) ≡ has_more module_queue way p
-  more-same Up p = ap (λ none. not none) (none-forgets f (map_message f) p.read_queue.messages)
-  more-same Down p = ap (λ none. not none) (none-forgets f (map_message f) p.write_queue.messages)
+  more-same Up (OfLdterm l) = ap (λ none. not none) (none-forgets f (map_message f) l.read_queue.messages)
+  more-same Down (OfLdterm l) = ap (λ none. not none) (none-forgets f (map_message f) l.write_queue.messages)
+  more-same way (OfPtem p) = refl
 
   abbrev with_enabled : {E : Type 0} → List QueueName → State E → State E
   with_enabled names s = record s { enabled = names }
@@ -229,14 +231,18 @@ module _ {C : Type 0} (cells : Cells C) (are : AreCells cells) where
   abbrev f : C → ℕ
   f = cells.byte
 
+  module-serves : (here : Spot) (made : ℕ) (again : Bool) (left : ℕ) (p : Module C) → module_serves plain here made again (Some left) (map_module f p) ≡ map_serving f (map_module f) (module_serves cells here made again (Some left) p)
+  module-serves here made again left (OfLdterm l) = ap (served_by OfLdterm) (serves-forget cells are here made again (Some left) l)
+  module-serves here made again left (OfPtem p) = refl
+
   acts-same : (here : Spot) (made : ℕ) (again : Bool) (left : ℕ) (p : Module C) → (module_serves plain here made again (Some left) (map_module f p)).acted ≡ map_acted f (map_module f) (module_serves cells here made again (Some left) p).acted
-  acts-same here made again left p = ap (λ (t : Serving ℕ (Module ℕ)). t.acted) (serves-forget cells are here made again (Some left) p)
+  acts-same here made again left p = ap (λ (t : Serving ℕ (Module ℕ)). t.acted) (module-serves here made again left p)
 
   bytes-same : (here : Spot) (made : ℕ) (again : Bool) (left : ℕ) (p : Module C) → (module_serves plain here made again (Some left) (map_module f p)).bytes ≡ (module_serves cells here made again (Some left) p).bytes
-  bytes-same here made again left p = ap (λ (t : Serving ℕ (Module ℕ)). t.bytes) (serves-forget cells are here made again (Some left) p)
+  bytes-same here made again left p = ap (λ (t : Serving ℕ (Module ℕ)). t.bytes) (module-serves here made again left p)
 
   again-same : (here : Spot) (made : ℕ) (again : Bool) (left : ℕ) (p : Module C) → (module_serves plain here made again (Some left) (map_module f p)).again ≡ (module_serves cells here made again (Some left) p).again
-  again-same here made again left p = ap (λ (t : Serving ℕ (Module ℕ)). t.again) (serves-forget cells are here made again (Some left) p)
+  again-same here made again left p = ap (λ (t : Serving ℕ (Module ℕ)). t.again) (module-serves here made again left p)
 
   -- one call, and what it sent
   called-same : (here : Spot) (again : Bool) (left : ℕ) (s : State C) → module_called plain here again left (map_state f s) ≡ map_took f (map_state f) (module_called cells here again left s)

@@ -39,7 +39,7 @@ use Rattle.strm_types.specs.TurnOutcomes.{TurnOutcome, stayed_put}
 use Rattle.strm_types.proofs.DeliveryHolds.{carried-holds, in_turn-holds}
 use Rattle.strm_types.proofs.DeliveryKeeps.{carried-keeps, gone-append, in_turn-keeps, made-append}
 use Rattle.strm_types.proofs.LdtermKeeps.{either}
-use Rattle.strm_types.proofs.ModuleCalls.{IsReady, OneIs, among-goes, among-keeps, among-near, among-rests, one-of-idle, one-puts, puts-ready}
+use Rattle.strm_types.proofs.ModuleCalls.{IsReadyAt, OneIs, among-goes, among-keeps, among-near, among-rests, first-ready, one-of-idle, one-puts, puts-ready}
 use Rattle.strm_types.proofs.ModulesHold.{OnBoth, puts-hold}
 use Rattle.strm_types.proofs.ModulesIdle.{AllIdle, among-idle}
 use Rattle.strm_types.proofs.Past.{waits-idle, waits-keeps}
@@ -143,10 +143,10 @@ placed-low {C} place ps at is =
 module _ {C : Type 0} (cells : Cells C) (here : Spot) where
   -- the module whose queue has the turn is ready for a call
   abbrev HasCall : Bool → ℕ → List (Module C) → Type 0
-  HasCall again left ps = OneIs (λ l. IsReady again here.way left l) (here.at - 1) ps
+  HasCall again left ps = OneIs (λ l. IsReadyAt again here.way left l) (here.at - 1) ps
 
   call-stays : (again : Bool) (left i : ℕ) (to : Spot) (m : Message C) (ps : List (Module C)) → HasCall again left ps → HasCall again left (put_among module_puts i to m ps).state
-  call-stays again left i to m ps one = one-puts (λ l. IsReady again here.way left l) (puts-ready again here.way left) (here.at - 1) i to m ps one
+  call-stays again left i to m ps one = one-puts (λ l. IsReadyAt again here.way left l) (puts-ready again here.way left) (here.at - 1) i to m ps one
 
   -- what a call leads to, with what it sent
   abbrev called_out : Bool → ℕ → State C → Carried C (State C)
@@ -180,7 +180,7 @@ module _ {C : Type 0} (cells : Cells C) (here : Spot) where
 
   -- where nothing of a turn is under way, one may begin
   begun : (left : ℕ) (s : State C) → AreIdle s → InTurn here.side (HasCall false left) s
-  begun left s idle = turn-of-idle here.side (HasCall false left) s (one-of-idle (here.at - 1) (stream here.side s).modules) idle
+  begun left s idle = turn-of-idle here.side (HasCall false left) s (one-of-idle (λ l. IsReadyAt false here.way left l) (first-ready here.way left) (here.at - 1) (stream here.side s).modules) idle
 
   -- calls, up to the end of the turn
   calls-rest : (n : ℕ) (again : Bool) (left : ℕ) (s : State C) → InTurn here.side (HasCall again left) s → let v = calls cells here n again left s in v.ended ≡ true → InTurn here.side AllIdle v.state

@@ -1,5 +1,5 @@
 -- Turns of modules' queues, as worked out by hand from the STREAMS Programming Guide, ldterm(7M) and termio(7I).
-use Rattle.std.proofs.Common.{ℕ, ◌≡◌, Bool, true, false, List, [], ◌∷◌, map, refl}
+use Rattle.std.proofs.Common.{ℕ, ◌≡◌, Bool, true, false, List, [], ◌∷◌, ◌++◌, map, refl}
 use Rattle.std.specs.Prelude.{None, Some}
 use Rattle.strm_types.specs.declared.answers.Turn.{Turn}
 use Rattle.strm_types.specs.declared.answers.Turn.TheVariants.{Moved, Blocked, Idle}
@@ -16,8 +16,9 @@ use Rattle.strm_types.specs.Ldterms.{new_ldterm}
 use Rattle.strm_types.specs.Message.{Message, band_of, cells_of, data_message, is_high_priority, rank_of, size_of}
 use Rattle.strm_types.specs.ModuleTurns.{calls, module_turned, place_named, whole_module}
 use Rattle.strm_types.specs.Names.{driver_of}
+use Rattle.strm_types.specs.Ptems.{new_ptem}
 use Rattle.strm_types.specs.Queue.{Flow, Queue}
-use Rattle.strm_types.specs.Stacked.{Module}
+use Rattle.strm_types.specs.Stacked.{Module, OfLdterm, OfPtem, module_queues}
 use Rattle.strm_types.specs.State.{State, Stream, new_stream}
 use Rattle.strm_types.specs.Step.{IsTurn, after}
 use Rattle.strm_types.specs.TurnOutcomes.{TurnOutcome}
@@ -30,7 +31,7 @@ abbrev busy : List (Message ℕ) → Bool → Queue ℕ
 busy messages waits = record { messages = messages; flows = record { high = 3; low = 1; want_write = waits } ∷ []; want_read = false; no_enable = false }
 
 abbrev module_with : Queue ℕ → Queue ℕ → Module ℕ
-module_with above below = record new_ldterm { read_queue = above; write_queue = below }
+module_with above below = OfLdterm (record new_ldterm { read_queue = above; write_queue = below })
 
 -- a pair whose slave's stream has these modules between a head and a driver
 abbrev stacked : Queue ℕ → List (Module ℕ) → Queue ℕ → Stream ℕ
@@ -60,7 +61,7 @@ queues_on on = on.head.queue ∷ of_top on.modules
   where
     of_top : List (Module ℕ) → List (Queue ℕ)
     of_top [] = on.driver.queue ∷ []
-    of_top (p ∷ ps) = p.read_queue ∷ p.write_queue ∷ on.driver.queue ∷ []
+    of_top (p ∷ ps) = module_queues p ++ on.driver.queue ∷ []
 
 abbrev seen : TurnOutcome ℕ → Seen
 seen t = record {
@@ -172,7 +173,7 @@ unfolding carried cells_of band_of is_high_priority size_of rank_of data_message
 too-few-calls = refl
 
 -- no turn begins in a module while one is under way
-pub under-way : (module_turned plain writing (Moved 1) (pair (stacked (busy [] false) (record (module_with (busy [] false) (busy (ordinary (7 ∷ []) ∷ []) false)) { in_work = Some (ordinary (1 ∷ [])) } ∷ []) (busy [] false)))).turn ≡ Blocked
+pub under-way : (module_turned plain writing (Moved 1) (pair (stacked (busy [] false) (OfLdterm (record new_ldterm { read_queue = busy [] false; write_queue = busy (ordinary (7 ∷ []) ∷ []) false; in_work = Some (ordinary (1 ∷ [])) }) ∷ []) (busy [] false)))).turn ≡ Blocked
 unfolding cells_of band_of is_high_priority size_of
 under-way = refl
 
@@ -186,6 +187,17 @@ room-past = refl
 
 pub names-found : map (λ place. place_named place two.modules) (Ldterm ∷ Driver ∷ []) ≡ Some 1 ∷ None ∷ []
 names-found = refl
+
+-- a module without queues stands in no one's way: what it stands above is found, and the queue past it is asked for room
+abbrev above_one : Stream ℕ
+above_one = stacked (busy [] false) (OfPtem new_ptem ∷ module_with (busy [] false) (busy full false) ∷ OfPtem new_ptem ∷ []) (busy [] false)
+
+pub name-found-below : map (λ place. place_named place above_one.modules) (Ldterm ∷ Driver ∷ []) ≡ Some 2 ∷ None ∷ []
+name-found-below = refl
+
+pub room-past-one : map (λ at. may_pass Down at 0 above_one) (0 ∷ 1 ∷ 2 ∷ 3 ∷ []) ≡ false ∷ false ∷ true ∷ true ∷ []
+unfolding cells_of band_of is_high_priority size_of
+room-past-one = refl
 
 -- whole turns
 pub whole-turns : map (λ way. whole_module Ldterm way two) (Up ∷ Down ∷ []) ≡ Moved 0 ∷ Moved 0 ∷ []

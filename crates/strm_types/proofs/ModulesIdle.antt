@@ -5,22 +5,23 @@ use Rattle.strm_types.specs.declared.limits.TheConstants.{HOPS}
 use Rattle.strm_types.specs.declared.names.Side.{Side}
 use Rattle.strm_types.specs.declared.spots.Spot.{Spot}
 use Rattle.strm_types.specs.Kept.{AreIdle}
-use Rattle.strm_types.specs.Ldterms.{IsIdle, ldterm_puts}
+use Rattle.strm_types.specs.Ldterms.{ldterm_puts}
 use Rattle.strm_types.specs.Message.{Message}
 use Rattle.strm_types.specs.Modules.{put_among}
 use Rattle.strm_types.specs.Puts.{delivered, put_in}
-use Rattle.strm_types.specs.Stacked.{Module, module_puts}
+use Rattle.strm_types.specs.Stacked.{Module, OfLdterm, OfPtem, IsAtRest, module_puts}
 use Rattle.strm_types.specs.State.{State}
 use Rattle.strm_types.proofs.DeliveryHolds.{carried-holds}
 use Rattle.strm_types.proofs.LdtermPutStays.{idle-stays, puts-stay}
 use Rattle.strm_types.proofs.ModulesHold.{OnBoth, puts-hold}
 
 module _ {C : Type 0} where
-  pub puts-idle : (here : Spot) (m : Message C) (l : Module C) → IsIdle l → IsIdle (module_puts here m l).state
-  puts-idle here m l idle = idle-stays l (ldterm_puts here m l).state (puts-stay here m l) idle
+  pub puts-idle : (here : Spot) (m : Message C) (q : Module C) → IsAtRest q → IsAtRest (module_puts here m q).state
+  puts-idle here m (OfLdterm l) idle = idle-stays l (ldterm_puts here m l).state (puts-stay here m l) idle
+  puts-idle here m (OfPtem q) idle = tt
 
   abbrev pub AllIdle : List (Module C) → Type 0
-  AllIdle ps = AllByRecursion (λ l. IsIdle l) ps
+  AllIdle ps = AllByRecursion (λ p. IsAtRest p) ps
 
   pub among-idle : (i : ℕ) (here : Spot) (m : Message C) (ps : List (Module C)) → AllIdle ps → AllIdle (put_among module_puts i here m ps).state
   among-idle i here m [] idle = tt

@@ -10,7 +10,7 @@ use Rattle.strm_types.specs.ModuleQueues.{can_pass, full_at, place_past, room_at
 use Rattle.strm_types.specs.Modules.{change_among}
 use Rattle.strm_types.specs.Past.{end_queue, has_room_past, may_pass, waits_on, writer_waits}
 use Rattle.strm_types.specs.Queue.{is_full}
-use Rattle.strm_types.specs.Stacked.{Module, map_module, module_queue, with_module_queue}
+use Rattle.strm_types.specs.Stacked.{Module, OfLdterm, OfPtem, map_module, module_queue, with_module_queue}
 use Rattle.strm_types.specs.State.{State, Stream, stream, with_stream, map_state, map_stream}
 use Rattle.strm_types.proofs.Earlier.{place_past-forgets}
 use Rattle.strm_types.proofs.EmptiedForgets.{stream-forgets}
@@ -24,8 +24,9 @@ module _ {C D : Type 0} (f : C → D) where
 
   -- room
   full-same : (way : Way) (band : ℕ) (p : Module C) → full_at module_queue way band (map_module f p) ≡ full_at module_queue way band p
-  full-same Up band p = full-forgets f band p.read_queue
-  full-same Down band p = full-forgets f band p.write_queue
+  full-same Up band (OfLdterm l) = full-forgets f band l.read_queue
+  full-same Down band (OfLdterm l) = full-forgets f band l.write_queue
+  full-same way band (OfPtem p) = refl
 
   fulls-same : (way : Way) (band : ℕ) (ps : List (Module C)) → map (full_at module_queue way band) (images ps) ≡ map (full_at module_queue way band) ps
   fulls-same way band [] = refl
@@ -54,8 +55,9 @@ module _ {C D : Type 0} (f : C → D) where
 
   -- a writer that waits
   waits-same : (way : Way) (band : ℕ) (p : Module C) → waits module_queue with_module_queue way band (map_module f p) ≡ map_module f (waits module_queue with_module_queue way band p)
-  waits-same Up band p = refl
-  waits-same Down band p = refl
+  waits-same Up band (OfLdterm l) = refl
+  waits-same Down band (OfLdterm l) = refl
+  waits-same way band (OfPtem p) = refl
 
   change-same : (way : Way) (band i : ℕ) (ps : List (Module C))
       → change_among (waits module_queue with_module_queue way band) i (images ps) ≡ images (change_among (waits module_queue with_module_queue way band) i ps)

@@ -25,7 +25,7 @@ use Rattle.strm_types.specs.Signals.{signal_in}
 use Rattle.strm_types.specs.Termios.{read_termios, termios_bytes}
 use Rattle.strm_types.specs.Winsizes.{read_winsize, same_winsize, winsize_bytes}
 use Rattle.strm_types.proofs.LdtermKeeps.{either}
-use Rattle.strm_types.proofs.ModulePuts.{onward-lower}
+use Rattle.strm_types.proofs.Onward.{onward-lower}
 use Rattle.strm_types.proofs.PutForgets.{parts-forget}
 use Rattle.strm_types.proofs.PutWeights.{no-parts}
 

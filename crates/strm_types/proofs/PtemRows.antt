@@ -10,9 +10,10 @@ use Rattle.strm_types.specs.declared.spots.Spot.{Spot}
 use Rattle.strm_types.specs.declared.termios.Termios.{Termios}
 use Rattle.strm_types.specs.declared.winsize.Winsize.{Winsize}
 use Rattle.strm_types.specs.Acks.{ack_message, payload, telling_message}
+use Rattle.strm_types.specs.Costs.{cost}
 use Rattle.strm_types.specs.Deliver.{Acted, Parcel}
 use Rattle.strm_types.specs.Message.{Message}
-use Rattle.strm_types.specs.Ptems.{Ptem, new_ptem, ptem_cost, ptem_puts, sets_termios}
+use Rattle.strm_types.specs.Ptems.{Ptem, new_ptem, ptem_puts, sets_termios}
 use Rattle.strm_types.specs.Termios.{first_termios, termios_bytes}
 use Rattle.strm_types.proofs.LdtermRows.{protocol}
 use Rattle.strm_types.proofs.Samples.{header, ordinary, without_parts}
@@ -171,10 +172,10 @@ master-has-one = refl
 abbrev place : ℕ → Way → Spot
 place n way = record { side = Slave; at = n; way = way }
 
-pub blocks-of-ioctls : map (λ n. ptem_cost (place n Down) (ioctl 6 [])) (1 ∷ 2 ∷ 3 ∷ 4 ∷ []) ∷ map (λ n. ptem_cost (place n Up) (ioctl 6 [])) (0 ∷ 1 ∷ 2 ∷ 3 ∷ []) ∷ []
-    ≡ (12 ∷ 9 ∷ 6 ∷ 3 ∷ []) ∷ (4 ∷ 5 ∷ 5 ∷ 5 ∷ []) ∷ []
+pub blocks-of-ioctls : map (λ n. cost (place n Down) (ioctl 6 [])) (1 ∷ 2 ∷ 3 ∷ 4 ∷ []) ∷ map (λ n. cost (place n Up) (ioctl 6 [])) (0 ∷ 1 ∷ 2 ∷ 3 ∷ []) ∷ []
+    ≡ (24 ∷ 17 ∷ 10 ∷ 3 ∷ []) ∷ (4 ∷ 5 ∷ 5 ∷ 5 ∷ []) ∷ []
 blocks-of-ioctls = refl
 
-pub blocks-of-others : map (λ m. ptem_cost (place 2 Down) m) (ordinary [] ∷ without_parts Iocack [] ∷ without_parts Flush (3 ∷ []) ∷ []) ∷ map (λ m. ptem_cost (place 2 Up) m) (ordinary [] ∷ without_parts Iocack [] ∷ without_parts Flush (3 ∷ []) ∷ []) ∷ []
-    ≡ (0 ∷ 3 ∷ 3 ∷ []) ∷ (0 ∷ 0 ∷ 4 ∷ []) ∷ []
+pub blocks-of-others : map (λ m. cost (place 2 Down) m) (ordinary [] ∷ without_parts Iocack [] ∷ without_parts Flush (3 ∷ []) ∷ []) ∷ map (λ m. cost (place 2 Up) m) (ordinary [] ∷ without_parts Iocack [] ∷ without_parts Flush (3 ∷ []) ∷ []) ∷ []
+    ≡ (0 ∷ 3 ∷ 3 ∷ []) ∷ (0 ∷ 4 ∷ 4 ∷ []) ∷ []
 blocks-of-others = refl

@@ -18,6 +18,8 @@ use Rattle.strm_types.specs.declared.spots.Note.TheVariants.{Room}
 use Rattle.strm_types.specs.Deliver.{Acted, Carried, Fate, Goes}
 use Rattle.strm_types.specs.Earlier.{before_at}
 use Rattle.strm_types.specs.Emptied.{of_all, cells_gone, queue_behind, writer_goes}
+use Rattle.strm_types.specs.LdtermOrigins.{map_ldterm}
+use Rattle.strm_types.specs.Ldterms as ldterms
 use Rattle.strm_types.specs.Message.{Message, map_message}
 use Rattle.strm_types.specs.ModuleQueues.{has_queue, messages_at}
 use Rattle.strm_types.specs.Modules.{top_name, without_module}
@@ -27,16 +29,16 @@ use Rattle.strm_types.specs.Pushes.{all_taken, enable_waiting, head_above, is_th
 use Rattle.strm_types.specs.Puts.{delivered, earlier_at, noted}
 use Rattle.strm_types.specs.Queue.{Queue, is_none_left, map_messages, map_queue}
 use Rattle.strm_types.specs.Service.{cleared, line_gone}
-use Rattle.strm_types.specs.Stacked.{Module, map_module, module_line, module_name, module_queue, with_module_queue, without_module_line}
+use Rattle.strm_types.specs.Stacked.{Module, OfLdterm, OfPtem, done_by, map_module, module_line, module_name, module_queue, with_module_queue, without_module_line}
 use Rattle.strm_types.specs.State.{State, Stream, stream, map_state, map_stream}
-use Rattle.strm_types.proofs.Earlier.{before_at-forgets}
+use Rattle.strm_types.proofs.Earlier.{before_at-forgets, name-forgets, queue-forgets}
 use Rattle.strm_types.proofs.EmptiedForgets.{gone-forgets, queue_behind-forgets, stream-forgets, writer_goes-forgets}
 use Rattle.strm_types.proofs.Forgetting.{none-forgets}
 use Rattle.strm_types.proofs.LdtermPutForgets.{line_gone-forgets}
 use Rattle.strm_types.proofs.PutsForget.{delivered-forgets, notes-forget}
 
 -- what is left of a module whose queues and line have gone, so, with what let writers go
-abbrev let_go : {E : Type 0} → Side → Rule → Module E → Queue E → Bool → List E → List (Fate E) → Queue E → Bool → List E → Acted E (Module E)
+abbrev let_go : {E : Type 0} → Side → Rule → ldterms.Ldterm E → Queue E → Bool → List E → List (Fate E) → Queue E → Bool → List E → Acted E (ldterms.Ldterm E)
 let_go side rule p up up_goes up_cells line down down_goes down_cells = record {
   state = record p { line = []; read_queue = up; write_queue = down };
   notes = cond up_goes (Room Up ∷ []) [] ++ cond down_goes (Room Down ∷ []) [];
@@ -47,9 +49,9 @@ let_go side rule p up up_goes up_cells line down down_goes down_cells = record {
 abbrev pub clears : {E : Type 0} → Side → Rule → Module E → Acted E (Module E)
 clears side rule p = cleared module_queue with_module_queue module_line without_module_line side rule p
 
-clears-is : {E : Type 0} (side : Side) (rule : Rule) (p : Module E) → clears side rule p
-    ≡ let_go side rule p (queue_behind of_all p.read_queue) (writer_goes of_all p.read_queue) (cells_gone of_all p.read_queue.messages) (line_gone side rule p.line)
-    (queue_behind of_all p.write_queue) (writer_goes of_all p.write_queue) (cells_gone of_all p.write_queue.messages)
+clears-is : {E : Type 0} (side : Side) (rule : Rule) (p : ldterms.Ldterm E) → clears side rule (OfLdterm p)
+    ≡ done_by OfLdterm (let_go side rule p (queue_behind of_all p.read_queue) (writer_goes of_all p.read_queue) (cells_gone of_all p.read_queue.messages) (line_gone side rule p.line)
+    (queue_behind of_all p.write_queue) (writer_goes of_all p.write_queue) (cells_gone of_all p.write_queue.messages))
 clears-is side rule p = refl
 
 -- a pair on whose stream of a side the module on top was let go so, with these queues enabled
@@ -67,22 +69,23 @@ module _ {C D : Type 0} (f : C → D) where
   abbrev image : Carried C (State C) → Carried D (State D)
   image t = map_carried f (map_state f) t
 
-  let_go-forgets : (side : Side) (rule : Rule) (p : Module C) (up down : Queue C) (up_goes down_goes : Bool) (up_cells down_cells : List C) (line : List (Fate C))
-      → let_go side rule (map_module f p) (map_queue f up) up_goes (map f up_cells) (map (map_fate f) line) (map_queue f down) down_goes (map f down_cells)
-      ≡ map_acted f (map_module f) (let_go side rule p up up_goes up_cells line down down_goes down_cells)
+  let_go-forgets : (side : Side) (rule : Rule) (p : ldterms.Ldterm C) (up down : Queue C) (up_goes down_goes : Bool) (up_cells down_cells : List C) (line : List (Fate C))
+      → let_go side rule (map_ldterm f p) (map_queue f up) up_goes (map f up_cells) (map (map_fate f) line) (map_queue f down) down_goes (map f down_cells)
+      ≡ map_acted f (map_ldterm f) (let_go side rule p up up_goes up_cells line down down_goes down_cells)
   let_go-forgets side rule p up down up_goes down_goes up_cells down_cells line =
       ap (λ (gone : List (Fate D)). record {
-        state = record (map_module f p) { line = []; read_queue = map_queue f up; write_queue = map_queue f down };
+        state = record (map_ldterm f p) { line = []; read_queue = map_queue f up; write_queue = map_queue f down };
         notes = cond up_goes (Room Up ∷ []) [] ++ cond down_goes (Room Down ∷ []) [];
         sent = [];
         gone = (Goes (direction_at Up side) rule (map f up_cells) ∷ []) ++ gone;
       }) (sym (map-append (map_fate f) line (Goes (direction_at Down side) rule down_cells ∷ [])))
 
   pub clears-forget : (side : Side) (rule : Rule) (p : Module C) → clears side rule (map_module f p) ≡ map_acted f (map_module f) (clears side rule p)
-  clears-forget side rule p =
+  clears-forget side rule (OfPtem q) = refl
+  clears-forget side rule (OfLdterm p) = ap (done_by OfLdterm) (
       let r = p.read_queue in
       let w = p.write_queue in
-      let q = map_module f p in
+      let q = map_ldterm f p in
       let up = queue_behind of_all r in
       let down = queue_behind of_all w in
       ap (λ (x : Queue D). let_go side rule q x (writer_goes of_all q.read_queue) (cells_gone of_all q.read_queue.messages) (line_gone side rule q.line) (queue_behind of_all q.write_queue) (writer_goes of_all q.write_queue) (cells_gone of_all q.write_queue.messages)) (queue_behind-forgets f of_all r)
@@ -92,7 +95,7 @@ module _ {C D : Type 0} (f : C → D) where
       ∙ ap (λ (x : Queue D). let_go side rule q (map_queue f up) (writer_goes of_all r) (map f (cells_gone of_all r.messages)) (map (map_fate f) (line_gone side rule p.line)) x (writer_goes of_all q.write_queue) (cells_gone of_all q.write_queue.messages)) (queue_behind-forgets f of_all w)
       ∙ ap (λ (b : Bool). let_go side rule q (map_queue f up) (writer_goes of_all r) (map f (cells_gone of_all r.messages)) (map (map_fate f) (line_gone side rule p.line)) (map_queue f down) b (cells_gone of_all q.write_queue.messages)) (writer_goes-forgets f of_all w)
       ∙ ap (λ (xs : List D). let_go side rule q (map_queue f up) (writer_goes of_all r) (map f (cells_gone of_all r.messages)) (map (map_fate f) (line_gone side rule p.line)) (map_queue f down) (writer_goes of_all w) xs) (gone-forgets f of_all w.messages)
-      ∙ let_go-forgets side rule p up down (writer_goes of_all r) (writer_goes of_all w) (cells_gone of_all r.messages) (cells_gone of_all w.messages) (line_gone side rule p.line)
+      ∙ let_go-forgets side rule p up down (writer_goes of_all r) (writer_goes of_all w) (cells_gone of_all r.messages) (cells_gone of_all w.messages) (line_gone side rule p.line))
 
   -- the module on top, and all of them
   taken-forgets : (side : Side) (ps : List (Module C)) (gone : List (Fate C)) (names : List QueueName) (s : State C)
@@ -109,7 +112,8 @@ module _ {C D : Type 0} (f : C → D) where
   top_taken-forgets : (rule : Rule) (side : Side) (ps : List (Module C)) (s : State C) → top_taken rule side (images ps) (map_state f s) ≡ image (top_taken rule side ps s)
   top_taken-forgets rule side [] s = refl
   top_taken-forgets rule side (p ∷ ps) s =
-      ap (λ (t : Acted D (Module D)). without_top side (module_name p) (images ps) t (map_state f s)) (clears-forget side rule p)
+      ap (λ name. without_top side name (images ps) (clears side rule (map_module f p)) (map_state f s)) (name-forgets f p)
+      ∙ ap (λ (t : Acted D (Module D)). without_top side (module_name p) (images ps) t (map_state f s)) (clears-forget side rule p)
       ∙ without_top-forgets side (module_name p) ps (clears side rule p) s
 
   joined-forgets : (t u : Carried C (State C)) → record { state = map_state f u.state; gone = map (map_fate f) t.gone ++ map (map_fate f) u.gone } ≡ image (record { state = u.state; gone = t.gone ++ u.gone })
@@ -143,8 +147,9 @@ module _ {C D : Type 0} (f : C → D) where
 
   all-there : (way : Way) (ps : List (Module C)) → flat_map (there way) (images ps) ≡ map_messages f (flat_map (there way) ps)
   all-there way [] = refl
-  all-there Up (p ∷ ps) = ap (λ ms. map_messages f p.read_queue.messages ++ ms) (all-there Up ps) ∙ sym (map-append (map_message f) p.read_queue.messages (flat_map (there Up) ps))
-  all-there Down (p ∷ ps) = ap (λ ms. map_messages f p.write_queue.messages ++ ms) (all-there Down ps) ∙ sym (map-append (map_message f) p.write_queue.messages (flat_map (there Down) ps))
+  all-there Up (OfLdterm l ∷ ps) = ap (λ ms. map_messages f l.read_queue.messages ++ ms) (all-there Up ps) ∙ sym (map-append (map_message f) l.read_queue.messages (flat_map (there Up) ps))
+  all-there Down (OfLdterm l ∷ ps) = ap (λ ms. map_messages f l.write_queue.messages ++ ms) (all-there Down ps) ∙ sym (map-append (map_message f) l.write_queue.messages (flat_map (there Down) ps))
+  all-there way (OfPtem p ∷ ps) = all-there way ps
 
   there-forgets : (place : Place) (way : Way) (t : Stream C) → messages_there place way (map_stream f t) ≡ map_messages f (messages_there place way t)
   there-forgets Head way t = refl
@@ -176,7 +181,9 @@ module _ {C D : Type 0} (f : C → D) where
       let mode = mode_on_push (module_name p) in
       let reads = has_queue module_queue Up p in
       let on = with_modules side (p ∷ (stream side s).modules) s in
-      ap (λ (x : Stream D). let t = mode_put side mode (with_modules side (map_module f p ∷ x.modules) (map_state f s)) in record { state = let_come reads side t.state; gone = t.gone }) (stream-forgets f side s)
+      ap (λ (name : ModuleName). let t = mode_put side (mode_on_push name) (with_modules side (map_module f p ∷ (stream side (map_state f s)).modules) (map_state f s)) in record { state = let_come (has_queue module_queue Up (map_module f p)) side t.state; gone = t.gone }) (name-forgets f p)
+      ∙ ap (λ (b : Bool). let t = mode_put side mode (with_modules side (map_module f p ∷ (stream side (map_state f s)).modules) (map_state f s)) in record { state = let_come b side t.state; gone = t.gone }) (queue-forgets f Up p)
+      ∙ ap (λ (x : Stream D). let t = mode_put side mode (with_modules side (map_module f p ∷ x.modules) (map_state f s)) in record { state = let_come reads side t.state; gone = t.gone }) (stream-forgets f side s)
       ∙ ap (λ (x : State D). let t = mode_put side mode x in record { state = let_come reads side t.state; gone = t.gone }) (with_modules-forgets side (p ∷ (stream side s).modules) s)
       ∙ ap (λ (t : Carried D (State D)). record { state = let_come reads side t.state; gone = t.gone }) (mode_put-forgets side mode on)
       ∙ ap (λ (x : State D). record { state = x; gone = map (map_fate f) (mode_put side mode on).gone }) (let_come-forgets reads side (mode_put side mode on).state)
@@ -196,12 +203,12 @@ module _ {C D : Type 0} (f : C → D) where
       ap (λ (p : Option (Module D)). pushed_named side p (map_state f s)) (named_by-forgets name) ∙ of_named-forgets side (named_by name) s
 
   -- a pop
-  name-forgets : (ps : List (Module C)) → top_name module_name (images ps) ≡ top_name module_name ps
-  name-forgets [] = refl
-  name-forgets (p ∷ ps) = refl
+  top_name-forgets : (ps : List (Module C)) → top_name module_name (images ps) ≡ top_name module_name ps
+  top_name-forgets [] = refl
+  top_name-forgets (p ∷ ps) = ap (λ name. Some name) (name-forgets f p)
 
   pub top-forgets : (side : Side) (s : State C) → top_on side (map_state f s) ≡ top_on side s
-  top-forgets side s = ap (λ (t : Stream D). top_name module_name t.modules) (stream-forgets f side s) ∙ name-forgets (stream side s).modules
+  top-forgets side s = ap (λ (t : Stream D). top_name module_name t.modules) (stream-forgets f side s) ∙ top_name-forgets (stream side s).modules
 
   pub pop-forgets : (side : Side) (s : State C) → popped side (map_state f s) ≡ image (popped side s)
   pop-forgets side s =

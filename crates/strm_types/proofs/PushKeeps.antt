@@ -14,16 +14,17 @@ use Rattle.strm_types.specs.declared.rules.Rule.TheVariants.{ModulePopped}
 use Rattle.strm_types.specs.Deliver.{Carried, Fate, Goes}
 use Rattle.strm_types.specs.Emptied.{of_all, cells_gone}
 use Rattle.strm_types.specs.Kept.{state_weight}
-use Rattle.strm_types.specs.LdtermWeights.{weight_begun, weight_in_work}
-use Rattle.strm_types.specs.Ldterms.{IsIdle, new_ldterm}
+use Rattle.strm_types.specs.LdtermWeights.{ldterm_weight, weight_begun, weight_in_work}
+use Rattle.strm_types.specs.Ldterms.{IsIdle, Ldterm, new_ldterm}
 use Rattle.strm_types.specs.Message.{cells_of, weight_of}
 use Rattle.strm_types.specs.ModuleQueues.{has_queue}
 use Rattle.strm_types.specs.Names.{direction_at}
 use Rattle.strm_types.specs.Places.{weight_gone, weight_made}
+use Rattle.strm_types.specs.Ptems.{new_ptem}
 use Rattle.strm_types.specs.Pushes.{all_taken, head_above, let_come, mode_behind, mode_message, mode_on_push, mode_put, modules_emptied, named_by, popped, pushed, pushed_named, top_on, top_taken, with_modules}
 use Rattle.strm_types.specs.Queue.{Queue, weight}
 use Rattle.strm_types.specs.Service.{line_gone}
-use Rattle.strm_types.specs.Stacked.{Module, module_name, module_queue, module_weight, modules_weight}
+use Rattle.strm_types.specs.Stacked.{Module, OfLdterm, OfPtem, IsAtRest, module_name, module_queue, module_weight, modules_weight}
 use Rattle.strm_types.specs.State.{State, stream}
 use Rattle.strm_types.proofs.Deliveries.{delivered-keeps}
 use Rattle.strm_types.proofs.DeliveryKeeps.{gone-append, made-append}
@@ -40,7 +41,7 @@ module _ {C : Type 0} (p : C → Bool) where
   all-goes : (q : Queue C) → count_by p (cells_gone of_all q.messages) ≡ weight p q.messages
   all-goes q = omega (arith, behind-keeps p of_all q, behind-all p q)
 
-  begun-none : (l : Module C) → IsIdle l → module_weight p l ≡ weight p l.read_queue.messages + (count_by p l.line + weight p l.write_queue.messages)
+  begun-none : (l : Ldterm C) → IsIdle l → ldterm_weight p l ≡ weight p l.read_queue.messages + (count_by p l.line + weight p l.write_queue.messages)
   begun-none l idle =
       let stage = ap (λ x. weight_begun p x) idle.3 in
       let work = ap (λ x. weight_in_work p x) idle.0 in
@@ -48,19 +49,21 @@ module _ {C : Type 0} (p : C → Bool) where
       omega arith
 
   -- what its write queue had
-  abbrev down_gone : Side → Rule → Module C → List (Fate C)
+  abbrev down_gone : Side → Rule → Ldterm C → List (Fate C)
   down_gone side rule l = Goes (direction_at Down side) rule (cells_gone of_all l.write_queue.messages) ∷ []
 
-  clears-keeps : (side : Side) (rule : Rule) (l : Module C) → IsIdle l → weight_gone p (clears side rule l).gone ≡ module_weight p l
-  clears-keeps side rule l idle =
+  clears-keeps : (side : Side) (rule : Rule) (q : Module C) → IsAtRest q → weight_gone p (clears side rule q).gone ≡ module_weight p q
+  clears-keeps side rule (OfPtem q) idle = refl
+  clears-keeps side rule (OfLdterm l) idle =
       let line = lost-gone p side rule l.line in
       let up = all-goes l.read_queue in
       let down = all-goes l.write_queue in
       let joined = gone-append p (line_gone side rule l.line) (down_gone side rule l) in
       omega (arith, begun-none l idle, line, up, down, joined)
 
-  clears-make-none : (side : Side) (rule : Rule) (l : Module C) → weight_made p (clears side rule l).gone ≡ 0
-  clears-make-none side rule l = omega (arith, lost-made p side rule l.line, made-append p (line_gone side rule l.line) (down_gone side rule l))
+  clears-make-none : (side : Side) (rule : Rule) (q : Module C) → weight_made p (clears side rule q).gone ≡ 0
+  clears-make-none side rule (OfPtem q) = refl
+  clears-make-none side rule (OfLdterm l) = omega (arith, lost-made p side rule l.line, made-append p (line_gone side rule l.line) (down_gone side rule l))
 
   -- a pair with other modules on a side
   modules-weigh : (side : Side) (ps : List (Module C)) (s : State C) → state_weight p (with_modules side ps s) + modules_weight p (stream side s).modules ≡ state_weight p s + modules_weight p ps
@@ -72,7 +75,7 @@ module _ {C : Type 0} (p : C → Bool) where
   modules-are Slave ps s = refl
 
   -- the module on top, and all of them
-  pub top_taken-keeps : (rule : Rule) (side : Side) (ps : List (Module C)) (s : State C) → (stream side s).modules ≡ ps → AllByRecursion (λ l. IsIdle l) ps → Keeps (top_taken rule side ps s) (state_weight p s)
+  pub top_taken-keeps : (rule : Rule) (side : Side) (ps : List (Module C)) (s : State C) → (stream side s).modules ≡ ps → AllByRecursion (λ l. IsAtRest l) ps → Keeps (top_taken rule side ps s) (state_weight p s)
   top_taken-keeps rule side [] s are idle = refl
   top_taken-keeps rule side (l ∷ ls) s are idle =
       let there = ap (λ ps. modules_weight p ps) are in
@@ -86,7 +89,7 @@ module _ {C : Type 0} (p : C → Bool) where
   taken-are rule Master l ls s = refl
   taken-are rule Slave l ls s = refl
 
-  all_taken-keeps : (rule : Rule) (side : Side) (ps : List (Module C)) (s : State C) → (stream side s).modules ≡ ps → AllByRecursion (λ l. IsIdle l) ps → Keeps (all_taken rule side ps s) (state_weight p s)
+  all_taken-keeps : (rule : Rule) (side : Side) (ps : List (Module C)) (s : State C) → (stream side s).modules ≡ ps → AllByRecursion (λ l. IsAtRest l) ps → Keeps (all_taken rule side ps s) (state_weight p s)
   all_taken-keeps rule side [] s are idle = refl
   all_taken-keeps rule side (l ∷ ls) s are idle =
       let t = top_taken rule side (l ∷ ls) s in
@@ -97,7 +100,7 @@ module _ {C : Type 0} (p : C → Bool) where
       let made = made-append p t.gone u.gone in
       omega arith
 
-  pub modules_emptied-keeps : (rule : Rule) (side : Side) (s : State C) → AllByRecursion (λ l. IsIdle l) (stream side s).modules → Keeps (modules_emptied rule side s) (state_weight p s)
+  pub modules_emptied-keeps : (rule : Rule) (side : Side) (s : State C) → AllByRecursion (λ l. IsAtRest l) (stream side s).modules → Keeps (modules_emptied rule side s) (state_weight p s)
   modules_emptied-keeps rule side s idle = all_taken-keeps rule side (stream side s).modules s refl idle
 
   -- the head's read mode
@@ -124,17 +127,17 @@ module _ {C : Type 0} (p : C → Bool) where
       let apart = modules-weigh side (l ∷ (stream side s).modules) s in
       omega arith
 
-  new-weight : module_weight p (new_ldterm {C = C}) ≡ 0
+  new-weight : module_weight p (OfLdterm (new_ldterm {C = C})) ≡ 0
   new-weight = refl
 
   pub push-keeps : (side : Side) (name : Option ModuleName) (s : State C) → Keeps (pushed_named side (named_by name) s) (state_weight p s)
   push-keeps side None s = refl
-  push-keeps side (Some names.Ldterm) s = let made = new-weight in let all = pushed-keeps side new_ldterm s in omega arith
-  push-keeps side (Some names.Ptem) s = refl
+  push-keeps side (Some names.Ldterm) s = let made = new-weight in let all = pushed-keeps side (OfLdterm new_ldterm) s in omega arith
+  push-keeps side (Some names.Ptem) s = let all = pushed-keeps side (OfPtem new_ptem) s in omega arith
   push-keeps side (Some names.Pckt) s = refl
 
   -- a pop
-  pub pop-keeps : (side : Side) (s : State C) → AllByRecursion (λ l. IsIdle l) (stream side s).modules → Keeps (popped side s) (state_weight p s)
+  pub pop-keeps : (side : Side) (s : State C) → AllByRecursion (λ l. IsAtRest l) (stream side s).modules → Keeps (popped side s) (state_weight p s)
   pop-keeps side s idle =
       let ps = (stream side s).modules in
       let t = top_taken ModulePopped side ps s in

@@ -18,17 +18,22 @@ use Rattle.strm_types.specs.Deliver.{Carried, Goes, carried}
 use Rattle.strm_types.specs.Ldterms.{new_ldterm}
 use Rattle.strm_types.specs.Message.{Message, cells_of, size_of, is_held, band_of, is_high_priority}
 use Rattle.strm_types.specs.Names.{driver_of}
+use Rattle.strm_types.specs.Ptems.{new_ptem}
 use Rattle.strm_types.specs.Pushes.{may_stand, mode_number, named_by, popped, pushed, pushed_named, top_on}
 use Rattle.strm_types.specs.Queue.{Flow}
 use Rattle.strm_types.specs.Refused.{none_waits_up, at_end}
 use Rattle.strm_types.specs.Past.{has_room_past, writer_waits}
-use Rattle.strm_types.specs.Stacked.{Module}
+use Rattle.strm_types.specs.Stacked.{Module, OfLdterm, OfPtem, module_line, module_name}
 use Rattle.strm_types.specs.State.{State, Stream}
 use Rattle.strm_types.proofs.Samples.{flow, head_with, ordinary, proto, queue}
 
 -- a module with these messages on its read queue, whose bands are so, and on its write queue, and this unfinished line
 abbrev holding : List (Message ℕ) → List Flow → List (Message ℕ) → List ℕ → Module ℕ
-holding above flows below line = record new_ldterm { read_queue = queue above flows; write_queue = queue below []; line = line }
+holding above flows below line = OfLdterm (record new_ldterm { read_queue = queue above flows; write_queue = queue below []; line = line })
+
+abbrev flows_of : Module ℕ → List Flow
+flows_of (OfLdterm l) = l.read_queue.flows
+flows_of (OfPtem p) = []
 
 abbrev one : ℕ → List (Message ℕ)
 one b = ordinary (b ∷ []) ∷ []
@@ -56,43 +61,60 @@ abbrev writes : QueueName
 writes = record { side = Slave; place = Ldterm; way = Down }
 
 -- the module that is pushed stands on top, and the head reads messages from now on
-pub push-stands-on-top : map (λ (p : Module ℕ). p.line) (pushed Slave new_ldterm (pair [] (holding [] [] [] (9 ∷ []) ∷ []) [])).state.slave.modules ≡ [] ∷ (9 ∷ []) ∷ []
+pub push-stands-on-top : map module_line (pushed Slave (OfLdterm new_ldterm) (pair [] (holding [] [] [] (9 ∷ []) ∷ []) [])).state.slave.modules ≡ [] ∷ (9 ∷ []) ∷ []
 unfolding carried cells_of size_of
 push-stands-on-top = refl
 
-pub push-sets-the-mode : (pushed Slave new_ldterm (pair [] [] [])).state.slave.head.read_mode ≡ MessageKeep
+pub push-sets-the-mode : (pushed Slave (OfLdterm new_ldterm) (pair [] [] [])).state.slave.head.read_mode ≡ MessageKeep
 unfolding carried cells_of size_of
 push-sets-the-mode = refl
 
-pub push-lets-nothing-go : (pushed Slave new_ldterm (pair (one 7) [] [])).gone ≡ []
+pub push-lets-nothing-go : (pushed Slave (OfLdterm new_ldterm) (pair (one 7) [] [])).gone ≡ []
 unfolding carried cells_of size_of
 push-lets-nothing-go = refl
 
 -- what waits on the other side's driver may come, where anything waits there; and nothing where it is the master's stream that grows
-pub push-lets-come : map (λ waits. (pushed Slave new_ldterm (pair waits [] [])).state.enabled) ([] ∷ one 7 ∷ []) ≡ [] ∷ (driver_of Master ∷ []) ∷ []
+pub push-lets-come : map (λ waits. (pushed Slave (OfLdterm new_ldterm) (pair waits [] [])).state.enabled) ([] ∷ one 7 ∷ []) ≡ [] ∷ (driver_of Master ∷ []) ∷ []
 unfolding carried cells_of size_of
 push-lets-come = refl
 
-pub push-on-the-other-side : (pushed Master new_ldterm (pair (one 7) [] [])).state.enabled ≡ driver_of Slave ∷ []
+pub push-on-the-other-side : (pushed Master (OfLdterm new_ldterm) (pair (one 7) [] [])).state.enabled ≡ driver_of Slave ∷ []
 unfolding carried cells_of size_of
 push-on-the-other-side = refl
 
 -- a module below with messages is let come before the driver
-pub push-above-a-module : (pushed Slave new_ldterm (pair (one 7) (holding (one 3) [] [] [] ∷ []) [])).state.enabled ≡ reads ∷ []
+pub push-above-a-module : (pushed Slave (OfLdterm new_ldterm) (pair (one 7) (holding (one 3) [] [] [] ∷ []) [])).state.enabled ≡ reads ∷ []
 unfolding carried cells_of size_of
 push-above-a-module = refl
 
-pub push-by-name : map (λ name. map (λ (p : Module ℕ). p.line) (pushed_named Slave (named_by name) (pair [] [] [])).state.slave.modules)
-    (None ∷ Some names.Ldterm ∷ Some names.Ptem ∷ Some names.Pckt ∷ []) ≡ [] ∷ ([] ∷ []) ∷ [] ∷ [] ∷ []
+pub push-by-name : map (λ name. map module_line (pushed_named Slave (named_by name) (pair [] [] [])).state.slave.modules)
+    (None ∷ Some names.Ldterm ∷ Some names.Ptem ∷ Some names.Pckt ∷ []) ≡ [] ∷ ([] ∷ []) ∷ ([] ∷ []) ∷ [] ∷ []
 unfolding carried cells_of size_of
 push-by-name = refl
 
--- one of a name stands once, and what isn't built can't be pushed
-pub stands-once : map (λ ps. may_stand {C = ℕ} (named_by (Some names.Ldterm)) ps) ([] ∷ (new_ldterm ∷ []) ∷ []) ≡ true ∷ false ∷ []
+-- one of a name stands once, beside others, and what isn't built can't be pushed
+pub stands-once : map (λ ps. may_stand {C = ℕ} (named_by (Some names.Ldterm)) ps) ([] ∷ (OfLdterm new_ldterm ∷ []) ∷ []) ≡ true ∷ false ∷ []
 stands-once = refl
 
-pub not-built : may_stand {C = ℕ} (named_by (Some names.Ptem)) [] ≡ false
+pub not-built : may_stand {C = ℕ} (named_by (Some names.Pckt)) [] ≡ false
 not-built = refl
+
+pub others-may-stand : map (λ name. map (λ ps. may_stand {C = ℕ} (named_by (Some name)) ps) ((OfLdterm new_ldterm ∷ []) ∷ (OfPtem new_ptem ∷ []) ∷ [])) (names.Ldterm ∷ names.Ptem ∷ []) ≡ (false ∷ true ∷ []) ∷ (true ∷ false ∷ []) ∷ []
+others-may-stand = refl
+
+-- a ptem is pushed as it is made, tells the head nothing and lets nothing come; its pop takes nothing with it
+abbrev with_ptem : Carried ℕ (State ℕ)
+with_ptem = pushed_named Slave (named_by (Some names.Ptem)) (pair (one 7) (holding (one 3) [] (one 4) (5 ∷ []) ∷ []) [])
+
+pub ptem-stands-on-top : map module_name with_ptem.state.slave.modules ≡ names.Ptem ∷ names.Ldterm ∷ []
+ptem-stands-on-top = refl
+
+pub ptem-changes-no-more : record with_ptem.state { slave = record with_ptem.state.slave { modules = [] } } ≡ pair (one 7) [] []
+ptem-changes-no-more = refl
+
+pub ptem-is-popped : popped Slave with_ptem.state ≡ record { state = pair (one 7) (holding (one 3) [] (one 4) (5 ∷ []) ∷ []) []; gone = [] }
+unfolding carried cells_of size_of
+ptem-is-popped = refl
 
 pub modes-by-number : map mode_number (ByteStream ∷ MessageDiscard ∷ MessageKeep ∷ []) ≡ 0 ∷ 1 ∷ 2 ∷ []
 modes-by-number = refl
@@ -101,7 +123,7 @@ modes-by-number = refl
 abbrev taken_off : Carried ℕ (State ℕ)
 taken_off = popped Slave (pair [] (holding (one 3) [] (one 4) (5 ∷ 6 ∷ []) ∷ holding [] [] [] (9 ∷ []) ∷ []) (writes ∷ driver_of Master ∷ reads ∷ []))
 
-pub pop-takes-the-top : map (λ (p : Module ℕ). p.line) taken_off.state.slave.modules ≡ (9 ∷ []) ∷ []
+pub pop-takes-the-top : map module_line taken_off.state.slave.modules ≡ (9 ∷ []) ∷ []
 unfolding carried cells_of size_of
 pop-takes-the-top = refl
 
@@ -115,7 +137,7 @@ pub popped-queues-have-no-turn : taken_off.state.enabled ≡ driver_of Master �
 unfolding carried cells_of size_of
 popped-queues-have-no-turn = refl
 
-pub pop-sets-the-mode : (popped Slave (record (pair [] (new_ldterm ∷ []) []) { slave = record (end [] (new_ldterm ∷ []) []) { head = record (head_with (queue [] []) false) { read_mode = MessageKeep } } })).state.slave.head.read_mode ≡ ByteStream
+pub pop-sets-the-mode : (popped Slave (record (pair [] (OfLdterm new_ldterm ∷ []) []) { slave = record (end [] (OfLdterm new_ldterm ∷ []) []) { head = record (head_with (queue [] []) false) { read_mode = MessageKeep } } })).state.slave.head.read_mode ≡ ByteStream
 unfolding carried cells_of size_of
 pop-sets-the-mode = refl
 
@@ -127,7 +149,7 @@ pub pop-lets-writers-go : (popped Slave (pair [] (holding (one 3) (flow 1 0 true
 unfolding carried cells_of size_of
 pop-lets-writers-go = refl
 
-pub look-names-the-top : map (λ ps. name_told (top_on Slave (pair [] ps []))) ([] ∷ (new_ldterm ∷ []) ∷ []) ≡ Done ∷ Name names.Ldterm ∷ []
+pub look-names-the-top : map (λ ps. name_told (top_on Slave (pair [] ps []))) ([] ∷ (OfLdterm new_ldterm ∷ []) ∷ (OfPtem new_ptem ∷ OfLdterm new_ldterm ∷ []) ∷ []) ≡ Done ∷ Name names.Ldterm ∷ Name names.Ptem ∷ []
 look-names-the-top = refl
 
 -- A close takes the head's messages, then each module's from the top; the slave's driver keeps what it has.
@@ -158,7 +180,7 @@ crowded = record (pair [] [] []) {
   slave = record {
     opened = Open;
     head = head_with (queue (one 1) (flow 2 1 false ∷ [])) false;
-    modules = record new_ldterm { read_queue = queue (one 3) (flow 1 0 false ∷ []); write_queue = queue [] (flow 1 0 false ∷ []) } ∷ [];
+    modules = OfLdterm (record new_ldterm { read_queue = queue (one 3) (flow 1 0 false ∷ []); write_queue = queue [] (flow 1 0 false ∷ []) }) ∷ [];
     driver = record { queue = queue (one 2) (flow 2 1 false ∷ []) };
   };
 }
@@ -167,7 +189,7 @@ pub modules-queue-is-asked : map (λ way. map (λ at. has_room_past Slave way at
 unfolding cells_of size_of band_of is_high_priority
 modules-queue-is-asked = refl
 
-pub writer-waits-at-the-module : map (λ (p : Module ℕ). p.read_queue.flows) (writer_waits Slave Up 2 0 crowded).slave.modules ≡ (flow 1 0 true ∷ []) ∷ []
+pub writer-waits-at-the-module : map flows_of (writer_waits Slave Up 2 0 crowded).slave.modules ≡ (flow 1 0 true ∷ []) ∷ []
 writer-waits-at-the-module = refl
 
 pub writer-waits-at-the-end : (writer_waits Slave Up 1 0 (record crowded { slave = record crowded.slave { head = head_with (queue [] (flow 5 1 false ∷ [])) false } })).slave.head.queue.flows ≡ flow 5 1 true ∷ []

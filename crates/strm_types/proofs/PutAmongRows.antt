@@ -22,7 +22,7 @@ use Rattle.strm_types.specs.Message.{Message, band_of, cells_of, is_high_priorit
 use Rattle.strm_types.specs.Names.{driver_of}
 use Rattle.strm_types.specs.Puts.{across_of, put_in}
 use Rattle.strm_types.specs.Queue.{Flow}
-use Rattle.strm_types.specs.Stacked.{Module}
+use Rattle.strm_types.specs.Stacked.{Module, OfLdterm}
 use Rattle.strm_types.specs.State.{State, Stream}
 use Rattle.strm_types.proofs.Samples.{flow, head_with, header, ordinary, queue, without_parts}
 
@@ -34,7 +34,7 @@ parcel side at way m = record { to = spot side at way; message = m }
 
 -- a module with these messages on its read queue and on its write queue, whose bands have these marks
 abbrev pub holding : List Flow → List (Message ℕ) → List (Message ℕ) → Module ℕ
-holding flows above below = record new_ldterm { read_queue = queue above flows; write_queue = queue below flows }
+holding flows above below = OfLdterm (record new_ldterm { read_queue = queue above flows; write_queue = queue below flows })
 
 abbrev pub with_these : List (Message ℕ) → List (Message ℕ) → Module ℕ
 with_these above below = holding [] above below

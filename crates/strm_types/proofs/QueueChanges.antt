@@ -3,12 +3,11 @@ use Rattle.std.proofs.Common.{ℕ, zero, suc, ◌≡◌, Bool, List, [], ◌∷�
 use Rattle.std.proofs.lemmas.List.Sums.{sum_by-cons}
 use Rattle.strm_types.specs.declared.names.Way.{Way}
 use Rattle.strm_types.specs.declared.names.Way.TheVariants.{Up, Down}
-use Rattle.strm_types.specs.Ldterms.{IsIdle}
 use Rattle.strm_types.specs.Message.{Message}
 use Rattle.strm_types.specs.ModuleQueues.{queue_changed}
 use Rattle.strm_types.specs.Modules.{change_among}
 use Rattle.strm_types.specs.Queue.{Queue, weight}
-use Rattle.strm_types.specs.Stacked.{Module, module_queue, module_weight, modules_weight, with_module_queue}
+use Rattle.strm_types.specs.Stacked.{Module, OfLdterm, OfPtem, IsAtRest, module_queue, module_weight, modules_weight, with_module_queue}
 use Rattle.strm_types.proofs.ModulesIdle.{AllIdle}
 
 module _ {C : Type 0} (change : Queue C → Queue C) where
@@ -16,9 +15,10 @@ module _ {C : Type 0} (change : Queue C → Queue C) where
   abbrev changed : Way → Module C → Module C
   changed way l = queue_changed module_queue with_module_queue way change l
 
-  changed-idle : (way : Way) (l : Module C) → IsIdle l → IsIdle (changed way l)
-  changed-idle Up l idle = idle
-  changed-idle Down l idle = idle
+  changed-idle : (way : Way) (q : Module C) → IsAtRest q → IsAtRest (changed way q)
+  changed-idle Up (OfLdterm l) idle = idle
+  changed-idle Down (OfLdterm l) idle = idle
+  changed-idle way (OfPtem q) idle = tt
 
   pub changes-idle : (way : Way) (i : ℕ) (ps : List (Module C)) → AllIdle ps → AllIdle (change_among (changed way) i ps)
   changes-idle way i [] idle = tt
@@ -27,8 +27,9 @@ module _ {C : Type 0} (change : Queue C → Queue C) where
 
   module _ (p : C → Bool) (same : (q : Queue C) → (change q).messages ≡ q.messages) where
     changed-keeps : (way : Way) (l : Module C) → module_weight p (changed way l) ≡ module_weight p l
-    changed-keeps Up l = let messages = ap (λ (ms : List (Message C)). weight p ms) (same l.read_queue) in omega arith
-    changed-keeps Down l = let messages = ap (λ (ms : List (Message C)). weight p ms) (same l.write_queue) in omega arith
+    changed-keeps Up (OfLdterm l) = let messages = ap (λ (ms : List (Message C)). weight p ms) (same l.read_queue) in omega arith
+    changed-keeps Down (OfLdterm l) = let messages = ap (λ (ms : List (Message C)). weight p ms) (same l.write_queue) in omega arith
+    changed-keeps way (OfPtem q) = refl
 
     pub changes-keep : (way : Way) (i : ℕ) (ps : List (Module C)) → modules_weight p (change_among (changed way) i ps) ≡ modules_weight p ps
     changes-keep way i [] = refl

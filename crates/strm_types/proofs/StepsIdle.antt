@@ -30,9 +30,10 @@ use Rattle.strm_types.specs.Journal.{PlainEntry}
 use Rattle.strm_types.specs.Kept.{AreIdle}
 use Rattle.strm_types.specs.Ldterms.{new_ldterm}
 use Rattle.strm_types.specs.Names.{is_open, direction_from}
+use Rattle.strm_types.specs.Ptems.{new_ptem}
 use Rattle.strm_types.specs.Pushes.{head_above, named_by, popped, pushed_named, with_modules}
 use Rattle.strm_types.specs.Queue.{Queue}
-use Rattle.strm_types.specs.Stacked.{Module}
+use Rattle.strm_types.specs.Stacked.{Module, OfLdterm, OfPtem}
 use Rattle.strm_types.specs.State.{Head, State, opening, stream, with_book, with_stream, book}
 use Rattle.strm_types.specs.Step.{Step}
 use Rattle.strm_types.specs.Turns.{turned, with_driver}
@@ -83,14 +84,14 @@ module _ {C : Type 0} where
   pub side-idle : (side : Side) (s : State C) → AreIdle s → AllIdle (stream side s).modules
   side-idle side s idle = (survives side).good s idle
 
-  new-idle : (ps : List (Module C)) → AllIdle ps → AllIdle (new_ldterm ∷ ps)
+  new-idle : (ps : List (Module C)) → AllIdle ps → AllIdle (OfLdterm new_ldterm ∷ ps)
   new-idle ps idle = ((refl, refl, refl, refl), idle)
 
   push-idle : (side : Side) (name : Option ModuleName) (s : State C) → AreIdle s → AreIdle (pushed_named side (named_by name) s).state
   push-idle side None s idle = idle
   push-idle side (Some names.Ldterm) s idle =
-      pushed-holds side AreIdle AllIdle (survives side) new_ldterm s (new-idle (stream side s).modules (side-idle side s idle)) idle
-  push-idle side (Some names.Ptem) s idle = idle
+      pushed-holds side AreIdle AllIdle (survives side) (OfLdterm new_ldterm) s (new-idle (stream side s).modules (side-idle side s idle)) idle
+  push-idle side (Some names.Ptem) s idle = pushed-holds side AreIdle AllIdle (survives side) (OfPtem new_ptem) s (tt, side-idle side s idle) idle
   push-idle side (Some names.Pckt) s idle = idle
 
   pop-idle : (side : Side) (s : State C) → AreIdle s → AreIdle (popped side s).state

@@ -1,7 +1,10 @@
 -- How many blocks of each kind a delivery takes at most: a driver makes two messages at most of an M_FLUSH, and one of what
 -- was sent across; a head makes one of an M_FLUSH that goes down again, or of an M_IOCTL. A message with parts that goes down
--- behind the head takes none: it stands on a queue as it is, or goes on as it is (putq(9F), putnext(9F)).
-use Rattle.std.specs.Prelude.{ℕ, suc, Bool, ◌&&◌, ◌==◌, if◌then◌else◌}
+-- behind the head takes none: it stands on a queue as it is, or goes on as it is (putq(9F), putnext(9F)). What modules make of an
+-- M_IOCTL and of an M_IOCACK comes to it (ptem(7M), ldterm(7M)).
+use Rattle.std.specs.Prelude.{ℕ, suc, ◌+◌, ◌-◌, ◌*◌, min, Bool, ◌&&◌, ◌||◌, ◌==◌, if◌then◌else◌}
+use Rattle.strm_types.specs.declared.kinds.MsgKind.{MsgKind}
+use Rattle.strm_types.specs.declared.kinds.MsgKind.TheVariants.{Ioctl, Iocack}
 use Rattle.strm_types.specs.declared.limits.TheConstants.{MODULES}
 use Rattle.strm_types.specs.declared.names.Way.{Way}
 use Rattle.strm_types.specs.declared.names.Way.TheVariants.{Up, Down}
@@ -23,8 +26,20 @@ across_at flush at = flush && at == suc MODULES
 abbrev pub cost_at : Spot → Bool → Bool → Bool → ℕ
 cost_at here parts flush turned = if here.at == 0 then (if turned then 4 else 0) else below_cost here.way parts (across_at flush here.at) turned
 
+-- How many more where modules answer and obey. An M_IOCTL on its way down may be answered, sent on anew and told of by a signal at each place
+-- before the driver's, and its answer is obeyed at two places at most above. One on its way up may be told of by a signal. An M_IOCACK on its way up
+-- may be obeyed at each place before the head's, with two messages.
+abbrev pub asking_at : Way → MsgKind → ℕ → ℕ
+asking_at Down Ioctl at = 7 * (suc MODULES - at)
+asking_at Up Ioctl at = 1
+asking_at Up Iocack at = 2 * min at MODULES
+asking_at _ _ at = 0
+
+abbrev pub asking_cost : Spot → Bool → MsgKind → ℕ
+asking_cost here parts kind = if here.at == 0 || parts then 0 else asking_at here.way kind here.at
+
 abbrev pub cost : {C : Type 0} → Spot → Message C → ℕ
-cost here m = cost_at here (has_parts m) (is_flush m.kind) (is_turned m)
+cost here m = cost_at here (has_parts m) (is_flush m.kind) (is_turned m) + asking_cost here (has_parts m) m.kind
 
 -- whether a message on its way up was sent across
 abbrev pub is_across : {C : Type 0} → Spot → Message C → Bool

@@ -12,11 +12,10 @@ use Rattle.strm_types.specs.Calls.{message_put, put_at, ioctl_sent, write_sent}
 use Rattle.strm_types.specs.Cells.{Cells, cells_written}
 use Rattle.strm_types.specs.GetQueues.{get_gone}
 use Rattle.strm_types.specs.LdtermWeights.{IgnoresMapping}
-use Rattle.strm_types.specs.Ldterms.{IsIdle}
 use Rattle.strm_types.specs.Message.{cells_of}
 use Rattle.strm_types.specs.Names.{direction_from, direction_of, head_of, is_open}
 use Rattle.strm_types.specs.Queue.{weight}
-use Rattle.strm_types.specs.Stacked.{modules_weight}
+use Rattle.strm_types.specs.Stacked.{IsAtRest, modules_weight}
 use Rattle.strm_types.specs.State.{State, Stream, stream, book}
 use Rattle.strm_types.specs.Reads.{read_gone}
 use Rattle.strm_types.specs.Deliver.{Fate, tallied}
@@ -54,8 +53,8 @@ module _ {C : Type 0} where
 
   -- Between turns no module of a stream has anything of a turn under way.
   pub record AreIdle (s : State C) : Type 0 where
-    pub master : AllByRecursion (λ p. IsIdle p) s.master.modules
-    pub slave : AllByRecursion (λ p. IsIdle p) s.slave.modules
+    pub master : AllByRecursion (λ p. IsAtRest p) s.master.modules
+    pub slave : AllByRecursion (λ p. IsAtRest p) s.slave.modules
 
   -- the cells that a write on a side's stream takes: the first ones of its bytes
   abbrev pub cells_taken : Cells C → Side → List ℕ → State C → List C

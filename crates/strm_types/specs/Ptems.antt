@@ -1,18 +1,16 @@
 -- The module ptem on a stream: it answers the ioctls of a terminal, which a pseudoterminal has no hardware for (ptem(7M), termio(7I), ptm(7D)).
 -- It has no queues, and nothing that is put at it waits there.
-use Rattle.std.specs.Prelude.{ℕ, suc, ◌+◌, ◌-◌, ◌*◌, Bool, true, false, ◌&&◌, ◌||◌, ◌==◌, not, if◌then◌else◌, List, [], ◌∷◌, ◌++◌, Option, None, Some}
+use Rattle.std.specs.Prelude.{ℕ, Bool, true, false, ◌&&◌, ◌||◌, ◌==◌, not, if◌then◌else◌, List, [], ◌∷◌, ◌++◌, Option, None, Some}
 use Rattle.strm_types.specs.declared.ioctls.Ioc.{Ioc}
 use Rattle.strm_types.specs.declared.ioctls.TheConstants.{TCGETS, TCSETS, TCSETSW, TCSETSF, TIOCGWINSZ, TIOCSWINSZ, TIOCSIGNAL}
 use Rattle.strm_types.specs.declared.kinds.MsgKind.{MsgKind}
 use Rattle.strm_types.specs.declared.kinds.MsgKind.TheVariants.{Ioctl, Pcsig}
-use Rattle.strm_types.specs.declared.limits.TheConstants.{MODULES}
 use Rattle.strm_types.specs.declared.names.Way.{Way}
 use Rattle.strm_types.specs.declared.names.Way.TheVariants.{Up, Down}
 use Rattle.strm_types.specs.declared.spots.Spot.{Spot}
 use Rattle.strm_types.specs.declared.termios.Termios.{Termios}
 use Rattle.strm_types.specs.declared.winsize.Winsize.{Winsize}
 use Rattle.strm_types.specs.Acks.{ack_message, payload, telling_message}
-use Rattle.strm_types.specs.Costs.{cost}
 use Rattle.strm_types.specs.Deliver.{Acted, Parcel}
 use Rattle.strm_types.specs.Ioctls.{nak_message, read_ioc}
 use Rattle.strm_types.specs.Ldterms.{onward}
@@ -125,13 +123,3 @@ module _ {C : Type 0} where
   -- A message that is put here, on its way up or down: an M_IOCTL is answered, or goes on, and so does all else.
   abbrev pub ptem_puts : Spot → Message C → Ptem → Acted C Ptem
   ptem_puts here m p = if is_asked m then asked_by_header here (read_ioc m.plain) m p else ptem_passes here m p
-
-  -- How many blocks of each kind a message takes at most with all that it gives rise to, where ptem may stand at each place of the stream: as
-  -- elsewhere, but that an M_IOCTL on its way down gives rise to three messages at each place before the driver, one of which is such an M_IOCTL again,
-  -- and that one on its way up gives rise to one message more.
-  abbrev pub ptem_cost : Spot → Message C → ℕ
-  ptem_cost here m = cost here m + (if is_asked m && not (here.at == 0) then by here.way else 0)
-    where
-      by : Way → ℕ
-      by Down = 3 * (suc MODULES - here.at)
-      by Up = 1

@@ -22,10 +22,11 @@ use Rattle.strm_types.specs.Message.{Message}
 use Rattle.strm_types.specs.ModuleQueues.{has_queue, messages_at}
 use Rattle.strm_types.specs.Modules.{may_push, top_name, without_module}
 use Rattle.strm_types.specs.Names.{enable_if, place_of, same_place}
+use Rattle.strm_types.specs.Ptems.{new_ptem}
 use Rattle.strm_types.specs.Puts.{delivered, earlier_at, noted}
 use Rattle.strm_types.specs.Queue.{is_none_left}
 use Rattle.strm_types.specs.Service.{cleared}
-use Rattle.strm_types.specs.Stacked.{Module, module_line, module_name, module_queue, with_module_queue, without_module_line}
+use Rattle.strm_types.specs.Stacked.{Module, OfLdterm, OfPtem, module_line, module_name, module_queue, with_module_queue, without_module_line}
 use Rattle.strm_types.specs.State.{State, Stream, stream, with_stream}
 
 -- the number of a read mode: RNORM, RMSGD and RMSGN
@@ -60,10 +61,10 @@ is_there place None = false
 is_there place (Some there) = same_place there place
 
 module _ {C : Type 0} where
-  -- the module that a name makes, as it is pushed; so far ldterm alone is built
+  -- the module that a name makes, as it is pushed; so far pckt isn't built
   abbrev pub module_named : ModuleName → Option (Module C)
-  module_named names.Ldterm = Some new_ldterm
-  module_named names.Ptem = None
+  module_named names.Ldterm = Some (OfLdterm new_ldterm)
+  module_named names.Ptem = Some (OfPtem new_ptem)
   module_named names.Pckt = None
 
   abbrev pub named_by : Option ModuleName → Option (Module C)

@@ -90,11 +90,11 @@ abbrev pub has_room : List PlainEntry → Config → ℕ → Bool
 has_room entries limits bytes =
     nat_lt (length entries) limits.journal_events && nat_le (room_used entries + bytes) limits.journal_bytes
 
--- the name of a module that may be pushed: so far ldterm alone is built
+-- the name of a module that may be pushed: so far pckt isn't built
 abbrev pub is_known : Option ModuleName → Bool
 is_known None = false
 is_known (Some names.Ldterm) = true
-is_known (Some names.Ptem) = false
+is_known (Some names.Ptem) = true
 is_known (Some names.Pckt) = false
 
 -- a band, where one is named, is one of those that queues have

@@ -1,10 +1,11 @@
 -- What a module is to the stream on which it stands: its name, its queues, its unfinished line, and what it does (streamio(7I): I_PUSH;
--- STREAMS Programming Guide, "Modules"). So far there is one kind of module.
-use Rattle.std.specs.Prelude.{ℕ, Bool, List, [], ◌∷◌, sum_by, flat_map, Option, Some}
+-- STREAMS Programming Guide, "Modules"). There are two kinds of modules: ldterm has two queues, and ptem has none.
+use Rattle.std.specs.Prelude.{ℕ, ◌≡◌, Bool, true, false, List, [], ◌∷◌, sum_by, flat_map, Option, None, Some}
 use Rattle.strm_types.specs.declared.names.ModuleName.{ModuleName}
-use Rattle.strm_types.specs.declared.names.ModuleName.TheVariants.{Ldterm}
+use Rattle.strm_types.specs.declared.names.ModuleName.TheVariants as names
 use Rattle.strm_types.specs.declared.names.Way.{Way}
 use Rattle.strm_types.specs.declared.spots.Asks.{Asks}
+use Rattle.strm_types.specs.declared.spots.Asks.TheVariants.{Empty}
 use Rattle.strm_types.specs.declared.spots.Spot.{Spot}
 use Rattle.strm_types.specs.Asking.{ldterm_asks}
 use Rattle.strm_types.specs.Cells.{Cells}
@@ -13,61 +14,90 @@ use Rattle.strm_types.specs.Input.{ldterm_serves}
 use Rattle.strm_types.specs.LdtermOrigins.{map_ldterm}
 use Rattle.strm_types.specs.LdtermTurns.{ldterm_rests}
 use Rattle.strm_types.specs.LdtermWeights.{ldterm_weight}
-use Rattle.strm_types.specs.Ldterms as ldterms
-use Rattle.strm_types.specs.Ldterms.{queue_at, with_queue_at, without_line, ldterm_puts}
+use Rattle.strm_types.specs.Ldterms.{Ldterm, IsIdle, queue_at, with_queue_at, without_line, ldterm_puts}
 use Rattle.strm_types.specs.Message.{Message}
+use Rattle.strm_types.specs.Ptems.{Ptem, ptem_puts}
 use Rattle.strm_types.specs.Queue.{Queue}
 use Rattle.strm_types.specs.Service.{Serving}
 
 -- a module, as it stands on a stream
-abbrev pub Module : Type 0 → Type 0
-Module C = ldterms.Ldterm C
+pub data Module (C : Type 0) : Type 0 where
+  OfLdterm : Ldterm C → Module C
+  OfPtem : Ptem → Module C
 
 -- the same module of other cells
 abbrev pub map_module : {C D : Type 0} → (C → D) → Module C → Module D
-map_module f p = map_ldterm f p
+map_module f (OfLdterm l) = OfLdterm (map_ldterm f l)
+map_module f (OfPtem p) = OfPtem p
+
+-- what a module of one kind does, as a module of any kind does it
+abbrev pub done_by : {C P Q : Type 0} → (P → Q) → Acted C P → Acted C Q
+done_by made t = record { state = made t.state; notes = t.notes; sent = t.sent; gone = t.gone }
+
+abbrev pub served_by : {C P Q : Type 0} → (P → Q) → Serving C P → Serving C Q
+served_by made t = record { acted = done_by made t.acted; bytes = t.bytes; again = t.again }
+
+-- a call of a service procedure where there is none: nothing is done
+abbrev pub unserved : {C P : Type 0} → P → Serving C P
+unserved p = record { acted = record { state = p; notes = []; sent = []; gone = [] }; bytes = 0; again = false }
 
 module _ {C : Type 0} where
   abbrev pub module_name : Module C → ModuleName
-  module_name p = Ldterm
+  module_name (OfLdterm l) = names.Ldterm
+  module_name (OfPtem p) = names.Ptem
 
   -- its queues: the read queue, then the write queue
   abbrev pub module_queues : Module C → List (Queue C)
-  module_queues p = p.read_queue ∷ p.write_queue ∷ []
+  module_queues (OfLdterm l) = l.read_queue ∷ l.write_queue ∷ []
+  module_queues (OfPtem p) = []
 
   -- its queue of a way, where it has one
   abbrev pub module_queue : Way → Module C → Option (Queue C)
-  module_queue way p = Some (queue_at way p)
+  module_queue way (OfLdterm l) = Some (queue_at way l)
+  module_queue way (OfPtem p) = None
 
   abbrev pub with_module_queue : Way → Queue C → Module C → Module C
-  with_module_queue way q p = with_queue_at way q p
+  with_module_queue way q (OfLdterm l) = OfLdterm (with_queue_at way q l)
+  with_module_queue way q (OfPtem p) = OfPtem p
 
   -- its unfinished line
   abbrev pub module_line : Module C → List C
-  module_line p = p.line
+  module_line (OfLdterm l) = l.line
+  module_line (OfPtem p) = []
 
   abbrev pub without_module_line : Module C → Module C
-  without_module_line p = without_line p
+  without_module_line (OfLdterm l) = OfLdterm (without_line l)
+  without_module_line (OfPtem p) = OfPtem p
 
   -- how many cells that it holds pass a test
   abbrev pub module_weight : (C → Bool) → Module C → ℕ
-  module_weight p l = ldterm_weight p l
+  module_weight p (OfLdterm l) = ldterm_weight p l
+  module_weight p (OfPtem q) = 0
 
   -- a message that is put at it
   abbrev pub module_puts : Spot → Message C → Module C → Acted C (Module C)
-  module_puts here m p = ldterm_puts here m p
+  module_puts here m (OfLdterm l) = done_by OfLdterm (ldterm_puts here m l)
+  module_puts here m (OfPtem p) = done_by OfPtem (ptem_puts here m p)
 
   -- what the first message of its queue of a way asks before it goes on, and whether nothing of a turn is under way in it
   abbrev pub module_asks : Way → Module C → Asks
-  module_asks way p = ldterm_asks way p
+  module_asks way (OfLdterm l) = ldterm_asks way l
+  module_asks way (OfPtem p) = Empty
 
   abbrev pub module_rests : Module C → Bool
-  module_rests p = ldterm_rests p
+  module_rests (OfLdterm l) = ldterm_rests l
+  module_rests (OfPtem p) = true
+
+  -- nothing of a turn is under way in it
+  abbrev pub IsAtRest : Module C → Type 0
+  IsAtRest (OfLdterm l) = IsIdle l
+  IsAtRest (OfPtem p) = Unit {0}
 
   -- a call of the service procedure of its queue: so many cells were made before, the turn begins or goes on, and it stops or not
   -- when so many bytes are treated
   abbrev pub module_serves : Cells C → Spot → ℕ → Bool → Option ℕ → Module C → Serving C (Module C)
-  module_serves cells here made again stop p = ldterm_serves cells here made again stop p
+  module_serves cells here made again stop (OfLdterm l) = served_by OfLdterm (ldterm_serves cells here made again stop l)
+  module_serves cells here made again stop (OfPtem p) = unserved (OfPtem p)
 
   -- the same of all modules of a stream: their queues, and how many cells that they hold pass a test
   abbrev pub queues_of_modules : List (Module C) → List (Queue C)

@@ -14,9 +14,14 @@ use Rattle.strm_types.specs.ModuleQueues.{at_place}
 use Rattle.strm_types.specs.ModuleTurns.{module_acted}
 use Rattle.strm_types.specs.Modules.{act_among}
 use Rattle.strm_types.specs.Puts.{put_in}
-use Rattle.strm_types.specs.Stacked.{Module, module_serves}
+use Rattle.strm_types.specs.Stacked.{Module, OfLdterm, OfPtem, module_serves}
 use Rattle.strm_types.specs.State.{State, stream}
 use Rattle.strm_types.specs.TurnOutcomes.{first_size}
+
+-- The ldterm that a module is. In one of another kind nothing is ever under way, as in a new ldterm.
+abbrev pub ldterm_of : Module ℕ → Ldterm ℕ
+ldterm_of (OfLdterm l) = l
+ldterm_of (OfPtem p) = new_ldterm
 
 -- how many bytes a call may treat at most: those of the first message of its queue, or what is left of the one in work
 abbrev pub bytes_left : Way → Bool → Ldterm ℕ → ℕ
@@ -54,7 +59,7 @@ most_made bytes = echo_most * (3 * bytes + 2)
 module _ (here : Spot) where
   -- the module at a place
   abbrev pub module_at : State ℕ → Module ℕ
-  module_at s = slice_index_or (stream here.side s).modules (here.at - 1) new_ldterm
+  module_at s = slice_index_or (stream here.side s).modules (here.at - 1) (OfLdterm new_ldterm)
 
   module _ (again : Bool) (stop : Option ℕ) where
     -- a call as a store makes it: what the modules do, how many bytes it treated, and whether it asks for another one
@@ -77,4 +82,4 @@ module _ (here : Spot) where
   -- Where a call stops, it did so at what it treated, and what had begun is among that.
   abbrev pub Stopped : Bool → State ℕ → Option ℕ → Type 0
   Stopped again s None = Unit {0}
-  Stopped again s (Some bytes) = (bytes ≡ treated again (Some bytes) (stream here.side s).modules) × Ends here.way again (module_at s) bytes
+  Stopped again s (Some bytes) = (bytes ≡ treated again (Some bytes) (stream here.side s).modules) × Ends here.way again (ldterm_of (module_at s)) bytes
