@@ -11,7 +11,8 @@ use Rattle.strm_types.specs.declared.spots.Spot.{Spot}
 use Rattle.strm_types.specs.Cells.{Tagged, Written, Made, plain, tagged}
 use Rattle.strm_types.specs.Deliver.{Acted, Fate, Goes, Comes, Parcel}
 use Rattle.strm_types.specs.Flush.{is_data_kind}
-use Rattle.strm_types.specs.Input.{back_on, begins_next, finished, is_data, ldterm_serves, left_of, made_of, stages_done, then_on, to_treat, with_left}
+use Rattle.strm_types.specs.Input.{back_on, begins_next, finished, is_data, left_of, made_of, stages_done, then_on, to_treat, with_left}
+use Rattle.strm_types.specs.LdtermServes.{ldterm_serves}
 use Rattle.strm_types.specs.Ldterms.{Ldterm, Stage, Between, Begun, Answered, ldterm_puts, new_ldterm}
 use Rattle.strm_types.specs.Message.{Message, data_message, cells_of, band_of, size_of, rank_of, is_high_priority}
 use Rattle.strm_types.specs.Queue.{Queue, Flow}
@@ -116,7 +117,7 @@ turns-end = refl
 abbrev output : List (Message ℕ) → Bool → Ldterm ℕ
 output messages want_read = record (in_turn []) { write_queue = queue_with messages (waiting true false) want_read }
 
--- what stands first goes down whole, stopped or not
+-- what stands first goes down: M_PROTO whole, and M_DATA as output under the first modes, which have OPOST and ONLCR
 pub output-goes-down : ldterm_serves plain (at Slave Down) 3 false None (output to_write true) ≡ record {
   acted = record { state = output (ordinary (24 ∷ []) ∷ []) false; notes = []; sent = down (protocol 2 (21 ∷ []) (22 ∷ 23 ∷ [])) ∷ []; gone = [] };
   bytes = 3;
@@ -124,6 +125,31 @@ pub output-goes-down : ldterm_serves plain (at Slave Down) 3 false None (output 
 }
 unfolding cells_of size_of
 output-goes-down = refl
+
+pub output-goes-out : map (λ stop. ldterm_serves plain (at Slave Down) 3 false stop (output (data_of 2 (97 ∷ 10 ∷ 98 ∷ []) ∷ ordinary (24 ∷ []) ∷ []) true)) (None ∷ Some 2 ∷ [])
+    ≡ record {
+      acted = record {
+        state = record (output (ordinary (24 ∷ []) ∷ []) false) { column = 1 };
+        notes = [];
+        sent = down (data_of 2 (97 ∷ 13 ∷ 10 ∷ 98 ∷ [])) ∷ [];
+        gone = Comes SlaveToMaster (13 ∷ []) ∷ [];
+      };
+      bytes = 3;
+      again = false;
+    }
+    ∷ record {
+      acted = record {
+        state = output (data_of 2 (98 ∷ []) ∷ ordinary (24 ∷ []) ∷ []) false;
+        notes = [];
+        sent = down (data_of 2 (97 ∷ 13 ∷ 10 ∷ [])) ∷ [];
+        gone = Comes SlaveToMaster (13 ∷ []) ∷ [];
+      };
+      bytes = 2;
+      again = false;
+    }
+    ∷ []
+unfolding cells_of size_of rank_of is_high_priority
+output-goes-out = refl
 
 pub no-output : ldterm_serves plain (at Slave Down) 3 false None (output [] true) ≡ record { acted = record { state = output [] true; notes = []; sent = []; gone = [] }; bytes = 0; again = false }
 no-output = refl

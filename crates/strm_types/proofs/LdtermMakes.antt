@@ -16,8 +16,9 @@ use Rattle.strm_types.specs.declared.spots.Spot.{Spot}
 use Rattle.strm_types.specs.Cells.{bytes_of, cells_made, plain}
 use Rattle.strm_types.specs.Deliver.{Acted, Fate}
 use Rattle.strm_types.specs.Flushing.{flush_bytes, flush_message}
-use Rattle.strm_types.specs.Input.{begins_next, cells_left, input_begins, is_data, ldterm_serves, made_of, next_stage, output_passes, passes, stage_at, stages, stages_done, to_treat, treats, with_left}
+use Rattle.strm_types.specs.Input.{begins_next, cells_left, input_begins, is_data, made_of, next_stage, passes, stage_at, stages, stages_done, to_treat, treats, with_left}
 use Rattle.strm_types.specs.Keys.{restarts}
+use Rattle.strm_types.specs.LdtermServes.{ldterm_serves}
 use Rattle.strm_types.specs.Ldterms.{Ldterm, Stage, Between, Begun, Answered, onward, sends}
 use Rattle.strm_types.specs.Lines.{Edit, ErasesByte, ErasesWord, ErasesAll, Types, edited, has_room, without_end, without_last, without_word}
 use Rattle.strm_types.specs.Message.{Message, cells_of}
@@ -28,6 +29,7 @@ use Rattle.strm_types.specs.TurnCalls.{IsShort, echo_most, most_made}
 use Rattle.strm_types.specs.Typing.{added, bare, begins, both_ways, dropped, echo_dir, echo_grows, echo_lost, echo_stands, echoed, edits, gathered_up, is_blank_cell, is_lnext, lost, sigint, signals, sigquit, sigtstp, strikes, stroke_at, struck, up_alone}
 use Rattle.strm_types.proofs.EchoSizes.{echo-few}
 use Rattle.strm_types.proofs.LdtermStops.{stages-work}
+use Rattle.strm_types.proofs.OutputStops.{output-makes}
 use Rattle.strm_types.proofs.MadeCells.{made-both, made-long}
 
 -- an edit that takes bytes leaves a line no longer
@@ -209,11 +211,7 @@ module _ (here : Spot) where
       at false over = let few = stages-make n made l short in omega arith
 
   makes-at : (way : Way) (again : Bool) (stop : Option ℕ) (l : Ldterm ℕ) → IsShort l → let t = ldterm_serves plain (record here { way = way }) 0 again stop l in made_of t.acted.gone ≤ most_made t.bytes
-  makes-at Down again stop l short = of l.write_queue.messages
-    where
-      of : (ms : List (Message ℕ)) → let t = output_passes plain (record here { way = Down }) ms l in made_of t.acted.gone ≤ most_made t.bytes
-      of [] = omega arith
-      of (m ∷ rest) = omega arith
+  makes-at Down again stop l short = output-makes (record here { way = Down }) stop l.write_queue.messages l
   makes-at Up true stop l short = treats-make (unwrap_or stop (to_treat l)) 0 l short
   makes-at Up false stop l short = of l.read_queue.messages
     where

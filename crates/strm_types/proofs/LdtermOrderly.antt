@@ -16,8 +16,9 @@ use Rattle.strm_types.specs.Deliver.{Acted}
 use Rattle.strm_types.specs.Emptied.{emptied, none_goes, of_data, queue_behind, stayed}
 use Rattle.strm_types.specs.Flush.{counted_band, is_data_kind}
 use Rattle.strm_types.specs.Flushing.{is_flush, asked_by}
-use Rattle.strm_types.specs.Input.{begins_next, cells_left, input_begins, is_data, ldterm_serves, left_of, made_of, next_stage, output_passes, passes, stages, stages_done, then_on, to_treat, treats}
+use Rattle.strm_types.specs.Input.{begins_next, cells_left, input_begins, is_data, left_of, made_of, next_stage, passes, stages, stages_done, then_on, to_treat, treats}
 use Rattle.strm_types.specs.Keys.{restarts}
+use Rattle.strm_types.specs.LdtermServes.{ldterm_serves}
 use Rattle.strm_types.specs.LdtermTurns.{IsItsTurn, IsOrderly, is_echo}
 use Rattle.strm_types.specs.LdtermWeights.{EchoStands}
 use Rattle.strm_types.specs.Ldterms.{Ldterm, Stage, Between, Begun, Answered, both, flush_passes, ldterm_puts, line_flushed, new_ldterm, onward, queue_flushed, queued_at, read_flushed, sends, takes_band_0, waits_there, write_flushed}
@@ -26,6 +27,7 @@ use Rattle.strm_types.specs.Queue.{Queue, is_full, is_none_left, left_with, put,
 use Rattle.strm_types.specs.Service.{line_gone}
 use Rattle.strm_types.specs.Typing.{bare, begins, echo_dir, echo_grows, echo_lost, echo_stands, echoed, grown, is_lnext, stroke_at, struck}
 use Rattle.strm_types.proofs.LdtermStages.{strikes-stay}
+use Rattle.strm_types.proofs.OutputServes.{output-orderly}
 
 -- a test of one of two, or of many
 or-swap : (a b c : Bool) → (a || (b || c)) ≡ (b || (a || c))
@@ -209,10 +211,6 @@ module _ {C : Type 0} (cells : Cells C) (here : Spot) where
       let t = next_stage cells here made l in
       then-orderly made t (stages cells here more) (next-orderly made l is) (stages-orderly more (made + made_of t.gone) t.state (next-orderly made l is))
 
-  output-orderly : (ms : List (Message C)) (l : Ldterm C) → IsOrderly l → l.in_work ≡ None → IsOrderly (output_passes cells here ms l).acted.state
-  output-orderly [] l is none = is
-  output-orderly (m ∷ rest) l is none = record { echo = λ e. absurd (false≢true (sym ((is.idle none).2) ∙ e)); idle = is.idle }
-
   input-orderly : (made : ℕ) (stop : Option ℕ) (ms : List (Message C)) (l : Ldterm C) → IsOrderly l → l.in_work ≡ None → IsOrderly (input_begins cells here stop made ms l).acted.state
   input-orderly made stop [] l is none = is
   input-orderly made stop (m ∷ rest) l is none = at (is_data m.kind)
@@ -225,8 +223,8 @@ module _ {C : Type 0} (cells : Cells C) (here : Spot) where
 
 module _ {C : Type 0} (cells : Cells C) where
   serves-at : (way : Way) (here : Spot) (again : Bool) (made : ℕ) (stop : Option ℕ) (l : Ldterm C) → IsOrderly l → IsItsTurn way again l → IsOrderly (ldterm_serves cells (record here { way = way }) made again stop l).acted.state
-  serves-at Down here true made stop l is turn = output-orderly cells (record here { way = Down }) l.write_queue.messages l is turn
-  serves-at Down here false made stop l is turn = output-orderly cells (record here { way = Down }) l.write_queue.messages l is turn
+  serves-at Down here true made stop l is turn = output-orderly cells (record here { way = Down }) stop made l.write_queue.messages l is turn
+  serves-at Down here false made stop l is turn = output-orderly cells (record here { way = Down }) stop made l.write_queue.messages l is turn
   serves-at Up here false made stop l is turn = input-orderly cells (record here { way = Up }) made stop l.read_queue.messages l is turn
   serves-at Up here true made stop l is turn = stages-orderly cells (record here { way = Up }) (3 * unwrap_or stop (to_treat l) - stages_done l.stage) made l is
 

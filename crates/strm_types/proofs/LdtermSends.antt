@@ -13,14 +13,16 @@ use Rattle.strm_types.specs.declared.spots.Spot.{Spot}
 use Rattle.strm_types.specs.Cells.{Cells, cells_made}
 use Rattle.strm_types.specs.Deliver.{Acted, Parcel}
 use Rattle.strm_types.specs.Flushing.{flush_bytes, flush_message}
-use Rattle.strm_types.specs.Input.{begins_next, cells_left, input_begins, is_data, ldterm_serves, made_of, next_stage, output_passes, passes, stage_at, stages, stages_done, then_on, to_treat, treats, with_left}
+use Rattle.strm_types.specs.Input.{begins_next, cells_left, input_begins, is_data, made_of, next_stage, passes, stage_at, stages, stages_done, then_on, to_treat, treats, with_left}
 use Rattle.strm_types.specs.Keys.{restarts}
+use Rattle.strm_types.specs.LdtermServes.{ldterm_serves}
 use Rattle.strm_types.specs.Ldterms.{Answered, Begun, Between, Ldterm, Stage, onward, sends}
 use Rattle.strm_types.specs.Lines.{Types, edited, has_room}
 use Rattle.strm_types.specs.Message.{Message, cells_of, data_message}
 use Rattle.strm_types.specs.Queue.{is_full, is_none_left, left_with}
 use Rattle.strm_types.specs.Termios.{icanon, imaxbel, noflsh}
 use Rattle.strm_types.specs.Typing.{added, bare, begins, both_ways, dropped, echo_dir, echo_grows, echo_lost, echo_stands, echoed, gathered_up, is_blank_cell, is_lnext, lost, sigint, signals, sigquit, sigtstp, stops, stroke_at, strikes, up_alone}
+use Rattle.strm_types.proofs.OutputServes.{output-near}
 
 module _ {C : Type 0} (cells : Cells C) (here : Spot) where
   -- places next to this one
@@ -133,10 +135,6 @@ module _ {C : Type 0} (cells : Cells C) (here : Spot) where
       let t = next_stage cells here made l in
       then-near made t (stages cells here more) (next-near made l) (stages-near more (made + made_of t.gone) t.state)
 
-  output-near : (ms : List (Message C)) (l : Ldterm C) → Near (output_passes cells here ms l).acted.sent
-  output-near [] l = tt
-  output-near (m ∷ rest) l = onward-near Down m
-
   input-near : (made : ℕ) (stop : Option ℕ) (ms : List (Message C)) (l : Ldterm C) → Near (input_begins cells here stop made ms l).acted.sent
   input-near made stop [] l = tt
   input-near made stop (m ∷ rest) l = at (is_data m.kind)
@@ -147,7 +145,7 @@ module _ {C : Type 0} (cells : Cells C) (here : Spot) where
 
 module _ {C : Type 0} (cells : Cells C) where
   serves-near-at : (way : Way) (here : Spot) (again : Bool) (made : ℕ) (stop : Option ℕ) (l : Ldterm C) → Near cells (record here { way = way }) (ldterm_serves cells (record here { way = way }) made again stop l).acted.sent
-  serves-near-at Down here again made stop l = output-near cells (record here { way = Down }) l.write_queue.messages l
+  serves-near-at Down here again made stop l = output-near cells (record here { way = Down }) stop made l.write_queue.messages l
   serves-near-at Up here false made stop l = input-near cells (record here { way = Up }) made stop l.read_queue.messages l
   serves-near-at Up here true made stop l = stages-near cells (record here { way = Up }) (3 * unwrap_or stop (to_treat l) - stages_done l.stage) made l
 

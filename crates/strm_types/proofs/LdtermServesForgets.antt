@@ -7,7 +7,7 @@ use Rattle.strm_types.specs.declared.names.Way.TheVariants.{Up, Down}
 use Rattle.strm_types.specs.declared.spots.Spot.{Spot}
 use Rattle.strm_types.specs.Cells.{Cells, AreCells, plain}
 use Rattle.strm_types.specs.Deliver.{Acted, Fate, Goes, Comes}
-use Rattle.strm_types.specs.Input.{back_on, begins_next, cells_left, finished, input_begins, is_data, ldterm_serves, left_of, made_of, next_stage, output_passes, passes, stage_at, stages, stages_done, then_on, to_treat, treats, with_left}
+use Rattle.strm_types.specs.Input.{back_on, begins_next, cells_left, finished, input_begins, is_data, left_of, made_of, next_stage, passes, stage_at, stages, stages_done, then_on, to_treat, treats, with_left}
 use Rattle.strm_types.specs.LdtermOrigins.{map_ldterm, map_serving, map_stage}
 use Rattle.strm_types.specs.Ldterms.{Ldterm, Stage, Between, Begun, Answered, sends}
 use Rattle.strm_types.specs.Message.{Message, cells_of, map_message}
@@ -42,7 +42,7 @@ module _ {C D : Type 0} (f : C → D) where
       at None = refl
       at (Some m) = cells-forget f m
 
-  to_treat-forgets : (l : Ldterm C) → to_treat (map_ldterm f l) ≡ to_treat l
+  pub to_treat-forgets : (l : Ldterm C) → to_treat (map_ldterm f l) ≡ to_treat l
   to_treat-forgets l = at l.stage
     where
       lengths : length (cells_left (map_ldterm f l)) ≡ length (cells_left l)
@@ -127,7 +127,7 @@ module _ {C : Type 0} (cells : Cells C) (are : AreCells cells) where
     work-forgets None = refl
     work-forgets (Some m) = refl
 
-    treats-forget : (bytes made : ℕ) (l : Ldterm C) → treats plain here bytes made (map_ldterm f l) ≡ of_serving (treats cells here bytes made l)
+    pub treats-forget : (bytes made : ℕ) (l : Ldterm C) → treats plain here bytes made (map_ldterm f l) ≡ of_serving (treats cells here bytes made l)
     treats-forget bytes made l =
         let t = stages cells here (3 * bytes - stages_done l.stage) made l in
         ap (λ done. (let u = stages plain here (3 * bytes - done) made (map_ldterm f l) in served bytes (is_some u.state.in_work) (to_treat (map_ldterm f l)) (to_treat u.state) u)) (done-forgets f l.stage)
@@ -140,11 +140,7 @@ module _ {C : Type 0} (cells : Cells C) (are : AreCells cells) where
     passes-forget Up m rest l = ap (λ n. record { acted = image f (passes cells here Up m rest l).acted; bytes = n; again = false }) (size-forgets f m)
     passes-forget Down m rest l = ap (λ n. record { acted = image f (passes cells here Down m rest l).acted; bytes = n; again = false }) (size-forgets f m)
 
-    output-forgets : (ms : List (Message C)) (l : Ldterm C) → output_passes plain here (map_messages f ms) (map_ldterm f l) ≡ of_serving (output_passes cells here ms l)
-    output-forgets [] l = refl
-    output-forgets (m ∷ rest) l = passes-forget Down m rest l
-
-    input-forgets : (made : ℕ) (stop : Option ℕ) (ms : List (Message C)) (l : Ldterm C) → input_begins plain here stop made (map_messages f ms) (map_ldterm f l) ≡ of_serving (input_begins cells here stop made ms l)
+    pub input-forgets : (made : ℕ) (stop : Option ℕ) (ms : List (Message C)) (l : Ldterm C) → input_begins plain here stop made (map_messages f ms) (map_ldterm f l) ≡ of_serving (input_begins cells here stop made ms l)
     input-forgets made stop [] l = refl
     input-forgets made stop (m ∷ rest) l =
         let begun : Ldterm C = record l { read_queue = left_with rest l.read_queue; in_work = Some m } in
@@ -157,14 +153,3 @@ module _ {C : Type 0} (cells : Cells C) (are : AreCells cells) where
             ≡ of_serving (cond treated (treats cells here (unwrap_or stop (length (cells_of m))) made begun) (passes cells here Up m rest l)))
         at true = treats-forget (unwrap_or stop (length (cells_of m))) made (record l { read_queue = left_with rest l.read_queue; in_work = Some m })
         at false = passes-forget Up m rest l
-
-  serves-at : (way : Way) (here : Spot) (again : Bool) (made : ℕ) (stop : Option ℕ) (l : Ldterm C) →
-      ldterm_serves plain (record here { way = way }) made again stop (map_ldterm f l) ≡ of_serving (ldterm_serves cells (record here { way = way }) made again stop l)
-  serves-at Down here again made stop l = output-forgets (record here { way = Down }) l.write_queue.messages l
-  serves-at Up here false made stop l = input-forgets (record here { way = Up }) made stop l.read_queue.messages l
-  serves-at Up here true made stop l =
-      ap (λ n. treats plain (record here { way = Up }) (unwrap_or stop n) made (map_ldterm f l)) (to_treat-forgets f l)
-      ∙ treats-forget (record here { way = Up }) (unwrap_or stop (to_treat l)) made l
-
-  pub serves-forget : (here : Spot) (made : ℕ) (again : Bool) (stop : Option ℕ) (l : Ldterm C) → ldterm_serves plain here made again stop (map_ldterm f l) ≡ of_serving (ldterm_serves cells here made again stop l)
-  serves-forget here made again stop l = serves-at here.way here again made stop l

@@ -6,16 +6,15 @@ use Rattle.strm_types.specs.declared.flushing.FlushAsked.{FlushAsked}
 use Rattle.strm_types.specs.declared.keys.Key.{Key}
 use Rattle.strm_types.specs.declared.keys.Key.TheVariants.{Stop, Start, Intr, Quit, Susp, Ignored, Eof, Erase, Kill, Werase, Reprint, Lnext, Delimiter, Ordinary}
 use Rattle.strm_types.specs.declared.kinds.MsgKind.TheVariants as kinds
-use Rattle.strm_types.specs.declared.names.Way.{Way}
 use Rattle.strm_types.specs.declared.names.Way.TheVariants.{Up, Down}
 use Rattle.strm_types.specs.declared.rules.Rule.TheVariants.{Flushed, SignalKey, LineFull, LineOver}
 use Rattle.strm_types.specs.declared.spots.Spot.{Spot}
 use Rattle.strm_types.specs.Cells.{Cells, cells_made}
 use Rattle.strm_types.specs.Deliver.{Acted, Parcel}
-use Rattle.strm_types.specs.Input.{back_on, begins_next, cells_left, finished, is_data, left_of, ldterm_serves, made_of, next_stage, stage_at, stages, stages_done, then_on, to_treat, treats, input_begins, output_passes, passes}
+use Rattle.strm_types.specs.Input.{back_on, begins_next, cells_left, finished, is_data, left_of, made_of, next_stage, stage_at, stages, stages_done, then_on, treats, input_begins, passes}
 use Rattle.strm_types.specs.Flushing.{flush_bytes, flush_message}
 use Rattle.strm_types.specs.Keys.{restarts}
-use Rattle.strm_types.specs.LdtermWeights.{weight_in_work, weight_begun, weight_beside, ldterm_weight, ActedKeeps, IgnoresMapping, EchoStands, MayServe}
+use Rattle.strm_types.specs.LdtermWeights.{weight_in_work, weight_begun, weight_beside, ldterm_weight, ActedKeeps, IgnoresMapping, EchoStands}
 use Rattle.strm_types.specs.Ldterms.{Ldterm, Stage, Between, Begun, Answered, onward, sends}
 use Rattle.strm_types.specs.Lines.{ErasesByte, ErasesWord, Types, edited, has_room}
 use Rattle.strm_types.specs.Message.{Message, cells_of, data_message, weight_of}
@@ -246,13 +245,6 @@ module _ {C : Type 0} (p : C → Bool) (cells : Cells C) (here : Spot) (ignores 
   pub treats-keep : (bytes made : ℕ) (l : Ldterm C) → EchoStands l → stages_done l.stage ≤ 3 * bytes → ActedKeeps p (treats cells here bytes made l).acted (ldterm_weight p l)
   treats-keep bytes made l stands low = stages-keep (3 * bytes - stages_done l.stage) bytes made l stands (omega arith)
 
-  pub output-keeps : (l : Ldterm C) → ActedKeeps p (output_passes cells here l.write_queue.messages l).acted (ldterm_weight p l)
-  output-keeps l = at l.write_queue.messages
-    where
-      at : (ms : List (Message C)) → (let held : Ldterm C = record l { write_queue = record l.write_queue { messages = ms } } in ActedKeeps p (output_passes cells here ms held).acted (ldterm_weight p held))
-      at [] = omega arith
-      at (m ∷ rest) = omega (arith, weight-take p m rest)
-
   pub input-keeps : (made : ℕ) (stop : Option ℕ) (l : Ldterm C) → EchoStands l → (l.in_work ≡ None) × (l.stage ≡ Between) → ActedKeeps p (input_begins cells here stop made l.read_queue.messages l).acted (ldterm_weight p l)
   input-keeps made stop l stands may = at l.read_queue.messages
     where
@@ -273,14 +265,3 @@ module _ {C : Type 0} (p : C → Bool) (cells : Cells C) (here : Spot) (ignores 
               let begun : Ldterm C = record held { read_queue = left_with rest held.read_queue; in_work = Some m } in
               omega (arith, nothing, weight-take p m rest, treats-keep (unwrap_or stop (length (cells_of m))) made begun stands (omega (arith, between)))
           by false = omega (arith, weight-take p m rest)
-
-module _ {C : Type 0} (p : C → Bool) (cells : Cells C) (ignores : IgnoresMapping cells p) where
-  serves-at : (way : Way) (here : Spot) (again : Bool) (made : ℕ) (stop : Option ℕ) (l : Ldterm C) → EchoStands l → MayServe way again stop l →
-      ActedKeeps p (ldterm_serves cells (record here { way = way }) made again stop l).acted (ldterm_weight p l)
-  serves-at Down here again made stop l stands may = output-keeps p cells (record here { way = Down }) ignores l
-  serves-at Up here false made stop l stands may = input-keeps p cells (record here { way = Up }) ignores made stop l stands may
-  serves-at Up here true made stop l stands may = treats-keep p cells (record here { way = Up }) ignores (unwrap_or stop (to_treat l)) made l stands may
-
-  pub serves-keep : (here : Spot) (made : ℕ) (again : Bool) (stop : Option ℕ) (l : Ldterm C) → EchoStands l → MayServe here.way again stop l →
-      ActedKeeps p (ldterm_serves cells here made again stop l).acted (ldterm_weight p l)
-  serves-keep here made again stop l stands may = serves-at here.way here again made stop l stands may

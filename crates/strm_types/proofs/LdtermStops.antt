@@ -9,11 +9,13 @@ use Rattle.strm_types.specs.declared.names.Way.TheVariants.{Up, Down}
 use Rattle.strm_types.specs.declared.spots.Spot.{Spot}
 use Rattle.strm_types.specs.Cells.{cells_made, plain}
 use Rattle.strm_types.specs.Deliver.{Acted}
-use Rattle.strm_types.specs.Input.{begins_next, cells_left, input_begins, is_data, ldterm_serves, left_of, made_of, next_stage, output_passes, passes, stage_at, stages, stages_done, then_on, to_treat, treats}
+use Rattle.strm_types.specs.Input.{begins_next, cells_left, input_begins, is_data, left_of, made_of, next_stage, passes, stage_at, stages, stages_done, then_on, to_treat, treats}
 use Rattle.strm_types.specs.Keys.{restarts}
+use Rattle.strm_types.specs.LdtermServes.{ldterm_serves}
 use Rattle.strm_types.specs.LdtermTurns.{is_between}
 use Rattle.strm_types.specs.Ldterms.{Ldterm, Stage, Between, Begun, Answered, IsIdle, onward, sends}
 use Rattle.strm_types.specs.Message.{Message, cells_of, size_of}
+use Rattle.strm_types.specs.OutputTurns.{output_serves}
 use Rattle.strm_types.specs.Queue.{is_full, is_none_left, left_with}
 use Rattle.strm_types.specs.Service.{Serving}
 use Rattle.strm_types.specs.TurnCalls.{Begins, Ends, bytes_left}
@@ -21,6 +23,7 @@ use Rattle.strm_types.specs.TurnOutcomes.{first_size}
 use Rattle.strm_types.specs.Typing.{bare, begins, echo_dir, echo_grows, echo_lost, echo_stands, echoed, is_lnext, stroke_at, struck}
 use Rattle.strm_types.proofs.LdtermStages.{strikes-stay}
 use Rattle.strm_types.proofs.MadeCells.{made-same}
+use Rattle.strm_types.proofs.OutputStops.{output-ends, output-made}
 
 module _ (here : Spot) where
   echoed-same : (a b : ℕ) (echo : List ℕ) (l : Ldterm ℕ) → echoed plain here a echo l ≡ echoed plain here b echo l
@@ -221,7 +224,7 @@ pub record GoesOn (way : Way) (again : Bool) (l : Ldterm ℕ) (bytes : ℕ) (q :
 
 module _ (here : Spot) where
   made-nothing : (way : Way) (again : Bool) (a b : ℕ) (stop : Option ℕ) (l : Ldterm ℕ) → ldterm_serves plain (record here { way = way }) a again stop l ≡ ldterm_serves plain (record here { way = way }) b again stop l
-  made-nothing Down again a b stop l = refl
+  made-nothing Down again a b stop l = output-made (record here { way = Down }) stop a b l.write_queue.messages l
   made-nothing Up true a b None l = treats-same (record here { way = Up }) (to_treat l) a b l
   made-nothing Up true a b (Some left) l = treats-same (record here { way = Up }) left a b l
   made-nothing Up false a b stop l = of l.read_queue.messages
@@ -245,7 +248,7 @@ module _ (here : Spot) where
   unfolding size_of
   goes-at Down again l begins works = of l.write_queue.messages works
     where
-      of : (ms : List (Message ℕ)) → let t = output_passes plain (record here { way = Down }) ms l in t.again ≡ true → GoesOn Down again l t.bytes t.acted.state
+      of : (ms : List (Message ℕ)) → let t = output_serves plain (record here { way = Down }) None 0 ms l in t.again ≡ true → GoesOn Down again l t.bytes t.acted.state
       of [] works = absurd (false≢true works)
       of (m ∷ rest) works = absurd (false≢true works)
   goes-at Up true l begins works =
@@ -274,7 +277,11 @@ module _ (here : Spot) where
   -- It is the same wherever what it did is among the bytes that it may treat.
   alike-at : (way : Way) (again : Bool) (l : Ldterm ℕ) → let t = ldterm_serves plain (record here { way = way }) 0 again None l in t.again ≡ true
       → (left made : ℕ) → stages_done t.acted.state.stage + 3 * t.bytes ≤ 3 * left → ldterm_serves plain (record here { way = way }) made again (Some left) l ≡ t
-  alike-at Down again l works left made within = refl
+  alike-at Down again l works left made within = of l.write_queue.messages works
+    where
+      of : (ms : List (Message ℕ)) → let t = output_serves plain (record here { way = Down }) None 0 ms l in t.again ≡ true → output_serves plain (record here { way = Down }) (Some left) made ms l ≡ t
+      of [] works = absurd (false≢true works)
+      of (m ∷ rest) works = absurd (false≢true works)
   alike-at Up true l works left made within = treats-alike (record here { way = Up }) (to_treat l) 0 l works left made within
   alike-at Up false l works left made within = of l.read_queue.messages works within
     where
@@ -313,16 +320,12 @@ module _ (here : Spot) where
   ends-at : (way : Way) (again : Bool) (l : Ldterm ℕ) → Begins way again l → let t = ldterm_serves plain (record here { way = way }) 0 again None l in t.again ≡ false
       → Ends way again l t.bytes × ((made : ℕ) → ldterm_serves plain (record here { way = way }) made again (Some t.bytes) l ≡ t)
   unfolding size_of
-  ends-at Down true l begins over = (of l.write_queue.messages refl, λ made. refl)
-    where
-      of : (ms : List (Message ℕ)) → l.write_queue.messages ≡ ms → Ends Down true l (output_passes plain (record here { way = Down }) ms l).bytes
-      of [] is = record { treat = omega arith; done = idle-few l _ begins }
-      of (m ∷ rest) is = record { treat = let size = ap first_size is in omega arith; done = idle-few l _ begins }
-  ends-at Down false l begins over = (of l.write_queue.messages refl, λ made. refl)
-    where
-      of : (ms : List (Message ℕ)) → l.write_queue.messages ≡ ms → Ends Down false l (output_passes plain (record here { way = Down }) ms l).bytes
-      of [] is = record { treat = omega arith; done = idle-few l _ begins }
-      of (m ∷ rest) is = record { treat = let size = ap first_size is in omega arith; done = idle-few l _ begins }
+  ends-at Down true l begins over =
+      let e = output-ends (record here { way = Down }) l.write_queue.messages l in
+      (record { treat = e.0; done = idle-few l _ begins }, e.1)
+  ends-at Down false l begins over =
+      let e = output-ends (record here { way = Down }) l.write_queue.messages l in
+      (record { treat = e.0; done = idle-few l _ begins }, e.1)
   ends-at Up true l begins over =
       let up : Spot = record here { way = Up } in
       let e = ends-treat up (to_treat l) 0 l over in

@@ -10,12 +10,14 @@ use Rattle.strm_types.specs.declared.names.Way.TheVariants.{Up, Down}
 use Rattle.strm_types.specs.declared.spots.Spot.{Spot}
 use Rattle.strm_types.specs.Cells.{Cells}
 use Rattle.strm_types.specs.Deliver.{Acted, Parcel}
-use Rattle.strm_types.specs.Input.{input_begins, is_data, ldterm_serves, output_passes, passes, stages_done, treats}
+use Rattle.strm_types.specs.Input.{input_begins, is_data, passes, stages_done, treats}
+use Rattle.strm_types.specs.LdtermServes.{ldterm_serves}
 use Rattle.strm_types.specs.LdtermTurns.{IsItsTurn, IsOrderly}
 use Rattle.strm_types.specs.LdtermWeights.{IgnoresMapping, MayServe}
 use Rattle.strm_types.specs.Ldterms.{IsIdle, Ldterm}
 use Rattle.strm_types.specs.Message.{Message}
 use Rattle.strm_types.specs.Modules.{act_among, put_among}
+use Rattle.strm_types.specs.OutputTurns.{output_serves}
 use Rattle.strm_types.specs.Places.{weight_gone, weight_made, weight_sent}
 use Rattle.strm_types.specs.Queue.{left_with}
 use Rattle.strm_types.specs.Stacked.{Module, OfLdterm, OfPtem, IsAtRest, module_puts, module_serves, module_weight, modules_weight}
@@ -23,7 +25,7 @@ use Rattle.strm_types.proofs.LdtermOrderly.{orderly-echo, puts-orderly, serves-o
 use Rattle.strm_types.proofs.LdtermProgress.{serves-leaves}
 use Rattle.strm_types.proofs.LdtermPutStays.{puts-stay}
 use Rattle.strm_types.proofs.LdtermSends.{serves-near}
-use Rattle.strm_types.proofs.LdtermStages.{serves-keep}
+use Rattle.strm_types.proofs.LdtermServes.{serves-keep}
 use Rattle.strm_types.proofs.ModulesIdle.{AllIdle, among-idle, puts-idle}
 
 -- What a call wants of its module, by its way, where so many bytes are left of the turn: nothing of a turn is under way, or the turn of the
@@ -79,9 +81,9 @@ module _ {C : Type 0} where
   none-of (Some m) is = absurd (false≢true (sym is))
 
 module _ {C : Type 0} (cells : Cells C) where
-  output-idle : (here : Spot) (ms : List (Message C)) (l : Ldterm C) → IsIdle l → IsIdle (output_passes cells here ms l).acted.state
-  output-idle here [] l idle = idle
-  output-idle here (m ∷ rest) l idle = idle
+  output-idle : (here : Spot) (stop : Option ℕ) (made : ℕ) (ms : List (Message C)) (l : Ldterm C) → IsIdle l → IsIdle (output_serves cells here stop made ms l).acted.state
+  output-idle here stop made [] l idle = idle
+  output-idle here stop made (m ∷ rest) l idle = idle
 
   -- a call that wants no other one leaves no message in work
   input-ends : (here : Spot) (made left : ℕ) (ms : List (Message C)) (l : Ldterm C) → l.in_work ≡ None → let t = input_begins cells here (Some left) made ms l in t.again ≡ false → t.acted.state.in_work ≡ None
@@ -100,7 +102,7 @@ module _ {C : Type 0} (cells : Cells C) where
   up-ends here false made left l ready over = input-ends (record here { way = Up }) made left l.read_queue.messages l ready.0 over
 
   rests-at : (way : Way) (here : Spot) (again : Bool) (made left : ℕ) (l : Ldterm C) → IsReady again way left l → let t = ldterm_serves cells (record here { way = way }) made again (Some left) l in t.again ≡ false → IsIdle t.acted.state
-  rests-at Down here again made left l ready over = output-idle (record here { way = Down }) l.write_queue.messages l (down-idle again left l ready)
+  rests-at Down here again made left l ready over = output-idle (record here { way = Down }) (Some left) made l.write_queue.messages l (down-idle again left l ready)
   rests-at Up here again made left l ready over =
       let up : Spot = record here { way = Up } in
       let none = up-ends here again made left l ready over in
@@ -109,7 +111,7 @@ module _ {C : Type 0} (cells : Cells C) where
 
   goes-at : (way : Way) (here : Spot) (again : Bool) (made left : ℕ) (l : Ldterm C) → IsReady again way left l → let t = ldterm_serves cells (record here { way = way }) made again (Some left) l in
       t.again ≡ true → IsReady true way (left - t.bytes) t.acted.state
-  goes-at Down here again made left l ready works = output-idle (record here { way = Down }) l.write_queue.messages l (down-idle again left l ready)
+  goes-at Down here again made left l ready works = output-idle (record here { way = Down }) (Some left) made l.write_queue.messages l (down-idle again left l ready)
   goes-at Up here again made left l ready works =
       let up : Spot = record here { way = Up } in
       (serves-orderly cells up made again (Some left) l (ready-orderly again Up left l ready) (ready-turn again Up left l ready), serves-leaves cells up made again left l (ready-may again Up left l ready) works)

@@ -41,7 +41,7 @@ use Rattle.strm_types.proofs.DeliveryForgets.{carried-agrees, in_turn-agrees, ma
 use Rattle.strm_types.proofs.Earlier.{before_at-forgets, places-forget}
 use Rattle.strm_types.proofs.EmptiedForgets.{stream-forgets}
 use Rattle.strm_types.proofs.Forgetting.{kind-forgets, named_band-forgets, none-forgets, relieved-forgets, relieves_from-forgets, size-forgets}
-use Rattle.strm_types.proofs.LdtermServesForgets.{serves-forget}
+use Rattle.strm_types.proofs.LdtermServes.{serves-forget}
 use Rattle.strm_types.proofs.Past.{room-forgets, with_stream-same, writer_waits-forgets}
 use Rattle.strm_types.proofs.PutsForget.{notes-forget, puts-forget}
 
@@ -66,13 +66,13 @@ module _ {C D : Type 0} (f : C → D) where
   change-same change change' same (suc i) (p ∷ ps) = ap (λ qs. map_module f p ∷ qs) (change-same change change' same i ps)
 
   -- what a module's queue asks, and whether it rests
-  asked-same : (way : Way) (ms : List (Message C)) → asked_first way (map_messages f ms) ≡ asked_first way ms
-  asked-same way [] = refl
-  asked-same way (m ∷ ms) = ap (λ kind. asked_by way kind (map_message f m).band) (kind-forgets f m) ∙ ap (λ band. asked_by way m.kind band) (named_band-forgets f m)
+  asked-same : (way : Way) (stopped : Bool) (ms : List (Message C)) → asked_first way stopped (map_messages f ms) ≡ asked_first way stopped ms
+  asked-same way stopped [] = refl
+  asked-same way stopped (m ∷ ms) = ap (λ kind. asked_by way stopped kind (map_message f m).band) (kind-forgets f m) ∙ ap (λ band. asked_by way stopped m.kind band) (named_band-forgets f m)
 
   asks-same : (way : Way) (p : Module C) → module_asks way (map_module f p) ≡ module_asks way p
-  asks-same Up (OfLdterm l) = asked-same Up l.read_queue.messages
-  asks-same Down (OfLdterm l) = asked-same Down l.write_queue.messages
+  asks-same Up (OfLdterm l) = asked-same Up l.stopped l.read_queue.messages
+  asks-same Down (OfLdterm l) = asked-same Down l.stopped l.write_queue.messages
   asks-same way (OfPtem p) = refl
 
   between-same : (x : Stage C) → is_between (map_stage f x) ≡ is_between x

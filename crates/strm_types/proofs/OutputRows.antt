@@ -11,12 +11,13 @@ use Rattle.strm_types.specs.declared.output.Posted.{Posted}
 use Rattle.strm_types.specs.declared.rules.Rule.TheVariants.{Replaced, Onocr}
 use Rattle.strm_types.specs.declared.spots.Asks.TheVariants as asked
 use Rattle.strm_types.specs.declared.termios.Termios.{Termios}
+use Rattle.strm_types.specs.Asking.{ldterm_asks}
 use Rattle.strm_types.specs.Cells.{Tagged, Written, Made, plain, tagged}
 use Rattle.strm_types.specs.Deliver.{Fate, Goes, Comes, Parcel}
 use Rattle.strm_types.specs.Ldterms.{Ldterm}
 use Rattle.strm_types.specs.Message.{Message, cells_of, is_high_priority, rank_of, size_of}
 use Rattle.strm_types.specs.Output.{Output, made_for, post, posts, raised}
-use Rattle.strm_types.specs.OutputTurns.{output_asks, output_serves}
+use Rattle.strm_types.specs.OutputTurns.{output_serves}
 use Rattle.strm_types.specs.Service.{Serving}
 use Rattle.strm_types.specs.Termios.{first_termios}
 use Rattle.strm_types.proofs.LdtermRows.{at, down, protocol, queue_with, to_write, waiting}
@@ -146,12 +147,12 @@ abbrev banded : ℕ → List ℕ → Message ℕ
 banded band bytes = record { kind = Data; band = band; control = None; body = Some bytes; plain = [] }
 
 -- What the first message asks: M_DATA waits while output is stopped, and so it does where more stands behind it; none else does.
-pub asked-first : map (λ stopped. map (λ ms. output_asks (writing 0x5 stopped ms)) ([] ∷ (banded 0 (97 ∷ []) ∷ []) ∷ (banded 3 [] ∷ ordinary [] ∷ []) ∷ (protocol 2 (1 ∷ []) [] ∷ []) ∷ [])) (false ∷ true ∷ [])
+pub asked-first : map (λ stopped. map (λ ms. ldterm_asks Down (writing 0x5 stopped ms)) ([] ∷ (banded 0 (97 ∷ []) ∷ []) ∷ (banded 3 [] ∷ ordinary [] ∷ []) ∷ (protocol 2 (1 ∷ []) [] ∷ []) ∷ [])) (false ∷ true ∷ [])
     ≡ (asked.Empty ∷ asked.Room (record { 0 = 0 }) ∷ asked.Room (record { 0 = 3 }) ∷ asked.Room (record { 0 = 2 }) ∷ [])
     ∷ (asked.Empty ∷ asked.Held ∷ asked.Held ∷ asked.Room (record { 0 = 2 }) ∷ []) ∷ []
 asked-first = refl
 
-pub others-are-free : map (λ stopped. map (λ kind. output_asks (writing 0x5 stopped (without_parts kind [] ∷ []))) (Ioctl ∷ Sig ∷ Ctl ∷ Setopts ∷ Iocack ∷ Iocnak ∷ Pcproto ∷ Pcsig ∷ Read ∷ Flush ∷ Stop ∷ Start ∷ Hangup ∷ Error ∷ [])) (false ∷ true ∷ [])
+pub others-are-free : map (λ stopped. map (λ kind. ldterm_asks Down (writing 0x5 stopped (without_parts kind [] ∷ []))) (Ioctl ∷ Sig ∷ Ctl ∷ Setopts ∷ Iocack ∷ Iocnak ∷ Pcproto ∷ Pcsig ∷ Read ∷ Flush ∷ Stop ∷ Start ∷ Hangup ∷ Error ∷ [])) (false ∷ true ∷ [])
     ≡ replicate 2 (replicate 14 asked.Free)
 others-are-free = refl
 

@@ -16,12 +16,12 @@ use Rattle.strm_types.specs.Ldterms.{Ldterm, onward}
 use Rattle.strm_types.specs.Message.{Message, cells_of, map_message, weight_of}
 use Rattle.strm_types.specs.Origins.{map_fate, map_parcel}
 use Rattle.strm_types.specs.Output.{Output, map_output, posts}
-use Rattle.strm_types.specs.OutputTurns.{Outgoing, asked_of_output, outgoing, output_asks, output_dir, output_serves, posted, unchanged, with_given}
+use Rattle.strm_types.specs.OutputTurns.{Outgoing, outgoing, output_dir, output_serves, posted, unchanged, with_given}
 use Rattle.strm_types.specs.Places.{weight_sent, weight_gone, weight_made}
 use Rattle.strm_types.specs.Queue.{left_with, map_messages}
 use Rattle.strm_types.specs.Service.{Serving}
 use Rattle.strm_types.specs.Termios.{opost}
-use Rattle.strm_types.proofs.Forgetting.{cells-forget, kind-forgets, named_band-forgets, size-forgets}
+use Rattle.strm_types.proofs.Forgetting.{cells-forget, kind-forgets, size-forgets}
 use Rattle.strm_types.proofs.LdtermServesForgets.{back_on-forgets, left_of-forgets}
 use Rattle.strm_types.proofs.LdtermStages.{back-weighs}
 use Rattle.strm_types.proofs.Outputs.{posts-forget, posts-keep}
@@ -187,11 +187,3 @@ module _ {C : Type 0} (cells : Cells C) (are : AreCells cells) (here : Spot) (st
   output-forgets made (m ∷ rest) l =
       ap (λ t. turn_of here (map_messages f rest) (map_ldterm f l) t) (outgoing-forgets made m l)
       ∙ turn-forgets rest l (outgoing cells here stop made m l)
-
-module _ {C D : Type 0} (f : C → D) where
-  pub asks-forget : (l : Ldterm C) → output_asks (map_ldterm f l) ≡ output_asks l
-  asks-forget l = at l.write_queue.messages
-    where
-      at : (ms : List (Message C)) → (let held : Ldterm C = record l { write_queue = record l.write_queue { messages = ms } } in output_asks (map_ldterm f held) ≡ output_asks held)
-      at [] = refl
-      at (m ∷ rest) = ap (λ kind. asked_of_output l.stopped kind (map_message f m).band) (kind-forgets f m) ∙ ap (λ band. asked_of_output l.stopped m.kind band) (named_band-forgets f m)

@@ -1,11 +1,11 @@
 -- A put at ptem: it loses no cell and makes none, does the same where the origins of cells are forgotten, and sends nothing that has as
 -- far to go as what was put.
-use Rattle.std.proofs.Common.{ℕ, ◌≡◌, ◌<◌, ◌≤◌, ◌+◌, ◌-◌, Bool, true, false, cond, List, [], ◌∷◌, ◌++◌, map, refl, sym, ap, subst, ◌∙◌, arith}
-use Rattle.std.specs.Prelude.{◌&&◌, ◌||◌, ◌==◌, not, Option, None, Some, option_map}
+use Rattle.std.proofs.Common.{ℕ, ◌≡◌, ◌<◌, ◌≤◌, ◌+◌, ◌-◌, Bool, true, false, cond, List, [], ◌∷◌, ◌++◌, refl, sym, ap, subst, ◌∙◌, arith}
+use Rattle.std.specs.Prelude.{◌&&◌, ◌==◌, not, Option, None, Some}
 use Rattle.strm_types.specs.declared.ioctls.Ioc.{Ioc}
 use Rattle.strm_types.specs.declared.ioctls.TheConstants.{TCGETS, TIOCGWINSZ, TIOCSWINSZ, TIOCSIGNAL}
 use Rattle.strm_types.specs.declared.kinds.MsgKind.{MsgKind}
-use Rattle.strm_types.specs.declared.kinds.MsgKind.TheVariants.{Ioctl, Pcsig}
+use Rattle.strm_types.specs.declared.kinds.MsgKind.TheVariants.{Ioctl}
 use Rattle.strm_types.specs.declared.limits.TheConstants.{MODULES}
 use Rattle.strm_types.specs.declared.names.Way.{Way}
 use Rattle.strm_types.specs.declared.names.Way.TheVariants.{Up, Down}
@@ -14,17 +14,16 @@ use Rattle.strm_types.specs.declared.termios.Termios.{Termios}
 use Rattle.strm_types.specs.declared.winsize.Winsize.{Winsize}
 use Rattle.strm_types.specs.Acks.{ack_message, payload, telling_message}
 use Rattle.strm_types.specs.Deliver.{Acted, AreLower, Parcel}
-use Rattle.strm_types.specs.Ioctls.{nak_message, read_ioc}
+use Rattle.strm_types.specs.Ioctls.{read_ioc}
 use Rattle.strm_types.specs.Ldterms.{onward}
-use Rattle.strm_types.specs.Message.{Message, cells_of, has_parts, is_part, map_message, weight_of}
+use Rattle.strm_types.specs.Message.{Message, cells_of, has_parts, map_message, weight_of}
 use Rattle.strm_types.specs.Origins.{map_acted}
 use Rattle.strm_types.specs.Places.{weight_sent}
-use Rattle.strm_types.specs.Ptems.{Ptem, acks, asked_above, asked_below, asked_by_header, asked_on_way, is_asked, is_ioctl, naks, ptem_passes, ptem_puts, ptem_sends, set_above, sets_termios, signal_told, signals_up, sigwinch, termios_set, window_set, window_signal, window_told}
+use Rattle.strm_types.specs.Ptems.{Ptem, acks, asked_above, asked_below, asked_by_header, asked_on_way, is_asked, is_ioctl, naks, ptem_passes, ptem_puts, ptem_sends, set_above, sets_termios, signal_told, signals_up, sigwinch, termios_set, window_set, window_told}
 use Rattle.strm_types.specs.Puts.{far, far_at, is_turned, turns_round}
 use Rattle.strm_types.specs.Signals.{signal_in}
 use Rattle.strm_types.specs.Termios.{read_termios, termios_bytes}
 use Rattle.strm_types.specs.Winsizes.{read_winsize, same_winsize, winsize_bytes}
-use Rattle.strm_types.proofs.LdtermKeeps.{either}
 use Rattle.strm_types.proofs.Onward.{onward-lower}
 use Rattle.strm_types.proofs.PutForgets.{parts-forget}
 use Rattle.strm_types.proofs.PutWeights.{no-parts}

@@ -1,14 +1,12 @@
 -- What ptem does with what is put at it, as worked out by hand from ptem(7M), termio(7I) and ptm(7D).
 use Rattle.std.proofs.Common.{ℕ, ◌≡◌, true, false, List, [], ◌∷◌, ◌++◌, map, refl, replicate, take}
-use Rattle.std.specs.Prelude.{Option, None, Some}
-use Rattle.strm_types.specs.declared.kinds.MsgKind.{MsgKind}
-use Rattle.strm_types.specs.declared.kinds.MsgKind.TheVariants.{Data, Sig, Ctl, Ioctl, Setopts, Iocack, Iocnak, Pcsig, Read, Flush, Stop, Start, Hangup, Error}
+use Rattle.std.specs.Prelude.{Some}
+use Rattle.strm_types.specs.declared.kinds.MsgKind.TheVariants.{Sig, Ctl, Ioctl, Setopts, Iocack, Iocnak, Pcsig, Read, Flush, Stop, Start, Hangup, Error}
 use Rattle.strm_types.specs.declared.names.Side.TheVariants.{Master, Slave}
 use Rattle.strm_types.specs.declared.names.Way.{Way}
 use Rattle.strm_types.specs.declared.names.Way.TheVariants.{Up, Down}
 use Rattle.strm_types.specs.declared.spots.Spot.{Spot}
 use Rattle.strm_types.specs.declared.termios.Termios.{Termios}
-use Rattle.strm_types.specs.declared.winsize.Winsize.{Winsize}
 use Rattle.strm_types.specs.Acks.{ack_message, payload, telling_message}
 use Rattle.strm_types.specs.Costs.{cost}
 use Rattle.strm_types.specs.Deliver.{Acted, Parcel}

@@ -125,17 +125,7 @@ module _ {C : Type 0} (cells : Cells C) (here : Spot) where
       then treats (unwrap_or stop (length (cells_of m))) made (record p { read_queue = left_with rest p.read_queue; in_work = Some m })
       else passes Up m rest p
 
-  -- a turn of the write queue: what stands first goes down whole
+  -- What stands first on the write queue goes down whole.
   abbrev pub output_passes : List (Message C) → Ldterm C → Serving C (Ldterm C)
   output_passes [] p = nothing_served p
   output_passes (m ∷ rest) p = passes Down m rest p
-
-  -- A call of the service procedure of a queue: the first one of a turn (false), or one more in it (true). It goes as far as it may, or
-  -- stops for want of blocks when so many bytes are treated.
-  abbrev pub ldterm_serves : ℕ → Bool → Option ℕ → Ldterm C → Serving C (Ldterm C)
-  ldterm_serves made again stop p = by here.way again
-    where
-      by : Way → Bool → Serving C (Ldterm C)
-      by Down again = output_passes p.write_queue.messages p
-      by Up false = input_begins stop made p.read_queue.messages p
-      by Up true = treats (unwrap_or stop (to_treat p)) made p

@@ -68,3 +68,4 @@ pub mod Acks
 pub mod Ptems
 pub mod Output
 pub mod OutputTurns
+pub mod LdtermServes

@@ -1,12 +1,8 @@
 -- Turns of ldterm's write queue: what stands there goes down, and the bytes of M_DATA are output characters (termio(7I): "Output Modes";
--- ldterm(7M), "Write-side Behavior"; srv(9E), bcanput(9F)).
-use Rattle.std.specs.Prelude.{ℕ, Bool, true, false, ◌&&◌, if◌then◌else◌, List, [], ◌∷◌, length, map, take, drop, Option, None, Some, unwrap_or}
-use Rattle.strm_types.specs.declared.kinds.MsgKind.{MsgKind}
-use Rattle.strm_types.specs.declared.kinds.MsgKind.TheVariants.{Data, Proto}
+-- ldterm(7M), "Write-side Behavior"; srv(9E)).
+use Rattle.std.specs.Prelude.{ℕ, false, ◌&&◌, if◌then◌else◌, List, [], ◌∷◌, length, map, take, drop, Option, None, Some, unwrap_or}
 use Rattle.strm_types.specs.declared.names.Dir.{Dir}
 use Rattle.strm_types.specs.declared.names.Way.TheVariants.{Down}
-use Rattle.strm_types.specs.declared.spots.Asks.{Asks}
-use Rattle.strm_types.specs.declared.spots.Asks.TheVariants as asked
 use Rattle.strm_types.specs.declared.spots.Spot.{Spot}
 use Rattle.strm_types.specs.Cells.{Cells}
 use Rattle.strm_types.specs.Deliver.{Fate}
@@ -19,14 +15,6 @@ use Rattle.strm_types.specs.Queue.{left_with}
 use Rattle.strm_types.specs.Service.{Serving}
 use Rattle.strm_types.specs.Termios.{opost}
 
--- What a message asks that stands first, while output is stopped (true) or not: M_DATA waits while it is stopped, whatever room there is
--- ahead, and asks else for room in its band, as M_PROTO does in either case. What else stands there is free to go.
-abbrev pub asked_of_output : Bool → MsgKind → ℕ → Asks
-asked_of_output true Data band = asked.Held
-asked_of_output false Data band = asked.Room (record { 0 = band })
-asked_of_output stopped Proto band = asked.Room (record { 0 = band })
-asked_of_output stopped _ band = asked.Free
-
 -- What becomes of a message whose turn it is: messages that go down, none or one; what is left of it, if anything; how many bytes were treated;
 -- the column behind them; and what is told.
 pub record Outgoing (C : Type 0) : Type 0 where
@@ -37,13 +25,6 @@ pub record Outgoing (C : Type 0) : Type 0 where
   pub told : List (Fate C)
 
 module _ {C : Type 0} where
-  abbrev pub output_asks : Ldterm C → Asks
-  output_asks p = of_first p.write_queue.messages
-    where
-      of_first : List (Message C) → Asks
-      of_first [] = asked.Empty
-      of_first (m ∷ rest) = asked_of_output p.stopped m.kind m.band
-
   -- a message that goes down as it is
   abbrev pub unchanged : Message C → Ldterm C → Outgoing C
   unchanged m p = record { messages = m ∷ []; left = None; bytes = size_of m; column = p.column; told = [] }

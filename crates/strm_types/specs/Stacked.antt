@@ -10,8 +10,8 @@ use Rattle.strm_types.specs.declared.spots.Spot.{Spot}
 use Rattle.strm_types.specs.Asking.{ldterm_asks}
 use Rattle.strm_types.specs.Cells.{Cells}
 use Rattle.strm_types.specs.Deliver.{Acted}
-use Rattle.strm_types.specs.Input.{ldterm_serves}
 use Rattle.strm_types.specs.LdtermOrigins.{map_ldterm}
+use Rattle.strm_types.specs.LdtermServes.{ldterm_serves}
 use Rattle.strm_types.specs.LdtermTurns.{ldterm_rests}
 use Rattle.strm_types.specs.LdtermWeights.{ldterm_weight}
 use Rattle.strm_types.specs.Ldterms.{Ldterm, IsIdle, queue_at, with_queue_at, without_line, ldterm_puts}

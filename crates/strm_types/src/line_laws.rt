@@ -4,9 +4,10 @@
 ghost use Rattle.std.specs.Prelude.{◌≡◌, ℕ, ◌+◌, ◌*◌, ◌++◌, Bool, List, Option, length, drop};
 ghost use Rattle.strm_types.specs.declared.spots.Spot.{Spot};
 ghost use Rattle.strm_types.specs.Cells.{AreCells, Cells, plain};
-ghost use Rattle.strm_types.specs.Input.{ldterm_serves, next_stage, stages, stages_done};
+ghost use Rattle.strm_types.specs.Input.{next_stage, stages, stages_done};
 ghost use Rattle.strm_types.specs.LdtermWeights.{ActedKeeps, EchoStands, IgnoresMapping, MayServe, ldterm_weight};
 ghost use Rattle.strm_types.specs.LdtermOrigins.{map_ldterm, map_serving};
+ghost use Rattle.strm_types.specs.LdtermServes.{ldterm_serves};
 ghost use Rattle.strm_types.specs.LdtermTurns.{IsItsTurn, IsOrderly};
 ghost use Rattle.strm_types.specs.Ldterms.{Ldterm, ldterm_puts, new_ldterm};
 ghost use Rattle.strm_types.specs.Lines.{Edit, ErasesByte, ErasesWord, ErasesAll, edited, line_of};

@@ -14,7 +14,7 @@ ghost use Rattle.strm_types.specs.LdtermWeights.{ActedKeeps, IgnoresMapping, ldt
 ghost use Rattle.strm_types.specs.Ldterms.{Ldterm};
 ghost use Rattle.strm_types.specs.Message.{Message};
 ghost use Rattle.strm_types.specs.Output.{given_for, map_output, post, posts, told_for};
-ghost use Rattle.strm_types.specs.OutputTurns.{output_asks, output_serves};
+ghost use Rattle.strm_types.specs.OutputTurns.{output_serves};
 ghost use Rattle.strm_types.specs.Places.{weight_gone, weight_made};
 ghost use Rattle.strm_types.specs.Queue.{map_messages};
 ghost use Rattle.strm_types.specs.Termios.{opost};
@@ -62,7 +62,6 @@ pub fn output_forgets<C>()
     ensures serves { (cells : Cells C) (here : Spot) (stop : Option ℕ) (made : ℕ) (ms : List (Message C)) (l : Ldterm C) → AreCells cells →
         output_serves plain here stop made (map_messages cells.byte ms) (map_ldterm cells.byte l)
         ≡ map_serving cells.byte (map_ldterm cells.byte) (output_serves cells here stop made ms l) }
-    ensures asks { (cells : Cells C) (l : Ldterm C) → output_asks (map_ldterm cells.byte l) ≡ output_asks l }
 {}
 
 /// What holds of ldterm stays so behind a turn of its write queue, while no message is in work.

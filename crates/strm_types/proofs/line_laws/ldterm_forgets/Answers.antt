@@ -1,5 +1,5 @@
 use Rattle.strm_types.proofs.LdtermPutForgets.{puts-forget}
-use Rattle.strm_types.proofs.LdtermServesForgets.{serves-forget}
+use Rattle.strm_types.proofs.LdtermServes.{serves-forget}
 use Rattle.strm_types.proofs.line_laws.ldterm_forgets.Goals as goal
 
 pub returns-clause-put : goal.returns-clause-put

@@ -1,5 +1,6 @@
 use Rattle.strm_types.proofs.LdtermKeeps.{puts-hold}
-use Rattle.strm_types.proofs.LdtermStages.{next-keeps, next-echo, stages-keep, serves-keep}
+use Rattle.strm_types.proofs.LdtermStages.{next-keeps, next-echo, stages-keep}
+use Rattle.strm_types.proofs.LdtermServes.{serves-keep}
 use Rattle.strm_types.proofs.line_laws.ldterm_keeps_cells.Goals as goal
 
 pub returns-clause-put : goal.returns-clause-put

@@ -1,4 +1,4 @@
-use Rattle.strm_types.proofs.OutputServes.{asks-forget, output-forgets}
+use Rattle.strm_types.proofs.OutputServes.{output-forgets}
 use Rattle.strm_types.proofs.Outputs.{posts-forget}
 use Rattle.strm_types.proofs.output_laws.output_forgets.Goals as goal
 
@@ -7,6 +7,3 @@ returns-clause-posts g c = λ cells dir made t column xs are. posts-forget cells
 
 pub returns-clause-serves : goal.returns-clause-serves
 returns-clause-serves g c = λ cells here stop made ms l are. output-forgets cells are here stop made ms l
-
-pub returns-clause-asks : goal.returns-clause-asks
-returns-clause-asks g c = λ cells l. asks-forget cells.byte l
