@@ -21,6 +21,7 @@ use Rattle.strm_types.specs.Queue.{is_full, is_none_left, left_with}
 use Rattle.strm_types.specs.Service.{Serving, line_gone}
 use Rattle.strm_types.specs.Termios.{icanon, imaxbel, noflsh}
 use Rattle.strm_types.specs.Typing.{added, bare, begins, both_ways, dropped, echo_dir, echoed, echo_grows, echo_lost, echo_stands, gathered_up, is_blank_cell, is_lnext, lost, sigint, signals, sigquit, sigtstp, stroke_at, strikes, struck, up_alone}
+use Rattle.strm_types.proofs.CostsBounded.{is_quiet}
 use Rattle.strm_ldterm.proofs.Turned.{again-serves, down-serves, first-serves}
 
 module _ {C : Type 0} (here : Spot) where
@@ -57,15 +58,19 @@ module _ {C : Type 0} (here : Spot) where
       at false true = subst P (sym (flush-sent m p)) one
       at false false = one
 
--- what holds of so many parcels or fewer, each on its way to a next place
+quiet-data : {C : Type 0} (cells : List C) → is_quiet (data_message cells).kind ≡ true
+unfolding data_message
+quiet-data cells = refl
+
+-- what holds of so many parcels or fewer, each on its way to a next place, where none is of a kind that modules answer or obey
 module _ {C : Type 0} (cells : Cells C) (here : Spot) (P : ℕ → List (Parcel C) → Type 0) (none : (n : ℕ) → P n [])
-    (more : (way : Way) (m : Message C) (n : ℕ) (ps : List (Parcel C)) → P n ps → P (suc n) (onward way here m ∷ ps)) where
-  single : (way : Way) (m : Message C) → P 3 (onward way here m ∷ [])
-  single way m = more way m 2 [] (none 2)
+    (more : (way : Way) (m : Message C) (n : ℕ) (ps : List (Parcel C)) → is_quiet m.kind ≡ true → P n ps → P (suc n) (onward way here m ∷ ps)) where
+  single : (way : Way) (m : Message C) → is_quiet m.kind ≡ true → P 3 (onward way here m ∷ [])
+  single way m quiet = more way m 2 [] quiet (none 2)
 
   gathered-sends : (gathered : List C) → P 3 (gathered_up cells here gathered)
   gathered-sends [] = none 3
-  gathered-sends (c ∷ rest) = single Up (data_message (c ∷ rest))
+  gathered-sends (c ∷ rest) = single Up (data_message (c ∷ rest)) (quiet-data (c ∷ rest))
 
   -- a signal key sends up what was gathered, an M_FLUSH and the signal
   signals-send : (asked : FlushAsked) (signal : ℕ) (c : C) (p : Ldterm C) → P 3 (signals cells here asked signal c p).sent
@@ -83,10 +88,10 @@ module _ {C : Type 0} (cells : Cells C) (here : Spot) (P : ℕ → List (Parcel 
           (record { state = record p { gathered = []; line = [] }; notes = []; sent = gathered ++ after; gone = lost cells here Flushed p.line ++ lost cells here SignalKey (c ∷ []) })).sent
 
       at : (gathered : List C) (quiet : Bool) → P 3 (up (gathered_up cells here gathered) (onward Up here flush ∷ onward Up here key ∷ []) quiet)
-      at [] true = single Up key
-      at [] false = more Up flush 2 _ (more Up key 1 [] (none 1))
-      at (g ∷ rest) true = more Up (data_message (g ∷ rest)) 2 _ (more Up key 1 [] (none 1))
-      at (g ∷ rest) false = more Up (data_message (g ∷ rest)) 2 _ (more Up flush 1 _ (more Up key 0 [] (none 0)))
+      at [] true = single Up key refl
+      at [] false = more Up flush 2 _ refl (more Up key 1 [] refl (none 1))
+      at (g ∷ rest) true = more Up (data_message (g ∷ rest)) 2 _ (quiet-data (g ∷ rest)) (more Up key 1 [] refl (none 1))
+      at (g ∷ rest) false = more Up (data_message (g ∷ rest)) 2 _ (quiet-data (g ∷ rest)) (more Up flush 1 _ refl (more Up key 0 [] refl (none 0)))
 
   added-sends : (c : C) (p : Ldterm C) → P 3 (added cells here c p).sent
   added-sends c p = at (icanon p.termios) (has_room p.line) (imaxbel p.termios)
@@ -105,19 +110,19 @@ module _ {C : Type 0} (cells : Cells C) (here : Spot) (P : ℕ → List (Parcel 
     where
       at : (stopped : Bool) → P 3 (cond stopped [] (onward Down here (bare kinds.Stop []) ∷ []))
       at true = none 3
-      at false = single Down (bare kinds.Stop [])
+      at false = single Down (bare kinds.Stop []) refl
   strikes-send Start c p = none 3
   strikes-send Intr c p = signals-send both_ways sigint c p
   strikes-send Quit c p = signals-send both_ways sigquit c p
   strikes-send Susp c p = signals-send up_alone sigtstp c p
   strikes-send Ignored c p = none 3
-  strikes-send Eof c p = single Up (data_message p.line)
+  strikes-send Eof c p = single Up (data_message p.line) (quiet-data p.line)
   strikes-send Erase c p = none 3
   strikes-send Kill c p = none 3
   strikes-send Werase c p = none 3
   strikes-send Reprint c p = none 3
   strikes-send Lnext c p = none 3
-  strikes-send Delimiter c p = single Up (data_message (p.line ++ c ∷ []))
+  strikes-send Delimiter c p = single Up (data_message (p.line ++ c ∷ [])) (quiet-data (p.line ++ c ∷ []))
   strikes-send Ordinary c p = added-sends c p
 
   pub struck-sends : (started : Bool) (c : C) (p : Ldterm C) → P 3 (struck cells here started c p).sent
@@ -127,7 +132,7 @@ module _ {C : Type 0} (cells : Cells C) (here : Spot) (P : ℕ → List (Parcel 
   begins-sends c p = at (p.stopped && restarts p.termios (stroke_at cells here c p))
     where
       at : (starts : Bool) → P 3 (cond starts (sends (onward Down here (bare kinds.Start []) ∷ []) (record p { stopped = false; stage = Begun true c })) (sends [] (record p { stage = Begun false c }))).sent
-      at true = single Down (bare kinds.Start [])
+      at true = single Down (bare kinds.Start []) refl
       at false = none 3
 
   echoed-sends : (made : ℕ) (echo : List ℕ) (p : Ldterm C) → P 3 (echoed cells here made echo p).sent
@@ -173,9 +178,10 @@ module _ {C : Type 0} (cells : Cells C) (here : Spot) (P : ℕ → List (Parcel 
   treats-send : (bytes made : ℕ) (p : Ldterm C) → P 3 (treats cells here bytes made p).acted.sent
   treats-send bytes made p = stages-send (3 * bytes - stages_done p.stage) made p
 
-  input-sends : (stop : Option ℕ) (made : ℕ) (ms : List (Message C)) (p : Ldterm C) → P 3 (input_begins cells here stop made ms p).acted.sent
-  input-sends stop made [] p = none 3
-  input-sends stop made (m ∷ rest) p = at (is_data m.kind)
+  -- what passes whole may be of any kind
+  input-sends : (whole : (way : Way) (m : Message C) → P 3 (onward way here m ∷ [])) (stop : Option ℕ) (made : ℕ) (ms : List (Message C)) (p : Ldterm C) → P 3 (input_begins cells here stop made ms p).acted.sent
+  input-sends whole stop made [] p = none 3
+  input-sends whole stop made (m ∷ rest) p = at (is_data m.kind)
     where
       bytes : ℕ
       bytes = unwrap_or stop (length (cells_of m))
@@ -185,21 +191,27 @@ module _ {C : Type 0} (cells : Cells C) (here : Spot) (P : ℕ → List (Parcel 
 
       at : (is : Bool) → P 3 (cond is (treats cells here bytes made begun) (passes cells here Up m rest p)).acted.sent
       at true = treats-send bytes made begun
-      at false = single Up m
+      at false = whole Up m
 
-  output-sends : (ms : List (Message C)) (p : Ldterm C) → P 3 (output_passes cells here ms p).acted.sent
-  output-sends [] p = none 3
-  output-sends (m ∷ rest) p = single Down m
+  output-sends : (whole : (way : Way) (m : Message C) → P 3 (onward way here m ∷ [])) (ms : List (Message C)) (p : Ldterm C) → P 3 (output_passes cells here ms p).acted.sent
+  output-sends whole [] p = none 3
+  output-sends whole (m ∷ rest) p = whole Down m
 
 -- a call of the service procedure on plain bytes
 pub serves-send : (here : Spot) (P : ℕ → List (Parcel ℕ) → Type 0) → ((n : ℕ) → P n []) → ((way : Way) (m : Message ℕ) (n : ℕ) (ps : List (Parcel ℕ)) → P n ps → P (suc n) (onward way here m ∷ ps))
     → (again : Bool) (stop : Option ℕ) (p : Ldterm ℕ) → P 3 (ldterm_serves plain here 0 again stop p).acted.sent
 serves-send here P none more again stop p = at here.way again refl refl
   where
+    quiet : (way : Way) (m : Message ℕ) (n : ℕ) (ps : List (Parcel ℕ)) → is_quiet m.kind ≡ true → P n ps → P (suc n) (onward way here m ∷ ps)
+    quiet way m n ps is holds = more way m n ps holds
+
+    whole : (way : Way) (m : Message ℕ) → P 3 (onward way here m ∷ [])
+    whole way m = more way m 2 [] (none 2)
+
     to : (v : Serving ℕ (Ldterm ℕ)) → ldterm_serves plain here 0 again stop p ≡ v → P 3 v.acted.sent → P 3 (ldterm_serves plain here 0 again stop p).acted.sent
     to v is sends = subst (λ (w : Serving ℕ (Ldterm ℕ)). P 3 w.acted.sent) (sym is) sends
 
     at : (way : Way) (more_calls : Bool) → here.way ≡ way → again ≡ more_calls → P 3 (ldterm_serves plain here 0 again stop p).acted.sent
-    at Down calls is same = to _ (down-serves here again stop p is) (output-sends plain here P none more p.write_queue.messages p)
-    at Up false is same = to _ (first-serves here again stop p is same) (input-sends plain here P none more stop 0 p.read_queue.messages p)
-    at Up true is same = to _ (again-serves here again stop p is same) (treats-send plain here P none more (unwrap_or stop (to_treat p)) 0 p)
+    at Down calls is same = to _ (down-serves here again stop p is) (output-sends plain here P none quiet whole p.write_queue.messages p)
+    at Up false is same = to _ (first-serves here again stop p is same) (input-sends plain here P none quiet whole stop 0 p.read_queue.messages p)
+    at Up true is same = to _ (again-serves here again stop p is same) (treats-send plain here P none quiet (unwrap_or stop (to_treat p)) 0 p)

@@ -33,7 +33,7 @@ module _ (here : Spot) where
   -- a call in which a message passes whole, or none
   pub record Passes (v : Serving ℕ (Ldterm ℕ)) : Type 0 where
     pub over : v.again ≡ false
-    pub few : cost_of cost v.acted.sent ≤ 4
+    pub few : cost_of cost v.acted.sent ≤ 25
 
   treats-spare : (bytes : ℕ) (p : Ldterm ℕ) → is_some p.in_work ≡ true → Treats (treats plain here bytes 0 p)
   treats-spare bytes p work = let spares = stages-spare here (3 * bytes - stages_done p.stage) 0 p work in record { more = spares.more; over = spares.over }
@@ -41,7 +41,7 @@ module _ (here : Spot) where
   passes-few : (way : Way) (m : Message ℕ) (rest : List (Message ℕ)) (p : Ldterm ℕ) → Passes (passes plain here way m rest p)
   passes-few way m rest p = record { over = refl; few = (let one = one-cost (toward way here) m in let few = cost-few (toward way here) m in omega (arith, one, few)) }
 
-  nothing-few : cost_of (cost {C = ℕ}) [] ≤ 4
+  nothing-few : cost_of (cost {C = ℕ}) [] ≤ 25
   nothing-few = let none = none-cost ℕ in omega (arith, none)
 
   module _ (again : Bool) (stop : Option ℕ) (p : Ldterm ℕ) where
@@ -91,7 +91,7 @@ module _ (here : Spot) where
     serves-pass Up true is same whole = absurd (false≢true whole)
 
     -- what it may count on
-    whole-counts : (way : Way) (more : Bool) → passes_whole way more p ≡ true → turn_cost (record here { way = way }) more p ≡ 4
+    whole-counts : (way : Way) (more : Bool) → passes_whole way more p ≡ true → turn_cost (record here { way = way }) more p ≡ 25
     whole-counts Down more whole = refl
     whole-counts Up false whole = refl
     whole-counts Up true whole = absurd (false≢true whole)

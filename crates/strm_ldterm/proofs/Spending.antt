@@ -3,14 +3,14 @@
 use Rattle.std.proofs.Common.{ℕ, zero, suc, ◌≡◌, ◌<◌, ◌≤◌, ◌+◌, ◌-◌, ◌*◌, Bool, true, false, cond, List, [], ◌∷◌, ◌++◌, refl, sym, ap, ◌∙◌, arith}
 use Rattle.std.proofs.lemmas.Bool.{false≢true}
 use Rattle.std.proofs.lemmas.Bool.Decides.{nat_tests}
-use Rattle.std.specs.Prelude.{◌==◌, ◌&&◌, Option, None, Some, is_some, option_map}
+use Rattle.std.specs.Prelude.{◌==◌, ◌&&◌, ◌||◌, Option, None, Some, is_some, option_map}
 use Rattle.strm_types.specs.declared.kinds.MsgKind.TheVariants as kinds
 use Rattle.strm_types.specs.declared.limits.TheConstants.{MODULES}
 use Rattle.strm_types.specs.declared.names.Way.{Way}
 use Rattle.strm_types.specs.declared.names.Way.TheVariants.{Up, Down}
 use Rattle.strm_types.specs.declared.spots.Spot.{Spot}
 use Rattle.strm_types.specs.Cells.{cells_made, plain}
-use Rattle.strm_types.specs.Costs.{across_at, below_cost, cost, cost_at}
+use Rattle.strm_types.specs.Costs.{asking_at, cost}
 use Rattle.strm_types.specs.Deliver.{Acted, Parcel, toward}
 use Rattle.strm_types.specs.Flushing.{is_flush}
 use Rattle.strm_types.specs.Input.{begins_next, cells_left, left_of, made_of, next_stage, stage_at, stages, with_left}
@@ -20,41 +20,11 @@ use Rattle.strm_types.specs.Message.{Message, data_message, has_parts}
 use Rattle.strm_types.specs.Puts.{is_turned}
 use Rattle.strm_types.specs.Queue.{is_full, is_none_left}
 use Rattle.strm_types.specs.Typing.{bare, echo_dir, echoed, echo_grows, echo_lost, echo_stands, gathered_up, is_lnext, stroke_at, struck}
-use Rattle.strm_types.proofs.CostsBounded.{cost-few}
+use Rattle.strm_types.proofs.CostsBounded.{cost-low, is_quiet, next-cost}
 use Rattle.strm_types.proofs.LdtermStages.{strikes-stay}
 use Rattle.strm_frame.specs.Outboxes.{cost_of}
 use Rattle.strm_ldterm.specs.Turns.{leaves, needs}
 use Rattle.strm_ldterm.proofs.Onward.{puts-send, struck-sends}
-
--- no more at the next place the same way, where that isn't the driver's of what comes up
-up-cost : (parts across turned top : Bool) → cond top (cond turned 4 0) (below_cost Up parts false turned) ≤ below_cost Up parts across turned
-up-cost parts across true true = omega arith
-up-cost parts across true false = omega arith
-up-cost parts true false true = omega arith
-up-cost parts true false false = omega arith
-up-cost parts false false true = omega arith
-up-cost parts false false false = omega arith
-
-not-across : (flush : Bool) (at : ℕ) → at < MODULES → across_at flush at ≡ false
-not-across true at low = grind (arith, nat_tests)
-not-across false at low = refl
-
-next-below : (way : Way) (parts flush turned : Bool) (here : Spot) → 0 < here.at → here.at ≤ MODULES → cost_at (toward way here) parts flush turned ≤ below_cost way parts (across_at flush here.at) turned
-next-below Up parts flush turned here inside small =
-    let same : cost_at (toward Up here) parts flush turned ≡ cond (here.at - 1 == 0) (cond turned 4 0) (below_cost Up parts false turned) =
-    ap (λ across. cond (here.at - 1 == 0) (cond turned 4 0) (below_cost Up parts across turned)) (not-across flush (here.at - 1) (omega (arith, inside, small))) in
-    omega (arith, same, up-cost parts (across_at flush here.at) turned (here.at - 1 == 0))
-next-below Down parts flush turned here inside small =
-    let below : (here.at + 1 == 0) ≡ false = grind (arith, nat_tests) in
-    let same : cost_at (toward Down here) parts flush turned ≡ cond parts 0 3 = ap (λ top. cond top (cond turned 4 0) (cond parts 0 3)) below in
-    omega (arith, same)
-
-next-cost : (parts flush turned : Bool) (here : Spot) → 0 < here.at → here.at ≤ MODULES → cost_at (toward here.way here) parts flush turned ≤ cost_at here parts flush turned
-next-cost parts flush turned here inside small =
-    let behind : (here.at == 0) ≡ false = grind (arith, nat_tests) in
-    let across = across_at flush here.at in
-    let same : cost_at here parts flush turned ≡ below_cost here.way parts across turned = ap (λ top. cond top (cond turned 4 0) (below_cost here.way parts across turned)) behind in
-    omega (arith, same, next-below here.way parts flush turned here inside small)
 
 pub none-cost : (C : Type 0) → cost_of (cost {C = C}) [] ≡ 0
 unfolding cost_of
@@ -68,15 +38,15 @@ module _ {C : Type 0} where
   unfolding cost_of
   one-cost to m = omega arith
 
-  more-cost : (way : Way) (here : Spot) (m : Message C) (n : ℕ) (ps : List (Parcel C)) → cost_of cost ps ≤ 4 * n → cost_of cost (onward way here m ∷ ps) ≤ 4 * suc n
+  more-cost : (way : Way) (here : Spot) (m : Message C) (n : ℕ) (ps : List (Parcel C)) → is_quiet m.kind ≡ true → cost_of cost ps ≤ 4 * n → cost_of cost (onward way here m ∷ ps) ≤ 4 * suc n
   unfolding cost_of
-  more-cost way here m n ps few = let one = cost-few (toward way here) m in omega arith
+  more-cost way here m n ps quiet few = let one = cost-low (toward way here) m quiet in omega arith
 
   pub puts-cost : (here : Spot) (m : Message C) (p : Ldterm C) → 0 < here.at → here.at ≤ MODULES → cost_of cost (ldterm_puts here m p).sent ≤ cost here m
   puts-cost here m p inside small =
       let one = one-cost (toward here.way here) m in
       let none = none-cost C in
-      let low = next-cost (has_parts m) (is_flush m.kind) (is_turned m) here inside small in
+      let low = next-cost m here inside small in
       puts-send here (λ ps. cost_of cost ps ≤ cost here m) m p (omega (arith, none)) (omega (arith, one, low))
 
 module _ (here : Spot) where
@@ -86,8 +56,8 @@ module _ (here : Spot) where
   abbrev Costs : ℕ → List (Parcel ℕ) → Type 0
   Costs n ps = cost_of cost ps ≤ 4 * n
 
-  few-more : (way : Way) (m : Message ℕ) (n : ℕ) (ps : List (Parcel ℕ)) → Costs n ps → Costs (suc n) (onward way here m ∷ ps)
-  few-more way m n ps few = more-cost way here m n ps few
+  few-more : (way : Way) (m : Message ℕ) (n : ℕ) (ps : List (Parcel ℕ)) → is_quiet m.kind ≡ true → Costs n ps → Costs (suc n) (onward way here m ∷ ps)
+  few-more way m n ps quiet few = more-cost way here m n ps quiet few
 
   -- the message in work stays one
   next-works : (made : ℕ) (p : Ldterm ℕ) → is_some (next_stage plain here made p).state.in_work ≡ is_some p.in_work
@@ -139,7 +109,7 @@ module _ (here : Spot) where
       starts : (c : ℕ) (q : Ldterm ℕ) (begins : Bool) →
           (let t = cond {A = Acts} begins (sends (onward Down here (bare kinds.Start []) ∷ []) (record q { stopped = false; stage = Begun true c })) (sends [] (record q { stage = Begun false c })) in
           is_none_left t.sent ≡ false → Leaves t)
-      starts c q true sent = let few = few-more Down (bare kinds.Start []) 0 [] (none-few ℕ 0) in omega (arith, few)
+      starts c q true sent = let few = few-more Down (bare kinds.Start []) 0 [] refl (none-few ℕ 0) in omega (arith, few)
       starts c q false sent = absurd (false≢true (sym sent))
 
       left : (cs : List ℕ) → is_none_left (begins_next plain here cs p).sent ≡ false → Leaves (begins_next plain here cs p)
@@ -177,7 +147,7 @@ module _ (here : Spot) where
   gathered-free [] = none-cost ℕ
   gathered-free (c ∷ rest) = one-cost (toward Up here) (data_message (c ∷ rest)) ∙ at (here.at - 1 == 0)
     where
-      at : (top : Bool) → cond {A = ℕ} top 0 0 ≡ 0
+      at : (top : Bool) → cond {A = ℕ} top 0 0 + cond (top || true) 0 (asking_at Up kinds.Data (here.at - 1)) ≡ 0
       at true = refl
       at false = refl
 

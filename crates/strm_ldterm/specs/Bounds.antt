@@ -29,4 +29,4 @@ turn_cost here again p = by here.way again
   where
     by : Way → Bool → ℕ
     by Up true = needs p.stage
-    by _ _ = 4
+    by _ _ = 25

@@ -14,8 +14,10 @@ use Rattle.strm_types.specs.Flush.{is_data_kind}
 use Rattle.strm_types.specs.Ioctls.{read_ioc}
 use Rattle.strm_types.specs.Message.{Message, has_parts}
 use Rattle.strm_types.specs.Ptems as plain
-use Rattle.strm_types.specs.Ptems.{asked_above, asked_below, asked_by_header, asked_on_way, is_asked, is_ioctl, ptem_cost, ptem_passes, ptem_puts, ptem_sends, window_signal}
+use Rattle.strm_types.specs.Costs.{cost}
+use Rattle.strm_types.specs.Ptems.{asked_above, asked_below, asked_by_header, asked_on_way, is_asked, is_ioctl, ptem_passes, ptem_puts, ptem_sends, window_signal}
 use Rattle.strm_types.specs.Winsizes.{same_winsize}
+use Rattle.strm_types.proofs.CostsBounded.{next-cost}
 use Rattle.strm_blocks.specs.Blocks.{StoreValue, block_at, in_hand}
 use Rattle.strm_msg.specs.Messages.{IsChain}
 use Rattle.strm_msg.proofs.Chains.{kind-is}
@@ -27,7 +29,6 @@ use Rattle.strm_frame.proofs.Handing.{one-chains, one-hands, one-parts}
 use Rattle.strm_pty.specs.declared.ptem.Ptem.{Ptem}
 use Rattle.strm_pty.specs.Beside.{Answers, ptem_in}
 use Rattle.strm_pty.specs.Does.{Makes, Swaps}
-use Rattle.strm_pty.proofs.Costing.{pass-cost}
 use Rattle.strm_pty.proofs.Doing.{makes-none}
 
 -- the kinds that ptem makes have no parts
@@ -92,7 +93,7 @@ module _ {M : Type 0} (name : M → ℕ) where
 
   -- an M_IOCTL was freed, and what is sent was made
   pub swaps-answers : (s t : StoreValue) (x : Ptem) (i n most : ℕ) (acts : Acts M) (ps : List (Parcel ℕ)) → acts.notes.items ≡ [] → Swaps name s t i n (sent_of acts.sent) ps
-      → n + cost_of ptem_cost ps ≤ most → Answers name s t x i most acts (ptem_sends ps (ptem_in x))
+      → n + cost_of cost ps ≤ most → Answers name s t x i most acts (ptem_sends ps (ptem_in x))
   swaps-answers s t x i n most acts ps none swaps few = record {
     state = refl;
     notes = none;
@@ -110,11 +111,11 @@ module _ {M : Type 0} (name : M → ℕ) where
   -- a message goes on
   pub passes-answers : (s : StoreValue) (x : Ptem) (sent : Sent M) (acts : Acts M) (here : Spot) → acts.notes.items ≡ [] → sent_of acts.sent ≡ sent ∷ [] → sent.to ≡ toward here.way here
       → IsChain (in_hand s (name sent.message)) → 0 < here.at → here.at ≤ MODULES
-      → Answers name s s x (name sent.message) (ptem_cost here (message_in s (name sent.message))) acts (ptem_passes here (message_in s (name sent.message)) (ptem_in x))
+      → Answers name s s x (name sent.message) (cost here (message_in s (name sent.message))) acts (ptem_passes here (message_in s (name sent.message)) (ptem_in x))
   unfolding cost_of
   passes-answers s x sent acts here none one place chain some few =
       let m = message_in s (name sent.message) in
-      let low = pass-cost here m some few in
+      let low = next-cost m here some few in
       record {
         state = refl;
         notes = none;

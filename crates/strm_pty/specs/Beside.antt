@@ -2,7 +2,7 @@
 use Rattle.std.specs.Prelude.{ℕ, ◌≡◌, false, []}
 use Rattle.strm_types.specs.Deliver.{Acted}
 use Rattle.strm_types.specs.Ptems as plain
-use Rattle.strm_types.specs.Ptems.{ptem_cost}
+use Rattle.strm_types.specs.Costs.{cost}
 use Rattle.strm_types.specs.Service.{Serving}
 use Rattle.strm_blocks.specs.Blocks.{StoreValue}
 use Rattle.strm_frame.specs.declared.modules.Acts.{Acts}
@@ -23,7 +23,7 @@ pub record Answers {M : Type 0} (name : M → ℕ) (old new : StoreValue) (x' : 
   pub lists : new.lists ≡ old.lists
   pub chains : AreChains name new (sent_of acts.sent)
   pub hands : Hands old new message (λ _. 0) (λ _. 0) (λ i. times_sent name i (sent_of acts.sent))
-  pub spends : Spends old new most (cost_of ptem_cost is.sent)
+  pub spends : Spends old new most (cost_of cost is.sent)
   pub pool : SamePool old new
 
 -- a call of a service procedure where there is none: nothing is done

@@ -11,6 +11,7 @@ impl<B: Blocks> Module<B> for Ptem {
     ghost use Rattle.std.specs.Prelude.{◌≡◌, refl, None, [], false};
     ghost use Rattle.strm_types.specs.declared.names.ModuleName.TheVariants as names;
     ghost use Rattle.strm_types.specs.declared.spots.Asks.TheVariants.{Empty};
+    ghost use Rattle.strm_types.specs.Costs as costs;
     ghost use Rattle.strm_types.specs.Ptems as plain;
     ghost use Rattle.strm_types.specs.Puts.{far};
     ghost use Rattle.strm_pty.specs.Beside.{idle, ptem_in};
@@ -47,7 +48,7 @@ impl<B: Blocks> Module<B> for Ptem {
 
     ghost height = { far };
 
-    ghost cost = { plain.ptem_cost };
+    ghost cost = { costs.cost };
 
     ghost turn_height = { λ here. 0 };
 

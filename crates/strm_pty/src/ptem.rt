@@ -4,8 +4,9 @@ ghost use Rattle.std.specs.Prelude.{◌≡◌, ◌<◌, ◌≤◌, ◌||◌, ◌
 ghost use Rattle.strm_types.specs.declared.limits.TheConstants.{MODULES};
 ghost use Rattle.strm_types.specs.declared.names.Way.TheVariants.{Up, Down};
 ghost use Rattle.strm_types.specs.Acks.{payload};
+ghost use Rattle.strm_types.specs.Costs.{cost};
 ghost use Rattle.strm_types.specs.Ptems as plain;
-ghost use Rattle.strm_types.specs.Ptems.{acks, asked_above, asked_below, is_asked, is_ioctl, new_ptem, ptem_cost};
+ghost use Rattle.strm_types.specs.Ptems.{acks, asked_above, asked_below, is_asked, is_ioctl, new_ptem};
 ghost use Rattle.strm_types.specs.Ptems.{ptem_passes, ptem_puts, sets_termios, signal_told, termios_set, window_set, window_told};
 ghost use Rattle.strm_types.specs.Signals.{signal_in};
 ghost use Rattle.strm_types.specs.Termios.{read_termios, termios_bytes};
@@ -75,7 +76,7 @@ fn pass_on<B: Blocks>(ptem: &Ptem, store: &B, here: Spot, message: B::Mp) -> Act
     requires inside { 0 < here.at }
     requires small { here.at ≤ MODULES }
     ensures { let s = B.value store.now in let m = message_in s (B.name message) in
-        Answers B.name s s ptem.now (B.name message) (ptem_cost here m) result (ptem_passes here m (ptem_in ptem.now)) }
+        Answers B.name s s ptem.now (B.name message) (cost here m) result (ptem_passes here m (ptem_in ptem.now)) }
 {
     let _ = ptem;
     let _ = store;
@@ -103,7 +104,7 @@ fn tell_termios<B: Blocks>(
     requires inside { 0 < here.at }
     requires small { here.at ≤ MODULES }
     ensures { let s = B.value store.old in let m = message_in s (B.name message) in
-        Answers B.name s (B.value store.new) ptem.now (B.name message) (ptem_cost here m) result
+        Answers B.name s (B.value store.new) ptem.now (B.name message) (cost here m) result
         (acks Up here ioc (termios_bytes ptem.now.termios) (ptem_in ptem.now)) }
 {
     let bytes = ptem.termios.bytes();
@@ -125,7 +126,7 @@ fn tell_window<B: Blocks>(
     requires inside { 0 < here.at }
     requires small { here.at ≤ MODULES }
     ensures { let s = B.value store.old in let m = message_in s (B.name message) in
-        Answers B.name s (B.value store.new) ptem.now (B.name message) (ptem_cost here m) result
+        Answers B.name s (B.value store.new) ptem.now (B.name message) (cost here m) result
         (acks Up here ioc (winsize_bytes ptem.now.window) (ptem_in ptem.now)) }
 {
     let bytes = ptem.window.bytes();
@@ -147,7 +148,7 @@ fn set_termios<B: Blocks>(
     requires inside { 0 < here.at }
     requires small { here.at ≤ MODULES }
     ensures { let s = B.value store.old in let m = message_in s (B.name message) in let given = payload m.plain in
-        Answers B.name s (B.value store.new) ptem.new (B.name message) (ptem_cost here m) result
+        Answers B.name s (B.value store.new) ptem.new (B.name message) (cost here m) result
         (termios_set here ioc given (read_termios given) (ptem_in ptem.old)) }
 {
     let given = payload_of(store, &message);
@@ -174,7 +175,7 @@ fn set_window<B: Blocks>(
     requires inside { 0 < here.at }
     requires small { here.at ≤ MODULES }
     ensures { let s = B.value store.old in let m = message_in s (B.name message) in let given = payload m.plain in
-        Answers B.name s (B.value store.new) ptem.new (B.name message) (ptem_cost here m) result
+        Answers B.name s (B.value store.new) ptem.new (B.name message) (cost here m) result
         (window_set here ioc given (read_winsize given) (ptem_in ptem.old)) }
 {
     let given = payload_of(store, &message);
@@ -201,7 +202,7 @@ fn hear_window<B: Blocks>(
     requires inside { 0 < here.at }
     requires small { here.at ≤ MODULES }
     ensures { let s = B.value store.old in let m = message_in s (B.name message) in
-        Answers B.name s (B.value store.new) ptem.new (B.name message) (ptem_cost here m) result
+        Answers B.name s (B.value store.new) ptem.new (B.name message) (cost here m) result
         (window_told here ioc (read_winsize (payload m.plain)) (ptem_in ptem.old)) }
 {
     let given = payload_of(store, &message);
@@ -228,7 +229,7 @@ fn hear_signal<B: Blocks>(
     requires inside { 0 < here.at }
     requires small { here.at ≤ MODULES }
     ensures { let s = B.value store.old in let m = message_in s (B.name message) in
-        Answers B.name s (B.value store.new) ptem.now (B.name message) (ptem_cost here m) result
+        Answers B.name s (B.value store.new) ptem.now (B.name message) (cost here m) result
         (signal_told here ioc (signal_in (payload m.plain)) (ptem_in ptem.now)) }
 {
     let given = payload_of(store, &message);
@@ -254,7 +255,7 @@ fn put_above<B: Blocks>(
     requires inside { 0 < here.at }
     requires small { here.at ≤ MODULES }
     ensures { let s = B.value store.old in let m = message_in s (B.name message) in
-        Answers B.name s (B.value store.new) ptem.new (B.name message) (ptem_cost here m) result
+        Answers B.name s (B.value store.new) ptem.new (B.name message) (cost here m) result
         (asked_above here ioc (payload m.plain) m (ptem_in ptem.old)) }
 {
     if is_command(ioc.command, TCGETS) {
@@ -288,7 +289,7 @@ fn put_below<B: Blocks>(
     requires inside { 0 < here.at }
     requires small { here.at ≤ MODULES }
     ensures { let s = B.value store.old in let m = message_in s (B.name message) in
-        Answers B.name s (B.value store.new) ptem.new (B.name message) (ptem_cost here m) result
+        Answers B.name s (B.value store.new) ptem.new (B.name message) (cost here m) result
         (asked_below here ioc (payload m.plain) m (ptem_in ptem.old)) }
 {
     if is_command(ioc.command, TIOCSWINSZ) {
@@ -312,11 +313,11 @@ fn put_below<B: Blocks>(
 pub fn put<B: Blocks>(ptem: &mut Ptem, store: &mut B, here: Spot, message: B::Mp) -> Acts<B::Mp>
     requires in_hand { IsInHand (B.value store.old) (B.name message) }
     requires chain { IsChain (in_hand (B.value store.old) (B.name message)) }
-    requires room { let s = B.value store.old in HasRoom s (ptem_cost here (message_in s (B.name message))) }
+    requires room { let s = B.value store.old in HasRoom s (cost here (message_in s (B.name message))) }
     requires inside { 0 < here.at }
     requires small { here.at ≤ MODULES }
     ensures { let s = B.value store.old in let m = message_in s (B.name message) in
-        Answers B.name s (B.value store.new) ptem.new (B.name message) (ptem_cost here m) result
+        Answers B.name s (B.value store.new) ptem.new (B.name message) (cost here m) result
         (ptem_puts here m (ptem_in ptem.old)) }
 {
     store.audit();

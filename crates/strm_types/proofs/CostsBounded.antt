@@ -44,6 +44,32 @@ asking-few here parts kind = at (here.at == 0) refl parts
 pub cost-few : {C : Type 0} (to : Spot) (m : Message C) → cost to m ≤ 25
 cost-few to m = let base = few-at to.way (has_parts m) (is_across to m) (is_turned m) (to.at == 0) in let more = asking-few to (has_parts m) m.kind in omega arith
 
+-- the kinds that modules neither answer nor obey, of which there are four at most
+abbrev pub is_quiet : MsgKind → Bool
+is_quiet Ioctl = false
+is_quiet Iocack = false
+is_quiet _ = true
+
+quiet-asked : (way : Way) (kind : MsgKind) (at : ℕ) → is_quiet kind ≡ true → asking_at way kind at ≡ 0
+quiet-asked Down Ioctl at is = absurd (cc)
+quiet-asked Up Ioctl at is = absurd (cc)
+quiet-asked Up Iocack at is = absurd (cc)
+quiet-asked way kind at is = refl
+
+quiet-asking : (here : Spot) (parts : Bool) (kind : MsgKind) → is_quiet kind ≡ true → asking_cost here parts kind ≡ 0
+quiet-asking here parts kind is = at (here.at == 0) parts
+  where
+    at : (top parts : Bool) → cond (top || parts) 0 (asking_at here.way kind here.at) ≡ 0
+    at true parts = refl
+    at false true = refl
+    at false false = quiet-asked here.way kind here.at is
+
+pub cost-low : {C : Type 0} (to : Spot) (m : Message C) → is_quiet m.kind ≡ true → cost to m ≤ 4
+cost-low to m is =
+    let base = few-at to.way (has_parts m) (is_across to m) (is_turned m) (to.at == 0) in
+    let none = quiet-asking to (has_parts m) m.kind is in
+    omega arith
+
 -- no more at the next place the same way, where that isn't the driver's of what comes up
 up-cost : (parts across turned top : Bool) → cond top (cond turned 4 0) (below_cost Up parts false turned) ≤ below_cost Up parts across turned
 up-cost parts across true true = omega arith

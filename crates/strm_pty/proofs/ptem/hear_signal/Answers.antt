@@ -5,7 +5,8 @@ use Rattle.strm_types.specs.declared.names.Way.TheVariants.{Down}
 use Rattle.strm_types.specs.Acks.{ack_message, payload}
 use Rattle.strm_types.specs.Ioctls.{nak_message}
 use Rattle.strm_types.specs.Ldterms.{onward}
-use Rattle.strm_types.specs.Ptems.{ptem_cost, signal_told, signals_up}
+use Rattle.strm_types.specs.Costs.{cost}
+use Rattle.strm_types.specs.Ptems.{signal_told, signals_up}
 use Rattle.strm_types.specs.Signals.{signal_in}
 use Rattle.strm_frame.specs.Outboxes.{message_in}
 use Rattle.strm_pty.specs.Beside.{Answers, ptem_in}
@@ -28,8 +29,8 @@ returns-in-None g c =
     let x = c.args.ptem.now in
     let said : c.signal_in.result ≡ signal_in p = c.signal_in.ensures ∙ ap signal_in (c.as_slice.ensures.value ∙ c.payload_of-given.ensures) ∙ signal-first p in
     let none : signal_in p ≡ None = sym said ∙ c.in-None.is in
-    subst (λ o. Answers name s (g.B.Blocks.value c.nak.new.store) x i (ptem_cost here m) c.nak.result (signal_told here c.args.ioc o (ptem_in x))) (sym none)
-    (swaps-answers name s (g.B.Blocks.value c.nak.new.store) x i 1 (ptem_cost here m) c.nak.result (onward Down here (nak_message c.args.ioc) ∷ []) c.nak.ensures.notes c.nak.ensures.swaps
+    subst (λ o. Answers name s (g.B.Blocks.value c.nak.new.store) x i (cost here m) c.nak.result (signal_told here c.args.ioc o (ptem_in x))) (sym none)
+    (swaps-answers name s (g.B.Blocks.value c.nak.new.store) x i 1 (cost here m) c.nak.result (onward Down here (nak_message c.args.ioc) ∷ []) c.nak.ensures.notes c.nak.ensures.swaps
     (nak-below-cost here m c.requires.asked c.requires.inside c.args.ioc c.requires.up))
 
 pub returns-in-Some : goal.returns-in-Some
@@ -46,6 +47,6 @@ returns-in-Some g c =
     let signal = c.in-Some.signal in
     let said : c.signal_in.result ≡ signal_in p = c.signal_in.ensures ∙ ap signal_in (c.as_slice.ensures.value ∙ c.payload_of-given.ensures) ∙ signal-first p in
     let is : signal_in p ≡ Some signal = sym said ∙ c.in-Some.is in
-    subst (λ o. Answers name s t x i (ptem_cost here m) c.raise.result (signal_told here ioc o (ptem_in x))) (sym is)
-    (swaps-answers name s t x i 2 (ptem_cost here m) c.raise.result (signals_up here signal ∷ (onward Down here (ack_message ioc []) ∷ [])) c.raise.ensures.notes c.raise.ensures.swaps
+    subst (λ o. Answers name s t x i (cost here m) c.raise.result (signal_told here ioc o (ptem_in x))) (sym is)
+    (swaps-answers name s t x i 2 (cost here m) c.raise.result (signals_up here signal ∷ (onward Down here (ack_message ioc []) ∷ [])) c.raise.ensures.notes c.raise.ensures.swaps
     (raise-cost here m c.requires.asked c.requires.inside ioc signal c.requires.up))

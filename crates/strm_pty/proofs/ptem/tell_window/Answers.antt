@@ -3,7 +3,7 @@ use Rattle.std.proofs.Common.{[], ◌∷◌, subst}
 use Rattle.strm_types.specs.declared.names.Way.TheVariants.{Up}
 use Rattle.strm_types.specs.Acks.{ack_message}
 use Rattle.strm_types.specs.Ldterms.{onward}
-use Rattle.strm_types.specs.Ptems.{ptem_cost}
+use Rattle.strm_types.specs.Costs.{cost}
 use Rattle.strm_types.specs.Winsizes.{winsize_bytes}
 use Rattle.strm_frame.specs.Outboxes.{message_in, sent_of}
 use Rattle.strm_pty.specs.Does.{Swaps}
@@ -20,6 +20,6 @@ returns g c =
     let here = c.args.here in
     let m = message_in s i in
     let x = c.args.ptem.now in
-    swaps-answers name s t x i 1 (ptem_cost here m) c.ack.result (onward Up here (ack_message c.args.ioc (winsize_bytes x.window)) ∷ []) c.ack.ensures.notes
+    swaps-answers name s t x i 1 (cost here m) c.ack.result (onward Up here (ack_message c.args.ioc (winsize_bytes x.window)) ∷ []) c.ack.ensures.notes
     (subst (λ xs. Swaps name s t i 1 (sent_of c.ack.result.sent) (onward Up here (ack_message c.args.ioc xs) ∷ [])) c.bytes-bytes.ensures.bytes c.ack.ensures.swaps)
-    (ack-cost here m c.requires.asked c.requires.inside c.args.ioc (winsize_bytes x.window) c.requires.down)
+    (ack-cost here m c.requires.asked c.requires.inside c.args.ioc (winsize_bytes x.window) c.requires.down c.requires.small)

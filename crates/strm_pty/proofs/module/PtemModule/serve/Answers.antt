@@ -1,5 +1,5 @@
 -- Nothing is done.
-use Rattle.strm_types.specs.Ptems.{ptem_cost}
+use Rattle.strm_types.specs.Costs.{cost}
 use Rattle.strm_types.specs.Puts.{far}
 use Rattle.strm_frame.proofs.Handing.{still-hands, none-hands, none-chains, none-lower, no-parts}
 use Rattle.strm_frame.proofs.ToySteps.{no-room}
@@ -20,4 +20,4 @@ returns-clause-hands g c =
     none-hands g.B.Blocks.name s s (λ _. 0) (λ _. 0) (λ _. 0) _ c.none.ensures (still-hands s (λ _. 0))
 
 pub returns-clause-room : goal.returns-clause-room
-returns-clause-room g c = no-room g.B.Blocks.name (g.B.Blocks.value c.args._store.now) ptem_cost 0 _ c.none.ensures
+returns-clause-room g c = no-room g.B.Blocks.name (g.B.Blocks.value c.args._store.now) cost 0 _ c.none.ensures
