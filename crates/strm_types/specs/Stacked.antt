@@ -1,6 +1,6 @@
 -- What a module is to the stream on which it stands: its name, its queues, its unfinished line, and what it does (streamio(7I): I_PUSH;
 -- STREAMS Programming Guide, "Modules"). There are two kinds of modules: ldterm has two queues, and ptem has none.
-use Rattle.std.specs.Prelude.{ℕ, ◌≡◌, Bool, true, false, List, [], ◌∷◌, sum_by, flat_map, Option, None, Some}
+use Rattle.std.specs.Prelude.{ℕ, Bool, true, false, List, [], ◌∷◌, sum_by, flat_map, Option, None, Some}
 use Rattle.strm_types.specs.declared.names.ModuleName.{ModuleName}
 use Rattle.strm_types.specs.declared.names.ModuleName.TheVariants as names
 use Rattle.strm_types.specs.declared.names.Way.{Way}
@@ -11,10 +11,11 @@ use Rattle.strm_types.specs.Asking.{ldterm_asks}
 use Rattle.strm_types.specs.Cells.{Cells}
 use Rattle.strm_types.specs.Deliver.{Acted}
 use Rattle.strm_types.specs.LdtermOrigins.{map_ldterm}
+use Rattle.strm_types.specs.LdtermPuts.{ldterm_puts}
 use Rattle.strm_types.specs.LdtermServes.{ldterm_serves}
 use Rattle.strm_types.specs.LdtermTurns.{ldterm_rests}
 use Rattle.strm_types.specs.LdtermWeights.{ldterm_weight}
-use Rattle.strm_types.specs.Ldterms.{Ldterm, IsIdle, queue_at, with_queue_at, without_line, ldterm_puts}
+use Rattle.strm_types.specs.Ldterms.{Ldterm, IsIdle, queue_at, with_queue_at, without_line}
 use Rattle.strm_types.specs.Message.{Message}
 use Rattle.strm_types.specs.Ptems.{Ptem, ptem_puts}
 use Rattle.strm_types.specs.Queue.{Queue}
