@@ -7,7 +7,7 @@ use Rattle.strm_types.specs.Pushes.{may_stand, mode_put, named_by, with_modules}
 use Rattle.strm_types.specs.State.{State, stream}
 use Rattle.strm_pair.specs.declared.streams.Streams.{Streams}
 use Rattle.strm_pair.specs.Pairs.{state_in, AreHeld}
-use Rattle.strm_pair.proofs.LdtermPushed.{new-named}
+use Rattle.strm_pair.proofs.ModulePushed.{new-named}
 use Rattle.strm_pair.proofs.Modes.{driver_comes, modules-stay, pushed-is}
 use Rattle.strm_pair.proofs.streams.Streams.push.Goals as goal
 
