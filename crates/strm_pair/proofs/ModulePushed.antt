@@ -2,13 +2,15 @@
 use Rattle.std.proofs.Common.{ℕ, zero, suc, ◌≡◌, ◌≤◌, ◌<◌, ◌+◌, Bool, true, false, List, [], ◌∷◌, map, refl, sym, ap, subst, ◌∙◌, arith}
 use Rattle.std.proofs.lemmas.List.Sums.{sum_by-cons}
 use Rattle.std.specs.List.{AllByRecursion}
-use Rattle.std.specs.Prelude.{Option, None, Some, IfSome, Result, Ok, Err, MatchResult, ◌&&◌, ◌||◌, not, nat_lt, length}
+use Rattle.std.specs.Prelude.{Option, Some, IfSome, Result, Ok, Err, MatchResult, ◌&&◌, ◌||◌, not, nat_lt, length}
 use Rattle.strm_types.specs.declared.limits.TheConstants.{MODULES}
 use Rattle.strm_types.specs.declared.names.ModuleName.{ModuleName}
 use Rattle.strm_types.specs.declared.names.ModuleName.TheVariants as names
+use Rattle.strm_types.specs.Ldterms.{new_ldterm}
 use Rattle.strm_types.specs.Modules.{may_push, stands}
+use Rattle.strm_types.specs.Ptems.{new_ptem}
 use Rattle.strm_types.specs.Pushes.{may_stand, named_by}
-use Rattle.strm_types.specs.Stacked.{Module, module_name}
+use Rattle.strm_types.specs.Stacked.{Module, OfLdterm, OfPtem, module_name}
 use Rattle.strm_blocks.specs.Blocks.{StoreValue, list_at}
 use Rattle.strm_frame.specs.Stacks.{all_of, AreHeld}
 use Rattle.strm_frame.specs.declared.stack.Stream.{Stream}
@@ -16,11 +18,13 @@ use Rattle.strm_pair.specs.declared.modules.AnyModule.{AnyModule}
 use Rattle.strm_pair.specs.declared.modules.AnyModule.TheVariants as kinds
 use Rattle.strm_pair.specs.AnyModules.{IsHeld, IsMade, keeps, module_in, owns}
 
--- pckt isn't built
-pub none-made : (kind : ModuleName) (ms : List (Module ℕ)) → named_by {C = ℕ} (Some kind) ≡ None → may_stand (named_by (Some kind)) ms ≡ true → ⊥
-none-made kind ms none may = absurd (let no = ap (λ o. may_stand o ms) (sym none) ∙ may in cc)
+-- the module that a name makes, where it may stand
+pub made-named : (kind : ModuleName) (ms : List (Module ℕ)) → may_stand (named_by (Some kind)) ms ≡ true → (p : Module ℕ) × (named_by (Some kind) ≡ Some p)
+made-named names.Ldterm ms may = (OfLdterm new_ldterm, refl)
+made-named names.Ptem ms may = (OfPtem new_ptem, refl)
+made-named names.Pckt ms may = absurd (cc)
 
--- what fails of two tests that both hold
+-- of two tests that both hold the second does, and where neither of two does the second doesn't
 second-holds : (a b : Bool) → (a && b) ≡ true → b ≡ true
 second-holds true b is = is
 second-holds false b is = absurd (cc)

@@ -289,8 +289,10 @@ impl Stacks for TableStore {
     }
 
     fn place(stack: &Stream<AnyModule<InHand>>, at: usize) -> Option<Place> {
-        let module = &stack.modules[at - 1];
-        Module::<TableStore>::name(module).place()
+        match stack.modules.as_slice().get(at - 1) {
+            Some(module) => Module::<TableStore>::name(module).place(),
+            None => None,
+        }
     }
 
     fn place_before(stack: &Stream<AnyModule<InHand>>, way: Way, at: usize) -> Option<usize> {
