@@ -1,7 +1,6 @@
 pub mod Handing
 pub mod Shifting
 pub mod Turns
-pub mod WhoseTurn
 pub mod Beside
 pub mod Nearest
 pub mod Emptiness

@@ -26,7 +26,9 @@ pub mod Gathered
 pub mod Returning
 pub mod Proceeding
 pub mod Finished
+pub mod OutWhole
 pub mod Passed
+pub mod Rebanded
 pub mod Skipped
 pub mod Begun
 pub mod Signals
@@ -44,3 +46,4 @@ pub mod Spending
 pub mod Spared
 pub mod Pouring
 pub mod Poured
+pub mod Outgone

@@ -1,6 +1,6 @@
 -- What ldterm sends goes to the places next to its own: one message of a put, and up to three of a call of its service procedure.
-use Rattle.std.proofs.Common.{ℕ, zero, suc, ◌≡◌, ◌+◌, ◌-◌, ◌*◌, Bool, true, false, cond, List, [], ◌∷◌, ◌++◌, refl, sym, subst}
-use Rattle.std.specs.Prelude.{not, ◌&&◌, length, Option, Some, unwrap_or}
+use Rattle.std.proofs.Common.{ℕ, zero, suc, ◌≡◌, ◌+◌, ◌-◌, ◌*◌, Bool, true, false, cond, List, [], ◌∷◌, ◌++◌, map, refl, sym, subst}
+use Rattle.std.specs.Prelude.{not, ◌&&◌, length, take, Option, None, Some, unwrap_or}
 use Rattle.strm_types.specs.declared.flushing.FlushAsked.{FlushAsked}
 use Rattle.strm_types.specs.declared.keys.Key.{Key}
 use Rattle.strm_types.specs.declared.keys.Key.TheVariants.{Stop, Start, Intr, Quit, Susp, Ignored, Eof, Erase, Kill, Werase, Reprint, Lnext, Delimiter, Ordinary}
@@ -12,14 +12,17 @@ use Rattle.strm_types.specs.declared.spots.Spot.{Spot}
 use Rattle.strm_types.specs.Cells.{Cells, cells_made, plain}
 use Rattle.strm_types.specs.Deliver.{Acted, Parcel}
 use Rattle.strm_types.specs.Flushing.{asked_by, is_flush, flush_bytes, flush_message}
-use Rattle.strm_types.specs.Input.{begins_next, cells_left, input_begins, is_data, ldterm_serves, made_of, next_stage, output_passes, passes, stage_at, stages, stages_done, then_on, to_treat, treats, with_left}
+use Rattle.strm_types.specs.Input.{begins_next, cells_left, input_begins, is_data, made_of, next_stage, passes, stage_at, stages, stages_done, then_on, to_treat, treats, with_left}
 use Rattle.strm_types.specs.Keys.{restarts}
+use Rattle.strm_types.specs.LdtermServes.{ldterm_serves}
 use Rattle.strm_types.specs.Ldterms.{Ldterm, Stage, Between, Begun, Answered, both, flush_passes, ldterm_puts, onward, queue_flushed, queued_at, sends, takes_band_0, waits_there, without_line}
 use Rattle.strm_types.specs.Lines.{Types, edited, has_room}
 use Rattle.strm_types.specs.Message.{Message, cells_of, data_message}
+use Rattle.strm_types.specs.Output.{posts}
+use Rattle.strm_types.specs.OutputTurns.{output_dir, output_serves, posted, unchanged, with_given}
 use Rattle.strm_types.specs.Queue.{is_full, is_none_left, left_with}
 use Rattle.strm_types.specs.Service.{Serving, line_gone}
-use Rattle.strm_types.specs.Termios.{icanon, imaxbel, noflsh}
+use Rattle.strm_types.specs.Termios.{icanon, imaxbel, noflsh, opost}
 use Rattle.strm_types.specs.Typing.{added, bare, begins, both_ways, dropped, echo_dir, echoed, echo_grows, echo_lost, echo_stands, gathered_up, is_blank_cell, is_lnext, lost, sigint, signals, sigquit, sigtstp, stroke_at, strikes, struck, up_alone}
 use Rattle.strm_types.proofs.CostsBounded.{is_quiet}
 use Rattle.strm_ldterm.proofs.Turned.{again-serves, down-serves, first-serves}
@@ -193,9 +196,18 @@ module _ {C : Type 0} (cells : Cells C) (here : Spot) (P : ℕ → List (Parcel 
       at true = treats-send bytes made begun
       at false = whole Up m
 
-  output-sends : (whole : (way : Way) (m : Message C) → P 3 (onward way here m ∷ [])) (ms : List (Message C)) (p : Ldterm C) → P 3 (output_passes cells here ms p).acted.sent
-  output-sends whole [] p = none 3
-  output-sends whole (m ∷ rest) p = whole Down m
+  given-sends : (whole : (way : Way) (m : Message C) → P 3 (onward way here m ∷ [])) (given : List C) (m : Message C) → P 3 (map (onward Down here) (with_given given m))
+  given-sends whole [] m = none 3
+  given-sends whole (c ∷ given) m = whole Down (record m { control = None; body = Some (c ∷ given) })
+
+  output-sends : (whole : (way : Way) (m : Message C) → P 3 (onward way here m ∷ [])) (made : ℕ) (stop : Option ℕ) (ms : List (Message C)) (p : Ldterm C) → P 3 (output_serves cells here stop made ms p).acted.sent
+  output-sends whole made stop [] p = none 3
+  output-sends whole made stop (m ∷ rest) p = at (is_data m.kind && opost p.termios) (cells_of m)
+    where
+      at : (output : Bool) (xs : List C) → P 3 (map (onward Down here) (cond output (posted cells here stop made xs m p) (unchanged m p)).messages)
+      at false xs = whole Down m
+      at true [] = whole Down m
+      at true (c ∷ rest) = given-sends whole (posts cells (output_dir cells here) made p.termios p.column (take (unwrap_or stop (length (c ∷ rest))) (c ∷ rest))).given m
 
 -- a call of the service procedure on plain bytes
 pub serves-send : (here : Spot) (P : ℕ → List (Parcel ℕ) → Type 0) → ((n : ℕ) → P n []) → ((way : Way) (m : Message ℕ) (n : ℕ) (ps : List (Parcel ℕ)) → P n ps → P (suc n) (onward way here m ∷ ps))
@@ -212,6 +224,6 @@ serves-send here P none more again stop p = at here.way again refl refl
     to v is sends = subst (λ (w : Serving ℕ (Ldterm ℕ)). P 3 w.acted.sent) (sym is) sends
 
     at : (way : Way) (more_calls : Bool) → here.way ≡ way → again ≡ more_calls → P 3 (ldterm_serves plain here 0 again stop p).acted.sent
-    at Down calls is same = to _ (down-serves here again stop p is) (output-sends plain here P none quiet whole p.write_queue.messages p)
+    at Down calls is same = to _ (down-serves here again stop p is) (output-sends plain here P none quiet whole 0 stop p.write_queue.messages p)
     at Up false is same = to _ (first-serves here again stop p is same) (input-sends plain here P none quiet whole stop 0 p.read_queue.messages p)
     at Up true is same = to _ (again-serves here again stop p is same) (treats-send plain here P none quiet (unwrap_or stop (to_treat p)) 0 p)

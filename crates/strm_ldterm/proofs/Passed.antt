@@ -1,6 +1,8 @@
 -- The first message of a queue is taken into the hand, where the module keeps none there.
 use Rattle.std.proofs.Common.{ℕ, ◌≡◌, ◌<◌, ◌+◌, eqb, Bool, true, false, cond, List, [], ◌∷◌, ◌++◌, length, map, refl, sym, ap, subst, ◌∙◌, arith}
-use Rattle.std.specs.Prelude.{Option, None, Some, unwrap_or}
+use Rattle.std.specs.Prelude.{◌&&◌, Option, None, Some, nat_lt, not, unwrap_or}
+use Rattle.std.proofs.lemmas.Bool.{false≢true}
+use Rattle.std.proofs.lemmas.Bool.Decides.{nat_tests}
 use Rattle.std.proofs.lemmas.List.Sums.{sum_by-cons}
 use Rattle.strm_types.specs.declared.kinds.MsgKind.{MsgKind}
 use Rattle.strm_types.specs.declared.kinds.MsgKind.TheVariants as kinds
@@ -9,18 +11,20 @@ use Rattle.strm_types.specs.declared.rules.Fates.{Fates}
 use Rattle.strm_types.specs.declared.spots.Spot.{Spot}
 use Rattle.strm_types.specs.Cells as cells
 use Rattle.strm_types.specs.Deliver.{toward}
-use Rattle.strm_types.specs.Input.{is_data, input_begins, output_passes, passes, treats, nothing_served}
+use Rattle.strm_types.specs.Input.{is_data, input_begins, passes, treats, nothing_served}
 use Rattle.strm_types.specs.Ldterms as ldterms
 use Rattle.strm_types.specs.Ldterms.{sends}
 use Rattle.strm_types.specs.Message.{Message, cells_of, size_of}
+use Rattle.strm_types.specs.OutputTurns.{output_serves}
 use Rattle.strm_types.specs.Queue as plain
-use Rattle.strm_types.specs.Queue.{left_with}
+use Rattle.strm_types.specs.Queue.{is_none_left, left_with}
 use Rattle.strm_types.specs.Service.{Serving}
+use Rattle.strm_types.specs.Termios.{opost}
 use Rattle.strm_blocks.specs.Blocks.{Block, Held, StoreValue, IsStore, in_hand, list_at, block_at, held, times_in, chain_in}
 use Rattle.strm_blocks.proofs.Laws.{in_hand-held_other}
 use Rattle.strm_msg.specs.Bytes.{data_bytes}
 use Rattle.strm_msg.specs.Messages.{message_of, IsChain}
-use Rattle.strm_msg.proofs.Chains.{kind-is, data-shown, data_in-cells, data_in-size}
+use Rattle.strm_msg.proofs.Chains.{kind-is, data_in, data-shown, data_in-cells, data_in-size}
 use Rattle.strm_queue.specs.declared.queue.Queue.{Queue}
 use Rattle.strm_queue.specs.Stored.{messages_on, Dequeued}
 use Rattle.strm_frame.specs.declared.parcels.Sent.{Sent}
@@ -29,9 +33,12 @@ use Rattle.strm_frame.specs.Outboxes.{message_in, times_sent, parcels_in, AreCha
 use Rattle.strm_frame.proofs.Handing.{once-self, once-apart, one-parts, one-chains, no-parts, none-chains}
 use Rattle.strm_ldterm.specs.declared.ldterm.Ldterm.{Ldterm}
 use Rattle.strm_ldterm.specs.Stands.{ldterm_in, owns, times_kept, keeps, IsHeld, with_last}
+use Rattle.strm_ldterm.specs.Bounds.{goes_out}
 use Rattle.strm_ldterm.specs.Does.{Proceeds}
 use Rattle.strm_ldterm.specs.Frames.{form-same, list-ready}
 use Rattle.strm_ldterm.specs.Began.{BeganWhole, BeganWork}
+use Rattle.strm_ldterm.specs.Outgone.{BeganOutput, PassedDown, output_of}
+use Rattle.strm_ldterm.proofs.OutWhole.{goes-whole}
 
 -- what stands on an empty list
 pub none-there : (chains : List (List Block)) → plain.is_none_left chains ≡ true → map message_of chains ≡ []
@@ -94,17 +101,17 @@ module _ {M : Type 0} (name : M → ℕ) where
 
   -- nothing stands there
   module _ (s : StoreValue) (x : Ldterm M) (rests : (i : ℕ) → keeps name x i ≡ 0) (here : Spot) where
-    down-none : messages_on s x.write_queue.list ≡ [] → output_passes cells.plain here (ldterm_in name s x).write_queue.messages (ldterm_in name s x) ≡ nothing_served cells.plain here (ldterm_in name s x)
-    down-none none =
-        subst (λ (y : Ldterm M). output_passes cells.plain here (ldterm_in name s y).write_queue.messages (ldterm_in name s y) ≡ nothing_served cells.plain here (ldterm_in name s y)) (sym (rests-is x rests))
-        (ap (λ (ms : List (Message ℕ)). output_passes cells.plain here (ms ++ []) (ldterm_in name s (at_rest x))) none)
+    down-none : (stop : Option ℕ) → messages_on s x.write_queue.list ≡ [] → output_of name s s here x x stop ≡ nothing_served cells.plain here (ldterm_in name s x)
+    down-none stop none =
+        subst (λ (y : Ldterm M). output_of name s s here y y stop ≡ nothing_served cells.plain here (ldterm_in name s y)) (sym (rests-is x rests))
+        (ap (λ (ms : List (Message ℕ)). output_serves cells.plain here stop 0 (ms ++ []) (ldterm_in name s (at_rest x))) none)
 
-    pub down-bytes : messages_on s x.write_queue.list ≡ [] → 0 ≡ (output_passes cells.plain here (ldterm_in name s x).write_queue.messages (ldterm_in name s x)).bytes
-    down-bytes none = sym (ap (λ (v : Serving ℕ (ldterms.Ldterm ℕ)). v.bytes) (down-none none))
-
-    pub stays-down : (sent : List (Sent M)) (f : Fates) → IsHeld name s x → messages_on s x.write_queue.list ≡ [] → sent ≡ []
-        → Proceeds name s s x x 0 [] sent f f (output_passes cells.plain here (ldterm_in name s x).write_queue.messages (ldterm_in name s x)).acted
-    stays-down sent f held none empty = subst (λ (v : Serving ℕ (ldterms.Ldterm ℕ)). Proceeds name s s x x 0 [] sent f f v.acted) (sym (down-none none)) (stays s x sent f held empty)
+    pub stays-down : (sent : List (Sent M)) → IsHeld name s x → messages_on s x.write_queue.list ≡ [] → sent ≡ [] → PassedDown name s s here x x sent 0
+    stays-down sent held none empty = record {
+      passes = λ stop f. subst (λ (v : Serving ℕ (ldterms.Ldterm ℕ)). Proceeds name s s x x 0 [] sent f f v.acted) (sym (down-none stop none)) (stays s x sent f held empty);
+      size = λ stop. sym (ap (λ (v : Serving ℕ (ldterms.Ldterm ℕ)). v.bytes) (down-none stop none));
+      again = λ stop. ap (λ (v : Serving ℕ (ldterms.Ldterm ℕ)). v.again) (down-none stop none);
+    }
 
   pub stays-up : (s : StoreValue) (here : Spot) (x : Ldterm M) → IsHeld name s x → messages_on s x.read_queue.list ≡ [] → BeganWhole name s s here x x [] 0
   stays-up s here x held none =
@@ -116,7 +123,7 @@ module _ {M : Type 0} (name : M → ℕ) where
       }
 
   -- off the write queue
-  module _ (s t : StoreValue) (x : Ldterm M) (q' : Queue) (z : Sent M) (held : IsHeld name s (at_rest x)) (is : Dequeued s t x.write_queue q' (name z.message)) where
+  module _ (s t : StoreValue) (x : Ldterm M) (q' : Queue) (m : M) (held : IsHeld name s (at_rest x)) (is : Dequeued s t x.write_queue q' (name m)) where
     reads-stay : list_at t x.read_queue.list ≡ list_at s x.read_queue.list
     reads-stay = is.others x.read_queue.list (λ e. let a = held.apart in absurd (omega arith))
 
@@ -126,13 +133,20 @@ module _ {M : Type 0} (name : M → ℕ) where
         form-same name (record (at_rest x) { write_queue = q' }) _ _ (list_at t q'.list) (list_at t q'.list) None None None None None None reads-stay refl refl refl refl
         ∙ ap (λ (q : plain.Queue ℕ). record (ldterm_in name s (at_rest x)) { write_queue = with_last None q }) is.queue
 
-    down-proceeds : (here : Spot) (sent : List (Sent M)) (f : Fates) → sent ≡ z ∷ [] → z.to ≡ toward Down here
-        → Proceeds name s t (at_rest x) (record (at_rest x) { write_queue = q' }) 0 [] sent f f (passes cells.plain here Down (message_in t (name z.message)) (messages_on t q'.list ++ []) (ldterm_in name s (at_rest x))).acted
+    down-own : OnlyOwn s t (owns x) (owns (record x { write_queue = q' }))
+    down-own = record {
+      lists = λ k none. is.others k (λ e. once-apart x.write_queue.list k (omega arith) (sym e));
+      owns_same = λ k. ap (λ l. once x.read_queue.list k + once l k) is.list;
+    }
+
+    -- and sent on
+    down-proceeds : (to : Spot) (here : Spot) (sent : List (Sent M)) (f : Fates) → sent ≡ record { to = to; message = m } ∷ [] → to ≡ toward Down here
+        → Proceeds name s t (at_rest x) (record (at_rest x) { write_queue = q' }) 0 [] sent f f (passes cells.plain here Down (message_in t (name m)) (messages_on t q'.list ++ []) (ldterm_in name s (at_rest x))).acted
     unfolding times_kept times_sent
-    down-proceeds here sent f one to = record {
+    down-proceeds to here sent f one there = record {
       state = down-plain;
       noted = refl;
-      parcels = one-parts name t z sent one ∙ ap (λ (spot : Spot). record { to = spot; message = message_in t (name z.message) } ∷ []) to;
+      parcels = one-parts name t (record { to = to; message = m }) sent one ∙ ap (λ (spot : Spot). record { to = spot; message = message_in t (name m) } ∷ []) there;
       told = refl;
       held = record {
         read = list-ready s t x.read_queue reads-stay held.read;
@@ -143,32 +157,82 @@ module _ {M : Type 0} (name : M → ℕ) where
         echoes = tt;
         once_each = held.once_each;
       };
-      own = record {
-        lists = λ k none. is.others k (λ e. once-apart x.write_queue.list k (omega arith) (sym e));
-        owns_same = λ k. ap (λ l. once x.read_queue.list k + once l k) is.list;
-      };
-      chains = one-chains name t z sent one is.chain;
+      own = record { lists = down-own.lists; owns_same = down-own.owns_same };
+      chains = one-chains name t (record { to = to; message = m }) sent one is.chain;
       hands = record {
-        counts = λ j. let c = taken-comes s t x.write_queue q' (name z.message) is j in let e = ap (times_sent name j) one in omega arith;
-        others = λ j gone kept some. taken-stays s t x.write_queue q' (name z.message) is j some;
+        counts = λ j. let c = taken-comes s t x.write_queue q' (name m) is j in let e = ap (times_sent name j) one in omega arith;
+        others = λ j gone kept some. taken-stays s t x.write_queue q' (name m) is j some;
       };
       mblks = (let a = is.frees.mblks in omega arith);
       dblks = (let a = is.frees.dblks in omega arith);
       pool = record { mblks = is.mblks; dblks = is.dblks };
     }
 
-    down-is : (here : Spot) → let p = ldterm_in name s (at_rest x) in
-        output_passes cells.plain here p.write_queue.messages p ≡ passes cells.plain here Down (message_in t (name z.message)) (messages_on t q'.list ++ []) p
-    down-is here = ap (λ (ms : List (Message ℕ)). output_passes cells.plain here (ms ++ []) (ldterm_in name s (at_rest x))) is.first
+    -- or kept in work
+    down-kept : (f : Fates) → IsStore t → (block_at 0 (in_hand t (name m))).kind ≡ kinds.Data
+        → Proceeds name s t (at_rest x) (record (at_rest x) { write_queue = q'; in_work = Some m }) 0 [] [] f f
+        (sends [] (record (ldterm_in name s (at_rest x)) { write_queue = left_with (messages_on t q'.list ++ []) (ldterm_in name s (at_rest x)).write_queue; in_work = Some (message_in t (name m)) }))
+    unfolding times_kept times_sent parcels_in AreChains
+    down-kept f st kind = record {
+      state = ap (λ (p : ldterms.Ldterm ℕ). record p { in_work = Some (message_in t (name m)) }) down-plain;
+      noted = refl;
+      parcels = refl;
+      told = refl;
+      held = record {
+        read = list-ready s t x.read_queue reads-stay held.read;
+        write = is.ready;
+        apart = (let a = held.apart in let e = is.list in omega arith);
+        work = record { chain = is.chain; kind = kind };
+        gathers = tt;
+        echoes = tt;
+        once_each = λ j. let c = taken-comes s t x.write_queue q' (name m) is j in let few = st.apart j in omega arith;
+      };
+      own = record { lists = down-own.lists; owns_same = down-own.owns_same };
+      chains = tt;
+      hands = record {
+        counts = λ j. let c = taken-comes s t x.write_queue q' (name m) is j in omega arith;
+        others = λ j gone kept some. taken-stays s t x.write_queue q' (name m) is j some;
+      };
+      mblks = (let a = is.frees.mblks in omega arith);
+      dblks = (let a = is.frees.dblks in omega arith);
+      pool = record { mblks = is.mblks; dblks = is.dblks };
+    }
 
-  pub passes-down : (s t : StoreValue) (x : Ldterm M) (q' : Queue) (z : Sent M) (here : Spot) (sent : List (Sent M)) (f : Fates) → IsHeld name s x → ((i : ℕ) → keeps name x i ≡ 0) → Dequeued s t x.write_queue q' (name z.message)
-      → sent ≡ z ∷ [] → z.to ≡ toward Down here → Proceeds name s t x (record x { write_queue = q' }) 0 [] sent f f (output_passes cells.plain here (ldterm_in name s x).write_queue.messages (ldterm_in name s x)).acted
-  passes-down s t x q' z here sent f held rests is one to =
-      let quiet = rests-is x rests in
-      let there : IsHeld name s (at_rest x) = subst (IsHeld name s) quiet held in
-      subst (λ (y : Ldterm M). Proceeds name s t y (record y { write_queue = q' }) 0 [] sent f f (output_passes cells.plain here (ldterm_in name s y).write_queue.messages (ldterm_in name s y)).acted) (sym quiet)
-      (subst (λ (v : Serving ℕ (ldterms.Ldterm ℕ)). Proceeds name s t (at_rest x) (record (at_rest x) { write_queue = q' }) 0 [] sent f f v.acted) (sym (down-is s t x q' z there is here))
-      (down-proceeds s t x q' z there is here sent f one to))
+    down-is : (here : Spot) (stop : Option ℕ) → goes_out x.termios (message_in t (name m)) ≡ false → let p = ldterm_in name s (at_rest x) in
+        output_serves cells.plain here stop 0 p.write_queue.messages p ≡ passes cells.plain here Down (message_in t (name m)) (messages_on t q'.list ++ []) p
+    down-is here stop whole =
+        let p = ldterm_in name s (at_rest x) in
+        ap (λ (ms : List (Message ℕ)). output_serves cells.plain here stop 0 (ms ++ []) p) is.first ∙ goes-whole here stop (message_in t (name m)) (messages_on t q'.list ++ []) p whole
+
+    down-whole : (to : Spot) (here : Spot) (sent : List (Sent M)) (bytes : ℕ) → sent ≡ record { to = to; message = m } ∷ [] → to ≡ toward Down here → goes_out x.termios (message_in t (name m)) ≡ false
+        → bytes ≡ size_of (message_in t (name m)) → PassedDown name s t here (at_rest x) (record (at_rest x) { write_queue = q' }) sent bytes
+    down-whole to here sent bytes one there whole size = record {
+      passes = λ stop f.
+          subst (λ (v : Serving ℕ (ldterms.Ldterm ℕ)). Proceeds name s t (at_rest x) (record (at_rest x) { write_queue = q' }) 0 [] sent f f v.acted) (sym (down-is here stop whole))
+          (down-proceeds to here sent f one there);
+      size = λ stop. size ∙ sym (ap (λ (v : Serving ℕ (ldterms.Ldterm ℕ)). v.bytes) (down-is here stop whole));
+      again = λ stop. ap (λ (v : Serving ℕ (ldterms.Ldterm ℕ)). v.again) (down-is here stop whole);
+    }
+
+    down-work : (here : Spot) (bytes band : ℕ) → IsStore t → (block_at 0 (in_hand t (name m))).kind ≡ kinds.Data → opost x.termios ≡ true → 0 < bytes → bytes ≡ length (cells_of (message_in t (name m)))
+        → band ≡ (block_at 0 (in_hand t (name m))).band → BeganOutput name s t here (at_rest x) (record (at_rest x) { write_queue = q'; in_work = Some m }) bytes band
+    down-work here bytes band st kind output some size banded = record {
+      message = message_in t (name m);
+      rest = messages_on t q'.list ++ [];
+      first = ap (λ (ms : List (Message ℕ)). ms ++ []) is.first;
+      is =
+          let chain = in_hand t (name m) in
+          let shown = data-shown chain is.chain.some kind ∙ ap (λ b. data_in b (data_bytes chain)) (sym banded) in
+          shown ∙ ap (data_in band) (sym (ap cells_of shown ∙ data_in-cells band (data_bytes chain)));
+      output = output;
+      some = some;
+      size = size;
+      low = (let l = is.chain.low in omega (arith, banded));
+      idle = refl;
+      none = refl;
+      quiet = refl;
+      works = λ f. down-kept f st kind;
+    }
 
   -- off the read queue
   module _ (s t : StoreValue) (x : Ldterm M) (q' : Queue) (m : M) (held : IsHeld name s (at_rest x)) (is : Dequeued s t x.read_queue q' (name m)) where
@@ -311,3 +375,43 @@ module _ {M : Type 0} (name : M → ℕ) where
         let of_data = data-only (block_at 0 (in_hand t (name m))).kind kind in
         subst (λ (y : Ldterm M). BeganWork name s t here y (record y { read_queue = q'; in_work = Some m }) bytes) (sym quiet)
         (work-rest s t x q' m (subst (IsHeld name s) quiet held) is here bytes st of_data (kind-same ∙ kind) (size ∙ data-size (in_hand t (name m)) is.chain of_data))
+
+  -- whether a message goes out
+  out-test : (treated output : Bool) (xs : List ℕ) (n : ℕ) → (treated ≡ true → n ≡ length xs) → (treated && (output && nat_lt 0 n)) ≡ (treated && (output && not (is_none_left xs)))
+  out-test false output xs n is = refl
+  out-test true false xs n is = refl
+  out-test true true [] n is = ap (nat_lt 0) (is refl)
+  out-test true true (x ∷ xs) n is = let size = is refl in grind (arith, nat_tests)
+
+  both-true : (a b c : Bool) → (a && (b && c)) ≡ true → (a ≡ true) × (b ≡ true) × (c ≡ true)
+  both-true true true true is = (refl, refl, refl)
+  both-true true true false is = absurd (false≢true is)
+  both-true true false c is = absurd (false≢true is)
+  both-true false b c is = absurd (false≢true is)
+
+  module _ (s t : StoreValue) (x : Ldterm M) (q' : Queue) (m : M) (here : Spot) (held : IsHeld name s x) (rests : (i : ℕ) → keeps name x i ≡ 0) (is : Dequeued s t x.write_queue q' (name m)) (bytes : ℕ)
+      (size : bytes ≡ size_of (message_in t (name m))) where
+    abbrev kind : MsgKind
+    kind = (block_at 0 (in_hand t (name m))).kind
+
+    tested : (is_data kind && (opost x.termios && nat_lt 0 bytes)) ≡ goes_out x.termios (message_in t (name m))
+    tested =
+        out-test (is_data kind) (opost x.termios) (cells_of (message_in t (name m))) bytes (λ treated. size ∙ data-size (in_hand t (name m)) is.chain (data-only kind treated))
+        ∙ ap (λ k. is_data k && (opost x.termios && not (is_none_left (cells_of (message_in t (name m)))))) (sym (kind-is (in_hand t (name m))))
+
+    pub passed-down : (to : Spot) (sent : List (Sent M)) → sent ≡ record { to = to; message = m } ∷ [] → to ≡ toward Down here → (is_data kind && (opost x.termios && nat_lt 0 bytes)) ≡ false
+        → PassedDown name s t here x (record x { write_queue = q' }) sent bytes
+    passed-down to sent one there whole =
+        let quiet = rests-is x rests in
+        subst (λ (y : Ldterm M). PassedDown name s t here y (record y { write_queue = q' }) sent bytes) (sym quiet)
+        (down-whole s t x q' m (subst (IsHeld name s) quiet held) is to here sent bytes one there (sym tested ∙ whole) size)
+
+    pub began-output : (band : ℕ) → IsStore t → band ≡ (block_at 0 (in_hand t (name m))).band → (is_data kind && (opost x.termios && nat_lt 0 bytes)) ≡ true
+        → BeganOutput name s t here x (record x { write_queue = q'; in_work = Some m }) bytes band
+    began-output band st banded out =
+        let quiet = rests-is x rests in
+        let all = both-true (is_data kind) (opost x.termios) (nat_lt 0 bytes) out in
+        let of_data = data-only kind all.0 in
+        let some : 0 < bytes = (let z = all.2 in grind (arith, nat_tests)) in
+        subst (λ (y : Ldterm M). BeganOutput name s t here y (record y { write_queue = q'; in_work = Some m }) bytes band) (sym quiet)
+        (down-work s t x q' m (subst (IsHeld name s) quiet held) is here bytes band st of_data all.1 some (size ∙ data-size (in_hand t (name m)) is.chain of_data) banded)

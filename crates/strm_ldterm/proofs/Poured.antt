@@ -1,5 +1,5 @@
 -- Output on a store: bytes of the message in work that go out, one after the other.
-use Rattle.std.proofs.Common.{ℕ, ◌≡◌, ◌≤◌, ◌<◌, ◌+◌, ◌-◌, true, List, [], ◌∷◌, ◌++◌, length, drop, take, refl, sym, ap, subst, ◌∙◌, arith, append-nil, length-drop}
+use Rattle.std.proofs.Common.{ℕ, ◌≡◌, ◌≤◌, ◌+◌, ◌-◌, true, List, [], ◌∷◌, ◌++◌, length, drop, take, refl, sym, ap, subst, ◌∙◌, arith, append-nil, length-drop}
 use Rattle.std.specs.Prelude.{is_some}
 use Rattle.std.specs.List.{AllByRecursion}
 use Rattle.std.proofs.Math.Seq.{take-append_seam}
@@ -15,15 +15,14 @@ use Rattle.strm_types.specs.Ldterms.{sends}
 use Rattle.strm_types.specs.Output.{Output, post, posts, told_for, wrapped}
 use Rattle.strm_types.specs.OutputTurns.{output_dir}
 use Rattle.strm_blocks.specs.Blocks.{StoreValue, IsStore}
-use Rattle.strm_frame.specs.Hands.{AreIn}
 use Rattle.strm_ldterm.specs.declared.ldterm.Ldterm.{Ldterm}
 use Rattle.strm_ldterm.specs.Called.{all_free}
 use Rattle.strm_ldterm.specs.Does.{Proceeds}
 use Rattle.strm_ldterm.specs.Posting.{bytes_given, is_printed, poured}
-use Rattle.strm_ldterm.specs.Stands.{IsHeld, keeps, ldterm_in}
+use Rattle.strm_ldterm.specs.Stands.{IsHeld, ldterm_in}
 use Rattle.strm_ldterm.specs.Turns.{one_after}
 use Rattle.strm_ldterm.proofs.Calls.{kept-some}
-use Rattle.strm_ldterm.proofs.Joining.{proceeds-joined, stays-so, still-kept}
+use Rattle.strm_ldterm.proofs.Joining.{proceeds-joined, stays-so}
 use Rattle.strm_ldterm.proofs.Pouring.{byte-out, pours-both, pours-left, pours-work, run-out}
 use Rattle.strm_ldterm.proofs.RunsDone.{left-whole}
 

@@ -1,5 +1,9 @@
 -- A message in hand that is put back on a queue, and one that the module kept.
-use Rattle.std.proofs.Common.{ℕ, ◌≡◌, ◌<◌, ◌+◌, List, length, map, refl, sym, ap, subst, ◌∙◌, arith}
+use Rattle.std.proofs.Common.{ℕ, ◌≡◌, ◌<◌, ◌+◌, false, List, ◌++◌, length, map, refl, sym, ap, subst, ◌∙◌, arith, append-nil}
+use Rattle.std.proofs.lemmas.Bool.{false≢true}
+use Rattle.std.specs.Option.{option_to_list}
+use Rattle.std.specs.Prelude.{Option, None, Some, is_some}
+use Rattle.strm_types.specs.Message.{Message}
 use Rattle.strm_types.specs.Queue as plain
 use Rattle.strm_types.specs.Ldterms as ldterms
 use Rattle.strm_types.proofs.Ranked.{sum-put_back}
@@ -19,10 +23,10 @@ use Rattle.strm_frame.specs.Hands.{once, CanPut}
 use Rattle.strm_frame.proofs.Handing.{freed-hands, freed-spends}
 use Rattle.strm_frame.proofs.Shifting.{shifts-joined}
 use Rattle.strm_ldterm.specs.declared.ldterm.Ldterm.{Ldterm}
-use Rattle.strm_ldterm.specs.Stands.{ldterm_in, owns, keeps, IsHeld}
+use Rattle.strm_ldterm.specs.Stands.{ldterm_in, owns, keeps, IsHeld, kept_in, with_last}
 use Rattle.strm_ldterm.specs.Does.{Alters}
 use Rattle.strm_ldterm.specs.Frames.{ldterm-frame}
-use Rattle.strm_ldterm.proofs.Beside.{read-plain, read-held, read-own, without-same}
+use Rattle.strm_ldterm.proofs.Beside.{read-plain, read-held, read-own, write-plain, write-held, write-own, without-same}
 
 -- what a message leaves that is put back
 module _ (s new : StoreValue) (q q' : Queue) (i : ℕ) (within : q.list < length s.lists) (is_in : IsInHand s i)
@@ -65,6 +69,14 @@ module _ (s new : StoreValue) (q q' : Queue) (i : ℕ) (within : q.list < length
       after : StoreValue
       after = placed (dropped s i) q.list (put_back (in_hand s i) (list_at s q.list))
 
+pub none-there : {A : Type 0} (o : Option A) → is_some o ≡ false → o ≡ None
+none-there None is = refl
+none-there (Some x) is = absurd (false≢true (sym is))
+
+-- where no echo stands, the messages of the write queue are those of its list
+pub alone : {M : Type 0} (name : M → ℕ) (s : StoreValue) (x : Ldterm M) → x.echo ≡ None → (ldterm_in name s x).write_queue.messages ≡ messages_on s x.write_queue.list
+alone name s x quiet = ap (λ o. messages_on s x.write_queue.list ++ option_to_list (kept_in name s o)) quiet ∙ append-nil (messages_on s x.write_queue.list)
+
 -- A message that was kept, and is no longer.
 module _ {M : Type 0} (name : M → ℕ) (s : StoreValue) (x y : Ldterm M) (i : ℕ) (st : IsStore s) (held : IsHeld name s y) (can : CanPut s i (keeps name y)) (splits : (j : ℕ) → keeps name x j ≡ once i j + keeps name y j)
     (same : (k : ℕ) → owns y k ≡ owns x k) where
@@ -105,6 +117,32 @@ module _ {M : Type 0} (name : M → ℕ) (s : StoreValue) (x y : Ldterm M) (i : 
         let own = read-own name (dropped s i) t y q' framed.1 changes in
         record {
           held = read-held name (dropped s i) t y q' framed.1 changes;
+          own = record { lists = λ k none. own.lists k (same k ∙ none); owns_same = λ k. own.owns_same k ∙ same k };
+          fewer = λ j. let e = splits j in omega arith;
+          hands = record {
+            counts = λ j. let c = h.counts j in let e = splits j in omega arith;
+            others = λ j gone kept some. let e = splits j in h.others j (omega arith) some;
+          };
+          frees = frees;
+          pool = h.pool;
+        }
+
+  -- or to the write queue, where no echo stands
+  module _ (t : StoreValue) (q' : Queue) (changes : Changes (dropped s i) t y.write_queue q') (frees : FreesBlocks s t) where
+    pub down-plain : (q : plain.Queue ℕ) → y.echo ≡ None → queue_in t q' ≡ q → ldterm_in name t (record y { write_queue = q' }) ≡ record (ldterm_in name s y) { write_queue = q }
+    down-plain q quiet is =
+        let last : with_last (kept_in name (dropped s i) y.echo) (queue_in t q') ≡ queue_in t q' =
+        ap (λ o. with_last (kept_in name (dropped s i) o) (queue_in t q')) quiet ∙ ap (λ (ms : List (Message ℕ)). record (queue_in t q') { messages = ms }) (append-nil (queue_in t q').messages) in
+        write-plain name (dropped s i) t y q' framed.1 changes
+        ∙ ap (λ (p : ldterms.Ldterm ℕ). record p { write_queue = with_last (kept_in name (dropped s i) y.echo) (queue_in t q') }) framed.0
+        ∙ ap (λ (r : plain.Queue ℕ). record (ldterm_in name s y) { write_queue = r }) (last ∙ is)
+
+    pub down-alters : Alters name s t x (record y { write_queue = q' })
+    down-alters =
+        let h = shifts-joined s t i y.write_queue q' st (record { apart = λ j. let a = can.apart j in omega arith }) changes frees in
+        let own = write-own name (dropped s i) t y q' framed.1 changes in
+        record {
+          held = write-held name (dropped s i) t y q' framed.1 changes;
           own = record { lists = λ k none. own.lists k (same k ∙ none); owns_same = λ k. own.owns_same k ∙ same k };
           fewer = λ j. let e = splits j in omega arith;
           hands = record {

@@ -1,32 +1,40 @@
 -- What is free behind a call of ldterm's service procedure: enough for what it has sent, and for the rest of a byte where it is called again.
-use Rattle.std.proofs.Common.{ℕ, ◌≡◌, ◌≤◌, ◌+◌, ◌-◌, ◌*◌, Bool, true, false, cond, List, [], ◌∷◌, refl, sym, ap, subst, ◌∙◌, arith}
+use Rattle.std.proofs.Common.{ℕ, ◌≡◌, ◌≤◌, ◌+◌, ◌-◌, ◌*◌, Bool, true, false, cond, List, [], ◌∷◌, map, refl, sym, ap, subst, ◌∙◌, arith}
 use Rattle.std.proofs.lemmas.Bool.{false≢true}
-use Rattle.std.specs.Prelude.{not, length, Option, Some, is_some, unwrap_or}
+use Rattle.std.proofs.lemmas.Bool.Decides.{nat_tests}
+use Rattle.std.specs.Prelude.{◌==◌, ◌&&◌, not, length, take, Option, None, Some, is_some, unwrap_or, ◌||◌}
 use Rattle.strm_types.specs.declared.names.Way.{Way}
 use Rattle.strm_types.specs.declared.names.Way.TheVariants.{Up, Down}
 use Rattle.strm_types.specs.declared.spots.Spot.{Spot}
 use Rattle.strm_types.specs.Cells.{plain}
-use Rattle.strm_types.specs.Costs.{cost}
+use Rattle.strm_types.specs.Costs.{asking_at, cost}
 use Rattle.strm_types.specs.Deliver.{Parcel, toward}
-use Rattle.strm_types.specs.Input.{input_begins, is_data, ldterm_serves, output_passes, passes, stages_done, to_treat, treats}
-use Rattle.strm_types.specs.Ldterms.{Ldterm}
+use Rattle.strm_types.specs.Input.{input_begins, is_data, passes, stages_done, to_treat, treats}
+use Rattle.strm_types.specs.LdtermServes.{ldterm_serves}
+use Rattle.strm_types.specs.Ldterms.{Ldterm, onward}
 use Rattle.strm_types.specs.Message.{Message, cells_of}
-use Rattle.strm_types.specs.Queue.{left_with}
+use Rattle.strm_types.specs.Output.{posts}
+use Rattle.strm_types.specs.OutputTurns.{output_dir, output_serves, posted, unchanged, with_given}
+use Rattle.strm_types.specs.Queue.{is_none_left, left_with}
 use Rattle.strm_types.specs.Service.{Serving}
+use Rattle.strm_types.specs.Termios.{opost}
+use Rattle.strm_types.specs.Puts.{is_turned}
 use Rattle.strm_types.proofs.CostsBounded.{cost-few}
 use Rattle.strm_blocks.specs.Blocks.{StoreValue}
 use Rattle.strm_queue.specs.Stored.{FreesBlocks}
 use Rattle.strm_frame.specs.Hands.{HasRoom}
 use Rattle.strm_frame.specs.Outboxes.{cost_of}
 use Rattle.strm_frame.specs.Serves.{later_cost}
-use Rattle.strm_ldterm.specs.Bounds.{passes_whole, turn_cost}
+use Rattle.strm_ldterm.specs.Bounds.{goes_out, passes_whole, turn_cost}
 use Rattle.strm_ldterm.specs.Turns.{leaves, needs}
+use Rattle.strm_ldterm.proofs.OutWhole.{goes-whole}
 use Rattle.strm_ldterm.proofs.Spending.{Leaves, none-cost, one-cost, stages-spare}
 use Rattle.strm_ldterm.proofs.Turned.{again-serves, down-serves, first-serves}
 
 module _ (here : Spot) where
   -- a call that treats bytes
   pub record Treats (v : Serving ℕ (Ldterm ℕ)) : Type 0 where
+    pub up : v.again ≡ true → here.way ≡ Up
     pub more : v.again ≡ true → Leaves here v.acted
     pub over : v.again ≡ false → cost_of cost v.acted.sent ≡ 0
 
@@ -35,8 +43,8 @@ module _ (here : Spot) where
     pub over : v.again ≡ false
     pub few : cost_of cost v.acted.sent ≤ 25
 
-  treats-spare : (bytes : ℕ) (p : Ldterm ℕ) → is_some p.in_work ≡ true → Treats (treats plain here bytes 0 p)
-  treats-spare bytes p work = let spares = stages-spare here (3 * bytes - stages_done p.stage) 0 p work in record { more = spares.more; over = spares.over }
+  treats-spare : here.way ≡ Up → (bytes : ℕ) (p : Ldterm ℕ) → is_some p.in_work ≡ true → Treats (treats plain here bytes 0 p)
+  treats-spare up bytes p work = let spares = stages-spare here (3 * bytes - stages_done p.stage) 0 p work in record { up = λ again. up; more = spares.more; over = spares.over }
 
   passes-few : (way : Way) (m : Message ℕ) (rest : List (Message ℕ)) (p : Ldterm ℕ) → Passes (passes plain here way m rest p)
   passes-few way m rest p = record { over = refl; few = (let one = one-cost (toward way here) m in let few = cost-few (toward way here) m in omega (arith, one, few)) }
@@ -44,13 +52,21 @@ module _ (here : Spot) where
   nothing-few : cost_of (cost {C = ℕ}) [] ≤ 25
   nothing-few = let none = none-cost ℕ in omega (arith, none)
 
+  -- what is given to go down takes none
+  given-free : (given : List ℕ) (m : Message ℕ) → cost_of cost (map (onward Down here) (with_given given m)) ≡ 0
+  given-free [] m = none-cost ℕ
+  given-free (c ∷ given) m =
+      let n : Message ℕ = record m { control = None; body = Some (c ∷ given) } in
+      let below : (here.at + 1 == 0) ≡ false = grind (arith, nat_tests) in
+      one-cost (toward Down here) n ∙ ap (λ top. cond {A = ℕ} top (cond {A = ℕ} (is_turned n) 4 0) 0 + cond {A = ℕ} (top || true) 0 (asking_at Down n.kind (here.at + 1))) below
+
   module _ (again : Bool) (stop : Option ℕ) (p : Ldterm ℕ) where
     abbrev call : Serving ℕ (Ldterm ℕ)
     call = ldterm_serves plain here 0 again stop p
 
-    input-treats : (ms : List (Message ℕ)) → passes_whole Up false (record p { read_queue = record p.read_queue { messages = ms } }) ≡ false → Treats (input_begins plain here stop 0 ms p)
-    input-treats [] whole = absurd (false≢true (sym whole))
-    input-treats (m ∷ rest) whole = at (is_data m.kind) whole
+    input-treats : here.way ≡ Up → (ms : List (Message ℕ)) → passes_whole Up false (record p { read_queue = record p.read_queue { messages = ms } }) ≡ false → Treats (input_begins plain here stop 0 ms p)
+    input-treats up [] whole = absurd (false≢true (sym whole))
+    input-treats up (m ∷ rest) whole = at (is_data m.kind) whole
       where
         bytes : ℕ
         bytes = unwrap_or stop (length (cells_of m))
@@ -59,7 +75,7 @@ module _ (here : Spot) where
         begun = record p { read_queue = left_with rest p.read_queue; in_work = Some m }
 
         at : (is : Bool) → not is ≡ false → Treats (cond is (treats plain here bytes 0 begun) (passes plain here Up m rest p))
-        at true e = treats-spare bytes begun refl
+        at true e = treats-spare up bytes begun refl
         at false e = absurd (false≢true (sym e))
 
     input-passes : (ms : List (Message ℕ)) → passes_whole Up false (record p { read_queue = record p.read_queue { messages = ms } }) ≡ true → Passes (input_begins plain here stop 0 ms p)
@@ -76,17 +92,37 @@ module _ (here : Spot) where
         at true e = absurd (false≢true e)
         at false e = passes-few Up m rest p
 
-    output-passes : (ms : List (Message ℕ)) → Passes (output_passes plain here ms p)
-    output-passes [] = record { over = refl; few = nothing-few }
-    output-passes (m ∷ rest) = passes-few Down m rest p
+    abbrev down : List (Message ℕ) → Ldterm ℕ
+    down ms = record p { write_queue = record p.write_queue { messages = ms } }
+
+    output-passes : (ms : List (Message ℕ)) → passes_whole Down again (down ms) ≡ true → Passes (output_serves plain here stop 0 ms p)
+    output-passes [] whole = record { over = refl; few = nothing-few }
+    output-passes (m ∷ rest) whole = subst Passes (sym (goes-whole here stop m rest p (turned whole))) (passes-few Down m rest p)
+      where
+        turned : not (goes_out p.termios m) ≡ true → goes_out p.termios m ≡ false
+        turned whole = at (goes_out p.termios m) whole
+          where
+            at : (v : Bool) → not v ≡ true → v ≡ false
+            at true e = absurd (false≢true e)
+            at false e = refl
+
+    output-treats : (ms : List (Message ℕ)) → passes_whole Down again (down ms) ≡ false → Treats (output_serves plain here stop 0 ms p)
+    output-treats [] whole = absurd (false≢true (sym whole))
+    output-treats (m ∷ rest) whole = record { up = λ more. absurd (false≢true more); more = λ more. absurd (false≢true more); over = λ ends. at (is_data m.kind) (opost p.termios) (cells_of m) whole }
+      where
+        at : (treated output : Bool) (xs : List ℕ) → not (treated && (output && not (is_none_left xs))) ≡ false → cost_of cost (map (onward Down here) (cond (treated && output) (posted plain here stop 0 xs m p) (unchanged m p)).messages) ≡ 0
+        at false output xs e = absurd (false≢true (sym e))
+        at true false xs e = absurd (false≢true (sym e))
+        at true true [] e = absurd (false≢true (sym e))
+        at true true (x ∷ xs) e = given-free (posts plain (output_dir plain here) 0 p.termios p.column (take (unwrap_or stop (length (x ∷ xs))) (x ∷ xs))).given m
 
     serves-treat : (way : Way) (more : Bool) → here.way ≡ way → again ≡ more → (way ≡ Up → more ≡ true → is_some p.in_work ≡ true) → passes_whole way more p ≡ false → Treats call
-    serves-treat Down more is same work whole = absurd (false≢true (sym whole))
-    serves-treat Up false is same work whole = subst Treats (sym (first-serves here again stop p is same)) (input-treats p.read_queue.messages whole)
-    serves-treat Up true is same work whole = subst Treats (sym (again-serves here again stop p is same)) (treats-spare (unwrap_or stop (to_treat p)) p (work refl refl))
+    serves-treat Down more is same work whole = subst Treats (sym (down-serves here again stop p is)) (output-treats p.write_queue.messages whole)
+    serves-treat Up false is same work whole = subst Treats (sym (first-serves here again stop p is same)) (input-treats is p.read_queue.messages whole)
+    serves-treat Up true is same work whole = subst Treats (sym (again-serves here again stop p is same)) (treats-spare is (unwrap_or stop (to_treat p)) p (work refl refl))
 
     serves-pass : (way : Way) (more : Bool) → here.way ≡ way → again ≡ more → passes_whole way more p ≡ true → Passes call
-    serves-pass Down more is same whole = subst Passes (sym (down-serves here again stop p is)) (output-passes p.write_queue.messages)
+    serves-pass Down more is same whole = subst Passes (sym (down-serves here again stop p is)) (output-passes p.write_queue.messages whole)
     serves-pass Up false is same whole = subst Passes (sym (first-serves here again stop p is same)) (input-passes p.read_queue.messages whole)
     serves-pass Up true is same whole = absurd (false≢true whole)
 
@@ -96,9 +132,9 @@ module _ (here : Spot) where
     whole-counts Up false whole = refl
     whole-counts Up true whole = absurd (false≢true whole)
 
-    bytes-count : (way : Way) (more : Bool) (q : Ldterm ℕ) → passes_whole way more p ≡ false → turn_cost (record here { way = way }) true q ≡ needs q.stage
-    bytes-count Down more q whole = absurd (false≢true (sym whole))
-    bytes-count Up more q whole = refl
+    bytes-count : (way : Way) (q : Ldterm ℕ) → way ≡ Up → turn_cost (record here { way = way }) true q ≡ needs q.stage
+    bytes-count Down q up = absurd (cc up)
+    bytes-count Up q up = refl
 
     module _ (old new : StoreValue) (q : Ldterm ℕ) (more : Bool) (sent : List (Parcel ℕ)) (state : q ≡ call.acted.state) (parcels : sent ≡ call.acted.sent) (calls : more ≡ call.again) where
       same-cost : cost_of cost sent ≡ cost_of cost call.acted.sent
@@ -127,7 +163,7 @@ module _ (here : Spot) where
           at true goes =
               let room = behind goes in
               let left = treats.more (sym calls ∙ goes) in
-              let counts = bytes-count here.way again q whole in
+              let counts = bytes-count here.way q (treats.up (sym calls ∙ goes)) in
               let rest : needs q.stage ≡ needs call.acted.state.stage = ap (λ (v : Ldterm ℕ). needs v.stage) state in
               let all : leaves q.stage ≡ leaves call.acted.state.stage = ap (λ (v : Ldterm ℕ). leaves v.stage) state in
               let same = same-cost in

@@ -7,9 +7,11 @@ use Rattle.strm_types.specs.declared.names.Way.TheVariants.{Up, Down}
 use Rattle.strm_types.specs.declared.rules.Fates.{Fates}
 use Rattle.strm_types.specs.declared.spots.Spot.{Spot}
 use Rattle.strm_types.specs.Cells.{plain}
-use Rattle.strm_types.specs.Input.{cells_left, input_begins, is_data, ldterm_serves, output_passes, to_treat, treats}
+use Rattle.strm_types.specs.Input.{cells_left, input_begins, is_data, to_treat, treats}
+use Rattle.strm_types.specs.LdtermServes.{ldterm_serves}
 use Rattle.strm_types.specs.Ldterms as ldterms
 use Rattle.strm_types.specs.Message.{Message, cells_of, size_of}
+use Rattle.strm_types.specs.OutputTurns.{output_serves}
 use Rattle.strm_types.specs.Service.{Serving}
 use Rattle.strm_types.specs.TurnCalls.{bytes_left}
 use Rattle.strm_types.specs.TurnOutcomes.{first_size}
@@ -29,10 +31,10 @@ use Rattle.strm_ldterm.specs.Stands.{keeps, ldterm_in, stage_in, IsHeld}
 use Rattle.strm_ldterm.specs.Turns.{stages_left}
 use Rattle.strm_ldterm.proofs.Calls.{all-left, kept-some, takes-any, none-done}
 use Rattle.strm_ldterm.proofs.Joining.{proceeds-joined}
-use Rattle.strm_ldterm.specs.ServedLaws.{again-works, first-idle, serves-served}
+use Rattle.strm_ldterm.specs.ServedLaws.{again-works, down-idle, first-idle, serves-served}
 
 -- a message has no fewer bytes than cells
-cells-within : (m : Message ℕ) → length (cells_of m) ≤ size_of m
+pub cells-within : (m : Message ℕ) → length (cells_of m) ≤ size_of m
 unfolding size_of
 cells-within m = omega arith
 
@@ -41,10 +43,10 @@ module _ (here : Spot) (again : Bool) (stop : Option ℕ) (p : ldterms.Ldterm �
   at_way way = record here { way = way }
 
   -- by the way of the queue
-  pub down-serves : here.way ≡ Down → ldterm_serves plain here 0 again stop p ≡ output_passes plain here p.write_queue.messages p
+  pub down-serves : here.way ≡ Down → ldterm_serves plain here 0 again stop p ≡ output_serves plain here stop 0 p.write_queue.messages p
   down-serves is =
       ap (λ w. ldterm_serves plain (at_way w) 0 again stop p) is
-      ∙ sym (ap (λ w. output_passes plain (at_way w) p.write_queue.messages p) is)
+      ∙ sym (ap (λ w. output_serves plain (at_way w) stop 0 p.write_queue.messages p) is)
 
   pub again-serves : here.way ≡ Up → again ≡ true → ldterm_serves plain here 0 again stop p ≡ treats plain here (unwrap_or stop (to_treat p)) 0 p
   again-serves is more =
@@ -142,6 +144,12 @@ module _ {M : Type 0} (name : M → ℕ) (s : StoreValue) (x : Ldterm M) (way : 
 
   pub first-rests : again ≡ false → IsHeld name s x → (i : ℕ) → keeps name x i ≡ 0
   first-rests first held = let idle = first-idle way again (ldterm_in name s x) first is in ldterm-rests name s x held idle.0 idle.1 idle.2
+
+  pub down-rests : way ≡ Down → IsHeld name s x → (i : ℕ) → keeps name x i ≡ 0
+  down-rests down held = let idle = down-idle way again (ldterm_in name s x) down is in ldterm-rests name s x held idle.0 idle.1 idle.2
+
+  pub down-between : way ≡ Down → stages_left (stage_in x.stage) ≡ 0
+  down-between down = ap stages_left (down-idle way again (ldterm_in name s x) down is).3
 
   pub first-between : again ≡ false → stages_left (stage_in x.stage) ≡ 0
   first-between first = ap stages_left (first-idle way again (ldterm_in name s x) first is).3

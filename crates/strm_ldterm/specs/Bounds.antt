@@ -1,20 +1,31 @@
 -- How far what a call of ldterm's service procedure sends may go, and how many blocks a call takes (srv(9E)).
-use Rattle.std.specs.Prelude.{ℕ, ◌+◌, Bool, true, false, not, List, [], ◌∷◌}
+use Rattle.std.specs.Prelude.{ℕ, ◌+◌, Bool, true, false, not, ◌&&◌, List, [], ◌∷◌}
 use Rattle.strm_types.specs.declared.names.Way.{Way}
 use Rattle.strm_types.specs.declared.names.Way.TheVariants.{Up, Down}
 use Rattle.strm_types.specs.declared.spots.Spot.{Spot}
+use Rattle.strm_types.specs.declared.termios.Termios.{Termios}
 use Rattle.strm_types.specs.Input.{is_data}
 use Rattle.strm_types.specs.Ldterms.{Ldterm}
-use Rattle.strm_types.specs.Message.{Message}
+use Rattle.strm_types.specs.Message.{Message, cells_of}
+use Rattle.strm_types.specs.Queue.{is_none_left}
+use Rattle.strm_types.specs.Termios.{opost}
 use Rattle.strm_ldterm.specs.Turns.{needs}
 
 -- How often a message can be handed on, less one, that a call sends: it may go up to the head, be turned round there and go down.
 abbrev pub turn_height : Spot → ℕ
 turn_height here = here.at + 11
 
+-- whether a message goes out byte by byte on the write queue: M_DATA with bytes, under OPOST
+abbrev pub goes_out : Termios → Message ℕ → Bool
+goes_out t m = is_data m.kind && (opost t && not (is_none_left (cells_of m)))
+
 -- whether the first message of its queue of a way passes whole, in this call, or none stands there
 abbrev pub passes_whole : Way → Bool → Ldterm ℕ → Bool
-passes_whole Down again p = true
+passes_whole Down again p = none_out p.write_queue.messages
+  where
+    none_out : List (Message ℕ) → Bool
+    none_out [] = true
+    none_out (m ∷ rest) = not (goes_out p.termios m)
 passes_whole Up true p = false
 passes_whole Up false p = first_passes p.read_queue.messages
   where
@@ -22,8 +33,8 @@ passes_whole Up false p = first_passes p.read_queue.messages
     first_passes [] = true
     first_passes (m ∷ rest) = not (is_data m.kind)
 
--- How many blocks of each kind a call may count on: for a message that passes whole, those of its delivery, and within a message
--- those that the rest of a byte takes.
+-- How many blocks of each kind a call may count on: where a turn begins, those of the delivery of a message that passes whole, and within a
+-- message those that the rest of a byte takes.
 abbrev pub turn_cost : Spot → Bool → Ldterm ℕ → ℕ
 turn_cost here again p = by here.way again
   where

@@ -5,7 +5,8 @@ use Rattle.strm_types.specs.declared.rules.Fates.{Fates}
 use Rattle.strm_types.specs.declared.spots.Note.{Note}
 use Rattle.strm_types.specs.declared.spots.Spot.{Spot}
 use Rattle.strm_types.specs.Cells.{plain}
-use Rattle.strm_types.specs.Input.{ldterm_serves, stages_done, to_treat, treats}
+use Rattle.strm_types.specs.Input.{stages_done, to_treat, treats}
+use Rattle.strm_types.specs.LdtermServes.{ldterm_serves}
 use Rattle.strm_types.specs.Ldterms as ldterms
 use Rattle.strm_types.specs.Queue.{is_none_left}
 use Rattle.strm_types.specs.Service.{Serving}

@@ -21,3 +21,4 @@ pub mod Freeing
 pub mod Bounds
 pub mod PlainRuns
 pub mod Posting
+pub mod Outgone

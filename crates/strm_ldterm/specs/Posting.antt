@@ -1,5 +1,5 @@
 -- Output on plain bytes: what bytes of the message in work give is gathered, to go down together (termio(7I): "Output Modes"; ldterm(7M)).
-use Rattle.std.specs.Prelude.{ℕ, ◌≡◌, ◌≤◌, ◌<◌, ◌-◌, ◌==◌, Bool, not, ◌&&◌, List, [], ◌∷◌, ◌++◌, take, drop, replicate}
+use Rattle.std.specs.Prelude.{ℕ, ◌≤◌, ◌<◌, ◌-◌, ◌==◌, Bool, not, ◌&&◌, List, [], ◌∷◌, ◌++◌, take, drop, replicate}
 use Rattle.strm_types.specs.declared.limits.TheConstants.{STOP_BLOCKS}
 use Rattle.strm_types.specs.declared.output.Given.{Given}
 use Rattle.strm_types.specs.declared.output.Given.TheVariants.{Byte, Ended, Spaces, Nothing}

@@ -9,10 +9,12 @@ use Rattle.strm_types.specs.declared.names.Way.TheVariants.{Up, Down}
 use Rattle.strm_types.specs.declared.spots.Spot.{Spot}
 use Rattle.strm_types.specs.Cells.{Cells, cells_made}
 use Rattle.strm_types.specs.Deliver.{Acted}
-use Rattle.strm_types.specs.Input.{begins_next, cells_left, input_begins, is_data, ldterm_serves, left_of, made_of, next_stage, output_passes, passes, stage_at, stages, stages_done, then_on, to_treat, treats, with_left}
+use Rattle.strm_types.specs.Input.{begins_next, cells_left, input_begins, is_data, left_of, made_of, next_stage, passes, stage_at, stages, stages_done, then_on, to_treat, treats, with_left}
 use Rattle.strm_types.specs.Keys.{restarts}
+use Rattle.strm_types.specs.LdtermServes.{ldterm_serves}
 use Rattle.strm_types.specs.Ldterms.{Ldterm, Stage, Between, Begun, Answered, ldterm_puts, onward, sends, with_queue_at, without_line}
 use Rattle.strm_types.specs.Message.{Message, cells_of}
+use Rattle.strm_types.specs.OutputTurns.{output_serves}
 use Rattle.strm_types.specs.Queue.{Queue, is_full, is_none_left, left_with}
 use Rattle.strm_types.specs.Typing.{bare, begins, echo_dir, echo_grows, echo_lost, echo_stands, echoed, is_lnext, stroke_at, struck}
 use Rattle.strm_types.proofs.LdtermPutStays.{Stays, idle-stays, line-stays, puts-stay, queue-stays}
@@ -50,6 +52,12 @@ module _ {C : Type 0} where
   either-served Up Down p is = is
   either-served Down Up p is = is
   either-served Down Down p is = is
+
+  -- no call of a turn of the write queue is one more in it
+  pub down-idle : (way : Way) (again : Bool) (p : Ldterm C) → way ≡ Down → IsServed way again p → IsIdle p
+  down-idle Down true p down is = is
+  down-idle Down false p down is = is
+  down-idle Up again p down is = absurd (cc down)
 
   pub first-idle : (way : Way) (again : Bool) (p : Ldterm C) → again ≡ false → IsServed way again p → IsIdle p
   first-idle Up false p first is = is
@@ -114,9 +122,9 @@ module _ {C : Type 0} (cells : Cells C) (here : Spot) where
       let still = next-work made l ∙ work in
       then-served made t (stages cells here more) still (stages-served more (made + made_of t.gone) t.state still)
 
-  output-served : (ms : List (Message C)) (l : Ldterm C) → IsIdle l → (let t = output_passes cells here ms l in IsServed Down t.again t.acted.state)
-  output-served [] l idle = idle
-  output-served (m ∷ rest) l idle = idle
+  output-served : (made : ℕ) (stop : Option ℕ) (ms : List (Message C)) (l : Ldterm C) → IsIdle l → (let t = output_serves cells here stop made ms l in IsServed Down t.again t.acted.state)
+  output-served made stop [] l idle = idle
+  output-served made stop (m ∷ rest) l idle = idle
 
   input-served : (made : ℕ) (stop : Option ℕ) (ms : List (Message C)) (l : Ldterm C) → IsIdle l → (let t = input_begins cells here stop made ms l in IsServed Up t.again t.acted.state)
   input-served made stop [] l idle = idle
@@ -129,8 +137,8 @@ module _ {C : Type 0} (cells : Cells C) (here : Spot) where
 
 module _ {C : Type 0} (cells : Cells C) where
   serves-at : (way : Way) (here : Spot) (made : ℕ) (again : Bool) (stop : Option ℕ) (l : Ldterm C) → IsServed way again l → (let t = ldterm_serves cells (record here { way = way }) made again stop l in IsServed way t.again t.acted.state)
-  serves-at Down here made true stop l is = output-served cells (record here { way = Down }) l.write_queue.messages l is
-  serves-at Down here made false stop l is = output-served cells (record here { way = Down }) l.write_queue.messages l is
+  serves-at Down here made true stop l is = output-served cells (record here { way = Down }) made stop l.write_queue.messages l is
+  serves-at Down here made false stop l is = output-served cells (record here { way = Down }) made stop l.write_queue.messages l is
   serves-at Up here made false stop l is = input-served cells (record here { way = Up }) made stop l.read_queue.messages l is
   serves-at Up here made true stop l is = stages-served cells (record here { way = Up }) (3 * unwrap_or stop (to_treat l) - stages_done l.stage) made l is
 

@@ -26,8 +26,8 @@ use strm_msg::booked_size;
 use strm_queue::Queue;
 use strm_types::{Spot, Way};
 
-// Puts a message in hand back on a queue, in front of all of at most its rank: putbq(9F).
-fn put_back<B: Blocks>(store: &mut B, queue: &mut Queue, message: B::Mp)
+/// Puts a message in hand back on a queue, in front of all of at most its rank: putbq(9F).
+pub(crate) fn put_back<B: Blocks>(store: &mut B, queue: &mut Queue, message: B::Mp)
     requires ready { IsReady (B.value store.old) queue.old }
     requires in_hand { IsInHand (B.value store.old) (B.name message) }
     requires chain { IsChain (in_hand (B.value store.old) (B.name message)) }

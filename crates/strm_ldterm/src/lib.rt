@@ -14,6 +14,7 @@ mod ldterm;
 mod lines;
 mod module;
 mod opening;
+mod outgoing;
 mod pasting;
 mod posting;
 mod posts;

@@ -14,7 +14,7 @@ impl<B: Blocks> Module<B> for Ldterm<B::Mp> {
     ghost use Rattle.strm_types.specs.Asking as asking;
     ghost use Rattle.strm_types.specs.Cells as cells;
     ghost use Rattle.strm_types.specs.Costs as costs;
-    ghost use Rattle.strm_types.specs.Input.{ldterm_serves};
+    ghost use Rattle.strm_types.specs.LdtermServes.{ldterm_serves};
     ghost use Rattle.strm_types.specs.Ldterms as plain;
     ghost use Rattle.strm_types.specs.Puts.{far};
     ghost use Rattle.strm_types.specs.TurnCalls.{Ends};

@@ -136,32 +136,34 @@ pub fn none_waits_up<B: Blocks>(ldterm: &Ldterm<B::Mp>, store: &B) -> bool
     standing::has_no_data(store, &ldterm.read_queue)
 }
 
-// What a message of a kind and a band asks.
-fn asked_by(way: Way, kind: MsgKind, band: Band) -> Asks
-    ensures asks { result ≡ asked_by way kind band.0 }
+// What a message of a kind and a band asks, while output is stopped or not.
+fn asked_by(way: Way, stopped: bool, kind: MsgKind, band: Band) -> Asks
+    ensures asks { result ≡ asked_by way stopped kind band.0 }
     ensures band { band.0 < BANDS → IsBand result }
 {
     match (kind, way) {
         (MsgKind::Data, Way::Up) => Asks::Room(Band(0)),
+        (MsgKind::Data, Way::Down) if stopped => Asks::Held,
         (MsgKind::Data | MsgKind::Proto, _) => Asks::Room(band),
         _ => Asks::Free,
     }
 }
 
 // What the first message on a queue's list asks, where one stands there.
-fn asked_on<B: Blocks>(store: &B, queue: &Queue, way: Way) -> Option<Asks>
+fn asked_on<B: Blocks>(store: &B, queue: &Queue, way: Way, stopped: bool) -> Option<Asks>
     requires { IsReady (B.value store.now) queue.now }
     ensures asks { MatchOption result (messages_on (B.value store.now) queue.now.list ≡ [])
-        (λ asks. asked_first way (messages_on (B.value store.now) queue.now.list) ≡ asks) }
+        (λ asks. asked_first way stopped (messages_on (B.value store.now) queue.now.list) ≡ asks) }
     ensures band { IfSome result IsBand }
-    ensures some { (m : Message ℕ) → OnSome result (asked_first way (messages_on (B.value store.now) queue.now.list ++ m ∷ [])
-        ≡ asked_first way (messages_on (B.value store.now) queue.now.list)) }
+    ensures some { (m : Message ℕ) → OnSome result (asked_first way stopped (messages_on (B.value store.now) queue.now.list ++ m ∷ [])
+        ≡ asked_first way stopped (messages_on (B.value store.now) queue.now.list)) }
 {
     let peek = store.peek(queue.list)?;
-    Some(asked_by(way, peek.kind, peek.band))
+    Some(asked_by(way, stopped, peek.kind, peek.band))
 }
 
-/// What the first message of its queue of a way asks before it goes on.
+/// What the first message of its queue of a way asks before it goes on. While output is stopped, M_DATA on the write queue goes nowhere, and the
+/// turn's echo is such a message.
 pub fn asks<B: Blocks>(ldterm: &Ldterm<B::Mp>, store: &B, way: Way) -> Asks
     requires held { IsHeld B.name (B.value store.now) ldterm.now }
     ensures asks { result ≡ ldterm_asks way (ldterm_in B.name (B.value store.now) ldterm.now) }
@@ -170,13 +172,13 @@ pub fn asks<B: Blocks>(ldterm: &Ldterm<B::Mp>, store: &B, way: Way) -> Asks
 {
     store.audit();
     match way {
-        Way::Up => match asked_on(store, &ldterm.read_queue, way) {
+        Way::Up => match asked_on(store, &ldterm.read_queue, way, ldterm.stopped) {
             Some(asks) => asks,
             None => Asks::Empty,
         },
-        Way::Down => match asked_on(store, &ldterm.write_queue, way) {
+        Way::Down => match asked_on(store, &ldterm.write_queue, way, ldterm.stopped) {
             Some(asks) => asks,
-            None if ldterm.echo.is_some() => Asks::Room(Band(0)),
+            None if ldterm.echo.is_some() => asked_by(way, ldterm.stopped, MsgKind::Data, Band(0)),
             None => Asks::Empty,
         },
     }

@@ -1,4 +1,4 @@
-//! Calls of the service procedure of the read queue: bytes of the message in work, one after the other (srv(9E); STREAMS Programming
+//! Calls of the service procedure: on the read queue bytes of the message in work, one after the other (srv(9E); STREAMS Programming
 //! Guide, "Service Procedures").
 
 ghost use Rattle.std.specs.Prelude.{ℕ, ◌≡◌, ◌<◌, ◌≤◌, ◌&&◌, [], true, false, length, is_some, nat_lt};
@@ -14,7 +14,8 @@ ghost use Rattle.strm_ldterm.specs.Turns.{needs, stages_left};
 
 use crate::finishing::finish;
 use crate::ldterm::{Ldterm, Stage};
-use crate::opening::{InputBegun, Passed, begin_input, pass_down};
+use crate::opening::{InputBegun, Passed, begin_input};
+use crate::outgoing::serve_output;
 use crate::pasting::treat_run;
 use crate::striking::{join, resume, treat_byte};
 use arrayvec::ArrayVec;
@@ -189,8 +190,8 @@ pub(crate) fn treat<B: Blocks>(
     }
 }
 
-// What a call did in which a message passed whole, or none.
-fn of_whole<Mp: Drop>(passed: Passed<Mp>) -> Served<Mp>
+/// What a call did in which a message passed whole, or none.
+pub(crate) fn of_whole<Mp: Drop>(passed: Passed<Mp>) -> Served<Mp>
     ensures notes { result.acts.notes.items ≡ [] }
     ensures sent { result.acts.sent ≡ passed.sent }
     ensures bytes { result.bytes ≡ passed.bytes }
@@ -238,9 +239,9 @@ fn serve_input<B: Blocks>(
     }
 }
 
-/// Calls the service procedure of its queue of a way: `srv(9E)`. On the write queue what stands first goes down whole. On the read
-/// queue M_DATA is treated byte by byte, and all else goes up whole. `again` is for one more call in the same turn of the read
-/// queue, once all is delivered that the last one sent: a call ends where something is sent. It stops within the message only
+/// Calls the service procedure of its queue of a way: `srv(9E)`. On the write queue M_DATA goes out byte by byte under OPOST, and all else
+/// goes down whole. On the read queue M_DATA is treated byte by byte, and all else goes up whole. `again` is for one more call in the same turn
+/// of the read queue, once all is delivered that the last one sent: a call ends where something is sent. It stops within the message only
 /// where, before a byte begins, fewer than `STOP_BLOCKS` blocks of some kind are free; the rest of the message goes back to the
 /// front of its queue then. The cost is in proportion to the bytes that are treated, and a step for each block of the message.
 pub fn serve<B: Blocks>(
@@ -259,7 +260,7 @@ pub fn serve<B: Blocks>(
     ensures { ServesAs B.name (B.value store.old) (B.value store.new) here ldterm.old ldterm.new again result told.old told.new }
 {
     match here.way {
-        Way::Down => of_whole(pass_down(ldterm, store, here)),
+        Way::Down => serve_output(ldterm, store, here, told),
         Way::Up if again => treat(ldterm, store, here, told),
         Way::Up => serve_input(ldterm, store, here, told),
     }

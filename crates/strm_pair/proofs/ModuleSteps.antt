@@ -16,7 +16,7 @@ use Rattle.strm_types.specs.Names.{other}
 use Rattle.strm_types.specs.Puts.{earlier_at, noted, put_at_module}
 use Rattle.strm_types.specs.Stacked.{Module, module_puts}
 use Rattle.strm_types.specs.State.{State, stream, with_stream}
-use Rattle.strm_types.proofs.Alone.{noted-same}
+use Rattle.strm_types.proofs.Noted.{noted-same}
 use Rattle.strm_blocks.specs.Blocks.{IsStore, StoreValue, list_at}
 use Rattle.strm_queue.specs.Stored.{queue_in, HoldsReadable}
 use Rattle.strm_queue.proofs.Placed.{ready-same}

@@ -26,7 +26,7 @@ use Rattle.strm_types.specs.Puts.{earlier_at, noted, put_in}
 use Rattle.strm_types.specs.Stacked.{Module, module_serves}
 use Rattle.strm_types.specs.State.{State, Stream, book, stream, with_stream}
 use Rattle.strm_types.specs.TurnCalls.{Begins, Ends, asks_on, bytes_left, called, module_at, most_made, treated}
-use Rattle.strm_types.proofs.Alone.{noted-same}
+use Rattle.strm_types.proofs.Noted.{noted-same}
 use Rattle.strm_types.proofs.Booked.{between-counts, booked-on, made-within, made_in, master-told, slave-told}
 use Rattle.strm_types.proofs.LdtermStops.{serves-ends, serves-goes}
 use Rattle.strm_types.proofs.ModuleTurnCalls.{UnderWay, index-map, sent-stays, under_way}

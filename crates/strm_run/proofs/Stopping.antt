@@ -17,10 +17,11 @@ use Rattle.strm_types.specs.declared.spots.Asks.{Asks}
 use Rattle.strm_types.specs.declared.spots.Asks.TheVariants as asked
 use Rattle.strm_types.specs.declared.spots.Spot.{Spot}
 use Rattle.strm_types.specs.Cells.{plain}
-use Rattle.strm_types.specs.Input.{input_begins, is_data, output_passes, passes, stages, stages_done, treats}
+use Rattle.strm_types.specs.Input.{input_begins, is_data, passes, stages, stages_done, treats}
 use Rattle.strm_types.specs.Message.{Message}
 use Rattle.strm_types.specs.ModuleQueues.{at_place, messages_at}
 use Rattle.strm_types.specs.ModuleTurns.{Calls, again_at, asked_turn, calls, made_below, moved_by, moved_on, moved_within, place_named, turned_named, turned_there, waits_there, whole_module}
+use Rattle.strm_types.specs.OutputTurns.{output_serves}
 use Rattle.strm_types.specs.Past.{has_room_past}
 use Rattle.strm_types.specs.Queue.{left_with}
 use Rattle.strm_types.specs.Stacked.{Module, module_asks, module_queue, module_rests, module_serves}
@@ -42,9 +43,9 @@ module _ (side : Side) (at : ℕ) where
       let none : 3 * 0 - stages_done p.stage ≡ 0 = omega arith in
       ap (λ n. is_some (stages plain (there way) n made p).state.in_work) none
 
-  output-once : (ms : List (Message ℕ)) (p : Module ℕ) → (output_passes plain (there Down) ms p).again ≡ false
-  output-once [] p = refl
-  output-once (m ∷ rest) p = refl
+  output-once : (made : ℕ) (ms : List (Message ℕ)) (p : Module ℕ) → (output_serves plain (there Down) (Some 0) made ms p).again ≡ false
+  output-once made [] p = refl
+  output-once made (m ∷ rest) p = refl
 
   input-once : (made : ℕ) (ms : List (Message ℕ)) (p : Module ℕ) → (input_begins plain (there Up) (Some 0) made ms p).again ≡ false
   input-once made [] p = refl
@@ -55,7 +56,7 @@ module _ (side : Side) (at : ℕ) where
       by false = refl
 
   serves-once : (way : Way) (made : ℕ) (p : Module ℕ) → (module_serves plain (there way) made false (Some 0) p).again ≡ false
-  serves-once Down made p = output-once p.write_queue.messages p
+  serves-once Down made p = output-once made p.write_queue.messages p
   serves-once Up made p = input-once made p.read_queue.messages p
 
   none-among : (say : Module ℕ → Bool) → ((p : Module ℕ) → say p ≡ false) → (i : ℕ) (ps : List (Module ℕ)) → slice_index_or (map say ps) i false ≡ false

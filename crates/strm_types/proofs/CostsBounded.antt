@@ -1,7 +1,7 @@
 -- A delivery takes few blocks, and no more from the next place on.
 use Rattle.std.proofs.Common.{ℕ, ◌≡◌, ◌<◌, ◌≤◌, ◌+◌, ◌-◌, Bool, true, false, cond, refl, ap, arith}
 use Rattle.std.proofs.lemmas.Bool.Decides.{nat_tests}
-use Rattle.std.specs.Prelude.{◌==◌, ◌||◌, ◌*◌, min, suc}
+use Rattle.std.specs.Prelude.{◌==◌, ◌||◌}
 use Rattle.strm_types.specs.declared.kinds.MsgKind.{MsgKind}
 use Rattle.strm_types.specs.declared.kinds.MsgKind.TheVariants.{Ioctl, Iocack}
 use Rattle.strm_types.specs.declared.limits.TheConstants.{MODULES}

@@ -1,19 +1,16 @@
 -- The nearest earlier queue is the same where the origins of cells are forgotten, and where no module stands it is the one by name.
-use Rattle.std.proofs.Common.{ℕ, suc, arith, ◌≡◌, ◌-◌, false, cond, List, [], ◌∷◌, ◌++◌, length, map, take, drop, refl, ap, ◌∙◌}
+use Rattle.std.proofs.Common.{ℕ, suc, arith, ◌≡◌, ◌-◌, false, cond, List, [], ◌∷◌, length, map, take, drop, refl, ap, ◌∙◌}
 use Rattle.std.specs.Prelude.{min, nat_le, Option, None, Some}
 use Rattle.std.proofs.lemmas.Bool.Decides.{nat_tests}
 use Rattle.std.proofs.lemmas.List.{take-map, drop-map, length-map}
 use Rattle.strm_types.specs.declared.limits.TheConstants.{MODULES}
-use Rattle.strm_types.specs.declared.names.Place.{Place}
-use Rattle.strm_types.specs.declared.names.Place.TheVariants as places
-use Rattle.strm_types.specs.declared.names.QueueName.{QueueName}
 use Rattle.strm_types.specs.declared.names.Side.{Side}
 use Rattle.strm_types.specs.declared.names.Side.TheVariants.{Master, Slave}
 use Rattle.strm_types.specs.declared.names.Way.{Way}
 use Rattle.strm_types.specs.declared.names.Way.TheVariants.{Up, Down}
 use Rattle.strm_types.specs.Earlier.{NoModules, before_among, before_at, before_by, before_driver, before_head, modules_on, places_of}
 use Rattle.strm_types.specs.ModuleQueues.{first_place, has_queue, last_place, place_before, place_past}
-use Rattle.strm_types.specs.Names.{before, place_of}
+use Rattle.strm_types.specs.Names.{place_of}
 use Rattle.strm_types.specs.Stacked.{Module, OfLdterm, OfPtem, map_module, module_name, module_queue}
 use Rattle.strm_types.specs.State.{State, stream, map_state}
 
@@ -73,35 +70,6 @@ module _ {C D : Type 0} (f : C → D) where
   before_driver-forgets side s =
       ap (λ n. before_at side Down (suc n) (map_state f s)) (modules_on-forgets side s)
       ∙ before_at-forgets side Down (suc (modules_on side s)) s
-
--- the place of an end of a stream without modules, and the name of its queue of a way
-abbrev named : Side → Place → Way → QueueName
-named side place way = record { side = side; place = place; way = way }
-
-head-alone : {C : Type 0} (side : Side) (way : Way) (ps : List (Module C)) → ps ≡ [] → before_among side way 0 ps ≡ before (named side places.Head way)
-head-alone {C = C} side way ps none = ap (λ qs. before_among side way 0 qs) none ∙ at side way
-  where
-    at : (side : Side) (way : Way) → before_among {C = C} side way 0 [] ≡ before (named side places.Head way)
-    at Master Up = refl
-    at Master Down = refl
-    at Slave Up = refl
-    at Slave Down = refl
-
-driver-alone : {C : Type 0} (side : Side) (way : Way) (ps : List (Module C)) → ps ≡ [] → before_among side way (suc (min MODULES (length ps))) ps ≡ before (named side places.Driver way)
-driver-alone {C = C} side way ps none = ap (λ qs. before_among side way (suc (min MODULES (length qs))) qs) none ∙ at side way
-  where
-    at : (side : Side) (way : Way) → before_among {C = C} side way 1 [] ≡ before (named side places.Driver way)
-    at Master Up = refl
-    at Master Down = refl
-    at Slave Up = refl
-    at Slave Down = refl
-
-module _ {C : Type 0} (side : Side) (s : State C) (none : (stream side s).modules ≡ []) where
-  pub before-head-alone : (way : Way) → before_at side way 0 s ≡ before (named side places.Head way)
-  before-head-alone way = head-alone side way (stream side s).modules none
-
-  pub before-driver-alone : (way : Way) → before_at side way (suc (modules_on side s)) s ≡ before (named side places.Driver way)
-  before-driver-alone way = driver-alone side way (stream side s).modules none
 
 -- where no module stands on a pair
 module _ {C : Type 0} where

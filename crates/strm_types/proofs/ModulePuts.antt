@@ -6,18 +6,17 @@ use Rattle.std.proofs.lemmas.List.Sums.{sum_by-cons}
 use Rattle.strm_types.specs.declared.flushing.FlushAsked.{FlushAsked}
 use Rattle.strm_types.specs.declared.kinds.Band.{Band}
 use Rattle.strm_types.specs.declared.limits.TheConstants.{MODULES}
-use Rattle.strm_types.specs.declared.names.Way.{Way}
 use Rattle.strm_types.specs.declared.names.Way.TheVariants.{Up, Down}
 use Rattle.strm_types.specs.declared.rules.Rule.TheVariants.{Flushed}
 use Rattle.strm_types.specs.declared.spots.Spot.{Spot}
-use Rattle.strm_types.specs.Deliver.{Acted, AreLower, Parcel, toward}
+use Rattle.strm_types.specs.Deliver.{Acted, AreLower, Parcel}
 use Rattle.strm_types.specs.Flushing.{asked_by, is_flush}
 use Rattle.strm_types.specs.Ldterms.{Ldterm, both, flush_passes, ldterm_puts, line_flushed, onward, queue_flushed, queued_at, read_flushed, sends, takes_band_0, waits_there, without_line, write_flushed}
 use Rattle.strm_types.specs.Message.{Message, map_message, weight_of}
 use Rattle.strm_types.specs.Modules.{put_among}
 use Rattle.strm_types.specs.Origins.{map_acted}
 use Rattle.strm_types.specs.Places.{weight_gone, weight_made, weight_sent}
-use Rattle.strm_types.specs.Puts.{far, far_at, is_turned}
+use Rattle.strm_types.specs.Puts.{far}
 use Rattle.strm_types.specs.Service.{line_gone}
 use Rattle.strm_types.specs.Stacked.{Module, OfLdterm, OfPtem, done_by, map_module, module_puts, module_weight, modules_weight}
 use Rattle.strm_types.proofs.DeliveryKeeps.{made-append}

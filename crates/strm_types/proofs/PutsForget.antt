@@ -13,16 +13,15 @@ use Rattle.strm_types.specs.declared.names.Way.{Way}
 use Rattle.strm_types.specs.declared.names.Way.TheVariants.{Up, Down}
 use Rattle.strm_types.specs.declared.rules.Rule.TheVariants.{EndClosed}
 use Rattle.strm_types.specs.declared.spots.Note.{Note}
-use Rattle.strm_types.specs.declared.spots.Note.TheVariants.{Enable, Room}
 use Rattle.strm_types.specs.declared.spots.Spot.{Spot}
 use Rattle.strm_types.specs.Deliver.{Acted, Took, Goes}
 use Rattle.strm_types.specs.Drivers.{driver_put}
-use Rattle.strm_types.specs.Earlier.{driver_place, modules_on, places_of, queue_named}
+use Rattle.strm_types.specs.Earlier.{driver_place, modules_on, places_of}
 use Rattle.strm_types.specs.Flushing.{is_flush, asked_of, flush_bytes, flush_message}
 use Rattle.strm_types.specs.Heads.{head_put}
 use Rattle.strm_types.specs.Message.{Message, cells_of, map_message}
 use Rattle.strm_types.specs.Modules.{put_among}
-use Rattle.strm_types.specs.Names.{direction_at, enable_found, is_closed, is_open, other}
+use Rattle.strm_types.specs.Names.{direction_at, is_closed, is_open, other}
 use Rattle.strm_types.specs.Origins.{PutsAgree, map_acted, map_carried, map_took}
 use Rattle.strm_types.specs.Puts.{delivered, earlier_at, flushed_on, noted, passed_up, put_at_driver, put_at_head, put_at_module, put_behind, put_below, put_in}
 use Rattle.strm_types.specs.Queue.{Queue, map_queue}
@@ -32,15 +31,8 @@ use Rattle.strm_types.proofs.DeliveryForgets.{carried-agrees}
 use Rattle.strm_types.proofs.Earlier.{before_at-forgets, modules_on-forgets, places-forget}
 use Rattle.strm_types.proofs.Forgetting.{cells-forget, kind-forgets}
 use Rattle.strm_types.proofs.ModulePuts.{among-forgets}
+use Rattle.strm_types.proofs.Noted.{noted-same}
 use Rattle.strm_types.proofs.PutForgets.{driver_put-forgets, flush-forgets, head_put-forgets}
-
--- what is noted of a place, where its nearest earlier queues are the same
-noted-agree : (side : Side) (place : Option Place) (earlier earlier' : Way → Option QueueName) → ((way : Way) → earlier way ≡ earlier' way) → (notes : List Note) (names : List QueueName)
-    → noted side place earlier notes names ≡ noted side place earlier' notes names
-noted-agree side place earlier earlier' same [] names = refl
-noted-agree side place earlier earlier' same (Enable way ∷ notes) names = noted-agree side place earlier earlier' same notes (enable_found (queue_named side way place) names)
-noted-agree side place earlier earlier' same (Room way ∷ notes) names =
-    ap (λ o. noted side place earlier notes (enable_found o names)) (same way) ∙ noted-agree side place earlier earlier' same notes (enable_found (earlier' way) names)
 
 -- a pair whose head of a side, where that is open, or whose modules, or whose driver has had a message; with these queues enabled
 abbrev head_took : {E : Type 0} → Side → Bool → Acted E (Head E) → List E → List QueueName → State E → Took E (State E)
@@ -81,7 +73,7 @@ module _ {C D : Type 0} (f : C → D) where
   -- what is noted of a place
   pub notes-forget : (side : Side) (place : Option Place) (at : ℕ) (notes : List Note) (names : List QueueName) (s : State C)
       → noted side place (earlier_at side at (map_state f s)) notes names ≡ noted side place (earlier_at side at s) notes names
-  notes-forget side place at notes names s = noted-agree side place _ _ (λ way. before_at-forgets f side way at s) notes names
+  notes-forget side place at notes names s = noted-same side place _ _ (λ way. before_at-forgets f side way at s) notes names
 
   head-forgets : (side : Side) (here : Spot) (m : Message C) (s : State C) → put_at_head side here (map_message f m) (map_state f s) ≡ image (put_at_head side here m s)
   head-forgets side here m s = over side

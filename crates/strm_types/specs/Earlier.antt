@@ -8,7 +8,7 @@ use Rattle.strm_types.specs.declared.names.Side.{Side}
 use Rattle.strm_types.specs.declared.names.Way.{Way}
 use Rattle.strm_types.specs.declared.names.Way.TheVariants.{Up, Down}
 use Rattle.strm_types.specs.ModuleQueues.{place_before}
-use Rattle.strm_types.specs.Names.{before, driver_of, other, place_of}
+use Rattle.strm_types.specs.Names.{driver_of, other, place_of}
 use Rattle.strm_types.specs.Stacked.{Module, module_name, module_queue}
 use Rattle.strm_types.specs.State.{State, stream}
 
@@ -22,10 +22,6 @@ queue_named side way (Some place) = Some (record { side = side; place = place; w
 abbrev pub before_modules : Side → Way → ℕ → ℕ → Option QueueName
 before_modules side Down count at = None
 before_modules side Up count at = if nat_le at count then Some (driver_of (other side)) else None
-
--- the nearest earlier queue of an end of a stream by the names of queues alone, as it is where no module stands
-abbrev pub by_name : Side → Place → Way → Option QueueName
-by_name side place way = before (record { side = side; place = place; way = way })
 
 -- the nearest earlier queue where it stands at a place of these, as the places have queues, or before all of them
 abbrev pub before_by : Side → Way → ℕ → List (Option Place) → Option ℕ → Option QueueName

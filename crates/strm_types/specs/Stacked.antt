@@ -1,6 +1,6 @@
 -- What a module is to the stream on which it stands: its name, its queues, its unfinished line, and what it does (streamio(7I): I_PUSH;
 -- STREAMS Programming Guide, "Modules"). There are two kinds of modules: ldterm has two queues, and ptem has none.
-use Rattle.std.specs.Prelude.{ℕ, ◌≡◌, Bool, true, false, List, [], ◌∷◌, sum_by, flat_map, Option, None, Some}
+use Rattle.std.specs.Prelude.{ℕ, Bool, true, false, List, [], ◌∷◌, sum_by, flat_map, Option, None, Some}
 use Rattle.strm_types.specs.declared.names.ModuleName.{ModuleName}
 use Rattle.strm_types.specs.declared.names.ModuleName.TheVariants as names
 use Rattle.strm_types.specs.declared.names.Way.{Way}

@@ -1,5 +1,5 @@
 -- By what a byte gives.
-use Rattle.std.proofs.Common.{ℕ, ◌≡◌, ◌++◌, [], replicate, refl, sym, ap, subst, ◌∙◌, arith, append-nil}
+use Rattle.std.proofs.Common.{ℕ, ◌++◌, [], replicate, sym, ap, subst, ◌∙◌, arith, append-nil}
 use Rattle.strm_types.specs.declared.output.Given.{Given}
 use Rattle.strm_types.specs.Ldterms as ldterms
 use Rattle.strm_types.specs.Ldterms.{sends}

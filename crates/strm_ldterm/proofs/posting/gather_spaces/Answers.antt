@@ -1,5 +1,5 @@
 -- So many of the spaces, or none.
-use Rattle.std.proofs.Common.{ℕ, ◌≡◌, ◌++◌, [], replicate, refl, sym, ap, subst, ◌∙◌, arith, append-nil}
+use Rattle.std.proofs.Common.{ℕ, ◌≡◌, ◌++◌, [], replicate, sym, ap, subst, ◌∙◌, arith, append-nil}
 use Rattle.std.proofs.lemmas.List.{take-replicate}
 use Rattle.strm_types.specs.Ldterms as ldterms
 use Rattle.strm_types.specs.Ldterms.{sends}

@@ -1,11 +1,11 @@
 -- Runs and bytes, until none is left or blocks are few.
-use Rattle.std.proofs.Common.{◌≡◌, ◌≤◌, ◌<◌, ◌-◌, true, false, [], length, get_or, sym, ap, subst, ◌∙◌, arith}
+use Rattle.std.proofs.Common.{◌≡◌, ◌≤◌, ◌-◌, true, [], sym, subst, ◌∙◌, arith}
 use Rattle.strm_types.specs.declared.limits.TheConstants.{STOP_BLOCKS}
 use Rattle.strm_frame.specs.Serves.{least_free}
 use Rattle.strm_ldterm.specs.Posting.{is_printed}
 use Rattle.strm_ldterm.proofs.Calls.{lower}
 use Rattle.strm_ldterm.proofs.Joining.{still-kept}
-use Rattle.strm_ldterm.proofs.Poured.{Pours, pours-are, pours-more, pours-none, pours-some, pours-termios}
+use Rattle.strm_ldterm.proofs.Poured.{pours-are, pours-more, pours-none, pours-some, pours-termios}
 use Rattle.strm_ldterm.proofs.posting.post_bytes.Goals as goal
 use Rattle.strm_ldterm.proofs.posting.post_bytes.Goals.{then-left-eq0-via-then-left-eq0, then-left-eq0-via-else-left-eq0+then-are_few}
 

@@ -1,5 +1,5 @@
 -- The run is taken and gathered, and the carriage moves on.
-use Rattle.std.proofs.Common.{◌≡◌, ◌≤◌, ◌++◌, true, false, [], length, drop, get_or, sym, ap, subst, ◌∙◌, arith}
+use Rattle.std.proofs.Common.{◌≡◌, ◌≤◌, ◌++◌, true, [], length, drop, sym, subst, ◌∙◌, arith}
 use Rattle.std.proofs.lemmas.Bool.Decides.{nat_tests}
 use Rattle.std.specs.List.{AllByRecursion}
 use Rattle.strm_types.specs.Input.{cells_left, with_left}

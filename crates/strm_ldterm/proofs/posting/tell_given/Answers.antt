@@ -1,5 +1,5 @@
 -- Spaces are made, and the TAB goes.
-use Rattle.std.proofs.Common.{◌≡◌, ◌∷◌, [], length, replicate, sym, ap, ◌∙◌}
+use Rattle.std.proofs.Common.{◌≡◌, length, replicate, sym, ap, ◌∙◌}
 use Rattle.std.proofs.lemmas.List.{length-replicate}
 use Rattle.strm_types.specs.declared.rules.Rule.TheVariants.{Replaced}
 use Rattle.strm_types.specs.Cells.{cells_made, plain}

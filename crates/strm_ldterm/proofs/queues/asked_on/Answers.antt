@@ -4,4 +4,4 @@ use Rattle.strm_ldterm.proofs.Asking.{asked-peek}
 use Rattle.strm_ldterm.proofs.queues.asked_on.Goals as goal
 
 pub returns-clause-asks : goal.returns-clause-asks
-returns-clause-asks g c = asked-peek (g.B.Blocks.value c.args.store.now) c.args.queue.now.list c.args.way c.in_ok-peek.peek c.in_ok-peek.ensures ∙ sym c.asked_by.ensures.asks
+returns-clause-asks g c = asked-peek (g.B.Blocks.value c.args.store.now) c.args.queue.now.list c.args.way c.args.stopped c.in_ok-peek.peek c.in_ok-peek.ensures ∙ sym c.asked_by.ensures.asks

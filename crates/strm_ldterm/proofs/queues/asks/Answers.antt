@@ -2,7 +2,8 @@
 use Rattle.std.proofs.Common.{sym, ap, ◌∙◌}
 use Rattle.strm_queue.specs.Stored.{messages_on}
 use Rattle.strm_ldterm.specs.Stands.{ldterm_in}
-use Rattle.strm_types.specs.Asking.{ldterm_asks}
+use Rattle.strm_types.specs.Asking.{asked_by, ldterm_asks}
+use Rattle.strm_types.specs.declared.kinds.MsgKind.TheVariants.{Data}
 use Rattle.strm_ldterm.proofs.Asking.{asked-echo, asked-few}
 use Rattle.strm_ldterm.proofs.queues.asks.Goals as goal
 
@@ -11,7 +12,9 @@ returns-in-None-asked_on-clause-asks g c =
     let s = g.B.Blocks.value c.args.store.now in
     let name = g.B.Blocks.name in
     let x = c.args.ldterm.now in
-    asked-echo name s (messages_on s x.write_queue.list) x.echo c.in-None-asked_on.ensures.asks (sym c.is_some.ensures ∙ c.if-is_some.true) c.requires.held.echoes
+    c.asked_by.ensures.asks
+    ∙ ap (λ w. asked_by w x.stopped Data 0) c.in-Down.is
+    ∙ asked-echo name s x.stopped (messages_on s x.write_queue.list) x.echo c.in-None-asked_on.ensures.asks (sym c.is_some.ensures ∙ c.if-is_some.true) c.requires.held.echoes
     ∙ ap (λ w. ldterm_asks w (ldterm_in name s x)) (sym c.in-Down.is)
 
 pub returns-in-Some-clause-few : goal.returns-in-Some-clause-few

@@ -1,7 +1,8 @@
 use Rattle.std.proofs.Common.{ℕ, ◌≤◌, List, sym, subst}
 use Rattle.strm_types.specs.Cells.{plain}
 use Rattle.strm_types.specs.Deliver.{AreLower, Parcel}
-use Rattle.strm_types.specs.Input.{ldterm_serves, made_of}
+use Rattle.strm_types.specs.Input.{made_of}
+use Rattle.strm_types.specs.LdtermServes.{ldterm_serves}
 use Rattle.strm_types.specs.Puts.{far}
 use Rattle.strm_types.specs.TurnCalls.{most_made}
 use Rattle.strm_types.proofs.LdtermMakes.{serves-makes}

@@ -67,3 +67,14 @@ returns-else-has_room_past-clause-begins g c =
     let behind = c.stay-in-Room.ensures.state ∙ ap (λ (v : State ℕ). (stayed_at Blocked (spot_of name at) v).state) (c.wait_past.ensures.state s) in
     subst (BeginsAs st new name) (sym c.stay-in-Room.ensures.over)
     (λ turn. turned-asks name at (asked.Room band) turn st c.requires.rests found asks ∙ turned-waits name at band turn st none ∙ ap (stayed_put Blocked) (sym behind))
+
+pub returns-in-Held-clause-begins : goal.returns-in-Held-clause-begins
+returns-in-Held-clause-begins g c =
+    let s = g.B.Blocks.value c.args.store.now in
+    let st = state_in g.B.Stacks.view.modules s c.args.self.now in
+    let name = c.args.name in
+    let at = c.in-Some.at in
+    let new = state_in g.B.Stacks.view.modules s c.stay-in-Held.new.self in
+    let found = sym (c.module_named.ensures s) ∙ c.in-Some.is in
+    let asks = sym c.in-Held.is ∙ c.asks.ensures.asks ∙ ap (λ (t : Stream ℕ). at_place (module_asks name.way) asked.Empty at t.modules) (c.end.ensures.stream g.B.Stacks.view.modules s) in
+    subst (BeginsAs st new name) (sym c.stay-in-Held.ensures.over) (λ turn. turned-asks name at asked.Held turn st c.requires.rests found asks ∙ ap (stayed_put Blocked) (sym c.stay-in-Held.ensures.state))

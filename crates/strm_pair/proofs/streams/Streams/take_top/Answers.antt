@@ -1,7 +1,7 @@
 -- The module on top is taken off its stack, its queues are no longer enabled, and those before it are.
 use Rattle.std.proofs.Common.{◌≡◌, ap, ◌∙◌, arith}
 use Rattle.std.specs.Prelude.{None}
-use Rattle.strm_types.proofs.Alone.{noted-same}
+use Rattle.strm_types.proofs.Noted.{noted-same}
 use Rattle.strm_types.specs.Modules.{without_module}
 use Rattle.strm_types.specs.Puts.{earlier_at, noted}
 use Rattle.strm_types.specs.Names.{place_of}

@@ -1,0 +1,165 @@
+-- M_DATA in hand that is given another band, and goes down.
+use Rattle.std.proofs.Common.{ℕ, ◌≡◌, ◌<◌, eqb, cond, List, [], ◌∷◌, length, map, refl, sym, ap, subst, ◌∙◌, arith}
+use Rattle.std.proofs.lemmas.Bool.{false≢true}
+use Rattle.std.specs.Prelude.{None, Some}
+use Rattle.std.proofs.lemmas.List.Sums.{sum_by-cons}
+use Rattle.strm_types.specs.declared.kinds.MsgKind.TheVariants as kinds
+use Rattle.strm_types.specs.declared.limits.TheConstants.{BANDS}
+use Rattle.strm_types.specs.declared.names.Way.TheVariants.{Down}
+use Rattle.strm_types.specs.declared.rules.Fates.{Fates}
+use Rattle.strm_types.specs.declared.spots.Spot.{Spot}
+use Rattle.strm_types.specs.Deliver.{toward}
+use Rattle.strm_types.specs.Ldterms.{onward, sends}
+use Rattle.strm_types.specs.Message.{Message, cells_of, is_high_priority}
+use Rattle.strm_types.specs.OutputTurns.{with_given}
+use Rattle.strm_blocks.specs.Blocks.{Block, StoreValue, IsInHand, in_hand, list_at, block_at, changed, banded, names_of}
+use Rattle.strm_blocks.proofs.Laws.{total-changed, used-is, references-is, free_m-is, free_d-more, in_hand-changed, in_hand-changed_other}
+use Rattle.strm_msg.specs.Bytes.{bytes_of}
+use Rattle.strm_msg.specs.Messages.{message_of, IsChain}
+use Rattle.strm_msg.proofs.Chains.{data_in-cells, data-control}
+use Rattle.strm_msg.proofs.Hands.{times-replaced}
+use Rattle.strm_frame.specs.declared.parcels.Sent.{Sent}
+use Rattle.strm_frame.specs.Hands.{once, AreIn, CanPut, Shifts}
+use Rattle.strm_frame.specs.Outboxes.{message_in, times_sent}
+use Rattle.strm_frame.proofs.Handing.{once-apart, one-parts, one-chains}
+use Rattle.strm_ldterm.specs.declared.ldterm.Ldterm.{Ldterm}
+use Rattle.strm_ldterm.specs.Becoming.{Becomes}
+use Rattle.strm_ldterm.specs.Does.{Proceeds}
+use Rattle.strm_ldterm.specs.Frames.{ldterm-frame}
+use Rattle.strm_ldterm.specs.Freeing.{FreesNone}
+use Rattle.strm_ldterm.specs.Outgone.{data_of}
+use Rattle.strm_ldterm.specs.Stands.{IsData, IsHeld, cells_kept, kept_in, keeps, ldterm_in}
+use Rattle.strm_ldterm.proofs.Finished.{gathered-held, gathered-splits}
+use Rattle.strm_ldterm.proofs.Passed.{stays}
+use Rattle.strm_ldterm.proofs.Skipped.{shown-bytes}
+
+-- a chain of another band
+record Rebanded (chain : List Block) (band : ℕ) : Type 0 where
+  pub one : IsChain (banded band chain)
+  pub kind : (block_at 0 (banded band chain)).kind ≡ kinds.Data
+  pub shows : message_of (banded band chain) ≡ data_of band (cells_of (message_of chain))
+  pub same : length (banded band chain) ≡ length chain
+  pub names : (d : ℕ) → names_of d (banded band chain) ≡ names_of d chain
+
+rebanded : (chain : List Block) (band : ℕ) → IsChain chain → (block_at 0 chain).kind ≡ kinds.Data → band < BANDS → Rebanded chain band
+unfolding is_high_priority
+rebanded [] band one kind low = absurd (let l = one.some in omega arith)
+rebanded (b ∷ rest) band one kind low =
+    let next : Block = record b { band = band } in
+    let all = one.all_data kind in
+    let new : IsChain (next ∷ rest) = record {
+      some = omega arith;
+      all_data = λ k. all;
+      parted = λ control. absurd (let no = data-control b.kind all.0 in cc);
+      high = λ high. absurd (false≢true (sym (ap is_high_priority all.0) ∙ high));
+      low = low;
+    } in
+    let bytes = ap cells_of (shown-bytes (b ∷ rest) one kind) ∙ data_in-cells b.band (bytes_of (b ∷ rest)) in
+    record {
+      one = new;
+      kind = kind;
+      shows = shown-bytes (next ∷ rest) new kind ∙ sym (ap (data_of band) bytes);
+      same = refl;
+      names = λ d. let y = sum_by-cons (λ (x : Block). cond {A = ℕ} (eqb x.number d) 1 0) b rest in
+          let z = sum_by-cons (λ (x : Block). cond {A = ℕ} (eqb x.number d) 1 0) next rest in omega arith;
+    }
+
+module _ (s t : StoreValue) (i band : ℕ) (is : IsInHand s i) (msg : IsData s i) (low : band < BANDS) (after : t ≡ changed s i (banded band (in_hand s i))) where
+  abbrev new : List Block
+  new = banded band (in_hand s i)
+
+  is-new : Rebanded (in_hand s i) band
+  is-new = rebanded (in_hand s i) band msg.chain msg.kind low
+
+  there : in_hand t i ≡ new
+  there = ap (λ v. in_hand v i) after ∙ in_hand-changed s i new is
+
+  -- the store has as many free blocks as before
+  abbrev to : StoreValue
+  to = changed s i new
+
+  shifts : Shifts s to (once i) (once i) 0
+  shifts = record {
+    counts = λ k. let r = times-replaced i k new s.hand in omega arith;
+    others = λ k none some. in_hand-changed_other s i k new (once-apart i k none);
+    mblks = (let a = total-changed length s i new is in let l = is-new.same in let c = free_m-is s in let d = free_m-is to in let e = used-is s in let f = used-is to in omega arith);
+    dblks = (let m = free_d-more s to refl (λ d. let a = total-changed (names_of d) s i new is in let n = is-new.names d in let e = references-is s d in let f = references-is to d in omega arith) in omega arith);
+    pool = record { mblks = refl; dblks = refl };
+  }
+
+  none : FreesNone s to
+  none = (
+    (let a = total-changed length s i new is in let l = is-new.same in let c = free_m-is s in let d = free_m-is to in let e = used-is s in let f = used-is to in omega arith),
+    free_d-more to s refl (λ d. let a = total-changed (names_of d) s i new is in let n = is-new.names d in let e = references-is s d in let f = references-is to d in omega arith),
+  )
+
+  pub reband-becomes : Becomes s t i i (data_of band (cells_of (message_in s i)))
+  reband-becomes = record {
+    lists = ap (λ v. v.lists) after;
+    hands = subst (λ v. Shifts s v (once i) (once i) 0) (sym after) shifts;
+    is = record { chain = subst IsChain (sym there) is-new.one; kind = ap (λ c. (block_at 0 c).kind) there ∙ is-new.kind };
+    shows = ap message_of there ∙ is-new.shows;
+  }
+
+  pub reband-frees : FreesNone s t
+  reband-frees = subst (FreesNone s) (sym after) none
+
+-- what goes down
+pub given-some : (l : List ℕ) (band : ℕ) → (length l ≡ 0 → ⊥) → with_given l (data_of band []) ≡ data_of band l ∷ []
+given-some [] band some = absurd (some refl)
+given-some (b ∷ l) band some = refl
+
+pub given-none : (l : List ℕ) (m : Message ℕ) → length l ≡ 0 → with_given l m ≡ []
+given-none [] m none = refl
+given-none (b ∷ l) m none = absurd (omega arith)
+
+pub gathered-can : {M : Type 0} (name : M → ℕ) (s : StoreValue) (x : Ldterm M) (m : M) → x.gathered ≡ Some m → AreIn s (λ _. 0) (keeps name x) → CanPut s (name m) (keeps name (record x { gathered = None }))
+gathered-can name s x m there kept = record { apart = λ j. let a = kept.apart j in let e = gathered-splits name s x m there j in omega arith }
+
+-- nothing was gathered
+pub nothing-down : {M : Type 0} (name : M → ℕ) (s : StoreValue) (x : Ldterm M) (here : Spot) (band : ℕ) (f : Fates) (sent : List (Sent M)) → sent ≡ [] → x.gathered ≡ None → IsHeld name s x
+    → (let p = ldterm_in name s x in Proceeds name s s x (record x { gathered = None }) 0 [] sent f f (sends (map (onward Down here) (with_given p.gathered (data_of band []))) (record p { gathered = [] })))
+nothing-down name s x here band f sent none there held =
+    let p = ldterm_in name s x in
+    let empty : p.gathered ≡ [] = ap (λ o. cells_kept (kept_in name s o)) there in
+    subst (λ o. Proceeds name s s x (record x { gathered = o }) 0 [] sent f f (sends (map (onward Down here) (with_given p.gathered (data_of band []))) (record p { gathered = [] }))) there
+    (subst (λ (l : List ℕ). Proceeds name s s x x 0 [] sent f f (sends (map (onward Down here) (with_given l (data_of band []))) (record p { gathered = [] }))) (sym empty)
+    (subst (λ (l : List ℕ). Proceeds name s s x x 0 [] sent f f (sends [] (record p { gathered = l }))) empty (stays name s x sent f held none)))
+
+-- what was gathered, under another band
+module _ {M : Type 0} (name : M → ℕ) (s t : StoreValue) (x : Ldterm M) (m : M) (there : x.gathered ≡ Some m) (held : IsHeld name s x) (kept : AreIn s (λ _. 0) (keeps name x)) (new : Message ℕ) (b : Becomes s t (name m) (name m) new) where
+  abbrev y : Ldterm M
+  y = record x { gathered = None }
+
+  apart : (j : ℕ) → 0 < keeps name y j → once (name m) j ≡ 0
+  apart j some = let few = held.once_each j in let e = gathered-splits name s x m there j in omega arith
+
+  framed : (ldterm_in name t y ≡ ldterm_in name s y) × IsHeld name t y
+  framed = ldterm-frame name s t y (record {
+    lists = λ k some. ap (λ ls. list_at (record t { lists = ls }) k) b.lists;
+    mblks = b.hands.pool.mblks;
+    dblks = b.hands.pool.dblks;
+    kept = λ j some. let e = gathered-splits name s x m there j in let a = kept.apart j in b.hands.others j (apart j some) (omega arith);
+  }) (gathered-held name s x m there held)
+
+  pub goes-down : (here to : Spot) (f : Fates) (sent : List (Sent M)) → sent ≡ record { to = to; message = m } ∷ [] → to ≡ toward Down here
+      → Proceeds name s t x y 0 [] sent f f (sends (onward Down here new ∷ []) (record (ldterm_in name s x) { gathered = [] }))
+  unfolding times_sent
+  goes-down here to f sent one place =
+      let z : Sent M = record { to = to; message = m } in
+      record {
+        state = framed.0;
+        noted = refl;
+        parcels = one-parts name t z sent one ∙ ap (λ (spot : Spot). record { to = spot; message = message_in t (name m) } ∷ []) place ∙ ap (λ (w : Message ℕ). onward Down here w ∷ []) b.shows;
+        told = refl;
+        held = framed.1;
+        own = record { lists = λ k none. ap (λ ls. list_at (record t { lists = ls }) k) b.lists; owns_same = λ k. refl };
+        chains = one-chains name t z sent one b.is.chain;
+        hands = record {
+          counts = λ j. let c = b.hands.counts j in let e = gathered-splits name s x m there j in let w = ap (times_sent name j) one in omega arith;
+          others = λ j gone none some. let e = gathered-splits name s x m there j in b.hands.others j (omega arith) some;
+        };
+        mblks = (let a = b.hands.mblks in omega arith);
+        dblks = (let a = b.hands.dblks in omega arith);
+        pool = record { mblks = b.hands.pool.mblks; dblks = b.hands.pool.dblks };
+      }

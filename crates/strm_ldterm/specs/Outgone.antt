@@ -1,0 +1,67 @@
+-- What a turn of the write queue did (ldterm(7M), "Write-side Behavior"; srv(9E); putbq(9F)).
+use Rattle.std.specs.Prelude.{ℕ, ◌≡◌, ◌<◌, true, false, List, [], ◌∷◌, length, map, Option, None, Some}
+use Rattle.strm_types.specs.declared.kinds.MsgKind.TheVariants as kinds
+use Rattle.strm_types.specs.declared.limits.TheConstants.{BANDS}
+use Rattle.strm_types.specs.declared.names.Way.TheVariants.{Down}
+use Rattle.strm_types.specs.declared.rules.Fates.{Fates}
+use Rattle.strm_types.specs.declared.spots.Spot.{Spot}
+use Rattle.strm_types.specs.Cells.{plain}
+use Rattle.strm_types.specs.Deliver.{Acted}
+use Rattle.strm_types.specs.Input.{back_on}
+use Rattle.strm_types.specs.Ldterms as ldterms
+use Rattle.strm_types.specs.Ldterms.{onward, sends}
+use Rattle.strm_types.specs.Message.{Message, cells_of}
+use Rattle.strm_types.specs.OutputTurns.{output_serves, with_given}
+use Rattle.strm_types.specs.Queue.{left_with}
+use Rattle.strm_types.specs.Service.{Serving}
+use Rattle.strm_types.specs.Termios.{opost}
+use Rattle.strm_blocks.specs.Blocks.{StoreValue}
+use Rattle.strm_frame.specs.declared.parcels.Sent.{Sent}
+use Rattle.strm_frame.specs.Outboxes.{sent_of}
+use Rattle.strm_ldterm.specs.declared.opening.OutputBegun.{OutputBegun}
+use Rattle.strm_ldterm.specs.declared.opening.OutputBegun.TheVariants as begun
+use Rattle.strm_ldterm.specs.declared.ldterm.Ldterm.{Ldterm}
+use Rattle.strm_ldterm.specs.Does.{Proceeds}
+use Rattle.strm_ldterm.specs.Stands.{ldterm_in}
+
+-- M_DATA of a band
+abbrev pub data_of : ℕ → List ℕ → Message ℕ
+data_of band bytes = record { kind = kinds.Data; band = band; control = None; body = Some bytes; plain = [] }
+
+-- What was gathered goes down as one M_DATA of a band, where there is any, and what is left of the message in work goes back to the front of
+-- the write queue.
+abbrev pub let_go : Spot → ℕ → ldterms.Ldterm ℕ → Acted ℕ (ldterms.Ldterm ℕ)
+let_go here band p =
+    sends (map (onward Down here) (with_given p.gathered (data_of band []))) (record p { gathered = []; in_work = None; write_queue = back_on p.in_work p.write_queue })
+
+module _ {M : Type 0} (name : M → ℕ) (old new : StoreValue) (here : Spot) (x x' : Ldterm M) where
+  -- what the definition says, where it may stop after so many bytes
+  abbrev pub output_of : Option ℕ → Serving ℕ (ldterms.Ldterm ℕ)
+  output_of stop = let p = ldterm_in name old x in output_serves plain here stop 0 p.write_queue.messages p
+
+  -- Nothing stood there, or a message passes whole: these parcels, of so many bytes.
+  pub record PassedDown (sent : List (Sent M)) (bytes : ℕ) : Type 0 where
+    pub passes : (stop : Option ℕ) (f : Fates) → Proceeds name old new x x' 0 [] sent f f (output_of stop).acted
+    pub size : (stop : Option ℕ) → bytes ≡ (output_of stop).bytes
+    pub again : (stop : Option ℕ) → (output_of stop).again ≡ false
+
+  -- The first message is M_DATA of so many bytes and of a band, goes out under OPOST, and is in work. Nothing else is under way.
+  pub record BeganOutput (bytes band : ℕ) : Type 0 where
+    pub message : Message ℕ
+    pub rest : List (Message ℕ)
+    pub first : (ldterm_in name old x).write_queue.messages ≡ message ∷ rest
+    pub is : message ≡ data_of band (cells_of message)
+    pub output : opost (ldterm_in name old x).termios ≡ true
+    pub some : 0 < bytes
+    pub size : bytes ≡ length (cells_of message)
+    pub low : band < BANDS
+    pub idle : (ldterm_in name old x).in_work ≡ None
+    pub none : (ldterm_in name old x).gathered ≡ []
+    pub quiet : (ldterm_in name old x).echoing ≡ false
+    pub works : (f : Fates) → let p = ldterm_in name old x in
+        Proceeds name old new x x' 0 [] [] f f (sends [] (record p { write_queue = left_with rest p.write_queue; in_work = Some message }))
+
+  -- by what the function says
+  abbrev pub OutputBeganAs : OutputBegun M → Type 0
+  OutputBeganAs (begun.Whole passed) = PassedDown (sent_of passed.sent) passed.bytes
+  OutputBeganAs (begun.InWork bytes band) = BeganOutput bytes band.0
