@@ -9,6 +9,7 @@ use Rattle.strm_types.specs.Message.{Message}
 use Rattle.strm_types.specs.Pushes.{named_by}
 use Rattle.strm_types.specs.Queue.{Queue}
 use Rattle.strm_types.specs.Stacked.{Module, OfLdterm, OfPtem, module_name, module_puts, module_serves, with_module_queue, without_module_line}
+use Rattle.strm_types.specs.TurnCalls.{ldterm_of}
 use Rattle.strm_blocks.specs.Blocks.{StoreValue, list_at}
 use Rattle.strm_frame.specs.Hands.{SameOwn}
 use Rattle.strm_ldterm.specs.Bounds as bounds
@@ -27,15 +28,14 @@ abbrev pub owns : {M : Type 0} → AnyModule M → ℕ → ℕ
 owns (kinds.Ldterm x) k = stands.owns x k
 owns (kinds.Ptem x) k = 0
 
--- whether its service procedure may be called: no turn of a ptem is ever under way
+-- whether its service procedure may be called: a ptem has none, and a call does nothing
 abbrev pub MayServe : Way → Bool → Module ℕ → Type 0
 MayServe way again (OfLdterm l) = IsServed way again l
-MayServe way again (OfPtem p) = again ≡ false
+MayServe way again (OfPtem p) = Unit {0}
 
--- how many blocks of each kind a call of it may count on
+-- how many blocks of each kind a call of it may count on; none of a ptem is ever made
 abbrev pub turn_cost : Spot → Bool → Module ℕ → ℕ
-turn_cost here again (OfLdterm l) = bounds.turn_cost here again l
-turn_cost here again (OfPtem p) = 0
+turn_cost here again p = bounds.turn_cost here again (ldterm_of p)
 
 module _ {M : Type 0} (name : M → ℕ) where
   -- what it stands for
@@ -76,11 +76,11 @@ pub record IsMade {M : Type 0} (first : ℕ) (kind : ModuleName) (x : AnyModule 
 -- line that is gone leave it so.
 pub either-serves : (way at : Way) (p : Module ℕ) → MayServe way false p → MayServe at false p
 either-serves way at (OfLdterm l) may = either-served way at l may
-either-serves way at (OfPtem p) may = refl
+either-serves way at (OfPtem p) may = tt
 
 pub serves-on : (here : Spot) (again : Bool) (stop : Option ℕ) (p : Module ℕ) → MayServe here.way again p → (let t = module_serves plain here 0 again stop p in MayServe here.way t.again t.acted.state)
 serves-on here again stop (OfLdterm l) may = serves-served plain here 0 again stop l may
-serves-on here again stop (OfPtem p) may = refl
+serves-on here again stop (OfPtem p) may = tt
 
 pub puts-serve : (here : Spot) (m : Message ℕ) (way : Way) (again : Bool) (p : Module ℕ) → MayServe way again p → MayServe way again (module_puts here m p).state
 puts-serve here m way again (OfLdterm l) may = puts-served here m way again l may

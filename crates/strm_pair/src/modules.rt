@@ -164,7 +164,7 @@ impl<B: Blocks> Module<B> for AnyModule<B::Mp> {
     fn serve(&mut self, store: &mut B, here: Spot, again: bool, told: &mut Fates) -> Served<B::Mp> {
         match self {
             AnyModule::Ldterm(ldterm) => ldterm.serve(store, here, again, told),
-            AnyModule::Ptem(ptem) => ptem.serve(store, here, again, told),
+            AnyModule::Ptem(ptem) => ptem.serve(store, here, false, told),
         }
     }
 

@@ -143,7 +143,7 @@ impl<S: Drop> Streams<S> {
     ) -> Turn
         requires held { AreHeld B.view (B.value store.old) self.old }
         requires rests { AreIdle (state_in B.view.modules (B.value store.old) self.old) }
-        requires room { HasRoom (B.value store.old) 4 }
+        requires room { HasRoom (B.value store.old) 25 }
         requires range { in_range (state_in B.view.modules (B.value store.old) self.old) ≡ true }
         ensures turn { result ≡ (module_turned plain name result (state_in B.view.modules (B.value store.old) self.old)).turn }
         ensures state { state_in B.view.modules (B.value store.new) self.new
