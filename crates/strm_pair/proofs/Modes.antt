@@ -127,7 +127,7 @@ stays-there Slave p s = refl
 -- A module is pushed: the head may be told its mode before it stands there.
 pub pushed-is : (side : Side) (name : ModuleName) (p : Module ℕ) (s : State ℕ) → named_by (Some name) ≡ Some p → may_stand (named_by (Some name)) (stream side s).modules ≡ true
     → let t = mode_put side (mode_on_push name) s in
-      pushed_named side (named_by (Some name)) s ≡ record { state = driver_comes (is_some (place_of name)) side (with_modules side (p ∷ (stream side t.state).modules) t.state); gone = t.gone }
+    pushed_named side (named_by (Some name)) s ≡ record { state = driver_comes (is_some (place_of name)) side (with_modules side (p ∷ (stream side t.state).modules) t.state); gone = t.gone }
 pushed-is side names.Pckt p s is may = absurd (cc)
 pushed-is side names.Ptem p s is may =
     ap (led []) (stays-there side (OfPtem new_ptem) s) ∙ ap (λ q. led [] (driver_comes false side (with_modules side (q ∷ (stream side s).modules) s))) (ap or_new is)

@@ -20,8 +20,8 @@ use strm_head::put_refusal;
 use strm_queue::standing::has_no_data;
 use strm_types::{
     BANDS, Band, CHANGE_BLOCKS, CLOSE_BLOCKS, Caller, Event, IOCTL_BLOCKS, IOCTL_END, IOCTL_MAX,
-    MODULES, ModuleName, Openness, Prio, READ_MAX, Refusal, SIGNALS_MAX, Side, WRITE_BLOCKS, Wanted,
-    chunk_count,
+    MODULES, ModuleName, Openness, Prio, READ_MAX, Refusal, SIGNALS_MAX, Side, WRITE_BLOCKS,
+    Wanted, chunk_count,
 };
 
 /// A refusal unless a condition holds.
