@@ -1,8 +1,10 @@
 -- Plans, and the words that say them.
-use Rattle.std.specs.Prelude.{ℕ, ◌≡◌, ◌<◌, ◌≤◌, ◌*◌, ◌==◌, if◌then◌else◌, List, [], length, slice_index_or}
+use Rattle.std.specs.Prelude.{ℕ, ◌≡◌, ◌<◌, ◌≤◌, ◌*◌, ◌==◌, if◌then◌else◌, List, [], length, slice_index_or, Option, None, Some}
 use Rattle.std.specs.Borrow.{Bor}
 use Rattle.strm_bench.specs.Numbers.{IsNumber, number_of}
 use Rattle.strm_bench.specs.declared.plans.Plan.{Plan}
+use Rattle.strm_bench.specs.declared.plans.Typed.{Typed}
+use Rattle.strm_bench.specs.declared.plans.Typed.TheVariants.{Nothing, Lines, Raw}
 
 -- the words of a line
 abbrev pub Words : Type 0
@@ -11,6 +13,13 @@ Words = List (Bor (List ℕ))
 -- the bytes of a word, none past the end
 abbrev pub word : Words → ℕ → List ℕ
 word words i = (slice_index_or words i (record { ref_ptr = (0, 0); now = [] })).now
+
+-- what a number says is typed
+abbrev pub typed_by : ℕ → Option Typed
+typed_by 0 = Some Nothing
+typed_by 1 = Some Lines
+typed_by 2 = Some Raw
+typed_by _ = None
 
 -- eight numbers in the ranges of a plan
 pub record IsPlan (words : Words) : Type 0 where
@@ -27,7 +36,7 @@ pub record IsPlan (words : Words) : Type 0 where
   pub some_blocks : 0 < number_of (word words 4)
   pub few_blocks : number_of (word words 4) ≤ 65536
   pub warm_or_not : number_of (word words 6) ≤ 1
-  pub typed_or_not : number_of (word words 7) ≤ 1
+  pub known : number_of (word words 7) ≤ 2
   pub line : number_of (word words 7) ≡ 1 → number_of (word words 2) ≤ 256
 
 -- a plan has the numbers that the words spell
@@ -39,7 +48,7 @@ pub record Says (words : Words) (plan : Plan) : Type 0 where
   pub blocks : plan.blocks ≡ number_of (word words 4)
   pub entries : plan.entries ≡ number_of (word words 5)
   pub warm : plan.warm ≡ (number_of (word words 6) == 1)
-  pub typed : plan.typed ≡ (number_of (word words 7) == 1)
+  pub typed : Some plan.typed ≡ typed_by (number_of (word words 7))
 
 -- how many bytes the rounds of a plan ask for
 abbrev pub bytes_asked : Plan → ℕ

@@ -1,14 +1,14 @@
 //! How a plan is read.
 
-ghost use Rattle.std.specs.Prelude.{◌↔◌, IsSome, IfSome};
+ghost use Rattle.std.specs.Prelude.{◌↔◌, ◌≡◌, IsSome, IfSome};
 ghost use Rattle.std.specs.Option.{SomeIff};
 ghost use Rattle.strm_bench.specs.Numbers.{IsNumber, number_of};
-ghost use Rattle.strm_bench.specs.Plans.{IsPlan, Says};
+ghost use Rattle.strm_bench.specs.Plans.{IsPlan, Says, typed_by};
 
-use crate::plans::Plan;
+use crate::plans::{Plan, Typed};
 
-/// The plan that eight words say, each a number: blocks from 1 to 65536, a size of at most 4096, and two last ones of 0 or 1, which
-/// are 1 for a warm plan and for a typed one, whose size is at most 256.
+/// The plan that eight words say, each a number: blocks from 1 to 65536, a size of at most 4096, then 1 for a warm plan and else 0, and
+/// what is typed: 0 for nothing, 1 for lines, whose size is at most 256, and 2 for raw mode.
 pub fn read_plan(words: &[&str]) -> Option<Plan>
     ensures known { IsSome result ↔ IsPlan words.now }
     ensures numbers { IfSome result (Says words.now) }
@@ -24,10 +24,11 @@ pub fn read_plan(words: &[&str]) -> Option<Plan>
     let entries = number(entries)?;
     let warm = number(warm)?;
     let typed = number(typed)?;
-    if blocks == 0 || blocks > 65536 || size > 4096 || warm > 1 || typed > 1 {
+    if blocks == 0 || blocks > 65536 || size > 4096 || warm > 1 {
         return None;
     }
-    if typed == 1 && size > 256 {
+    let typed = typed_as(typed)?;
+    if typed == Typed::Lines && size > 256 {
         return None;
     }
     Some(Plan {
@@ -38,8 +39,20 @@ pub fn read_plan(words: &[&str]) -> Option<Plan>
         blocks,
         entries,
         warm: warm == 1,
-        typed: typed == 1,
+        typed,
     })
+}
+
+// What a number says is typed.
+fn typed_as(number: u32) -> Option<Typed>
+    ensures { result ≡ typed_by number }
+{
+    match number {
+        0 => Some(Typed::Nothing),
+        1 => Some(Typed::Lines),
+        2 => Some(Typed::Raw),
+        _ => None,
+    }
 }
 
 // The number that a word spells.

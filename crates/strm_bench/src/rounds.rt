@@ -4,11 +4,14 @@ ghost use Rattle.std.specs.Prelude.{◌≤◌, ◌*◌, if◌then◌else◌, len
 ghost use Rattle.std.specs.Bool.{OnTrue};
 ghost use Rattle.strm_bench.specs.Plans.{bytes_asked};
 
-use crate::plans::Plan;
+use crate::plans::{Plan, Typed};
 use std::alloc::Global;
 use strm_blocks::TableStore;
 use strm_pair::Pair;
-use strm_types::{Caller, Config, Content, Event, ModuleName, Side};
+use strm_types::{
+    Caller, Config, Content, Event, InputModes, LocalModes, ModuleName, OutputModes, Side, TCSETS,
+    Termios,
+};
 
 const MASTER: Caller = Caller { side: Side::Master };
 
@@ -55,29 +58,47 @@ fn opens(pair: &mut Pair<TableStore>, out: &mut Content) -> bool {
         && calls(pair, SLAVE, &Event::OpenSlave, out)
 }
 
-// Pushes a line discipline on the slave; whether it was granted.
-fn pushes(pair: &mut Pair<TableStore>, out: &mut Content) -> bool {
-    let event = Event::Push {
-        name: Some(ModuleName::Ldterm),
+// Pushes a module on the slave; whether it was granted.
+fn pushes(pair: &mut Pair<TableStore>, name: ModuleName, out: &mut Content) -> bool {
+    calls(pair, SLAVE, &Event::Push { name: Some(name) }, out)
+}
+
+// Sets raw mode on the slave, and makes the turns that tell the master; whether all went well.
+fn makes_raw(pair: &mut Pair<TableStore>, out: &mut Content) -> bool {
+    let mut raw = Termios::new();
+    raw.iflag = InputModes(0);
+    raw.oflag = OutputModes(0);
+    raw.lflag = LocalModes(0);
+    let body = raw.bytes();
+    let event = Event::Ioctl {
+        command: TCSETS,
+        body: &body[..],
     };
-    calls(pair, SLAVE, &event, out)
+    calls(pair, SLAVE, &event, out) && turns(pair)
+}
+
+// What stands on the slave in a plan; whether all was granted.
+fn sets_up(pair: &mut Pair<TableStore>, plan: &Plan, out: &mut Content) -> bool {
+    if plan.typed == Typed::Nothing {
+        return true;
+    }
+    pushes(pair, ModuleName::Ptem, out)
+        && pushes(pair, ModuleName::Ldterm, out)
+        && (plan.typed == Typed::Lines || makes_raw(pair, out))
 }
 
 // What a plan writes in each round: bytes, or the end of a line.
 fn written(plan: &Plan) -> &'static [u8] {
     let size = plan.size as usize;
-    if plan.typed {
+    if plan.typed == Typed::Lines {
         let line = &LINE[..];
         return &line[256 - size..];
     }
     &BYTES[..size]
 }
 
-// A write on the master, and the turns that carry it to the slave's head; whether all went well.
-fn sends(pair: &mut Pair<TableStore>, bytes: &[u8], out: &mut Content) -> bool {
-    if !calls(pair, MASTER, &Event::Write { bytes }, out) {
-        return false;
-    }
+// The turns of queues that are enabled, sixteen at most; whether all were made.
+fn turns(pair: &mut Pair<TableStore>) -> bool {
     for _ in 0..16 {
         let Some(queue) = pair.first_enabled() else {
             break;
@@ -89,9 +110,14 @@ fn sends(pair: &mut Pair<TableStore>, bytes: &[u8], out: &mut Content) -> bool {
     true
 }
 
-// A read of what is echoed on the master, in a typed plan; whether it was granted.
+// A write on the master, and the turns that carry it to the slave's head; whether all went well.
+fn sends(pair: &mut Pair<TableStore>, bytes: &[u8], out: &mut Content) -> bool {
+    calls(pair, MASTER, &Event::Write { bytes }, out) && turns(pair)
+}
+
+// A read of what is echoed on the master, where lines are typed; whether it was granted.
 fn echoes(pair: &mut Pair<TableStore>, plan: &Plan, out: &mut Content) -> bool {
-    !plan.typed || calls(pair, MASTER, &Event::Read { n: 4096 }, out)
+    plan.typed != Typed::Lines || calls(pair, MASTER, &Event::Read { n: 4096 }, out)
 }
 
 // A read of up to so many bytes on the slave; whether it was granted.
@@ -106,7 +132,7 @@ fn rounds(pair: &mut Pair<TableStore>, plan: &Plan) -> Option<u64>
     ensures { IfSome result (λ bytes. bytes ≤ plan.now.rounds * plan.now.size) }
 {
     let mut out = Content::new();
-    if !opens(pair, &mut out) || (plan.typed && !pushes(pair, &mut out)) {
+    if !opens(pair, &mut out) || !sets_up(pair, plan, &mut out) {
         return None;
     }
     for _ in 0..plan.standing {

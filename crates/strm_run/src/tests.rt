@@ -1,4 +1,4 @@
-//! Scripts run from memory to memory: the titled scenes of `scripts`, `messages`, `ioctls`, `keys`, `echo` and `turns`, and readers,
+//! Scripts run from memory to memory: the titled scenes of `sessions`, `scripts`, `messages`, `ioctls`, `keys`, `echo`, `outputs` and `turns`, and readers,
 //! writers and lines that no scene can show.
 
 mod echo;
@@ -6,7 +6,9 @@ mod ioctls;
 mod keys;
 mod messages;
 mod no_memory;
+mod outputs;
 mod scripts;
+mod sessions;
 mod turns;
 
 use crate::script::{ScriptEnd, ScriptStatus, run_script};
@@ -117,6 +119,9 @@ fn each_scene_answers_as_it_says(rt: HostRuntime) -> Result<(), Fail> {
     plays_scenes(&rt, rt.alloc(), &keys::FLOW)?;
     plays_scenes(&rt, rt.alloc(), &turns::TAKEN_OFF)?;
     plays_scenes(&rt, rt.alloc(), &turns::FEW_BLOCKS)?;
+    plays_scenes(&rt, rt.alloc(), &outputs::OUTPUT)?;
+    plays_scenes(&rt, rt.alloc(), &outputs::STOPPED)?;
+    plays_scenes(&rt, rt.alloc(), &sessions::SESSIONS)?;
     plays_scenes(&rt, rt.alloc(), &echo::BYTES)?;
     plays_scenes(&rt, rt.alloc(), &echo::RUBBING_OUT)?;
     plays_scenes(&rt, rt.alloc(), &echo::FULL)?;

@@ -12,8 +12,9 @@ use Rattle.strm_types.specs.Cells.{Tagged, Written, Made, plain, tagged}
 use Rattle.strm_types.specs.Deliver.{Acted, Fate, Goes, Comes, Parcel}
 use Rattle.strm_types.specs.Flush.{is_data_kind}
 use Rattle.strm_types.specs.Input.{back_on, begins_next, finished, is_data, left_of, made_of, stages_done, then_on, to_treat, with_left}
+use Rattle.strm_types.specs.LdtermPuts.{ldterm_puts}
 use Rattle.strm_types.specs.LdtermServes.{ldterm_serves}
-use Rattle.strm_types.specs.Ldterms.{Ldterm, Stage, Between, Begun, Answered, ldterm_puts, new_ldterm}
+use Rattle.strm_types.specs.Ldterms.{Ldterm, Stage, Between, Begun, Answered, new_ldterm}
 use Rattle.strm_types.specs.Message.{Message, data_message, cells_of, band_of, size_of, rank_of, is_high_priority}
 use Rattle.strm_types.specs.Queue.{Queue, Flow}
 use Rattle.strm_types.specs.Service.{Serving}

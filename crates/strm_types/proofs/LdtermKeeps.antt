@@ -1,8 +1,9 @@
 -- What ldterm does with what is put at it, and with each byte that is typed, loses no cell and makes none that it doesn't tell.
 use Rattle.std.proofs.Common.{ℕ, ◌≡◌, ◌+◌, Bool, true, false, cond, List, [], ◌∷◌, ◌++◌, length, drop, refl, sym, ap, ◌∙◌, arith}
-use Rattle.std.specs.Prelude.{not, ◌&&◌, Option, count_by}
+use Rattle.std.specs.Prelude.{not, ◌&&◌, ◌==◌, Option, None, count_by}
 use Rattle.std.proofs.lemmas.Bool.{false≢true}
 use Rattle.strm_types.specs.declared.flushing.FlushAsked.{FlushAsked}
+use Rattle.strm_types.specs.declared.ioctls.TheConstants.{TCSETSF}
 use Rattle.strm_types.specs.declared.keys.Key.{Key}
 use Rattle.strm_types.specs.declared.keys.Key.TheVariants.{Stop, Start, Intr, Quit, Susp, Ignored, Eof, Erase, Kill, Werase, Reprint, Lnext, Delimiter, Ordinary}
 use Rattle.strm_types.specs.declared.kinds.Band.{Band}
@@ -14,23 +15,28 @@ use Rattle.strm_types.specs.declared.names.Way.TheVariants.{Up, Down}
 use Rattle.strm_types.specs.declared.rules.Rule.{Rule}
 use Rattle.strm_types.specs.declared.rules.Rule.TheVariants.{Igncr, EraseKey, Erased, Killed, SignalKey, FlowKey, LnextKey, ReprintKey, LineFull, LineOver, Flushed}
 use Rattle.strm_types.specs.declared.spots.Spot.{Spot}
+use Rattle.strm_types.specs.declared.termios.Termios.{Termios}
 use Rattle.strm_types.specs.Cells.{Cells}
-use Rattle.strm_types.specs.Deliver.{Acted}
+use Rattle.strm_types.specs.Deliver.{Acted, Parcel}
 use Rattle.strm_types.specs.Emptied.{of_data}
-use Rattle.strm_types.specs.Flushing.{is_flush, asked_by, flush_bytes, flush_message}
+use Rattle.strm_types.specs.Flushing.{asked_by, flush_bytes, flush_message, read_flush}
+use Rattle.strm_types.specs.LdtermPuts.{ldterm_puts}
 use Rattle.strm_types.specs.LdtermWeights.{weight_beside, ldterm_weight, ActedKeeps, EchoStands}
-use Rattle.strm_types.specs.Ldterms.{Ldterm, both, flush_passes, ldterm_puts, line_flushed, onward, queue_flushed, queued_at, read_flushed, sends, takes_band_0, waits_there, without_line, write_flushed}
+use Rattle.strm_types.specs.Ldterms.{Ldterm, both, flush_passes, line_flushed, onward, queue_flushed, queued_at, read_flushed, sends, takes_band_0, without_line, write_flushed}
 use Rattle.strm_types.specs.Lines.{Types, ErasesByte, ErasesWord, edited, has_room}
 use Rattle.strm_types.specs.Message.{Message, cells_of, data_message, weight_of}
+use Rattle.strm_types.specs.Options.{mode_message}
 use Rattle.strm_types.specs.Places.{weight_sent, weight_gone, weight_made}
 use Rattle.strm_types.specs.Queue.{is_full, is_none_left, weight}
 use Rattle.strm_types.specs.Service.{line_gone}
+use Rattle.strm_types.specs.TakenUp.{ends_lines, input_flushed, line_up, read_mode_of, taken_up, termios_taken}
 use Rattle.strm_types.specs.Termios.{icanon, imaxbel, noflsh}
 use Rattle.strm_types.specs.Typing.{added, bare, both_ways, dropped, echo_grows, echo_lost, echo_stands, gathered_up, goes_up, grown, is_blank_cell, lost, sigint, signals, sigquit, sigtstp, stops, strikes, up_alone}
 use Rattle.strm_types.proofs.DeliveryKeeps.{gone-append, made-append}
 use Rattle.strm_types.proofs.EmptiedKeeps.{behind-keeps}
+use Rattle.strm_types.proofs.LdtermPuts.{puts-each}
 use Rattle.strm_types.proofs.Prefixes.{Begins, last-begins, word-begins}
-use Rattle.strm_types.proofs.PutWeights.{weight-both, weight-flush}
+use Rattle.strm_types.proofs.PutWeights.{weight-both, weight-flush, weight-mode}
 use Rattle.strm_types.proofs.Weights.{count-join, weight-data, weight-put, weight-take, weight-whole}
 
 -- a message without parts has no cells
@@ -100,10 +106,41 @@ module _ {C : Type 0} (p : C → Bool) where
       let all = both-hold behind (sends (onward here.way here m ∷ [])) (ldterm_weight p l + 0) (weight_of p m) flushed (passes-holds here m behind.state) in
       omega arith
 
+  -- the answer to a command that set a termios: with TCSETSF input is flushed, and a line that is made no longer goes up
+  input-holds : (here : Spot) (command : ℕ) (l : Ldterm C) → Holds (input_flushed here command l) (ldterm_weight p l)
+  input-holds here command l =
+      let read = read_flushed here up_alone l in
+      let told : Ldterm C → Acted C (Ldterm C) = sends (onward Up here (flush_message (read_flush None)) ∷ []) in
+      either (λ t. Holds t (ldterm_weight p l)) (command == TCSETSF) (both read told) (sends [] l)
+      (let all = both-hold read told (ldterm_weight p l) 0 (read-holds here up_alone l) (omega (arith, weight-flush p (read_flush None))) in omega arith)
+      (omega arith)
+
+  line-holds-up : (here : Spot) (line : List C) → weight_sent p (line_up here line) ≡ count_by p line
+  line-holds-up here [] = refl
+  line-holds-up here (c ∷ more) = omega (arith, weight-data p (c ∷ more))
+
+  termios-holds : (here : Spot) (t : Termios) (m : Message C) (l : Ldterm C) → Holds (termios_taken here t m l) (ldterm_weight p l + weight_of p m)
+  termios-holds here t m l = at (ends_lines l.termios t)
+    where
+      rest : List (Parcel C)
+      rest = onward Up here (mode_message (read_mode_of t)) ∷ onward Up here m ∷ []
+
+      at : (ends : Bool) → Holds (sends (cond ends (line_up here l.line) [] ++ rest) (record l { termios = t; line = cond ends [] l.line })) (ldterm_weight p l + weight_of p m)
+      at true = omega (arith, weight-both p (line_up here l.line) rest, line-holds-up here l.line, weight-mode p (read_mode_of t))
+      at false = omega (arith, weight-mode p (read_mode_of t))
+
+  taken-holds : (here : Spot) (command : ℕ) (t : Termios) (m : Message C) (l : Ldterm C) → Holds (taken_up here command t m l) (ldterm_weight p l + weight_of p m)
+  taken-holds here command t m l =
+      let first = input_flushed here command l in
+      both-hold first (termios_taken here t m) (ldterm_weight p l) (weight_of p m) (input-holds here command l) (termios-holds here t m first.state)
+
   pub puts-hold : (here : Spot) (m : Message C) (l : Ldterm C) → Holds (ldterm_puts here m l) (ldterm_weight p l + weight_of p m)
-  puts-hold here m l = either (λ t. Holds t (ldterm_weight p l + weight_of p m)) (waits_there m.kind) (queued_at here.way m l) (cond (is_flush m.kind) (flush_passes here m l) (sends (onward here.way here m ∷ []) l))
-      (queued-holds here.way m l)
-      (either (λ t. Holds t (ldterm_weight p l + weight_of p m)) (is_flush m.kind) (flush_passes here m l) (sends (onward here.way here m ∷ []) l) (flush-holds here m l) (passes-holds here m l))
+  puts-hold here m l = puts-each here m l (λ t. Holds t (ldterm_weight p l + weight_of p m)) (record {
+    waits = λ is. queued-holds here.way m l;
+    flushes = λ is. flush-holds here m l;
+    passes = passes-holds here m l;
+    taken = λ way is ioc t. taken-holds here ioc.command t m l;
+  })
 
 module _ {C : Type 0} (p : C → Bool) (cells : Cells C) (here : Spot) where
   -- what a key does, beside the byte that has begun

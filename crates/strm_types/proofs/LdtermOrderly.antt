@@ -4,6 +4,7 @@ use Rattle.std.specs.Prelude.{nat_lt, not, ◌&&◌, ◌||◌, ◌==◌, nat_le,
 use Rattle.std.specs.List.{list_any}
 use Rattle.std.proofs.lemmas.Bool.{false≢true, and_left, and_parts, and_right, eqb-false, eqb-true, ne_eqb, not-true}
 use Rattle.strm_types.specs.declared.flushing.FlushAsked.{FlushAsked}
+use Rattle.strm_types.specs.declared.ioctls.TheConstants.{TCSETSF}
 use Rattle.strm_types.specs.declared.kinds.Band.{Band}
 use Rattle.strm_types.specs.declared.kinds.MsgKind.{MsgKind}
 use Rattle.strm_types.specs.declared.kinds.MsgKind.TheVariants as kinds
@@ -11,21 +12,25 @@ use Rattle.strm_types.specs.declared.names.Way.{Way}
 use Rattle.strm_types.specs.declared.names.Way.TheVariants.{Up, Down}
 use Rattle.strm_types.specs.declared.rules.Rule.TheVariants.{Flushed}
 use Rattle.strm_types.specs.declared.spots.Spot.{Spot}
+use Rattle.strm_types.specs.declared.termios.Termios.{Termios}
 use Rattle.strm_types.specs.Cells.{Cells, cells_made}
 use Rattle.strm_types.specs.Deliver.{Acted}
 use Rattle.strm_types.specs.Emptied.{emptied, none_goes, of_data, queue_behind, stayed}
 use Rattle.strm_types.specs.Flush.{counted_band, is_data_kind}
-use Rattle.strm_types.specs.Flushing.{is_flush, asked_by}
+use Rattle.strm_types.specs.Flushing.{asked_by, flush_message, read_flush}
 use Rattle.strm_types.specs.Input.{begins_next, cells_left, input_begins, is_data, left_of, made_of, next_stage, passes, stages, stages_done, then_on, to_treat, treats}
 use Rattle.strm_types.specs.Keys.{restarts}
+use Rattle.strm_types.specs.LdtermPuts.{ldterm_puts}
 use Rattle.strm_types.specs.LdtermServes.{ldterm_serves}
 use Rattle.strm_types.specs.LdtermTurns.{IsItsTurn, IsOrderly, is_echo}
 use Rattle.strm_types.specs.LdtermWeights.{EchoStands}
-use Rattle.strm_types.specs.Ldterms.{Ldterm, Stage, Between, Begun, Answered, both, flush_passes, ldterm_puts, line_flushed, new_ldterm, onward, queue_flushed, queued_at, read_flushed, sends, takes_band_0, waits_there, write_flushed}
+use Rattle.strm_types.specs.Ldterms.{Ldterm, Stage, Between, Begun, Answered, both, line_flushed, new_ldterm, onward, queue_flushed, queued_at, read_flushed, sends, takes_band_0, write_flushed}
 use Rattle.strm_types.specs.Message.{Message, cells_of, data_message, is_high_priority, rank_of}
 use Rattle.strm_types.specs.Queue.{Queue, is_full, is_none_left, left_with, put, relieved}
 use Rattle.strm_types.specs.Service.{line_gone}
-use Rattle.strm_types.specs.Typing.{bare, begins, echo_dir, echo_grows, echo_lost, echo_stands, echoed, grown, is_lnext, stroke_at, struck}
+use Rattle.strm_types.specs.TakenUp.{taken_up}
+use Rattle.strm_types.specs.Typing.{bare, begins, echo_dir, echo_grows, echo_lost, echo_stands, echoed, grown, is_lnext, stroke_at, struck, up_alone}
+use Rattle.strm_types.proofs.LdtermPuts.{puts-each}
 use Rattle.strm_types.proofs.LdtermStages.{strikes-stay}
 use Rattle.strm_types.proofs.OutputServes.{output-orderly}
 
@@ -136,11 +141,21 @@ module _ {C : Type 0} where
       })
       is
 
+  taken-orderly : (here : Spot) (command : ℕ) (t : Termios) (m : Message C) (l : Ldterm C) → IsOrderly l → IsOrderly (taken_up here command t m l).state
+  taken-orderly here command t m l is =
+      let told : Ldterm C → Acted C (Ldterm C) = sends (onward Up here (flush_message (read_flush None)) ∷ []) in
+      let first = either-orderly (command == TCSETSF) (both (read_flushed here up_alone l) told) (sends [] l) (read-orderly here up_alone l is) is in
+      record { echo = first.echo; idle = first.idle }
+
   pub puts-orderly : (here : Spot) (m : Message C) (l : Ldterm C) → IsOrderly l → IsOrderly (ldterm_puts here m l).state
-  puts-orderly here m l is = either-orderly (waits_there m.kind) (queued_at here.way m l) (cond (is_flush m.kind) (flush_passes here m l) (sends (onward here.way here m ∷ []) l))
-      (queued-orderly here.way m l is)
-      (either-orderly (is_flush m.kind) (flush_passes here m l) (sends (onward here.way here m ∷ []) l)
-      (write-orderly here (asked_by m.plain) (read_flushed here (asked_by m.plain) l).state (read-orderly here (asked_by m.plain) l is)) is)
+  puts-orderly here m l is =
+      let asked = asked_by m.plain in
+      puts-each here m l (λ t. IsOrderly t.state) (record {
+        waits = λ waits. queued-orderly here.way m l is;
+        flushes = λ flushes. write-orderly here asked (read_flushed here asked l).state (read-orderly here asked l is);
+        passes = is;
+        taken = λ way acked ioc t. taken-orderly here ioc.command t m l is;
+      })
 
 module _ {C : Type 0} (cells : Cells C) (here : Spot) where
   grown-echo : (new : List C) (ms : List (Message C)) → is_none_left ms ≡ false → EchoIn (grown cells here new ms)

@@ -1,8 +1,10 @@
 -- Forgetting the origins of cells commutes with puts at ldterm.
-use Rattle.std.proofs.Common.{◌≡◌, Bool, true, false, cond, List, [], ◌∷◌, ◌++◌, map, refl, sym, ap, ◌∙◌}
-use Rattle.std.specs.Prelude.{not, ◌&&◌, nat_lt, Option}
+use Rattle.std.proofs.Common.{ℕ, ◌≡◌, Bool, true, false, cond, List, [], ◌∷◌, ◌++◌, map, refl, sym, ap, ◌∙◌}
+use Rattle.std.specs.Prelude.{not, ◌&&◌, ◌||◌, ◌==◌, nat_lt, Option, None, Some}
 use Rattle.std.proofs.lemmas.List.{map-append}
 use Rattle.strm_types.specs.declared.flushing.FlushAsked.{FlushAsked}
+use Rattle.strm_types.specs.declared.ioctls.Ioc.{Ioc}
+use Rattle.strm_types.specs.declared.ioctls.TheConstants.{TCSETSF}
 use Rattle.strm_types.specs.declared.kinds.Band.{Band}
 use Rattle.strm_types.specs.declared.names.Side.{Side}
 use Rattle.strm_types.specs.declared.names.Way.{Way}
@@ -11,18 +13,28 @@ use Rattle.strm_types.specs.declared.rules.Rule.{Rule}
 use Rattle.strm_types.specs.declared.rules.Rule.TheVariants.{Flushed}
 use Rattle.strm_types.specs.declared.spots.Note.TheVariants.{Enable, Room}
 use Rattle.strm_types.specs.declared.spots.Spot.{Spot}
-use Rattle.strm_types.specs.Deliver.{Acted, Goes}
+use Rattle.strm_types.specs.declared.termios.Termios.{Termios}
+use Rattle.strm_types.specs.Acks.{payload}
+use Rattle.strm_types.specs.Commands.{is_acked, is_ioctl, is_iocack, sets_termios}
+use Rattle.strm_types.specs.Deliver.{Acted, Goes, Parcel}
 use Rattle.strm_types.specs.Emptied.{cells_gone, of_data, queue_behind, writer_goes}
-use Rattle.strm_types.specs.Flushing.{is_flush, asked_by}
+use Rattle.strm_types.specs.Flushing.{is_flush, asked_by, flush_message, read_flush}
+use Rattle.strm_types.specs.Ioctls.{read_ioc}
 use Rattle.strm_types.specs.LdtermOrigins.{map_ldterm}
-use Rattle.strm_types.specs.Ldterms.{Ldterm, both, flush_passes, ldterm_puts, line_flushed, onward, queue_flushed, queued_at, read_flushed, sends, takes_band_0, waits_there, with_queue_at, without_line, write_flushed}
+use Rattle.strm_types.specs.LdtermPuts.{goes_behind, goes_on, ldterm_puts, passes_on_way, told_by_header, told_termios, waits_behind, waits_on}
+use Rattle.strm_types.specs.Ldterms.{Ldterm, both, flush_passes, line_flushed, onward, queue_flushed, queued_at, read_flushed, sends, takes_band_0, waits_there, with_queue_at, without_line, write_flushed}
 use Rattle.strm_types.specs.Message.{Message, map_message}
 use Rattle.strm_types.specs.Names.{direction_at}
+use Rattle.strm_types.specs.Options.{mode_message}
 use Rattle.strm_types.specs.Origins.{map_acted, map_fate, map_parcel}
 use Rattle.strm_types.specs.Queue.{Queue, map_queue, put_on, put_enables}
 use Rattle.strm_types.specs.Service.{line_gone}
+use Rattle.strm_types.specs.TakenUp.{ends_lines, input_flushed, line_up, read_mode_of, taken_up, termios_taken}
+use Rattle.strm_types.specs.Termios.{read_termios}
+use Rattle.strm_types.specs.Typing.{up_alone}
 use Rattle.strm_types.proofs.EmptiedForgets.{gone-forgets, queue_behind-forgets, writer_goes-forgets}
-use Rattle.strm_types.proofs.Forgetting.{kind-forgets, put_enables-forgets, put_on-forgets}
+use Rattle.strm_types.proofs.Forgetting.{data-forgets, kind-forgets, put_enables-forgets, put_on-forgets}
+use Rattle.strm_types.proofs.PutForgets.{flush-forgets as message-forgets, mode-forgets, parts-forget}
 
 -- ldterm with a message put on its queue of a way, and with that queue flushed
 abbrev queued_made : {E : Type 0} → Way → Bool → Queue E → Ldterm E → Acted E (Ldterm E)
@@ -120,12 +132,71 @@ module _ {C D : Type 0} (f : C → D) where
       (both-forget first (read_flushed here asked (map_ldterm f l)) (write_flushed here asked) (write_flushed here asked) (read-forgets here asked l) (write-forgets here asked first.state))
       refl
 
-  pub puts-forget : (here : Spot) (m : Message C) (l : Ldterm C) → ldterm_puts here (map_message f m) (map_ldterm f l) ≡ image (ldterm_puts here m l)
-  puts-forget here m l =
-      let m' = map_message f m in
-      let l' = map_ldterm f l in
-      ap (λ kind. cond (waits_there kind) (queued_at here.way m' l') (cond (is_flush kind) (flush_passes here m' l') (sends (onward here.way here m' ∷ []) l'))) (kind-forgets f m)
-      ∙ either-agrees (waits_there m.kind) (queued_at here.way m l) (cond (is_flush m.kind) (flush_passes here m l) (sends (onward here.way here m ∷ []) l))
-      (queued_at here.way m' l') (cond (is_flush m.kind) (flush_passes here m' l') (sends (onward here.way here m' ∷ []) l'))
-      (queued-forgets here.way m l)
-      (either-agrees (is_flush m.kind) (flush_passes here m l) (sends (onward here.way here m ∷ []) l) (flush_passes here m' l') (sends (onward here.way here m' ∷ []) l') (flush-forgets here m l) refl)
+  -- an answer to a command that set a termios
+  input-forgets : (here : Spot) (command : ℕ) (l : Ldterm C) → input_flushed here command (map_ldterm f l) ≡ image (input_flushed here command l)
+  input-forgets here command l =
+      let read = read_flushed here up_alone l in
+      let told : Ldterm C → Acted C (Ldterm C) = sends (onward Up here (flush_message (read_flush None)) ∷ []) in
+      let told' : Ldterm D → Acted D (Ldterm D) = sends (onward Up here (flush_message (read_flush None)) ∷ []) in
+      either-agrees (command == TCSETSF) (both read told) (sends [] l) (both (read_flushed here up_alone (map_ldterm f l)) told') (sends [] (map_ldterm f l))
+      (both-forget read (read_flushed here up_alone (map_ldterm f l)) told told' (read-forgets here up_alone l)
+      (ap (λ m. sends (onward Up here m ∷ []) (map_ldterm f read.state)) (sym (message-forgets f (read_flush None)))))
+      refl
+
+  line-up-forgets : (here : Spot) (line : List C) → line_up here (map f line) ≡ map (map_parcel f) (line_up here line)
+  line-up-forgets here [] = refl
+  line-up-forgets here (c ∷ more) = ap (λ m. onward Up here m ∷ []) (sym (data-forgets f (c ∷ more)))
+
+  termios-forgets : (here : Spot) (t : Termios) (m : Message C) (l : Ldterm C) → termios_taken here t (map_message f m) (map_ldterm f l) ≡ image (termios_taken here t m l)
+  termios-forgets here t m l = at (ends_lines l.termios t)
+    where
+      rest : List (Parcel C)
+      rest = onward Up here (mode_message (read_mode_of t)) ∷ onward Up here m ∷ []
+
+      rest' : List (Parcel D)
+      rest' = onward Up here (mode_message (read_mode_of t)) ∷ onward Up here (map_message f m) ∷ []
+
+      rest-forgets : rest' ≡ map (map_parcel f) rest
+      rest-forgets = ap (λ n. onward Up here n ∷ onward Up here (map_message f m) ∷ []) (sym (mode-forgets f (read_mode_of t)))
+
+      at : (ends : Bool) → sends (cond ends (line_up here (map f l.line)) [] ++ rest') (record (map_ldterm f l) { termios = t; line = cond ends [] (map f l.line) })
+          ≡ image (sends (cond ends (line_up here l.line) [] ++ rest) (record l { termios = t; line = cond ends [] l.line }))
+      at true = ap (λ sent. sends sent (record (map_ldterm f l) { termios = t; line = [] }))
+          (ap (λ up. up ++ rest') (line-up-forgets here l.line) ∙ ap (λ more. map (map_parcel f) (line_up here l.line) ++ more) rest-forgets ∙ sym (map-append (map_parcel f) (line_up here l.line) rest))
+      at false = ap (λ sent. sends sent (record (map_ldterm f l) { termios = t })) rest-forgets
+
+  module _ (here : Spot) (m : Message C) (l : Ldterm C) where
+    taken-forgets : (command : ℕ) (t : Termios) → taken_up here command t (map_message f m) (map_ldterm f l) ≡ image (taken_up here command t m l)
+    taken-forgets command t =
+        let first = input_flushed here command l in
+        both-forget first (input_flushed here command (map_ldterm f l)) (termios_taken here t m) (termios_taken here t (map_message f m)) (input-forgets here command l) (termios-forgets here t m first.state)
+
+    told-forgets : (ioc : Ioc) (o : Option Termios) → told_termios here ioc o (map_message f m) (map_ldterm f l) ≡ image (told_termios here ioc o m l)
+    told-forgets ioc None = refl
+    told-forgets ioc (Some t) = taken-forgets ioc.command t
+
+    header-forgets : (o : Option Ioc) → told_by_header here o (map_message f m) (map_ldterm f l) ≡ image (told_by_header here o m l)
+    unfolding map_message
+    header-forgets None = refl
+    header-forgets (Some ioc) = either-agrees (sets_termios ioc.command) _ _ _ _ (told-forgets ioc (read_termios (payload m.plain))) refl
+
+    way-forgets : (way : Way) → passes_on_way way here (map_message f m) (map_ldterm f l) ≡ image (passes_on_way way here m l)
+    unfolding map_message
+    way-forgets Down = refl
+    way-forgets Up =
+        ap (λ parts. cond (is_iocack m.kind && not parts) (told_by_header here (read_ioc m.plain) (map_message f m) (map_ldterm f l)) (goes_on here (map_message f m) (map_ldterm f l))) (parts-forget f m)
+        ∙ either-agrees (is_acked m) _ _ _ _ (header-forgets (read_ioc m.plain)) refl
+
+    -- and what goes behind output
+    behind-forgets : (way : Way) → goes_behind way (map_message f m) ≡ goes_behind way m
+    unfolding map_message
+    behind-forgets Up = refl
+    behind-forgets Down = ap (λ parts. (is_ioctl m.kind && not parts) && waits_behind (read_ioc m.plain)) (parts-forget f m)
+
+    pub puts-forget : ldterm_puts here (map_message f m) (map_ldterm f l) ≡ image (ldterm_puts here m l)
+    puts-forget =
+        let m' = map_message f m in
+        let l' = map_ldterm f l in
+        ap (λ kind. cond (waits_there kind || goes_behind here.way m') (queued_at here.way m' l') (cond (is_flush kind) (flush_passes here m' l') (passes_on_way here.way here m' l'))) (kind-forgets f m)
+        ∙ ap (λ behind. cond (waits_there m.kind || behind) (queued_at here.way m' l') (cond (is_flush m.kind) (flush_passes here m' l') (passes_on_way here.way here m' l'))) (behind-forgets here.way)
+        ∙ either-agrees (waits_on here.way m) _ _ _ _ (queued-forgets here.way m l) (either-agrees (is_flush m.kind) _ _ _ _ (flush-forgets here m l) (way-forgets here.way))

@@ -1,19 +1,25 @@
 -- A put at ldterm leaves a turn under way as it is, but that the turn's echo may come to its end.
-use Rattle.std.proofs.Common.{◌≡◌, Bool, true, false, cond, [], ◌∷◌, refl, ◌∙◌}
+use Rattle.std.proofs.Common.{ℕ, ◌≡◌, Bool, true, false, cond, [], ◌∷◌, refl, ◌∙◌}
 use Rattle.std.proofs.lemmas.Bool.{and_left}
-use Rattle.std.specs.Prelude.{Option, nat_lt, not, ◌&&◌}
+use Rattle.std.specs.Prelude.{Option, None, nat_lt, not, ◌&&◌, ◌==◌}
 use Rattle.strm_types.specs.declared.flushing.FlushAsked.{FlushAsked}
+use Rattle.strm_types.specs.declared.ioctls.TheConstants.{TCSETSF}
 use Rattle.strm_types.specs.declared.kinds.Band.{Band}
 use Rattle.strm_types.specs.declared.names.Way.{Way}
 use Rattle.strm_types.specs.declared.names.Way.TheVariants.{Up, Down}
 use Rattle.strm_types.specs.declared.rules.Rule.TheVariants.{Flushed}
 use Rattle.strm_types.specs.declared.spots.Spot.{Spot}
+use Rattle.strm_types.specs.declared.termios.Termios.{Termios}
 use Rattle.strm_types.specs.Deliver.{Acted}
-use Rattle.strm_types.specs.Flushing.{is_flush, asked_by}
-use Rattle.strm_types.specs.Ldterms.{IsIdle, Ldterm, both, flush_passes, ldterm_puts, line_flushed, onward, queue_flushed, queued_at, read_flushed, sends, takes_band_0, waits_there, with_queue_at, without_line, write_flushed}
+use Rattle.strm_types.specs.Flushing.{asked_by, flush_message, read_flush}
+use Rattle.strm_types.specs.LdtermPuts.{ldterm_puts}
+use Rattle.strm_types.specs.Ldterms.{IsIdle, Ldterm, both, line_flushed, onward, queue_flushed, queued_at, read_flushed, sends, takes_band_0, with_queue_at, without_line, write_flushed}
 use Rattle.strm_types.specs.Message.{Message}
 use Rattle.strm_types.specs.Queue.{Queue}
 use Rattle.strm_types.specs.Service.{line_gone}
+use Rattle.strm_types.specs.TakenUp.{input_flushed, taken_up, termios_taken}
+use Rattle.strm_types.specs.Typing.{up_alone}
+use Rattle.strm_types.proofs.LdtermPuts.{puts-each}
 
 module _ {C : Type 0} where
   -- Nothing of a turn changed, but that its echo may have come to an end.
@@ -71,10 +77,22 @@ module _ {C : Type 0} where
       either-stays asked.for_write (queue_flushed Down here asked.band ended) (sends [] p) p
       (stays-both p ended q (record { work = refl; gathered = refl; echoing = λ e. and_left p.echoing (not (takes_band_0 asked.band)) e; stage = refl }) (queue-stays Down q.write_queue ended)) (stays-so p)
 
+  -- an answer that is taken up
+  taken-stays : (here : Spot) (command : ℕ) (t : Termios) (m : Message C) (p : Ldterm C) → Stays p (taken_up here command t m p).state
+  taken-stays here command t m p =
+      let q = (input_flushed here command p).state in
+      let told : Ldterm C → Acted C (Ldterm C) = sends (onward Up here (flush_message (read_flush None)) ∷ []) in
+      stays-both p q (termios_taken here t m q).state
+      (either-stays (command == TCSETSF) (both (read_flushed here up_alone p) told) (sends [] p) p (read-stays here up_alone p) (stays-so p))
+      (record { work = refl; gathered = refl; echoing = λ e. e; stage = refl })
+
   pub puts-stay : (here : Spot) (m : Message C) (p : Ldterm C) → Stays p (ldterm_puts here m p).state
   puts-stay here m p =
       let asked = asked_by m.plain in
       let q = (read_flushed here asked p).state in
-      let passed = sends (onward here.way here m ∷ []) p in
-      either-stays (waits_there m.kind) (queued_at here.way m p) (cond (is_flush m.kind) (flush_passes here m p) passed) p (queued-stays here.way m p)
-      (either-stays (is_flush m.kind) (flush_passes here m p) passed p (stays-both p q (write_flushed here asked q).state (read-stays here asked p) (write-stays here asked q)) (stays-so p))
+      puts-each here m p (λ t. Stays p t.state) (record {
+        waits = λ is. queued-stays here.way m p;
+        flushes = λ is. stays-both p q (write_flushed here asked q).state (read-stays here asked p) (write-stays here asked q);
+        passes = stays-so p;
+        taken = λ way is ioc t. taken-stays here ioc.command t m p;
+      })

@@ -13,7 +13,8 @@ use Rattle.strm_types.specs.declared.spots.Note.TheVariants.{Enable, Room}
 use Rattle.strm_types.specs.declared.spots.Spot.{Spot}
 use Rattle.strm_types.specs.Deliver.{Acted, Parcel, Goes}
 use Rattle.strm_types.specs.Flush.{is_data_kind}
-use Rattle.strm_types.specs.Ldterms.{Ldterm, Between, Answered, new_ldterm, ldterm_puts, both}
+use Rattle.strm_types.specs.LdtermPuts.{ldterm_puts}
+use Rattle.strm_types.specs.Ldterms.{Ldterm, Between, Answered, new_ldterm, both}
 use Rattle.strm_types.specs.Message.{Message, band_of, cells_of, is_high_priority, rank_of, size_of}
 use Rattle.strm_types.specs.Queue.{Queue, Flow}
 use Rattle.strm_types.specs.Termios.{first_termios}
@@ -56,7 +57,7 @@ to_read = protocol 2 (1 ∷ []) (2 ∷ 3 ∷ []) ∷ ordinary (4 ∷ 5 ∷ []) �
 abbrev pub to_write : List (Message ℕ)
 to_write = protocol 2 (21 ∷ []) (22 ∷ 23 ∷ []) ∷ ordinary (24 ∷ []) ∷ []
 
-abbrev busy : Ldterm ℕ
+abbrev pub busy : Ldterm ℕ
 busy = record {
   termios = first_termios;
   stopped = true;

@@ -1,27 +1,35 @@
 -- A put at one of the modules of a stream: it loses no cell and makes none, does the same where the origins of cells are forgotten, and
 -- sends on nothing but to the next place.
-use Rattle.std.proofs.Common.{ℕ, zero, suc, ◌≡◌, ◌<◌, ◌≤◌, ◌+◌, Bool, true, false, cond, List, [], ◌∷◌, ◌++◌, length, map, refl, sym, ap, subst, arith}
-use Rattle.std.specs.Prelude.{◌&&◌, not, Option}
+use Rattle.std.proofs.Common.{ℕ, zero, suc, ◌≡◌, ◌<◌, ◌≤◌, ◌+◌, ◌-◌, Bool, true, false, cond, List, [], ◌∷◌, ◌++◌, length, map, refl, sym, ap, subst, ◌∙◌, arith}
+use Rattle.std.specs.Prelude.{◌&&◌, ◌==◌, not, Option, None}
 use Rattle.std.proofs.lemmas.List.Sums.{sum_by-cons}
 use Rattle.strm_types.specs.declared.flushing.FlushAsked.{FlushAsked}
+use Rattle.strm_types.specs.declared.ioctls.TheConstants.{TCSETSF}
 use Rattle.strm_types.specs.declared.kinds.Band.{Band}
 use Rattle.strm_types.specs.declared.limits.TheConstants.{MODULES}
 use Rattle.strm_types.specs.declared.names.Way.TheVariants.{Up, Down}
 use Rattle.strm_types.specs.declared.rules.Rule.TheVariants.{Flushed}
 use Rattle.strm_types.specs.declared.spots.Spot.{Spot}
-use Rattle.strm_types.specs.Deliver.{Acted, AreLower, Parcel}
-use Rattle.strm_types.specs.Flushing.{asked_by, is_flush}
-use Rattle.strm_types.specs.Ldterms.{Ldterm, both, flush_passes, ldterm_puts, line_flushed, onward, queue_flushed, queued_at, read_flushed, sends, takes_band_0, waits_there, without_line, write_flushed}
-use Rattle.strm_types.specs.Message.{Message, map_message, weight_of}
+use Rattle.strm_types.specs.declared.termios.Termios.{Termios}
+use Rattle.strm_types.specs.Commands.{is_acked}
+use Rattle.strm_types.specs.Deliver.{Acted, AreLower, Parcel, toward}
+use Rattle.strm_types.specs.Flushing.{asked_by, flush_message, read_flush}
+use Rattle.strm_types.specs.LdtermPuts.{ldterm_puts}
+use Rattle.strm_types.specs.Ldterms.{Ldterm, both, flush_passes, line_flushed, onward, queue_flushed, read_flushed, sends, takes_band_0, without_line, write_flushed}
+use Rattle.strm_types.specs.Message.{Message, data_message, map_message, weight_of}
 use Rattle.strm_types.specs.Modules.{put_among}
+use Rattle.strm_types.specs.Options.{mode_message}
 use Rattle.strm_types.specs.Origins.{map_acted}
 use Rattle.strm_types.specs.Places.{weight_gone, weight_made, weight_sent}
-use Rattle.strm_types.specs.Puts.{far}
+use Rattle.strm_types.specs.Puts.{far, far_at, is_turned, turns_round}
 use Rattle.strm_types.specs.Service.{line_gone}
 use Rattle.strm_types.specs.Stacked.{Module, OfLdterm, OfPtem, done_by, map_module, module_puts, module_weight, modules_weight}
+use Rattle.strm_types.specs.TakenUp.{ends_lines, input_flushed, line_up, read_mode_of, taken_up, termios_taken}
+use Rattle.strm_types.specs.Typing.{up_alone}
 use Rattle.strm_types.proofs.DeliveryKeeps.{made-append}
 use Rattle.strm_types.proofs.LdtermKeeps.{either, lost-made, puts-hold}
 use Rattle.strm_types.proofs.LdtermPutForgets.{puts-forget}
+use Rattle.strm_types.proofs.LdtermPuts.{acked-kind, puts-each}
 use Rattle.strm_types.proofs.Onward.{onward-lower}
 use Rattle.strm_types.proofs.PtemPuts.{puts-gone, puts-sent, puts-forget as ptem-forgets, puts-lower as ptem-lower}
 
@@ -54,10 +62,19 @@ module _ {C : Type 0} (p : C → Bool) where
       let behind = both first (write_flushed here asked) in
       both-none behind (sends (onward here.way here m ∷ [])) (both-none first (write_flushed here asked) (read-none here asked l) (write-none here asked first.state)) refl
 
+  taken-none : (here : Spot) (command : ℕ) (t : Termios) (m : Message C) (l : Ldterm C) → MakesNone (taken_up here command t m l)
+  taken-none here command t m l =
+      let read = read_flushed here up_alone l in
+      let told : Ldterm C → Acted C (Ldterm C) = sends (onward Up here (flush_message (read_flush None)) ∷ []) in
+      both-none (input_flushed here command l) (termios_taken here t m) (either MakesNone (command == TCSETSF) (both read told) (sends [] l) (both-none read told (read-none here up_alone l) refl) refl) refl
+
   ldterm-none : (here : Spot) (m : Message C) (l : Ldterm C) → MakesNone (ldterm_puts here m l)
-  ldterm-none here m l = either MakesNone (waits_there m.kind) (queued_at here.way m l) (cond (is_flush m.kind) (flush_passes here m l) (sends (onward here.way here m ∷ []) l))
-      refl
-      (either MakesNone (is_flush m.kind) (flush_passes here m l) (sends (onward here.way here m ∷ []) l) (flush-none here m l) refl)
+  ldterm-none here m l = puts-each here m l MakesNone (record {
+    waits = λ is. refl;
+    flushes = λ is. flush-none here m l;
+    passes = refl;
+    taken = λ way is ioc t. taken-none here ioc.command t m l;
+  })
 
   puts-none : (here : Spot) (m : Message C) (q : Module C) → weight_made p (module_puts here m q).gone ≡ 0
   puts-none here m (OfLdterm l) = ldterm-none here m l
@@ -124,10 +141,55 @@ module _ {C : Type 0} (here : Spot) (m : Message C) (some : 0 < here.at) (few : 
       (lower-append first.sent (write_flushed here asked first.state).sent (sends-none first (read-lower asked l)) (sends-none (write_flushed here asked first.state) (write-lower asked first.state)))
       (onward-lower here m some few)
 
-  ldterm-lower : (l : Ldterm C) → Lower (ldterm_puts here m l).sent
-  ldterm-lower l = either (λ t. Lower t.sent) (waits_there m.kind) (queued_at here.way m l) (cond (is_flush m.kind) (flush_passes here m l) (sends (onward here.way here m ∷ []) l))
+  -- what is made where an answer is taken up is none that is turned round, as the answer isn't
+  answer-lower : (n : Message C) → is_turned n ≡ false → here.way ≡ Up → is_acked m ≡ true → far (toward Up here) n < far here m
+  answer-lower n quiet way acked =
+      let goes : is_turned m ≡ false = ap (λ kind. turns_round kind m.plain) (acked-kind m acked) in
+      let next : far (toward Up here) n ≡ here.at - 1 + 1 = ap (λ b. far_at Up b (here.at - 1)) quiet in
+      let this : far here m ≡ here.at + 1 = ap (λ w. far_at w (is_turned m) here.at) way ∙ ap (λ b. far_at Up b here.at) goes in
+      omega (arith, next, this, some)
+
+  data-quiet : (cells : List C) → is_turned (data_message cells) ≡ false
+  unfolding data_message
+  data-quiet cells = refl
+
+  line-lower : (line : List C) → here.way ≡ Up → is_acked m ≡ true → Lower (line_up here line)
+  line-lower [] way acked = tt
+  line-lower (c ∷ more) way acked = (answer-lower (data_message (c ∷ more)) (data-quiet (c ∷ more)) way acked, tt)
+
+  input-lower : (command : ℕ) (l : Ldterm C) → here.way ≡ Up → is_acked m ≡ true → Lower (input_flushed here command l).sent
+  input-lower command l way acked =
+      let read = read_flushed here up_alone l in
+      let up : List (Parcel C) = onward Up here (flush_message (read_flush None)) ∷ [] in
+      either (λ t. Lower t.sent) (command == TCSETSF) (both read (sends up)) (sends [] l)
+      (lower-append read.sent up (sends-none read (read-lower up_alone l)) (answer-lower (flush_message (read_flush None)) refl way acked, tt))
       tt
-      (either (λ t. Lower t.sent) (is_flush m.kind) (flush_passes here m l) (sends (onward here.way here m ∷ []) l) (flush-lower l) (onward-lower here m some few))
+
+  termios-lower : (t : Termios) (l : Ldterm C) → here.way ≡ Up → is_acked m ≡ true → Lower (termios_taken here t m l).sent
+  termios-lower t l way acked = at (ends_lines l.termios t)
+    where
+      rest : List (Parcel C)
+      rest = onward Up here (mode_message (read_mode_of t)) ∷ onward Up here m ∷ []
+
+      rest-lower : Lower rest
+      rest-lower = (answer-lower (mode_message (read_mode_of t)) refl way acked, (answer-lower m (ap (λ kind. turns_round kind m.plain) (acked-kind m acked)) way acked, tt))
+
+      at : (ends : Bool) → Lower (cond ends (line_up here l.line) [] ++ rest)
+      at true = lower-append (line_up here l.line) rest (line-lower l.line way acked) rest-lower
+      at false = rest-lower
+
+  taken-lower : (command : ℕ) (t : Termios) (l : Ldterm C) → here.way ≡ Up → is_acked m ≡ true → Lower (taken_up here command t m l).sent
+  taken-lower command t l way acked =
+      let first = input_flushed here command l in
+      lower-append first.sent (termios_taken here t m first.state).sent (input-lower command l way acked) (termios-lower t first.state way acked)
+
+  ldterm-lower : (l : Ldterm C) → Lower (ldterm_puts here m l).sent
+  ldterm-lower l = puts-each here m l (λ t. Lower t.sent) (record {
+    waits = λ is. tt;
+    flushes = λ is. flush-lower l;
+    passes = onward-lower here m some few;
+    taken = λ way is ioc t. taken-lower ioc.command t l way is;
+  })
 
   module-lower : (q : Module C) → Lower (module_puts here m q).sent
   module-lower (OfLdterm l) = ldterm-lower l

@@ -19,7 +19,8 @@ use Rattle.strm_types.specs.Books.{with_made}
 use Rattle.strm_types.specs.Cells.{plain}
 use Rattle.strm_types.specs.Deliver.{Acted, Fate, Goes, Comes, Parcel, carried, in_turn}
 use Rattle.strm_types.specs.Input.{stages_done, to_treat}
-use Rattle.strm_types.specs.Ldterms.{Stage, ldterm_puts, new_ldterm}
+use Rattle.strm_types.specs.LdtermPuts.{ldterm_puts}
+use Rattle.strm_types.specs.Ldterms.{Stage, new_ldterm}
 use Rattle.strm_types.specs.Message.{Message}
 use Rattle.strm_types.specs.ModuleQueues.{at_place, messages_at}
 use Rattle.strm_types.specs.ModuleTurns.{Calls, again_at, booked, bytes_at, call_at, calls, made_below, module_acted, module_turn_ended, moved_on, moved_within}

@@ -5,7 +5,7 @@ use Rattle.strm_types.specs.declared.limits.TheConstants.{HOPS}
 use Rattle.strm_types.specs.declared.names.Side.{Side}
 use Rattle.strm_types.specs.declared.spots.Spot.{Spot}
 use Rattle.strm_types.specs.Kept.{AreIdle}
-use Rattle.strm_types.specs.Ldterms.{ldterm_puts}
+use Rattle.strm_types.specs.LdtermPuts.{ldterm_puts}
 use Rattle.strm_types.specs.Message.{Message}
 use Rattle.strm_types.specs.Modules.{put_among}
 use Rattle.strm_types.specs.Puts.{delivered, put_in}

@@ -13,13 +13,14 @@ use Rattle.strm_types.specs.declared.spots.Spot.{Spot}
 use Rattle.strm_types.specs.declared.termios.Termios.{Termios}
 use Rattle.strm_types.specs.declared.winsize.Winsize.{Winsize}
 use Rattle.strm_types.specs.Acks.{ack_message, payload, telling_message}
+use Rattle.strm_types.specs.Commands.{is_asked, is_ioctl, sets_termios}
 use Rattle.strm_types.specs.Deliver.{Acted, AreLower, Parcel}
 use Rattle.strm_types.specs.Ioctls.{read_ioc}
 use Rattle.strm_types.specs.Ldterms.{onward}
 use Rattle.strm_types.specs.Message.{Message, cells_of, has_parts, map_message, weight_of}
 use Rattle.strm_types.specs.Origins.{map_acted}
 use Rattle.strm_types.specs.Places.{weight_sent}
-use Rattle.strm_types.specs.Ptems.{Ptem, acks, asked_above, asked_below, asked_by_header, asked_on_way, is_asked, is_ioctl, naks, ptem_passes, ptem_puts, ptem_sends, set_above, sets_termios, signal_told, signals_up, sigwinch, termios_set, window_set, window_told}
+use Rattle.strm_types.specs.Ptems.{Ptem, acks, asked_above, asked_below, asked_by_header, asked_on_way, naks, ptem_passes, ptem_puts, ptem_sends, set_above, signal_told, signals_up, sigwinch, termios_set, window_set, window_told}
 use Rattle.strm_types.specs.Puts.{far, far_at, is_turned, turns_round}
 use Rattle.strm_types.specs.Signals.{signal_in}
 use Rattle.strm_types.specs.Termios.{read_termios, termios_bytes}

@@ -8,10 +8,11 @@ use Rattle.strm_types.specs.declared.names.Way.TheVariants.{Up, Down}
 use Rattle.strm_types.specs.declared.spots.Spot.{Spot}
 use Rattle.strm_types.specs.declared.termios.Termios.{Termios}
 use Rattle.strm_types.specs.Acks.{ack_message, payload, telling_message}
+use Rattle.strm_types.specs.Commands.{sets_termios}
 use Rattle.strm_types.specs.Costs.{cost}
 use Rattle.strm_types.specs.Deliver.{Acted, Parcel}
 use Rattle.strm_types.specs.Message.{Message}
-use Rattle.strm_types.specs.Ptems.{Ptem, new_ptem, ptem_puts, sets_termios}
+use Rattle.strm_types.specs.Ptems.{Ptem, new_ptem, ptem_puts}
 use Rattle.strm_types.specs.Termios.{first_termios, termios_bytes}
 use Rattle.strm_types.proofs.LdtermRows.{protocol}
 use Rattle.strm_types.proofs.Samples.{header, ordinary, without_parts}

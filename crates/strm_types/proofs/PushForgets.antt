@@ -24,8 +24,9 @@ use Rattle.strm_types.specs.Message.{Message, map_message}
 use Rattle.strm_types.specs.ModuleQueues.{has_queue, messages_at}
 use Rattle.strm_types.specs.Modules.{top_name, without_module}
 use Rattle.strm_types.specs.Names.{direction_at, enable_if, place_of}
+use Rattle.strm_types.specs.Options.{mode_message}
 use Rattle.strm_types.specs.Origins.{map_acted, map_carried, map_fate}
-use Rattle.strm_types.specs.Pushes.{all_taken, enable_waiting, head_above, is_there, let_come, messages_on, messages_there, mode_behind, mode_message, mode_on_push, mode_put, modules_emptied, named_by, popped, pushed, pushed_named, top_on, top_taken, with_modules, without_top}
+use Rattle.strm_types.specs.Pushes.{all_taken, enable_waiting, head_above, is_there, let_come, messages_on, messages_there, mode_behind, mode_on_push, mode_put, modules_emptied, named_by, popped, pushed, pushed_named, top_on, top_taken, with_modules, without_top}
 use Rattle.strm_types.specs.Puts.{delivered, earlier_at, noted}
 use Rattle.strm_types.specs.Queue.{Queue, is_none_left, map_messages, map_queue}
 use Rattle.strm_types.specs.Service.{cleared, line_gone}
@@ -35,6 +36,7 @@ use Rattle.strm_types.proofs.Earlier.{before_at-forgets, name-forgets, queue-for
 use Rattle.strm_types.proofs.EmptiedForgets.{gone-forgets, queue_behind-forgets, stream-forgets, writer_goes-forgets}
 use Rattle.strm_types.proofs.Forgetting.{none-forgets}
 use Rattle.strm_types.proofs.LdtermPutForgets.{line_gone-forgets}
+use Rattle.strm_types.proofs.PutForgets.{mode-forgets}
 use Rattle.strm_types.proofs.PutsForget.{delivered-forgets, notes-forget}
 
 -- what is left of a module whose queues and line have gone, so, with what let writers go
@@ -132,14 +134,10 @@ module _ {C D : Type 0} (f : C → D) where
       ap (λ (t : Stream D). all_taken rule side t.modules (map_state f s)) (stream-forgets f side s) ∙ all_taken-forgets rule side (stream side s).modules s
 
   -- the head's read mode
-  message-forgets : (mode : ReadMode) → map_message f (mode_message mode) ≡ mode_message mode
-  unfolding map_message
-  message-forgets mode = refl
-
   mode_put-forgets : (side : Side) (mode : Option ReadMode) (s : State C) → mode_put side mode (map_state f s) ≡ image (mode_put side mode s)
   mode_put-forgets side None s = refl
   mode_put-forgets side (Some mode) s =
-      ap (λ (m : Message D). delivered (head_above side) m (map_state f s)) (sym (message-forgets mode)) ∙ delivered-forgets f (head_above side) (mode_message mode) s
+      ap (λ (m : Message D). delivered (head_above side) m (map_state f s)) (sym (mode-forgets f mode)) ∙ delivered-forgets f (head_above side) (mode_message mode) s
 
   -- a push
   abbrev there : {E : Type 0} → Way → Module E → List (Message E)

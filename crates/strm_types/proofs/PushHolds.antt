@@ -12,7 +12,8 @@ use Rattle.strm_types.specs.Message.{Message}
 use Rattle.strm_types.specs.ModuleQueues.{has_queue}
 use Rattle.strm_types.specs.Modules.{without_module}
 use Rattle.strm_types.specs.Names.{place_of}
-use Rattle.strm_types.specs.Pushes.{all_taken, enable_waiting, head_above, let_come, mode_behind, mode_message, mode_on_push, mode_put, modules_emptied, popped, pushed, pushed_named, top_on, top_taken, with_modules}
+use Rattle.strm_types.specs.Options.{mode_message}
+use Rattle.strm_types.specs.Pushes.{all_taken, enable_waiting, head_above, let_come, mode_behind, mode_on_push, mode_put, modules_emptied, popped, pushed, pushed_named, top_on, top_taken, with_modules}
 use Rattle.strm_types.specs.Puts.{delivered, earlier_at, noted}
 use Rattle.strm_types.specs.Stacked.{Module, module_name, module_queue}
 use Rattle.strm_types.specs.State.{State, stream}

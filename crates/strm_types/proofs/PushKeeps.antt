@@ -16,12 +16,12 @@ use Rattle.strm_types.specs.Emptied.{of_all, cells_gone}
 use Rattle.strm_types.specs.Kept.{state_weight}
 use Rattle.strm_types.specs.LdtermWeights.{ldterm_weight, weight_begun, weight_in_work}
 use Rattle.strm_types.specs.Ldterms.{IsIdle, Ldterm, new_ldterm}
-use Rattle.strm_types.specs.Message.{cells_of, weight_of}
 use Rattle.strm_types.specs.ModuleQueues.{has_queue}
 use Rattle.strm_types.specs.Names.{direction_at}
+use Rattle.strm_types.specs.Options.{mode_message}
 use Rattle.strm_types.specs.Places.{weight_gone, weight_made}
 use Rattle.strm_types.specs.Ptems.{new_ptem}
-use Rattle.strm_types.specs.Pushes.{all_taken, head_above, let_come, mode_behind, mode_message, mode_on_push, mode_put, modules_emptied, named_by, popped, pushed, pushed_named, top_on, top_taken, with_modules}
+use Rattle.strm_types.specs.Pushes.{all_taken, head_above, let_come, mode_behind, mode_on_push, mode_put, modules_emptied, named_by, popped, pushed, pushed_named, top_on, top_taken, with_modules}
 use Rattle.strm_types.specs.Queue.{Queue, weight}
 use Rattle.strm_types.specs.Service.{line_gone}
 use Rattle.strm_types.specs.Stacked.{Module, OfLdterm, OfPtem, IsAtRest, module_name, module_queue, module_weight, modules_weight}
@@ -31,6 +31,7 @@ use Rattle.strm_types.proofs.DeliveryKeeps.{gone-append, made-append}
 use Rattle.strm_types.proofs.EmptiedKeeps.{behind-all, behind-keeps}
 use Rattle.strm_types.proofs.LdtermKeeps.{lost-gone, lost-made}
 use Rattle.strm_types.proofs.PushForgets.{clears}
+use Rattle.strm_types.proofs.PutWeights.{weight-mode}
 
 module _ {C : Type 0} (p : C → Bool) where
   -- what a pair comes to that had so many cells
@@ -104,13 +105,9 @@ module _ {C : Type 0} (p : C → Bool) where
   modules_emptied-keeps rule side s idle = all_taken-keeps rule side (stream side s).modules s refl idle
 
   -- the head's read mode
-  weight-mode : (mode : ReadMode) → weight_of p (mode_message {C = C} mode) ≡ 0
-  unfolding weight_of cells_of
-  weight-mode mode = refl
-
   mode_put-keeps : (side : Side) (mode : Option ReadMode) (s : State C) → Keeps (mode_put side mode s) (state_weight p s)
   mode_put-keeps side None s = refl
-  mode_put-keeps side (Some mode) s = omega (arith, delivered-keeps p (head_above side) (mode_message mode) s (omega arith), weight-mode mode)
+  mode_put-keeps side (Some mode) s = omega (arith, delivered-keeps p (head_above side) (mode_message mode) s (omega arith), weight-mode p mode)
 
   -- a push
   come-keeps : (reads : Bool) (side : Side) (s : State C) → state_weight p (let_come reads side s) ≡ state_weight p s

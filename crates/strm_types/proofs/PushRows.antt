@@ -18,8 +18,9 @@ use Rattle.strm_types.specs.Deliver.{Carried, Goes, carried}
 use Rattle.strm_types.specs.Ldterms.{new_ldterm}
 use Rattle.strm_types.specs.Message.{Message, cells_of, size_of, is_held, band_of, is_high_priority}
 use Rattle.strm_types.specs.Names.{driver_of}
+use Rattle.strm_types.specs.Options.{mode_number}
 use Rattle.strm_types.specs.Ptems.{new_ptem}
-use Rattle.strm_types.specs.Pushes.{may_stand, mode_number, named_by, popped, pushed, pushed_named, top_on}
+use Rattle.strm_types.specs.Pushes.{may_stand, named_by, popped, pushed, pushed_named, top_on}
 use Rattle.strm_types.specs.Queue.{Flow}
 use Rattle.strm_types.specs.Refused.{none_waits_up, at_end}
 use Rattle.strm_types.specs.Past.{has_room_past, writer_waits}

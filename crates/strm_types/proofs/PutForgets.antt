@@ -7,6 +7,7 @@ use Rattle.strm_types.specs.declared.flushing.FlushAsked.{FlushAsked}
 use Rattle.strm_types.specs.declared.ioctls.Ioc.{Ioc}
 use Rattle.strm_types.specs.declared.kinds.MsgKind.{MsgKind}
 use Rattle.strm_types.specs.declared.kinds.MsgKind.TheVariants.{Flush, Setopts, Ioctl}
+use Rattle.strm_types.specs.declared.modes.ReadMode.{ReadMode}
 use Rattle.strm_types.specs.declared.names.Side.{Side}
 use Rattle.strm_types.specs.declared.names.Way.{Way}
 use Rattle.strm_types.specs.declared.names.Way.TheVariants.{Up, Down}
@@ -23,7 +24,7 @@ use Rattle.strm_types.specs.Heads.{head_flushed, head_put, is_doubled, is_pcprot
 use Rattle.strm_types.specs.Ioctls.{nak_message, read_ioc}
 use Rattle.strm_types.specs.Message.{Message, cells_of, has_parts, is_part, map_message}
 use Rattle.strm_types.specs.Names.{direction_at, direction_from, is_master}
-use Rattle.strm_types.specs.Options.{options_in}
+use Rattle.strm_types.specs.Options.{mode_message, options_in}
 use Rattle.strm_types.specs.Origins.{map_acted, map_parcel}
 use Rattle.strm_types.specs.Queue.{Queue, map_messages, map_queue, put_on, put_enables}
 use Rattle.strm_types.specs.State.{Head, map_head}
@@ -79,6 +80,10 @@ module _ {C D : Type 0} (f : C → D) where
   pub flush-forgets : (bytes : List ℕ) → map_message f (flush_message bytes) ≡ flush_message bytes
   unfolding map_message
   flush-forgets bytes = refl
+
+  pub mode-forgets : (mode : ReadMode) → map_message f (mode_message mode) ≡ mode_message mode
+  unfolding map_message
+  mode-forgets mode = refl
 
   nak-forgets : (ioc : Ioc) → map_message f (nak_message ioc) ≡ nak_message ioc
   unfolding map_message

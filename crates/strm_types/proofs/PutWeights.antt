@@ -5,6 +5,7 @@ use Rattle.strm_types.specs.declared.flushing.FlushAsked.{FlushAsked}
 use Rattle.strm_types.specs.declared.ioctls.Ioc.{Ioc}
 use Rattle.strm_types.specs.declared.kinds.MsgKind.{MsgKind}
 use Rattle.strm_types.specs.declared.kinds.MsgKind.TheVariants.{Flush, Ioctl, Setopts}
+use Rattle.strm_types.specs.declared.modes.ReadMode.{ReadMode}
 use Rattle.strm_types.specs.declared.options.Marks.{Marks}
 use Rattle.strm_types.specs.declared.names.Side.{Side}
 use Rattle.strm_types.specs.declared.names.Way.{Way}
@@ -19,7 +20,7 @@ use Rattle.strm_types.specs.Emptied.{of_data}
 use Rattle.strm_types.specs.Flushing.{asked_by, flush_bytes, flush_message, read_flush}
 use Rattle.strm_types.specs.Ioctls.{nak_message, read_ioc}
 use Rattle.strm_types.specs.Heads.{head_flushed, head_put, is_doubled, obeyed, passed_by, turned_round, waits_for_readers, flush_up, nak_down, with_marks_given}
-use Rattle.strm_types.specs.Options.{options_in}
+use Rattle.strm_types.specs.Options.{mode_message, options_in}
 use Rattle.strm_types.specs.Message.{Message, cells_of, has_parts, is_part, part, weight_of}
 use Rattle.strm_types.specs.Places.{weight_sent, weight_gone, weight_made}
 use Rattle.strm_types.specs.Names.{direction_from, direction_at, is_master}
@@ -37,6 +38,11 @@ weight-nak p ioc = refl
 pub weight-flush : {C : Type 0} (p : C → Bool) (bytes : List ℕ) → weight_of p (flush_message bytes) ≡ 0
 unfolding weight_of cells_of
 weight-flush p bytes = refl
+
+-- nor an M_SETOPTS
+pub weight-mode : {C : Type 0} (p : C → Bool) (mode : ReadMode) → weight_of p (mode_message mode) ≡ 0
+unfolding weight_of cells_of
+weight-mode p mode = refl
 
 module _ {C : Type 0} (p : C → Bool) where
   -- a put at a queue, or at a head, that had so many cells with those of the message

@@ -13,7 +13,7 @@ use Rattle.strm_types.specs.declared.spots.Spot.{Spot}
 use Rattle.strm_types.specs.declared.termios.Termios.{Termios}
 use Rattle.strm_types.specs.Deliver.{Acted, Parcel, toward, Goes}
 use Rattle.strm_types.specs.Emptied.{of_data, cells_gone, queue_behind, writer_goes}
-use Rattle.strm_types.specs.Flushing.{is_flush, asked_by}
+use Rattle.strm_types.specs.Flushing.{asked_by}
 use Rattle.strm_types.specs.Message.{Message}
 use Rattle.strm_types.specs.Names.{direction_at}
 use Rattle.strm_types.specs.Queue.{Queue, new_queue, put_on, put_enables}
@@ -150,11 +150,3 @@ module _ {C : Type 0} where
   flush_passes here m p =
       let asked = asked_by m.plain in
       both (both (read_flushed here asked p) (write_flushed here asked)) (sends (onward here.way here m ∷ []))
-
-  -- A message that is put here, on its way up or down: M_DATA and M_PROTO wait for the turn of their queue, an M_FLUSH is obeyed,
-  -- and all else passes at once.
-  abbrev pub ldterm_puts : Spot → Message C → Ldterm C → Acted C (Ldterm C)
-  ldterm_puts here m p =
-      if waits_there m.kind then queued_at here.way m p
-      else (if is_flush m.kind then flush_passes here m p
-      else sends (onward here.way here m ∷ []) p)

@@ -52,6 +52,9 @@ pub mod Standing
 pub mod Echo
 pub mod Ldterms
 pub mod Typing
+pub mod Commands
+pub mod TakenUp
+pub mod LdtermPuts
 pub mod Input
 pub mod LdtermWeights
 pub mod LdtermOrigins

@@ -1,10 +1,12 @@
 -- What an M_SETOPTS sets at a stream head (STREAMS Programming Guide, "Stream Head": struct stroptions; streamio(7I): I_SRDOPT).
 use Rattle.std.specs.Prelude.{ℕ, Bool, ◌&&◌, ◌==◌, nat_le, if◌then◌else◌, List, [], ◌∷◌, length, Option, None, Some}
+use Rattle.strm_types.specs.declared.kinds.MsgKind.TheVariants.{Setopts}
 use Rattle.strm_types.specs.declared.modes.ReadMode.{ReadMode}
 use Rattle.strm_types.specs.declared.modes.ReadMode.TheVariants.{ByteStream, MessageKeep, MessageDiscard}
 use Rattle.strm_types.specs.declared.options.Marks.{Marks}
 use Rattle.strm_types.specs.declared.options.Options.{Options}
 use Rattle.strm_types.specs.Ioctls.{word_at}
+use Rattle.strm_types.specs.Message.{Message}
 
 -- the read mode of a number: RNORM, RMSGD and RMSGN
 abbrev pub mode_numbered : ℕ → Option ReadMode
@@ -12,6 +14,16 @@ mode_numbered n =
     if n == 0 then Some ByteStream
     else (if n == 1 then Some MessageDiscard
     else (if n == 2 then Some MessageKeep else None))
+
+-- and back
+abbrev pub mode_number : ReadMode → ℕ
+mode_number ByteStream = 0
+mode_number MessageDiscard = 1
+mode_number MessageKeep = 2
+
+-- an M_SETOPTS that sets a read mode
+abbrev pub mode_message : {C : Type 0} → ReadMode → Message C
+mode_message mode = record { kind = Setopts; band = 0; control = None; body = None; plain = mode_number mode ∷ [] }
 
 -- whether two numbers may be a high-water and a low-water mark
 abbrev pub are_marks : ℕ → ℕ → Bool

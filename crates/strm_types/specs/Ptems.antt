@@ -1,20 +1,20 @@
 -- The module ptem on a stream: it answers the ioctls of a terminal, which a pseudoterminal has no hardware for (ptem(7M), termio(7I), ptm(7D)).
 -- It has no queues, and nothing that is put at it waits there.
-use Rattle.std.specs.Prelude.{ℕ, Bool, true, false, ◌&&◌, ◌||◌, ◌==◌, not, if◌then◌else◌, List, [], ◌∷◌, ◌++◌, Option, None, Some}
+use Rattle.std.specs.Prelude.{ℕ, ◌==◌, if◌then◌else◌, List, [], ◌∷◌, ◌++◌, Option, None, Some}
 use Rattle.strm_types.specs.declared.ioctls.Ioc.{Ioc}
-use Rattle.strm_types.specs.declared.ioctls.TheConstants.{TCGETS, TCSETS, TCSETSW, TCSETSF, TIOCGWINSZ, TIOCSWINSZ, TIOCSIGNAL}
-use Rattle.strm_types.specs.declared.kinds.MsgKind.{MsgKind}
-use Rattle.strm_types.specs.declared.kinds.MsgKind.TheVariants.{Ioctl, Pcsig}
+use Rattle.strm_types.specs.declared.ioctls.TheConstants.{TCGETS, TIOCGWINSZ, TIOCSWINSZ, TIOCSIGNAL}
+use Rattle.strm_types.specs.declared.kinds.MsgKind.TheVariants.{Pcsig}
 use Rattle.strm_types.specs.declared.names.Way.{Way}
 use Rattle.strm_types.specs.declared.names.Way.TheVariants.{Up, Down}
 use Rattle.strm_types.specs.declared.spots.Spot.{Spot}
 use Rattle.strm_types.specs.declared.termios.Termios.{Termios}
 use Rattle.strm_types.specs.declared.winsize.Winsize.{Winsize}
 use Rattle.strm_types.specs.Acks.{ack_message, payload, telling_message}
+use Rattle.strm_types.specs.Commands.{is_asked, sets_termios}
 use Rattle.strm_types.specs.Deliver.{Acted, Parcel}
 use Rattle.strm_types.specs.Ioctls.{nak_message, read_ioc}
 use Rattle.strm_types.specs.Ldterms.{onward}
-use Rattle.strm_types.specs.Message.{Message, has_parts}
+use Rattle.strm_types.specs.Message.{Message}
 use Rattle.strm_types.specs.Signals.{signal_in}
 use Rattle.strm_types.specs.Termios.{first_termios, read_termios, termios_bytes}
 use Rattle.strm_types.specs.Typing.{bare}
@@ -32,14 +32,6 @@ new_ptem = record { termios = first_termios; window = first_winsize }
 -- the signal of a window whose size changed (signal.h: SIGWINCH)
 abbrev pub sigwinch : ℕ
 sigwinch = 20
-
-abbrev pub is_ioctl : MsgKind → Bool
-is_ioctl Ioctl = true
-is_ioctl _ = false
-
--- the commands that set the termios: at once, or behind the output, where a module above has held them until it had gone
-abbrev pub sets_termios : ℕ → Bool
-sets_termios command = command == TCSETS || (command == TCSETSW || command == TCSETSF)
 
 module _ {C : Type 0} where
   -- messages are sent, and nothing else happens
@@ -115,10 +107,6 @@ module _ {C : Type 0} where
   abbrev pub asked_by_header : Spot → Option Ioc → Message C → Ptem → Acted C Ptem
   asked_by_header here None m p = ptem_passes here m p
   asked_by_header here (Some ioc) m p = asked_on_way here.way here ioc (payload m.plain) m p
-
-  -- whether it looks at a message: at an M_IOCTL, which has no parts
-  abbrev pub is_asked : Message C → Bool
-  is_asked m = is_ioctl m.kind && not (has_parts m)
 
   -- A message that is put here, on its way up or down: an M_IOCTL is answered, or goes on, and so does all else.
   abbrev pub ptem_puts : Spot → Message C → Ptem → Acted C Ptem

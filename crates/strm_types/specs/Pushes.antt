@@ -1,9 +1,8 @@
 -- Modules that are pushed on a side's stream and taken off it: what is told the head, which queue is let come, and what goes with a
 -- module (streamio(7I): I_PUSH, I_POP, I_LOOK; STREAMS Programming Guide, "Modules"; ldterm(7M)).
-use Rattle.std.specs.Prelude.{ℕ, Bool, true, false, not, if◌then◌else◌, List, [], ◌∷◌, ◌++◌, flat_map, Option, None, Some}
-use Rattle.strm_types.specs.declared.kinds.MsgKind.TheVariants.{Setopts}
+use Rattle.std.specs.Prelude.{Bool, true, false, not, if◌then◌else◌, List, [], ◌∷◌, ◌++◌, flat_map, Option, None, Some}
 use Rattle.strm_types.specs.declared.modes.ReadMode.{ReadMode}
-use Rattle.strm_types.specs.declared.modes.ReadMode.TheVariants.{ByteStream, MessageKeep, MessageDiscard}
+use Rattle.strm_types.specs.declared.modes.ReadMode.TheVariants.{ByteStream, MessageKeep}
 use Rattle.strm_types.specs.declared.names.ModuleName.{ModuleName}
 use Rattle.strm_types.specs.declared.names.ModuleName.TheVariants as names
 use Rattle.strm_types.specs.declared.names.Place.{Place}
@@ -22,18 +21,13 @@ use Rattle.strm_types.specs.Message.{Message}
 use Rattle.strm_types.specs.ModuleQueues.{has_queue, messages_at}
 use Rattle.strm_types.specs.Modules.{may_push, top_name, without_module}
 use Rattle.strm_types.specs.Names.{enable_if, place_of, same_place}
+use Rattle.strm_types.specs.Options.{mode_message}
 use Rattle.strm_types.specs.Ptems.{new_ptem}
 use Rattle.strm_types.specs.Puts.{delivered, earlier_at, noted}
 use Rattle.strm_types.specs.Queue.{is_none_left}
 use Rattle.strm_types.specs.Service.{cleared}
 use Rattle.strm_types.specs.Stacked.{Module, OfLdterm, OfPtem, module_line, module_name, module_queue, with_module_queue, without_module_line}
 use Rattle.strm_types.specs.State.{State, Stream, stream, with_stream}
-
--- the number of a read mode: RNORM, RMSGD and RMSGN
-abbrev pub mode_number : ReadMode → ℕ
-mode_number ByteStream = 0
-mode_number MessageDiscard = 1
-mode_number MessageKeep = 2
 
 -- the read mode that a head is given where a module is pushed below it, and where one is taken off: ldterm makes lines
 abbrev pub mode_on_push : ModuleName → Option ReadMode
@@ -75,10 +69,6 @@ module _ {C : Type 0} where
   abbrev pub may_stand : Option (Module C) → List (Module C) → Bool
   may_stand None ps = false
   may_stand (Some p) ps = may_push module_name p ps
-
-  -- an M_SETOPTS that sets a read mode
-  abbrev pub mode_message : ReadMode → Message C
-  mode_message mode = record { kind = Setopts; band = 0; control = None; body = None; plain = mode_number mode ∷ [] }
 
   -- a side's head is told its read mode, where there is one to tell
   abbrev pub mode_put : Side → Option ReadMode → State C → Carried C (State C)

@@ -11,10 +11,11 @@ use Rattle.strm_types.specs.Asking.{ldterm_asks}
 use Rattle.strm_types.specs.Cells.{Cells}
 use Rattle.strm_types.specs.Deliver.{Acted}
 use Rattle.strm_types.specs.LdtermOrigins.{map_ldterm}
+use Rattle.strm_types.specs.LdtermPuts.{ldterm_puts}
 use Rattle.strm_types.specs.LdtermServes.{ldterm_serves}
 use Rattle.strm_types.specs.LdtermTurns.{ldterm_rests}
 use Rattle.strm_types.specs.LdtermWeights.{ldterm_weight}
-use Rattle.strm_types.specs.Ldterms.{Ldterm, IsIdle, queue_at, with_queue_at, without_line, ldterm_puts}
+use Rattle.strm_types.specs.Ldterms.{Ldterm, IsIdle, queue_at, with_queue_at, without_line}
 use Rattle.strm_types.specs.Message.{Message}
 use Rattle.strm_types.specs.Ptems.{Ptem, ptem_puts}
 use Rattle.strm_types.specs.Queue.{Queue}

@@ -352,7 +352,7 @@ show s
     ),
 ];
 
-/// What is echoed with a newline in it, while nothing processes output.
+/// What is echoed with a newline in it, which goes out as CR and NL.
 pub const NEWLINES: [Scene; 5] = [
     (
         "What is typed, edited and ended is echoed as it shows",
@@ -372,11 +372,11 @@ run 50
 read s 100
   data 3 "ls\n"
 read m 100
-  data 7 "lx\x08 \x08s\n"
+  data 8 "lx\x08 \x08s\r\n"
 "#,
     ),
     (
-        "NL is echoed",
+        "NL is echoed as CR and NL",
         WELL,
         r#"open
   ok
@@ -391,7 +391,7 @@ write m "a\n"
 run 50
   ran 4
 read m 100
-  data 2 "a\n"
+  data 3 "a\r\n"
 "#,
     ),
     (
@@ -410,7 +410,7 @@ write m "a\n\x7fb\n"
 run 50
   ran 4
 get m
-  msg 0 - "a\nb\n" -
+  msg 0 - "a\r\nb\r\n" -
 get m
   err EAGAIN
 "#,
@@ -431,7 +431,7 @@ write m "a\r"
 run 50
   ran 4
 read m 100
-  data 2 "a\n"
+  data 3 "a\r\n"
 "#,
     ),
     (
@@ -450,7 +450,7 @@ write m "a\tb\x01\x12"
 run 50
   ran 4
 read m 100
-  data 13 "a\tb^A^R\na\tb^A"
+  data 14 "a\tb^A^R\r\na\tb^A"
 "#,
     ),
 ];

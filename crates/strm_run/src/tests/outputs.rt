@@ -1,0 +1,168 @@
+//! What goes out to a terminal through ldterm (termio(7I): "Output Modes"; ldterm(7M)). A scene has a title, how its script ends, and its
+//! text: commands stand at the margin, and the answer to each stands under it, indented by two spaces.
+
+use super::WELL;
+use super::scripts::Scene;
+use crate::script::{ScriptEnd, ScriptStatus};
+
+// A script in whose line 6 a turn stopped within its message.
+const SHORT_AT_6: ScriptEnd = ScriptEnd {
+    status: ScriptStatus::Whole,
+    short: Some(6),
+};
+
+/// What is written goes out under the first modes, which have OPOST and ONLCR.
+pub const OUTPUT: [Scene; 3] = [
+    (
+        "NL goes out as CR and NL",
+        WELL,
+        r#"open
+  ok
+unlock
+  ok
+slave
+  ok
+push s ldterm
+  ok
+write s "a\nb"
+  ok 3
+run 50
+  ran 2
+get m
+  msg 0 - "a\r\nb" -
+"#,
+    ),
+    (
+        "Data of a band goes out in its band",
+        WELL,
+        r#"open
+  ok
+unlock
+  ok
+slave
+  ok
+push s ldterm
+  ok
+put s 2 - "a\n"
+  ok
+run 50
+  ran 2
+get m
+  msg 2 - "a\r\n" -
+"#,
+    ),
+    (
+        "A message with a control part goes down as it is",
+        WELL,
+        r#"open
+  ok
+unlock
+  ok
+slave
+  ok
+push s ldterm
+  ok
+put s 0 "\n" "\n"
+  ok
+run 50
+  ran 2
+get m
+  msg 0 "\n" "\n" -
+"#,
+    ),
+];
+
+/// Output that is stopped, and turns that stop.
+pub const STOPPED: [Scene; 3] = [
+    (
+        "Behind STOP what is written waits, and so does the echo, until START",
+        WELL,
+        r#"open
+  ok
+unlock
+  ok
+slave
+  ok
+push s ldterm
+  ok
+write m "\x13"
+  ok 1
+run 50
+  ran 3
+write s "ab\n"
+  ok 3
+run 50
+  ran 1
+write m "x"
+  ok 1
+run 50
+  ran 2
+show s
+  show s head.r 0 0 ldterm.r 0 0 ldterm.w 2 4 drv.w 0 0
+read m 9
+  err EAGAIN
+write m "\x11"
+  ok 1
+run 50
+  ran 7
+get m
+  msg 0 - "ab\r\n" -
+get m
+  msg 0 - "x" -
+"#,
+    ),
+    (
+        "A message with a control part isn't held",
+        WELL,
+        r#"open
+  ok
+unlock
+  ok
+slave
+  ok
+push s ldterm
+  ok
+write m "\x13"
+  ok 1
+run 50
+  ran 3
+put s 0 "c" "d"
+  ok
+run 50
+  ran 2
+get m
+  msg 0 "c" "d" -
+"#,
+    ),
+    (
+        "A turn stops before a byte for which too few blocks are left, and the next one goes on",
+        SHORT_AT_6,
+        r#"open 33
+  ok
+unlock
+  ok
+slave
+  ok
+push s ldterm
+  ok
+write s "ab\n"
+  ok 3
+turn s.ldterm.w
+  ok 2
+show s
+  show s head.r 0 0 ldterm.r 0 0 ldterm.w 1 1 drv.w 1 2
+turn s.ldterm.w
+  err ENOSR
+turn s.drv.w
+  ok 2
+read m 9
+  data 2 "ab"
+turn s.ldterm.w
+  ok 1
+run 9
+  ran 1
+read m 9
+  data 2 "\r\n"
+"#,
+    ),
+];
