@@ -24,24 +24,24 @@ use Rattle.strm_types.specs.Cells.{plain}
 use Rattle.strm_types.specs.Deliver.{Acted, Fate, Parcel, carried, in_turn, tallied}
 use Rattle.strm_types.specs.Input.{made_of, stages_done, to_treat}
 use Rattle.strm_types.specs.Kept.{AreIdle}
-use Rattle.strm_types.specs.Ldterms.{IsIdle, Stage, Between, Begun, Answered, new_ldterm}
+use Rattle.strm_types.specs.Ldterms.{Ldterm, Stage, Between, Begun, Answered}
 use Rattle.strm_types.specs.ModuleTurns.{module_acted, module_turn_ended, module_turned, moved_on}
 use Rattle.strm_types.specs.Puts.{SameEnds, put_in}
 use Rattle.strm_types.specs.Refused.{in_range}
-use Rattle.strm_types.specs.Stacked.{Module, module_serves}
+use Rattle.strm_types.specs.Stacked.{IsAtRest, Module, OfLdterm, OfPtem, module_serves}
 use Rattle.strm_types.specs.State.{State, Stream, book, stream, with_stream}
-use Rattle.strm_types.specs.TurnCalls.{Begins, Ends, Stopped, asks_on, bytes_left, called, echo_most, led, module_at, most_made, treated}
+use Rattle.strm_types.specs.TurnCalls.{Begins, Ends, Stopped, asks_on, bytes_left, called, echo_most, ldterm_of, led, module_at, most_made, treated}
 use Rattle.strm_types.specs.TurnOutcomes.{TurnOutcome}
 use Rattle.strm_types.proofs.Booked.{book-made, made-within, made_in}
 use Rattle.strm_types.proofs.DeliveryHolds.{carried-holds, in_turn-holds}
-use Rattle.strm_types.proofs.LdtermStops.{serves-goes}
-use Rattle.strm_types.proofs.ModuleTurnCalls.{Reached, UnderWay, index-map, led-at, led-length, moves-within, reached-last, reached-next, under_way}
+use Rattle.strm_types.proofs.ModuleTurnCalls.{Reached, UnderWay, index-map, led-at, led-length, moves-within, none_there, reached-last, reached-next, under_way}
 use Rattle.strm_types.proofs.PutsKeep.{puts-same}
 use Rattle.strm_frame.specs.Serves.{stop_at}
-use Rattle.strm_ldterm.specs.Bounds.{turn_cost}
+use Rattle.strm_pair.specs.AnyModules.{turn_cost}
 use Rattle.strm_pair.specs.declared.calling.Call.{Call}
 use Rattle.strm_pair.specs.ModuleServed.{MayBook, TellsAs, TreatsAs, call_cost, stop_in}
 use Rattle.strm_pair.specs.ModuleTurned.{MayMove}
+use Rattle.strm_pair.proofs.ServeSteps.{module-goes}
 use Rattle.strm_pair.proofs.Takings.{tallied-both}
 
 -- What calls that go on have led to so far: so many bytes were treated, by so many calls, each of which came a stage further.
@@ -50,7 +50,7 @@ pub record GoOn (here : Spot) (bytes : ℕ) (s0 st : State ℕ) (f f' : Fates) :
   pub reached : Reached here s0 true bytes gone st
   pub tells : f' ≡ tallied gone f
   pub count : ℕ
-  pub few : count ≤ 3 * bytes + stages_done (module_at here st).stage
+  pub few : count ≤ 3 * bytes + stages_done (ldterm_of (module_at here st)).stage
   pub books : (d : Dir) → (book d st).made ≤ (book d s0).made + echo_most * (3 * bytes + 2 * count)
 
 -- They go on, or the turn is at its end.
@@ -60,7 +60,7 @@ Along false here bytes s0 st f f' = TreatsAs here bytes s0 st f f'
 
 -- how many stages of bytes are still to come at most
 abbrev pub still_to_come : Bool → Spot → State ℕ → ℕ
-still_to_come true here s = suc (3 * bytes_left here.way true (module_at here s) - stages_done (module_at here s).stage)
+still_to_come true here s = suc (3 * bytes_left here.way true (ldterm_of (module_at here s)) - stages_done (ldterm_of (module_at here s)).stage)
 still_to_come false here s = 0
 
 done-few : (stage : Stage ℕ) → stages_done stage ≤ 2
@@ -68,7 +68,7 @@ done-few Between = omega arith
 done-few (Begun started c) = omega arith
 done-few (Answered echo) = omega arith
 
-begun-few : (stage : Stage ℕ) (l : Module ℕ) → stages_done stage ≤ 3 * to_treat (record l { stage = stage })
+begun-few : (stage : Stage ℕ) (l : Ldterm ℕ) → stages_done stage ≤ 3 * to_treat (record l { stage = stage })
 begun-few Between l = omega arith
 begun-few (Begun started c) l = omega arith
 begun-few (Answered echo) l = omega arith
@@ -120,12 +120,12 @@ module _ (here : Spot) where
   -- A call that goes on comes a stage further at least, and leaves less.
   record Further (again : Bool) (call : Call) (s st : State ℕ) : Type 0 where
     pub stop : stop_in call ≡ None
-    pub treat : bytes_left here.way true (module_at here st) + call.bytes ≤ bytes_left here.way again (module_at here s)
-    pub done : suc (stages_done (module_at here s).stage) ≤ stages_done (module_at here st).stage + 3 * call.bytes
-    pub begun : stages_done (module_at here st).stage ≤ 3 * bytes_left here.way true (module_at here st)
+    pub treat : bytes_left here.way true (ldterm_of (module_at here st)) + call.bytes ≤ bytes_left here.way again (ldterm_of (module_at here s))
+    pub done : suc (stages_done (ldterm_of (module_at here s)).stage) ≤ stages_done (ldterm_of (module_at here st)).stage + 3 * call.bytes
+    pub begun : stages_done (ldterm_of (module_at here st)).stage ≤ 3 * bytes_left here.way true (ldterm_of (module_at here st))
 
   further : (again : Bool) (call : Call) (s st : State ℕ) → TellsAs here again call s → st ≡ (led here again (stop_in call) s).state → here.at - 1 < length (stream here.side s).modules
-      → Begins here.way again (module_at here s) → call.again ≡ true → Further again call s st
+      → Begins here.way again (ldterm_of (module_at here s)) → call.again ≡ true → Further again call s st
   further again call s st tells state low begins works =
       let none = none-in call (not-stopped call.stopped call.again tells.over works) in
       let i = here.at - 1 in
@@ -133,16 +133,16 @@ module _ (here : Spot) where
       let l = module_at here s in
       let t = module_serves plain here 0 again None l in
       let asks = ap (λ o. asks_on here again o ps) (sym none) ∙ sym tells.asks ∙ works in
-      let more : t.again ≡ true = sym (index-map new_ldterm (λ p. (module_serves plain here 0 again None p).again) false i ps low) ∙ asks in
-      let bytes : call.bytes ≡ t.bytes = tells.bytes ∙ ap (λ o. treated here again o ps) none ∙ index-map new_ldterm (λ p. (module_serves plain here 0 again None p).bytes) 0 i ps low in
-      let g = serves-goes here again l begins more in
+      let more : t.again ≡ true = sym (index-map none_there (λ p. (module_serves plain here 0 again None p).again) false i ps low) ∙ asks in
+      let bytes : call.bytes ≡ t.bytes = tells.bytes ∙ ap (λ o. treated here again o ps) none ∙ index-map none_there (λ p. (module_serves plain here 0 again None p).bytes) 0 i ps low in
+      let g = module-goes here again l begins more in
       let at = ap (λ v. under_way (module_at here v)) (state ∙ ap (λ o. (led here again o s).state) none) ∙ led-at here again None s low in
       let stage = ap (λ (x : UnderWay). stages_done x.stage) at in
-      let left = ap (λ w. bytes_left w true (module_at here st)) g.up ∙ ap (λ (x : UnderWay). bytes_left Up true (record (module_at here st) { stage = x.stage; in_work = x.in_work })) at in
-      record { stop = none; treat = omega (arith, g.treat, bytes, left); done = omega (arith, g.done, bytes, stage); begun = subst (λ w. stages_done (module_at here st).stage ≤ 3 * bytes_left w true (module_at here st)) (sym g.up) (begun-few (module_at here st).stage (module_at here st)) }
+      let left = ap (λ w. bytes_left w true (ldterm_of (module_at here st))) g.up ∙ ap (λ (x : UnderWay). bytes_left Up true (record (ldterm_of (module_at here st)) { stage = x.stage; in_work = x.in_work })) at in
+      record { stop = none; treat = omega (arith, g.treat, bytes, left); done = omega (arith, g.done, bytes, stage); begun = subst (λ w. stages_done (ldterm_of (module_at here st)).stage ≤ 3 * bytes_left w true (ldterm_of (module_at here st))) (sym g.up) (begun-few (ldterm_of (module_at here st)).stage (ldterm_of (module_at here st))) }
 
   -- where a call stopped
-  stopped-at : (stopped : Bool) (again : Bool) (bytes : ℕ) (s : State ℕ) → bytes ≡ treated here again (stop_at stopped bytes) (stream here.side s).modules → OnTrue stopped (Ends here.way again (module_at here s) bytes)
+  stopped-at : (stopped : Bool) (again : Bool) (bytes : ℕ) (s : State ℕ) → bytes ≡ treated here again (stop_at stopped bytes) (stream here.side s).modules → OnTrue stopped (Ends here.way again (ldterm_of (module_at here s)) bytes)
       → Stopped here again s (stop_at stopped bytes)
   stopped-at true again bytes s is ends = (is, ends)
   stopped-at false again bytes s is ends = tt
@@ -156,7 +156,7 @@ module _ (here : Spot) where
     told-on = told ∙ ap (tallied (led here again (stop_in call) s).gone) was ∙ sym (tallied-both gone (led here again (stop_in call) s).gone f)
 
     -- the turn goes on
-    goes-on : (count : ℕ) → count ≤ 3 * bytes + stages_done (module_at here s).stage → ((d : Dir) → (book d s).made ≤ (book d s0).made + echo_most * (3 * bytes + 2 * count))
+    goes-on : (count : ℕ) → count ≤ 3 * bytes + stages_done (ldterm_of (module_at here s)).stage → ((d : Dir) → (book d s).made ≤ (book d s0).made + echo_most * (3 * bytes + 2 * count))
         → call.again ≡ true → GoOn here (bytes + call.bytes) s0 st f f''
     goes-on count few held works =
         let on = further again call s st tells state r.inside r.begins works in
@@ -194,12 +194,12 @@ module _ (here : Spot) where
           tells = told-on;
         }
 
-    pub along : (count : ℕ) → count ≤ 3 * bytes + stages_done (module_at here s).stage → ((d : Dir) → (book d s).made ≤ (book d s0).made + echo_most * (3 * bytes + 2 * count))
+    pub along : (count : ℕ) → count ≤ 3 * bytes + stages_done (ldterm_of (module_at here s)).stage → ((d : Dir) → (book d s).made ≤ (book d s0).made + echo_most * (3 * bytes + 2 * count))
         → (more : Bool) → call.again ≡ more → Along more here (bytes + call.bytes) s0 st f f''
     along count few held true is = goes-on count few held is
     along count few held false is = ends-there is
 
-    pub comes-closer : (more : Bool) → call.again ≡ more → still_to_come more here st < suc (3 * bytes_left here.way again (module_at here s) - stages_done (module_at here s).stage)
+    pub comes-closer : (more : Bool) → call.again ≡ more → still_to_come more here st < suc (3 * bytes_left here.way again (ldterm_of (module_at here s)) - stages_done (ldterm_of (module_at here s)).stage)
     comes-closer true works =
         let on = further again call s st tells state r.inside r.begins works in
         omega (arith, on.treat, on.done, on.begun)
@@ -207,32 +207,34 @@ module _ (here : Spot) where
 
 -- what a first call begins with
 module _ (here : Spot) where
-  idle-at : (i : ℕ) (ps : List (Module ℕ)) → AllByRecursion (λ p. IsIdle p) ps → i < length ps → IsIdle (slice_index_or ps i new_ldterm)
-  idle-at i [] idle low = absurd (omega (arith, low))
-  idle-at zero (l ∷ ls) idle low = idle.0
-  idle-at (suc i) (l ∷ ls) idle low = idle-at i ls idle.1 (omega (arith, low))
+  rest-at : (i : ℕ) (ps : List (Module ℕ)) → AllByRecursion (λ p. IsAtRest p) ps → i < length ps → IsAtRest (slice_index_or ps i none_there)
+  rest-at i [] rest low = absurd (omega (arith, low))
+  rest-at zero (p ∷ ps) rest low = rest.0
+  rest-at (suc i) (p ∷ ps) rest low = rest-at i ps rest.1 (omega (arith, low))
 
-  idle-on : (side : Side) (s : State ℕ) → AreIdle s → AllByRecursion (λ p. IsIdle p) (stream side s).modules
-  idle-on Master s idle = idle.master
-  idle-on Slave s idle = idle.slave
+  rest-on : (side : Side) (s : State ℕ) → AreIdle s → AllByRecursion (λ p. IsAtRest p) (stream side s).modules
+  rest-on Master s idle = idle.master
+  rest-on Slave s idle = idle.slave
 
-  begins-idle : (way : Way) (l : Module ℕ) → IsIdle l → Begins way false l
-  begins-idle Up l idle = idle
-  begins-idle Down l idle = idle
+  begins-rested : (way : Way) (p : Module ℕ) → IsAtRest p → Begins way false (ldterm_of p)
+  begins-rested Up (OfLdterm l) rest = rest
+  begins-rested Down (OfLdterm l) rest = rest
+  begins-rested Up (OfPtem p) rest = (refl, refl, refl, refl)
+  begins-rested Down (OfPtem p) rest = (refl, refl, refl, refl)
 
-  pub first-begins : (s : State ℕ) → AreIdle s → here.at - 1 < length (stream here.side s).modules → Begins here.way false (module_at here s)
-  first-begins s idle low = begins-idle here.way (module_at here s) (idle-at (here.at - 1) (stream here.side s).modules (idle-on here.side s idle) low)
+  pub first-begins : (s : State ℕ) → AreIdle s → here.at - 1 < length (stream here.side s).modules → Begins here.way false (ldterm_of (module_at here s))
+  first-begins s idle low = begins-rested here.way (module_at here s) (rest-at (here.at - 1) (stream here.side s).modules (rest-on here.side s idle) low)
 
-  one-first : (way : Way) (l : Module ℕ) → turn_cost (record here { way = way }) false l ≤ 4
-  one-first Up l = omega arith
-  one-first Down l = omega arith
+  one-first : (way : Way) (p : Module ℕ) → turn_cost (record here { way = way }) false p ≤ 25
+  one-first Up p = omega arith
+  one-first Down p = omega arith
 
-  first-among : (i : ℕ) (ps : List (Module ℕ)) → slice_index_or (map (turn_cost here false) ps) i 0 ≤ 4
+  first-among : (i : ℕ) (ps : List (Module ℕ)) → slice_index_or (map (turn_cost here false) ps) i 0 ≤ 25
   first-among i [] = omega arith
-  first-among zero (l ∷ ls) = one-first here.way l
-  first-among (suc i) (l ∷ ls) = first-among i ls
+  first-among zero (p ∷ ps) = one-first here.way p
+  first-among (suc i) (p ∷ ps) = first-among i ps
 
-  pub first-cost : (s : State ℕ) → call_cost here false s ≤ 4
+  pub first-cost : (s : State ℕ) → call_cost here false s ≤ 25
   first-cost s = first-among (here.at - 1) (stream here.side s).modules
 
   -- the books have room for what a turn makes of one message
@@ -248,17 +250,17 @@ module _ (here : Spot) where
   book-low MasterToSlave s room = made-low s.from_master (both-true (books.has_room s.from_master) (books.has_room s.from_slave) room).0
   book-low SlaveToMaster s room = made-low s.from_slave (both-true (books.has_room s.from_master) (books.has_room s.from_slave) room).1
 
-  pub first-books : (s : State ℕ) → in_range s ≡ true → bytes_left here.way false (module_at here s) ≤ 16777216 → MayBook here false s
+  pub first-books : (s : State ℕ) → in_range s ≡ true → bytes_left here.way false (ldterm_of (module_at here s)) ≤ 16777216 → MayBook here false s
   first-books s room few d = omega (arith, book-low d s room, few)
 
-  pub next-books : (bytes : ℕ) (s0 s : State ℕ) (f f' : Fates) → in_range s0 ≡ true → bytes_left here.way false (module_at here s0) ≤ 16777216 → GoOn here bytes s0 s f f' → MayBook here true s
-  next-books bytes s0 s f f' room few on d = omega (arith, book-low d s0 room, few, on.reached.within, on.few, on.books d, done-few (module_at here s).stage)
+  pub next-books : (bytes : ℕ) (s0 s : State ℕ) (f f' : Fates) → in_range s0 ≡ true → bytes_left here.way false (ldterm_of (module_at here s0)) ≤ 16777216 → GoOn here bytes s0 s f f' → MayBook here true s
+  next-books bytes s0 s f f' room few on d = omega (arith, book-low d s0 room, few, on.reached.within, on.few, on.books d, done-few (ldterm_of (module_at here s)).stage)
 
 -- a turn whose calls treated so many bytes
 pub turned-by : (name : QueueName) (here : Spot) (bytes : ℕ) (old s0 st : State ℕ) (f f' : Fates) → MayMove old s0 name here → (treats : TreatsAs here bytes s0 st f f')
     → module_turned plain name (Moved bytes) old ≡ record { turn = Moved bytes; state = module_turn_ended name here (not (bytes == 0)) st; gone = treats.gone }
 turned-by name here bytes old s0 st f f' may treats =
-    let within = subst (λ v. bytes ≤ bytes_left here.way false (module_at here v)) may.stays treats.within in
+    let within = subst (λ v. bytes ≤ bytes_left here.way false (ldterm_of (module_at here v))) may.stays treats.within in
     may.moves (Moved bytes) ∙ moves-within here name bytes old (omega (arith, may.inside, may.within)) within ∙ ap (λ v. moved_on plain here name bytes v) (sym may.stays) ∙ treats.moves name
 
 -- bytes were taken where some were treated

@@ -2,10 +2,11 @@ pub mod Peeked
 pub mod Idle
 pub mod InHand
 pub mod Sides
-pub mod LdtermTaken
+pub mod MadeModules
+pub mod ModuleTaken
 pub mod Takings
 pub mod Puttings
-pub mod LdtermPushed
+pub mod ModulePushed
 pub mod Modes
 pub mod PutsCost
 pub mod PutSteps

@@ -1,7 +1,7 @@
 -- A head that is told its read mode, and what stands on the stream beside it.
-use Rattle.std.proofs.Common.{ℕ, suc, ◌≡◌, ◌≤◌, Bool, true, false, cond, List, [], ◌∷◌, refl, sym, ap, ◌∙◌, arith}
+use Rattle.std.proofs.Common.{ℕ, suc, ◌≡◌, Bool, true, false, cond, List, [], ◌∷◌, refl, sym, ap, ◌∙◌, arith}
 use Rattle.std.proofs.lemmas.Bool.Decides.{nat_tests}
-use Rattle.std.specs.Prelude.{Option, None, Some, ◌&&◌, ◌==◌, not, nat_lt, length}
+use Rattle.std.specs.Prelude.{Option, None, Some, is_some, ◌&&◌, not, nat_le, nat_lt, min, length}
 use Rattle.strm_types.specs.declared.limits.TheConstants.{MODULES}
 use Rattle.strm_types.specs.declared.modes.ReadMode.{ReadMode}
 use Rattle.strm_types.specs.declared.names.ModuleName.{ModuleName}
@@ -11,14 +11,19 @@ use Rattle.strm_types.specs.declared.names.Side.TheVariants.{Master, Slave}
 use Rattle.strm_types.specs.declared.names.Way.TheVariants.{Up}
 use Rattle.strm_types.specs.declared.rules.Rule.TheVariants.{EndClosed}
 use Rattle.strm_types.specs.Deliver.{Carried, Fate, Goes}
+use Rattle.strm_types.specs.Earlier.{before_among, before_by, places_of}
 use Rattle.strm_types.specs.Heads.{with_options}
 use Rattle.strm_types.specs.Ldterms.{new_ldterm}
 use Rattle.strm_types.specs.Message.{cells_of}
-use Rattle.strm_types.specs.Names.{direction_at, driver_of, enable_if, is_open, other}
+use Rattle.strm_types.specs.ModuleQueues.{first_place}
+use Rattle.strm_types.specs.Modules.{stands}
+use Rattle.strm_types.specs.Names.{direction_at, driver_of, enable_if, is_open, other, place_of}
 use Rattle.strm_types.specs.Options.{options_in}
-use Rattle.strm_types.specs.Pushes.{head_above, let_come, may_stand, mode_message, mode_number, mode_on_push, mode_put, named_by, pushed_named, with_modules}
+use Rattle.strm_types.specs.Ptems.{new_ptem}
+use Rattle.strm_types.specs.Pushes.{enable_waiting, head_above, let_come, may_stand, mode_message, mode_number, mode_on_push, mode_put, named_by, pushed_named, with_modules}
 use Rattle.strm_types.specs.Queue.{is_none_left}
-use Rattle.strm_types.specs.Stacked.{Module}
+use Rattle.strm_types.specs.Refused.{is_known}
+use Rattle.strm_types.specs.Stacked.{Module, OfLdterm, OfPtem, module_name, module_queue}
 use Rattle.strm_types.specs.State.{State, stream, with_stream}
 use Rattle.strm_types.proofs.FlushDelivered.{carries, went_on}
 
@@ -76,55 +81,61 @@ mode-among side (Some mode) ms s =
     ∙ told-among (is_open (stream side s).opened) side mode ms s
     ∙ ap (among side ms) (sym (puts-mode side mode s))
 
-no-and : (b : Bool) → (b && false) ≡ true → 1 ≤ 0
-no-and true is = absurd (cc)
-no-and false is = absurd (cc)
+-- the module that a name makes may stand where there is room and none of its name stands
+pub may-known : (name : ModuleName) (ms : List (Module ℕ)) → (is_known (Some name) && (nat_lt (length ms) MODULES && not (stands module_name name ms))) ≡ may_stand (named_by (Some name)) ms
+may-known names.Ldterm ms = refl
+may-known names.Ptem ms = refl
+may-known names.Pckt ms = refl
 
--- where ldterm may stand, no module stands
-pub bare : (ms : List (Module ℕ)) → may_stand (named_by (Some names.Ldterm)) ms ≡ true → ms ≡ []
-bare [] may = refl
-bare (p ∷ ms) may = absurd (let no = no-and (nat_lt (length (p ∷ ms)) MODULES) may in omega (arith, no))
+-- what may come to the read queue of a module that is pushed, where it has one, is what the other side's driver has
+abbrev pub driver_comes : Bool → Side → State ℕ → State ℕ
+driver_comes comes side s = record s { enabled = enable_if (comes && not (is_none_left (stream (other side) s).driver.queue.messages)) (driver_of (other side)) s.enabled }
 
-some-none : (n : ℕ) → (suc n == 0) ≡ false
-some-none n = grind (arith, nat_tests)
+-- as no other module has one
+none-below : (ms : List (Module ℕ)) (place : ℕ) → stands module_name names.Ldterm ms ≡ false → first_place module_queue Up place ms ≡ None
+none-below [] place none = refl
+none-below (OfLdterm l ∷ ms) place none = absurd (cc)
+none-below (OfPtem p ∷ ms) place none = none-below ms (suc place) none
 
--- An ldterm may stand where no module does.
-pub may-bare : (name : Option ModuleName) (ms : List (Module ℕ)) → may_stand {C = ℕ} (named_by name) [] ≡ true → (length ms == 0) ≡ may_stand (named_by name) ms
-may-bare None ms built = absurd (cc)
-may-bare (Some names.Ptem) ms built = absurd (cc)
-may-bare (Some names.Pckt) ms built = absurd (cc)
-may-bare (Some names.Ldterm) [] built = refl
-may-bare (Some names.Ldterm) (p ∷ ms) built = some-none (length ms) ∙ by (nat_lt (length (p ∷ ms)) MODULES)
-  where
-    by : (b : Bool) → false ≡ (b && false)
-    by true = refl
-    by false = refl
+not-there : (a b : Bool) → (a && not b) ≡ true → b ≡ false
+not-there true true may = absurd (cc)
+not-there true false may = refl
+not-there false b may = absurd (cc)
 
--- what comes before its read queue is what the other side's driver has
-abbrev pub driver_comes : Side → State ℕ → State ℕ
-driver_comes side s = record s { enabled = enable_if (not (is_none_left (stream (other side) s).driver.queue.messages)) (driver_of (other side)) s.enabled }
+low : (n : ℕ) → nat_le 1 (min MODULES (suc n)) ≡ true
+low n = grind (arith, nat_tests)
 
-comes : (side : Side) (s : State ℕ) → let_come true side (with_modules side (new_ldterm ∷ []) s) ≡ driver_comes side (with_modules side (new_ldterm ∷ []) s)
-comes Master s = refl
-comes Slave s = refl
+before-first : (side : Side) (l : Module ℕ) (ms : List (Module ℕ)) → stands module_name names.Ldterm ms ≡ false → before_among side Up 1 (l ∷ ms) ≡ Some (driver_of (other side))
+before-first side l ms none =
+    ap (before_by side Up 1 (places_of (l ∷ ms))) (none-below ms 2 none) ∙ ap (λ (b : Bool). cond b (Some (driver_of (other side))) None) (low (length (places_of ms)))
+
+comes : (side : Side) (l : Module ℕ) (ms : List (Module ℕ)) (s : State ℕ) → stands module_name names.Ldterm ms ≡ false → let_come true side (with_modules side (l ∷ ms) s) ≡ driver_comes true side (with_modules side (l ∷ ms) s)
+comes Master l ms s none = let t = with_modules Master (l ∷ ms) s in ap (λ first. record t { enabled = enable_waiting first t }) (before-first Master l ms none)
+comes Slave l ms s none = let t = with_modules Slave (l ∷ ms) s in ap (λ first. record t { enabled = enable_waiting first t }) (before-first Slave l ms none)
 
 abbrev led : List (Fate ℕ) → State ℕ → Carried ℕ (State ℕ)
 led gone s = record { state = s; gone = gone }
 
 abbrev or_new : Option (Module ℕ) → Module ℕ
-or_new None = new_ldterm
+or_new None = OfLdterm new_ldterm
 or_new (Some p) = p
+
+stays-there : (side : Side) (p : Module ℕ) (s : State ℕ) → with_modules side (p ∷ (stream side s).modules) s ≡ driver_comes false side (with_modules side (p ∷ (stream side s).modules) s)
+stays-there Master p s = refl
+stays-there Slave p s = refl
 
 -- A module is pushed: the head may be told its mode before it stands there.
 pub pushed-is : (side : Side) (name : ModuleName) (p : Module ℕ) (s : State ℕ) → named_by (Some name) ≡ Some p → may_stand (named_by (Some name)) (stream side s).modules ≡ true
-    → let t = mode_put side (mode_on_push name) s in pushed_named side (named_by (Some name)) s ≡ record { state = driver_comes side (with_modules side (p ∷ (stream side t.state).modules) t.state); gone = t.gone }
-pushed-is side names.Ptem p s is may = absurd (cc)
+    → let t = mode_put side (mode_on_push name) s in
+    pushed_named side (named_by (Some name)) s ≡ record { state = driver_comes (is_some (place_of name)) side (with_modules side (p ∷ (stream side t.state).modules) t.state); gone = t.gone }
 pushed-is side names.Pckt p s is may = absurd (cc)
+pushed-is side names.Ptem p s is may =
+    ap (led []) (stays-there side (OfPtem new_ptem) s) ∙ ap (λ q. led [] (driver_comes false side (with_modules side (q ∷ (stream side s).modules) s))) (ap or_new is)
 pushed-is side names.Ldterm p s is may =
-    let none = bare (stream side s).modules may in
+    let ms = (stream side s).modules in
     let t = mode_put side (mode_on_push names.Ldterm) s in
-    ap (λ (u : Carried ℕ (State ℕ)). led u.gone (let_come true side u.state)) (mode-among side (mode_on_push names.Ldterm) (new_ldterm ∷ (stream side s).modules) s)
-    ∙ ap (λ ms. led t.gone (let_come true side (with_modules side (new_ldterm ∷ ms) t.state))) none
-    ∙ ap (led t.gone) (comes side t.state)
-    ∙ ap (λ ms. led t.gone (driver_comes side (with_modules side (new_ldterm ∷ ms) t.state))) (sym (modules-stay side (mode_on_push names.Ldterm) s ∙ none))
-    ∙ ap (λ q. led t.gone (driver_comes side (with_modules side (q ∷ (stream side t.state).modules) t.state))) (ap or_new is)
+    let l = OfLdterm new_ldterm in
+    ap (λ (u : Carried ℕ (State ℕ)). led u.gone (let_come true side u.state)) (mode-among side (mode_on_push names.Ldterm) (l ∷ ms) s)
+    ∙ ap (led t.gone) (comes side l ms t.state (not-there (nat_lt (length ms) MODULES) (stands module_name names.Ldterm ms) may))
+    ∙ ap (λ ms. led t.gone (driver_comes true side (with_modules side (l ∷ ms) t.state))) (sym (modules-stay side (mode_on_push names.Ldterm) s))
+    ∙ ap (λ q. led t.gone (driver_comes true side (with_modules side (q ∷ (stream side t.state).modules) t.state))) (ap or_new is)

@@ -16,34 +16,34 @@ use Rattle.strm_types.specs.declared.spots.Spot.{Spot}
 use Rattle.strm_types.specs.Cells.{plain}
 use Rattle.strm_types.specs.Kept.{AreIdle}
 use Rattle.strm_types.specs.LdtermTurns.{is_between}
-use Rattle.strm_types.specs.Ldterms.{IsIdle, new_ldterm}
 use Rattle.strm_types.specs.ModuleQueues.{at_place, messages_at, place_past, waits}
 use Rattle.strm_types.specs.ModuleTurns.{asked_turn, module_turned, moved_within, place_named, stayed_at, turned_named}
 use Rattle.strm_types.specs.Modules.{change_among}
 use Rattle.strm_types.specs.Past.{has_room_past, waits_on, writer_waits}
 use Rattle.strm_types.specs.Queue.{is_none_left}
-use Rattle.strm_types.specs.Stacked.{Module, module_asks, module_queue, module_rests, with_module_queue}
+use Rattle.strm_types.specs.Stacked.{IsAtRest, Module, OfLdterm, OfPtem, module_asks, module_queue, module_rests, with_module_queue}
 use Rattle.strm_types.specs.State.{State, Stream, stream}
-use Rattle.strm_types.specs.TurnCalls.{bytes_left}
+use Rattle.strm_types.specs.TurnCalls.{bytes_left, ldterm_of}
 use Rattle.strm_types.specs.TurnOutcomes.{TurnOutcome, first_size, stayed_put}
-use Rattle.strm_types.proofs.ModuleTurnCalls.{index-map}
+use Rattle.strm_types.proofs.ModuleTurnCalls.{index-map, none_there}
 use Rattle.strm_pair.proofs.NamedPlaces.{found-low}
 use Rattle.strm_pair.specs.ModuleTurned.{MayMove}
 
 -- one of which nothing of a turn is under way rests
-rests-idle : (l : Module ℕ) → IsIdle l → module_rests l ≡ true
-rests-idle l idle =
+rests-idle : (p : Module ℕ) → IsAtRest p → module_rests p ≡ true
+rests-idle (OfLdterm l) idle =
     ap (λ o. not (is_some o) && (is_none_left l.gathered && (not l.echoing && is_between l.stage))) idle.0
     ∙ ap (λ xs. is_none_left xs && (not l.echoing && is_between l.stage)) idle.1
     ∙ ap (λ b. not b && is_between l.stage) idle.2
     ∙ ap is_between idle.3
+rests-idle (OfPtem p) idle = refl
 
-rests-at : (i : ℕ) (ps : List (Module ℕ)) → AllByRecursion (λ p. IsIdle p) ps → i < length ps → slice_index_or (map module_rests ps) i false ≡ true
+rests-at : (i : ℕ) (ps : List (Module ℕ)) → AllByRecursion (λ p. IsAtRest p) ps → i < length ps → slice_index_or (map module_rests ps) i false ≡ true
 rests-at i [] idle low = absurd (omega (arith, low))
-rests-at zero (l ∷ ls) idle low = rests-idle l idle.0
-rests-at (suc i) (l ∷ ls) idle low = rests-at i ls idle.1 (omega (arith, low))
+rests-at zero (p ∷ ps) idle low = rests-idle p idle.0
+rests-at (suc i) (p ∷ ps) idle low = rests-at i ps idle.1 (omega (arith, low))
 
-idle-on : (side : Side) (s : State ℕ) → AreIdle s → AllByRecursion (λ p. IsIdle p) (stream side s).modules
+idle-on : (side : Side) (s : State ℕ) → AreIdle s → AllByRecursion (λ p. IsAtRest p) (stream side s).modules
 idle-on Master s idle = idle.master
 idle-on Slave s idle = idle.slave
 
@@ -74,9 +74,11 @@ pub turned-room : (name : QueueName) (at : ℕ) (band : Band) (turn : Turn) (s :
 turned-room name at band turn s room = ap (λ b. cond {A = TurnOutcome ℕ} b (moved_within plain (spot_of name at) name turn s) (stayed_at Blocked (spot_of name at) (writer_waits name.side name.way at band.0 s))) room
 
 -- how many bytes a first call may treat
-whole : (way : Way) (l : Module ℕ) → bytes_left way false l ≡ first_size (messages_at module_queue way l)
-whole Up l = refl
-whole Down l = refl
+whole : (way : Way) (p : Module ℕ) → bytes_left way false (ldterm_of p) ≡ first_size (messages_at module_queue way p)
+whole Up (OfLdterm l) = refl
+whole Down (OfLdterm l) = refl
+whole Up (OfPtem p) = refl
+whole Down (OfPtem p) = refl
 
 -- where it may serve
 pub may-move : (name : QueueName) (at : ℕ) (s : State ℕ) → place_named name.place (stream name.side s).modules ≡ Some at
@@ -85,8 +87,8 @@ pub may-move : (name : QueueName) (at : ℕ) (s : State ℕ) → place_named nam
 may-move name at s found few moves =
     let ps = (stream name.side s).modules in
     let low = found-low name.place ps at found in
-    let size = index-map new_ldterm (λ p. first_size (messages_at module_queue name.way p)) 0 (at - 1) ps (omega (arith, low.0, low.1)) in
-    record { stays = refl; named = refl; inside = low.0; within = low.1; low = low.2; few = omega (arith, few, size, whole name.way (slice_index_or ps (at - 1) new_ldterm)); moves = moves }
+    let size = index-map none_there (λ p. first_size (messages_at module_queue name.way p)) 0 (at - 1) ps (omega (arith, low.0, low.1)) in
+    record { stays = refl; named = refl; inside = low.0; within = low.1; low = low.2; few = omega (arith, few, size, whole name.way (slice_index_or ps (at - 1) none_there)); moves = moves }
 
 -- as many modules stand behind a writer that waits
 change-long : (f : Module ℕ → Module ℕ) (i : ℕ) (ps : List (Module ℕ)) → length (change_among f i ps) ≡ length ps

@@ -1,8 +1,9 @@
 -- The first module whose queues have a name is one of those that have places.
-use Rattle.std.proofs.Common.{ℕ, suc, ◌≡◌, ◌≤◌, ◌<◌, ◌+◌, Bool, true, false, cond, List, [], ◌∷◌, length, take, ap, ◌∙◌, arith}
+use Rattle.std.proofs.Common.{ℕ, zero, suc, ◌≡◌, ◌≤◌, ◌<◌, ◌+◌, ◌-◌, Bool, true, false, cond, List, [], ◌∷◌, length, map, slice_index_or, take, refl, sym, ap, ◌∙◌, arith}
 use Rattle.std.specs.Prelude.{min, Option, None, Some, unwrap_or}
 use Rattle.std.proofs.lemmas.List.{length-map, length-take}
 use Rattle.strm_types.specs.declared.limits.TheConstants.{MODULES}
+use Rattle.strm_types.specs.declared.names.ModuleName.{ModuleName}
 use Rattle.strm_types.specs.declared.names.Place.{Place}
 use Rattle.strm_types.specs.Earlier.{places_of}
 use Rattle.strm_types.specs.ModuleTurns.{named_from}
@@ -16,6 +17,18 @@ module _ (ps : List (Module ℕ)) where
 
   placed-long : length placed ≡ min MODULES (length ps)
   placed-long = length-map (take MODULES ps) (λ p. place_of (module_name p)) ∙ length-take MODULES ps
+
+-- the place of queues that one of these has
+place-among : {X : Type 0} (f : X → Module ℕ) (xs : List X) (i : ℕ) (d : X) → i < length xs → slice_index_or (places_of (map f xs)) i None ≡ place_of (module_name (f (slice_index_or xs i d)))
+place-among f [] i d low = absurd (omega (arith, low))
+place-among f (x ∷ xs) zero d low = refl
+place-among f (x ∷ xs) (suc i) d low = place-among f xs i d (omega (arith, low))
+
+pub place-at : {X : Type 0} (f : X → Module ℕ) (xs ys : List X) (at : ℕ) (x : X) (kind : ModuleName) → 0 < at → at ≤ length (map f xs) → kind ≡ module_name (f x) → x ≡ slice_index_or ys (at - 1) x → ys ≡ xs
+    → place_of kind ≡ slice_index_or (places_of (map f xs)) (at - 1) None
+place-at f xs ys at x kind inside within named there same =
+    ap place_of (named ∙ ap (λ y. module_name (f y)) (there ∙ ap (λ zs. slice_index_or zs (at - 1) x) same))
+    ∙ sym (place-among f xs (at - 1) x (omega (arith, inside, within, length-map xs f)))
 
 -- where one is found, it is one of those
 found-from : (name : Place) (at : ℕ) (xs : List (Option Place)) (found : ℕ) → named_from name at xs ≡ Some found → (at ≤ found) × (found < at + length xs)

@@ -58,7 +58,7 @@ use Rattle.strm_types.specs.Costs.{cost, head_takes, below_takes, is_across}
 use Rattle.strm_pair.specs.Pairs.{state_in, AreBeside, Stays, kept_by}
 use Rattle.strm_pair.specs.Framing.{same-state, same-beside}
 use Rattle.strm_pair.specs.PutBy.{PutAs, PutBy, CameBy}
-use Rattle.strm_pair.proofs.PutsCost.{behind-cost, head-cost}
+use Rattle.strm_pair.proofs.PutsCost.{behind-cost, behind-takes, head-cost}
 use Rattle.strm_pair.specs.Streams.{View}
 
 -- what a head sends down is nothing where nothing is turned round
@@ -152,10 +152,10 @@ kept-driver view p Master d i = refl
 kept-driver view p Slave d i = refl
 
 -- behind the head there is room for what a put takes itself, and so for what stands there: on the way down nothing goes by what was sent across
-pub behind-room : (way : Way) (s : StoreValue) (i : ℕ) (to : Spot) (st : State ℕ) → let m = message_in s i in to.way ≡ way → (to.at ≡ 0 → ⊥) → HasRoom s (cost to m) → HasRoom s (below_takes way (has_parts m) (is_across to m))
-behind-room way s i to st is inside room =
+pub behind-room : (way : Way) (s : StoreValue) (i : ℕ) (to : Spot) → let m = message_in s i in to.way ≡ way → (to.at ≡ 0 → ⊥) → HasRoom s (cost to m) → HasRoom s (below_takes way (has_parts m) (is_across to m))
+behind-room way s i to is inside room =
     let m = message_in s i in
-    subst (λ w. HasRoom s (below_takes w (has_parts m) (is_across to m))) is (room-for s (cost to m) (below_takes to.way (has_parts m) (is_across to m)) (omega (arith, behind-cost to m st inside)) room)
+    subst (λ w. HasRoom s (below_takes w (has_parts m) (is_across to m))) is (room-for s (cost to m) (below_takes to.way (has_parts m) (is_across to m)) (behind-takes to m inside) room)
 
 -- a waiting writer is let go where the head says so
 noted-room : (side : Side) (earlier : Way → Option QueueName) (lets_go : Bool) (names : List QueueName) → noted side (Some places.Head) earlier (notes_of lets_go) names ≡ enable_some lets_go (earlier Up) names
@@ -369,7 +369,7 @@ module _ {M S : Type 0} (name : M → ℕ) (view : View S) where
       let m = message_in s i in
       let st = state_in view.modules s p in
       below-put s t p q i to sent_on f f' false inside past
-      (with-later s t p q i (below_takes to.way (has_parts m) (is_across to m)) (cost to m) sent_on f f' (put_behind to.way to m st) (behind-cost to m st inside)
+      (with-later s t p q i (below_takes to.way (has_parts m) (is_across to m)) (cost to m) sent_on f f' (put_behind to.way to m st) (behind-cost to m st inside past)
       (subst (λ w. PutBy name view s t p q i (below_takes w (has_parts m) (is_across to m)) sent_on f f' (put_behind w to m st)) (sym is) put))
 
   -- what a head sends down is made

@@ -1,11 +1,11 @@
 -- What a put in a pair takes, with what its messages take after it, is no more than what a delivery from there takes at most.
-use Rattle.std.proofs.Common.{ℕ, ◌-◌, ◌≡◌, ◌≤◌, ◌+◌, Bool, true, false, cond, List, [], ◌∷◌, ◌++◌, length, refl, sym, ap, subst, arith}
-use Rattle.std.specs.Prelude.{◌==◌, ◌&&◌, ◌||◌, Option, None, Some}
+use Rattle.std.proofs.Common.{ℕ, ◌-◌, ◌≡◌, ◌≤◌, ◌<◌, ◌+◌, Bool, true, false, cond, List, [], ◌∷◌, ◌++◌, length, refl, sym, ap, subst, arith}
+use Rattle.std.specs.Prelude.{◌==◌, ◌&&◌, ◌||◌, nat_le, Option, None, Some}
 use Rattle.std.proofs.lemmas.Bool.Decides.{nat_tests}
 use Rattle.strm_types.specs.declared.flushing.FlushAsked.{FlushAsked}
 use Rattle.strm_types.specs.declared.ioctls.Ioc.{Ioc}
 use Rattle.strm_types.specs.declared.kinds.MsgKind.{MsgKind}
-use Rattle.strm_types.specs.declared.kinds.MsgKind.TheVariants.{Flush, Ioctl}
+use Rattle.strm_types.specs.declared.kinds.MsgKind.TheVariants.{Flush, Iocack, Ioctl}
 use Rattle.strm_types.specs.declared.limits.TheConstants.{MODULES}
 use Rattle.strm_types.specs.declared.names.Side.{Side}
 use Rattle.strm_types.specs.declared.names.Way.{Way}
@@ -25,7 +25,7 @@ use Rattle.strm_types.specs.Queue.{Queue}
 use Rattle.strm_types.specs.State.{Head, State, stream}
 use Rattle.strm_types.proofs.PutsFall.{few-stand, reads-alone}
 use Rattle.strm_frame.specs.Outboxes.{cost_of}
-use Rattle.strm_types.specs.Costs.{across_at, below_cost, below_takes, cost, cost_at, head_takes, is_across}
+use Rattle.strm_types.specs.Costs.{across_at, asking_at, asking_cost, below_cost, below_takes, cost, cost_at, head_takes, is_across}
 
 -- what goes down from the head costs no more than what a driver makes of it
 down-few : (parts : Bool) → cond {A = ℕ} parts 0 3 ≤ 3
@@ -66,6 +66,36 @@ up-more : (across turned : Bool) → cond turned 4 0 ≤ cond turned 4 (cond acr
 up-more across true = omega arith
 up-more across false = omega arith
 
+-- what modules make of none that isn't an M_IOCTL or an M_IOCACK
+not-asked : (here : Spot) (parts : Bool) (kind : MsgKind) → asking_at here.way kind here.at ≡ 0 → asking_cost here parts kind ≡ 0
+not-asked here parts kind none = by (here.at == 0 || parts)
+  where
+    by : (b : Bool) → cond b 0 (asking_at here.way kind here.at) ≡ 0
+    by true = refl
+    by false = none
+
+flush-asks : (way : Way) (at : ℕ) → asking_at way Flush at ≡ 0
+flush-asks Up at = refl
+flush-asks Down at = refl
+
+-- they make no more of what comes up where fewer places are before it
+asking-fewer : (kind : MsgKind) (low at : ℕ) → low ≤ at → asking_at Up kind low ≤ asking_at Up kind at
+asking-fewer Ioctl low at less = omega arith
+asking-fewer Iocack low at less = omega (arith, less)
+asking-fewer kind low at less = omega arith
+
+asking-up : (side : Side) (parts : Bool) (kind : MsgKind) (low at : ℕ) → low < at
+    → asking_cost (record { side = side; at = low; way = Up }) parts kind ≤ asking_cost (record { side = side; at = at; way = Up }) parts kind
+asking-up side parts kind low at less = omega (arith, by (low == 0) parts, ap (λ top. cond (top || parts) 0 (asking_at Up kind at)) behind)
+  where
+    behind : (at == 0) ≡ false
+    behind = grind (arith, nat_tests)
+
+    by : (top parts : Bool) → cond (top || parts) 0 (asking_at Up kind low) ≤ cond (false || parts) 0 (asking_at Up kind at)
+    by true parts = omega arith
+    by false true = omega arith
+    by false false = asking-fewer kind low at (omega (arith, less))
+
 module _ (C : Type 0) where
   abbrev Few : ℕ → List (Parcel C) → Type 0
   Few most sent = cost_of cost sent ≤ most
@@ -90,7 +120,8 @@ module _ (C : Type 0) where
   reads-few : (asked : FlushAsked) (goes : Bool) (to : Spot) → Few (cost_at to false true false) (reader_flush goes asked to)
   reads-few asked false to = none-few (cost_at to false true false)
   reads-few asked true to =
-      one-few (cost_at to false true false) to (flush_message (read_flush asked.band)) (let same = ap (cost_at to false true) (reads-alone asked.band) in omega (arith, same))
+      one-few (cost_at to false true false) to (flush_message (read_flush asked.band))
+      (let same = ap (cost_at to false true) (reads-alone asked.band) in omega (arith, same, not-asked to false Flush (flush-asks to.way to.at)))
 
   -- at a driver
   across-few : (side : Side) (across : Across) → across.bottom ≤ MODULES → (asked : FlushAsked) (goes : Bool) → Few 0 (reader_flush goes asked (bottom_across side across))
@@ -114,7 +145,7 @@ module _ (C : Type 0) where
     where
       at : (crosses : Bool) → Few 1 (cond crosses (taken_in side across m q) (answered here ioc q)).sent
       at true = taken_in-few 1 side across m q
-      at false = one-few 1 (toward Up here) (nak_message ioc) (free (here.at - 1 == 0))
+      at false = one-few 1 (toward Up here) (nak_message ioc) (omega (arith, free (here.at - 1 == 0), not-asked (toward Up here) false (nak_message {C = C} ioc).kind refl))
         where
           free : (top : Bool) → cond {A = ℕ} top 0 0 ≤ 1
           free true = omega arith
@@ -165,8 +196,10 @@ module _ (C : Type 0) where
   head-stays true sent few = few-fits 1 0 4 sent few (omega arith)
   head-stays false sent few = few-fits 0 0 0 sent few (omega arith)
 
-  head-turns : (here : Spot) (m : Message C) → FitsHead true (record { to = toward Down here; message = m } ∷ [])
-  head-turns here m = let down = below-head here (has_parts m) (is_flush m.kind) (is_turned m) in few-fits 1 3 4 _ (one-few 3 (toward Down here) m (omega (arith, down))) (omega arith)
+  head-turns : (here : Spot) (m : Message C) → asking_at Down m.kind (here.at + 1) ≡ 0 → FitsHead true (record { to = toward Down here; message = m } ∷ [])
+  head-turns here m none =
+      let down = below-head here (has_parts m) (is_flush m.kind) (is_turned m) in
+      few-fits 1 3 4 _ (one-few 3 (toward Down here) m (omega (arith, down, not-asked (toward Down here) (has_parts m) m.kind none))) (omega arith)
 
   round-fits : (here : Spot) (asked : FlushAsked) → FitsHead asked.for_write (turned_round here asked)
   round-fits here asked = at asked.for_write
@@ -176,7 +209,7 @@ module _ (C : Type 0) where
 
       at : (b : Bool) → FitsHead b (cond b (record { to = toward Down here; message = again } ∷ []) [])
       at false = head-stays false [] (none-few 0)
-      at true = head-turns here again
+      at true = head-turns here again refl
 
   nak-fits : (here : Spot) (known : Option Ioc) → FitsHead true (nak_down here known)
   nak-fits here None = head-stays true [] (none-few 0)
@@ -184,7 +217,7 @@ module _ (C : Type 0) where
     where
       at : (none : Bool) → FitsHead true (cond none [] (record { to = toward Down here; message = nak_message ioc } ∷ []))
       at true = head-stays true [] (none-few 0)
-      at false = head-turns here (nak_message ioc)
+      at false = head-turns here (nak_message ioc) refl
 
   obeyed-fits : (here : Spot) (kind : MsgKind) (bytes : List ℕ) (h : Head C) → FitsHead (turns_round kind bytes) (obeyed here kind bytes h).sent
   obeyed-fits here Flush bytes h = round-fits here (asked_by bytes)
@@ -210,36 +243,58 @@ module _ (C : Type 0) where
   few-on : (side : Side) (s : State C) → modules_on side s ≤ MODULES
   few-on side s = few-stand (length (stream side s).modules)
 
-  passed-fits : (here : Spot) (m : Message C) (s : State C) (across : Bool) → Fits 0 (passed_up (record here { way = Up }) m s).sent (cond (is_turned m) 4 (cond across 1 0))
-  passed-fits here m s across =
+  -- it goes on to the lowest module, or to the head
+  passed-fits : (here : Spot) (m : Message C) (s : State C) (across : Bool) → modules_on here.side s < here.at
+      → Fits 0 (passed_up (record here { way = Up }) m s).sent (cond (is_turned m) 4 (cond across 1 0) + asking_cost (record here { way = Up }) (has_parts m) m.kind)
+  passed-fits here m s across past =
       let at = modules_on here.side s in
-      few-fits 0 (cond (is_turned m) 4 0) (cond (is_turned m) 4 (cond across 1 0)) _
-      (one-few (cond (is_turned m) 4 0) (record here { at = at; way = Up }) m (omega (arith, up-low at (is_flush m.kind) (is_turned m) (few-on here.side s))))
+      let asked = asking-up here.side (has_parts m) m.kind at here.at past in
+      let most = cond (is_turned m) 4 0 + asking_cost (record here { way = Up }) (has_parts m) m.kind in
+      let low = up-low at (is_flush m.kind) (is_turned m) (few-on here.side s) in
+      few-fits 0 most (cond (is_turned m) 4 (cond across 1 0) + asking_cost (record here { way = Up }) (has_parts m) m.kind) _
+      (one-few most (record here { at = at; way = Up }) m (omega (arith, low, asked)))
       (omega (arith, up-more across (is_turned m)))
 
-  up-fits : (here : Spot) (m : Message C) (s : State C) (across : Bool) →
-      Fits (cond across 1 0) (cond across (put_at_driver here.side (record here { way = Up }) m s) (passed_up (record here { way = Up }) m s)).sent (cond (is_turned m) 4 (cond across 1 0))
-  up-fits here m s true =
-      few-fits 1 0 (cond (is_turned m) 4 1) _ (came-up-few here.side (across_of here.side s) (record here { at = driver_place here.side s }) m (stream here.side s).driver.queue (few-on (other here.side) s)) (omega (arith, up-some (is_turned m)))
-  up-fits here m s false = passed-fits here m s false
+  up-fits : (here : Spot) (m : Message C) (s : State C) (across : Bool) → modules_on here.side s < here.at
+      → Fits (cond across 1 0) (cond across (put_at_driver here.side (record here { way = Up }) m s) (passed_up (record here { way = Up }) m s)).sent
+      (cond (is_turned m) 4 (cond across 1 0) + asking_cost (record here { way = Up }) (has_parts m) m.kind)
+  up-fits here m s true past =
+      few-fits 1 0 (cond (is_turned m) 4 1 + asking_cost (record here { way = Up }) (has_parts m) m.kind) _
+      (came-up-few here.side (across_of here.side s) (record here { at = driver_place here.side s }) m (stream here.side s).driver.queue (few-on (other here.side) s)) (omega (arith, up-some (is_turned m)))
+  up-fits here m s false past = passed-fits here m s false past
 
-  behind-fits : (way : Way) (here : Spot) (m : Message C) (s : State C) → let to : Spot = record here { way = way } in
-      Fits (below_takes way (has_parts m) (is_across to m)) (put_behind way to m s).sent (below_cost way (has_parts m) (is_across to m) (is_turned m))
-  behind-fits Down here m s =
-      few-fits (cond (has_parts m) 0 2) (cond (has_parts m) 0 1) (cond (has_parts m) 0 3) _
-      (came-down-few here.side (across_of here.side s) (record here { at = driver_place here.side s }) m (stream here.side s).driver.queue (few-on (other here.side) s)) (down-all (has_parts m))
-  behind-fits Up here m s = up-fits here m s (is_across here m)
+  behind-fits : (way : Way) (here : Spot) (m : Message C) (s : State C) → modules_on here.side s < here.at → let to : Spot = record here { way = way } in
+      Fits (below_takes way (has_parts m) (is_across to m)) (put_behind way to m s).sent (below_cost way (has_parts m) (is_across to m) (is_turned m) + asking_cost to (has_parts m) m.kind)
+  behind-fits Down here m s past =
+      few-fits (cond (has_parts m) 0 2) (cond (has_parts m) 0 1) (cond (has_parts m) 0 3 + asking_cost (record here { way = Down }) (has_parts m) m.kind) _
+      (came-down-few here.side (across_of here.side s) (record here { at = driver_place here.side s }) m (stream here.side s).driver.queue (few-on (other here.side) s)) (omega (arith, down-all (has_parts m)))
+  behind-fits Up here m s past = up-fits here m s (is_across here m) past
 
 -- What a put takes itself, and what its messages take after it, is within what a delivery from there takes: at the head, and behind it
 -- where no module stands at the place.
 pub head-cost : {C : Type 0} (to : Spot) (m : Message C) (s : State C) → to.at ≡ 0 → head_takes m + cost_of cost (put_at_head to.side to m s).sent ≤ cost to m
 head-cost {C = C} to m s top =
-    let same : cost to m ≡ cond (is_turned m) 4 0 = ap (λ at. cost_at (record to { at = at }) (has_parts m) (is_flush m.kind) (is_turned m)) top in
+    let same : cost to m ≡ cond (is_turned m) 4 0 + 0 = ap (λ at. cost (record to { at = at }) m) top in
     omega (arith, same, reached-fits C to.side to m s)
 
-pub behind-cost : {C : Type 0} (to : Spot) (m : Message C) (s : State C) → (to.at ≡ 0 → ⊥) → below_takes to.way (has_parts m) (is_across to m) + cost_of cost (put_behind to.way to m s).sent ≤ cost to m
-behind-cost {C = C} to m s inside =
+behind-head : (to : Spot) (parts flush turned : Bool) → (to.at ≡ 0 → ⊥) → cost_at to parts flush turned ≡ below_cost to.way parts (across_at flush to.at) turned
+behind-head to parts flush turned inside =
     let below : (to.at == 0) ≡ false = grind (arith, nat_tests) in
-    let same : cost to m ≡ below_cost to.way (has_parts m) (is_across to m) (is_turned m) =
-    ap (λ top. cond top (cond (is_turned m) 4 0) (below_cost to.way (has_parts m) (is_across to m) (is_turned m))) below in
-    omega (arith, same, behind-fits C to.way to m s)
+    ap (λ top. cond top (cond turned 4 0) (below_cost to.way parts (across_at flush to.at) turned)) below
+
+pub behind-cost : {C : Type 0} (to : Spot) (m : Message C) (s : State C) → (to.at ≡ 0 → ⊥) → nat_le to.at (modules_on to.side s) ≡ false
+    → below_takes to.way (has_parts m) (is_across to m) + cost_of cost (put_behind to.way to m s).sent ≤ cost to m
+behind-cost {C = C} to m s inside past =
+    let above : modules_on to.side s < to.at = grind (arith, nat_tests) in
+    omega (arith, behind-head to (has_parts m) (is_flush m.kind) (is_turned m) inside, behind-fits C to.way to m s above)
+
+takes-few : (way : Way) (parts across turned : Bool) → below_takes way parts across ≤ below_cost way parts across turned
+takes-few Down true across turned = omega arith
+takes-few Down false across turned = omega arith
+takes-few Up parts true true = omega arith
+takes-few Up parts true false = omega arith
+takes-few Up parts false turned = omega arith
+
+pub behind-takes : {C : Type 0} (to : Spot) (m : Message C) → (to.at ≡ 0 → ⊥) → below_takes to.way (has_parts m) (is_across to m) ≤ cost to m
+behind-takes to m inside =
+    omega (arith, behind-head to (has_parts m) (is_flush m.kind) (is_turned m) inside, takes-few to.way (has_parts m) (is_across to m) (is_turned m))

@@ -1,7 +1,8 @@
 -- Calls of a turn of a module's queue: what the stack of a side does, what is booked of it, and what comes next.
-use Rattle.std.proofs.Common.{ℕ, ◌≡◌, ◌≤◌, ◌<◌, ◌+◌, ◌-◌, Bool, true, false, cond, List, [], ◌∷◌, length, map, refl, sym, ap, subst, ◌∙◌, arith}
+use Rattle.std.proofs.Common.{ℕ, zero, suc, ◌≡◌, ◌≤◌, ◌<◌, ◌+◌, ◌-◌, Bool, true, false, cond, List, [], ◌∷◌, length, map, refl, sym, ap, subst, ◌∙◌, arith}
 use Rattle.std.specs.Prelude.{◌^◌, slice_index_or, HoldsAt, Option, None}
 use Rattle.std.specs.Bool.{OnTrue}
+use Rattle.std.proofs.lemmas.Bool.{false≢true}
 use Rattle.strm_types.specs.declared.books.Book.{Book}
 use Rattle.strm_types.specs.declared.names.Dir.{Dir}
 use Rattle.strm_types.specs.declared.names.Dir.TheVariants.{MasterToSlave, SlaveToMaster}
@@ -20,24 +21,23 @@ use Rattle.strm_types.specs.Costs.{cost}
 use Rattle.strm_types.specs.Deliver.{Carried, Fate, Parcel, carried, in_turn, tallied}
 use Rattle.strm_types.specs.Earlier.{places_of}
 use Rattle.strm_types.specs.Input.{made_of}
-use Rattle.strm_types.specs.Ldterms.{new_ldterm}
 use Rattle.strm_types.specs.ModuleQueues.{at_place}
 use Rattle.strm_types.specs.Puts.{earlier_at, noted, put_in}
-use Rattle.strm_types.specs.Stacked.{Module, module_serves}
+use Rattle.strm_types.specs.Stacked.{Module, OfLdterm, OfPtem, module_serves}
 use Rattle.strm_types.specs.State.{State, Stream, book, stream, with_stream}
-use Rattle.strm_types.specs.TurnCalls.{Begins, Ends, asks_on, bytes_left, called, module_at, most_made, treated}
+use Rattle.strm_types.specs.TurnCalls.{Begins, Ends, asks_on, bytes_left, called, ldterm_of, module_at, most_made, treated}
 use Rattle.strm_types.proofs.Noted.{noted-same}
 use Rattle.strm_types.proofs.Booked.{between-counts, booked-on, made-within, made_in, master-told, slave-told}
-use Rattle.strm_types.proofs.LdtermStops.{serves-ends, serves-goes}
-use Rattle.strm_types.proofs.ModuleTurnCalls.{UnderWay, index-map, sent-stays, under_way}
+use Rattle.strm_types.proofs.LdtermStops.{GoesOn, serves-ends, serves-goes}
+use Rattle.strm_types.proofs.ModuleTurnCalls.{UnderWay, index-map, none_there, sent-stays, under_way}
 use Rattle.strm_blocks.specs.Blocks.{IsStore, StoreValue}
 use Rattle.strm_frame.specs.declared.service.Served.{Served}
 use Rattle.strm_frame.specs.declared.parcels.Sent.{Sent}
 use Rattle.strm_frame.specs.Hands.{AreIn, Handles, HasRoom, SamePool, Spends}
 use Rattle.strm_frame.specs.Outboxes.{cost_of, sent_of, times_sent, parcels_in}
 use Rattle.strm_frame.specs.Serves.{later_cost, stop_at}
-use Rattle.strm_ldterm.specs.Bounds.{turn_cost}
 use Rattle.strm_ldterm.specs.Turns.{needs}
+use Rattle.strm_pair.specs.AnyModules.{MayServe, turn_cost}
 use Rattle.strm_pair.specs.declared.ends.End.{End}
 use Rattle.strm_pair.specs.declared.calling.Call.{Call}
 use Rattle.strm_pair.specs.declared.streams.Streams.{Streams}
@@ -56,32 +56,55 @@ on-true false follows holds = tt
 pub holds-there : {P : Type 0} (Q : P → Type 0) (d : P) (i : ℕ) (ps : List P) → HoldsAt Q ps i → Q (slice_index_or ps i d)
 holds-there Q d i ps holds = holds d
 
+-- what is known of calls of ldterm's service procedure is so of any module's
+module _ (here : Spot) (again : Bool) where
+  pub module-goes : (p : Module ℕ) → Begins here.way again (ldterm_of p) → let t = module_serves plain here 0 again None p in t.again ≡ true → GoesOn here.way again (ldterm_of p) t.bytes (ldterm_of t.acted.state)
+  module-goes (OfLdterm l) begins works = serves-goes here again l begins works
+  module-goes (OfPtem p) begins works = absurd (false≢true works)
+
+  module-ends : (p : Module ℕ) → Begins here.way again (ldterm_of p) → let t = module_serves plain here 0 again None p in t.again ≡ false → Ends here.way again (ldterm_of p) t.bytes
+  module-ends (OfLdterm l) begins over = (serves-ends here again l begins over).0
+  module-ends (OfPtem p) begins over = record { treat = omega arith; done = omega arith }
+
+-- where a turn of a module begins or goes on, it may serve
+may-one : (way : Way) (again : Bool) (p : Module ℕ) → Begins way again (ldterm_of p) → MayServe way again p
+may-one Up true (OfLdterm l) begins = begins
+may-one Up false (OfLdterm l) begins = begins
+may-one Down true (OfLdterm l) begins = begins
+may-one Down false (OfLdterm l) begins = begins
+may-one way again (OfPtem p) begins = tt
+
+pub may-serve : (way : Way) (again : Bool) (i : ℕ) (ps : List (Module ℕ)) → i < length ps → Begins way again (ldterm_of (slice_index_or ps i none_there)) → HoldsAt (MayServe way again) ps i
+may-serve way again i [] low begins = absurd (omega (arith, low))
+may-serve way again zero (p ∷ ps) low begins = λ d. may-one way again p begins
+may-serve way again (suc i) (p ∷ ps) low begins = may-serve way again i ps (omega (arith, low)) begins
+
 -- what is booked of a call, and what it told
-module _ (here : Spot) (again : Bool) (call : Call) (st : State ℕ) (tells : TellsAs here again call st) (begins : Begins here.way again (module_at here st)) (low : here.at - 1 < length (stream here.side st).modules) where
+module _ (here : Spot) (again : Bool) (call : Call) (st : State ℕ) (tells : TellsAs here again call st) (begins : Begins here.way again (ldterm_of (module_at here st))) (low : here.at - 1 < length (stream here.side st).modules) where
   -- it treated no more than it might
-  within-by : (stopped : Bool) → OnTrue stopped (Ends here.way again (module_at here st) call.bytes) → call.bytes ≡ treated here again (stop_at stopped call.bytes) (stream here.side st).modules
-      → call.bytes ≤ bytes_left here.way again (module_at here st)
+  within-by : (stopped : Bool) → OnTrue stopped (Ends here.way again (ldterm_of (module_at here st)) call.bytes) → call.bytes ≡ treated here again (stop_at stopped call.bytes) (stream here.side st).modules
+      → call.bytes ≤ bytes_left here.way again (ldterm_of (module_at here st))
   within-by true ends bytes = ends.treat
   within-by false ends bytes =
       let l = module_at here st in
       let i = here.at - 1 in
       let ps = (stream here.side st).modules in
       let t = module_serves plain here 0 again None l in
-      let same : call.bytes ≡ t.bytes = bytes ∙ index-map new_ldterm (λ p. (module_serves plain here 0 again None p).bytes) 0 i ps low in
+      let same : call.bytes ≡ t.bytes = bytes ∙ index-map none_there (λ p. (module_serves plain here 0 again None p).bytes) 0 i ps low in
       at t.again refl (omega (arith, same))
     where
-      at : (more : Bool) → (module_serves plain here 0 again None (module_at here st)).again ≡ more → call.bytes ≤ (module_serves plain here 0 again None (module_at here st)).bytes → call.bytes ≤ bytes_left here.way again (module_at here st)
-      at true is most = let g = serves-goes here again (module_at here st) begins is in omega (arith, g.treat, most)
-      at false is most = let e = serves-ends here again (module_at here st) begins is in omega (arith, e.0.treat, most)
+      at : (more : Bool) → (module_serves plain here 0 again None (module_at here st)).again ≡ more → call.bytes ≤ (module_serves plain here 0 again None (module_at here st)).bytes → call.bytes ≤ bytes_left here.way again (ldterm_of (module_at here st))
+      at true is most = let g = module-goes here again (module_at here st) begins is in omega (arith, g.treat, most)
+      at false is most = let e = module-ends here again (module_at here st) begins is in omega (arith, e.treat, most)
 
-  pub call-within : call.bytes ≤ bytes_left here.way again (module_at here st)
+  pub call-within : call.bytes ≤ bytes_left here.way again (ldterm_of (module_at here st))
   call-within = within-by call.stopped tells.ends tells.bytes
 
   -- so what it made fits the books
   abbrev told_in : List (Fate ℕ)
   told_in = (called here again (stop_in call) (stream here.side st).modules).gone
 
-  most-made : made_of told_in ≤ most_made (bytes_left here.way again (module_at here st))
+  most-made : made_of told_in ≤ most_made (bytes_left here.way again (ldterm_of (module_at here st)))
   most-made = omega (arith, tells.made, call-within)
 
   pub made-fits : MayBook here again st → (d : Dir) → (book d st).made + made_in d told_in < 2 ^ 64
@@ -143,7 +166,7 @@ module _ {M S : Type 0} (name : M → ℕ) (view : View S) (s t : StoreValue) (p
       record {
         bytes = e.bytes ∙ ap (treated here again (stop_in (call_of served))) same;
         asks = e.asks ∙ ap (asks_on here again (stop_in (call_of served))) same;
-        ends = on-true served.stopped (holds-there (λ l. Ends here.way again l served.bytes) new_ldterm (here.at - 1) ms) (subst (λ ls. OnTrue served.stopped (HoldsAt (λ l. Ends here.way again l served.bytes) ls (here.at - 1))) same e.ends);
+        ends = on-true served.stopped (holds-there (λ l. Ends here.way again (ldterm_of l) served.bytes) none_there (here.at - 1) ms) (subst (λ ls. OnTrue served.stopped (HoldsAt (λ l. Ends here.way again (ldterm_of l) served.bytes) ls (here.at - 1))) same e.ends);
         over = e.over;
         made = subst (λ ls. made_of (called here again (stop_in (call_of served)) ls).gone ≤ most_made served.bytes) same e.made;
       }
@@ -196,7 +219,7 @@ module _ {M S : Type 0} (name : M → ℕ) (view : View S) (s t : StoreValue) (p
 -- what one more call may count on goes by how far the turn has come, which puts leave as it is
 abbrev stage_cost : Way → UnderWay → ℕ
 stage_cost Up u = needs u.stage
-stage_cost Down u = 4
+stage_cost Down u = 25
 
 one-cost : (way : Way) (here : Spot) (l : Module ℕ) → turn_cost (record here { way = way }) true l ≡ stage_cost way (under_way l)
 one-cost Up here l = refl

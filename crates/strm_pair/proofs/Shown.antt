@@ -6,17 +6,16 @@ use Rattle.std.proofs.lemmas.List.{length-map}
 use Rattle.std.proofs.lemmas.List.Sums.{sum_by-append, sum_by-cons}
 use Rattle.strm_types.specs.declared.limits.Config.{Config}
 use Rattle.strm_types.specs.Kept.{AreIdle}
-use Rattle.strm_types.specs.Ldterms.{IsIdle}
 use Rattle.strm_types.specs.Queue.{IsOrdered, Queue}
 use Rattle.strm_types.specs.State.{AreOrdered, messages_in, stream_queues}
-use Rattle.strm_types.specs.Stacked.{queues_of_modules}
+use Rattle.strm_types.specs.Stacked.{IsAtRest, queues_of_modules}
 use Rattle.strm_blocks.specs.Blocks.{Block, StoreValue, IsStore, list_at, empty_store, used}
 use Rattle.strm_blocks.proofs.Laws.{free_m-is}
 use Rattle.strm_msg.specs.Messages.{message_of}
 use Rattle.strm_queue.specs.Stored.{queue_in}
 use Rattle.strm_pair.specs.declared.ends.End.{End}
 use Rattle.strm_pair.specs.declared.streams.Streams.{Streams}
-use Rattle.strm_pair.specs.LdtermLists.{ordered-map}
+use Rattle.strm_pair.specs.ModuleLists.{ordered-map}
 use Rattle.strm_pair.specs.Pairs.{state_in, free_in, AreHeld}
 use Rattle.strm_pair.specs.Pool.{IsPoolOf}
 use Rattle.strm_pair.specs.Streams.{AreFor, AreShown, IsSide, View, stream_in}
@@ -27,7 +26,7 @@ all-joined P [] ys all more = more
 all-joined P (x ∷ xs) ys all more = (all.0, all-joined P xs ys all.1 more)
 
 -- what a side's lists show of its stream, while nothing of a turn is under way
-module _ {S : Type 0} (view : View S) (s : StoreValue) (first : ℕ) (e : End S) (is : IsSide view s first e) (idle : AllByRecursion (λ p. IsIdle p) (view.modules s e.stack)) where
+module _ {S : Type 0} (view : View S) (s : StoreValue) (first : ℕ) (e : End S) (is : IsSide view s first e) (idle : AllByRecursion (λ p. IsAtRest p) (view.modules s e.stack)) where
   lists-for : AreFor s (first + 2) (view.owns e.stack)
   lists-for = record {
     owned = λ k some. let own = is.owned k some in (own.0, omega (arith, own.1));

@@ -1,17 +1,20 @@
 -- A turn of a driver, step by step.
-use Rattle.std.proofs.Common.{ℕ, ◌≡◌, ◌≤◌, ◌<◌, Bool, true, false, cond, List, [], ◌∷◌, map, refl, sym, ap, ◌∙◌, arith}
-use Rattle.std.specs.Prelude.{not, ◌&&◌, ◌==◌, Option, None, Some, MatchOption}
+use Rattle.std.proofs.Common.{ℕ, ◌≡◌, ◌≤◌, ◌<◌, ◌+◌, Bool, true, false, cond, List, [], ◌∷◌, map, refl, sym, ap, ◌∙◌, arith}
+use Rattle.std.specs.Prelude.{not, ◌&&◌, ◌||◌, ◌==◌, Option, None, Some, MatchOption}
 use Rattle.strm_types.specs.declared.answers.Turn.TheVariants.{Blocked}
+use Rattle.strm_types.specs.declared.kinds.MsgKind.{MsgKind}
+use Rattle.strm_types.specs.declared.kinds.MsgKind.TheVariants.{Iocack, Ioctl}
 use Rattle.strm_types.specs.declared.names.Side.{Side}
 use Rattle.strm_types.specs.declared.names.Side.TheVariants.{Master, Slave}
 use Rattle.strm_types.specs.declared.names.Way.TheVariants.{Up}
-use Rattle.strm_types.specs.Costs.{cost_at}
+use Rattle.strm_types.specs.Costs.{asking_at, cost}
 use Rattle.strm_types.specs.Earlier.{driver_place}
 use Rattle.strm_types.specs.Kept.{AreIdle}
-use Rattle.strm_types.specs.Message.{Message, band_of, is_held}
+use Rattle.strm_types.specs.Flushing.{is_flush}
+use Rattle.strm_types.specs.Message.{Message, band_of, has_parts, is_held}
 use Rattle.strm_types.specs.Names.{other, is_open}
 use Rattle.strm_types.specs.Past.{has_room_past, writer_waits}
-use Rattle.strm_types.specs.Puts.{far_at}
+use Rattle.strm_types.specs.Puts.{far_at, is_turned, turns_round}
 use Rattle.strm_types.specs.Queue as plain
 use Rattle.strm_types.specs.Queue.{left_with}
 use Rattle.strm_types.specs.State.{State, stream}
@@ -71,20 +74,35 @@ abbrev first_message : List (Message ℕ) → Message ℕ → Message ℕ
 first_message [] m = m
 first_message (x ∷ q) m = x
 
--- what comes up from a driver has fewer places before it than a delivery may go, and takes four blocks of each kind at most
+-- what comes up from a driver has fewer places before it than a delivery may go, and takes seven blocks of each kind at most
 pub up-near : (turned : Bool) (at : ℕ) → at ≤ 3 → far_at Up turned at < 16
 up-near true at low = omega arith
 up-near false at low = omega arith
 
-few-blocks : (top turned across : Bool) → cond top (cond turned 4 0) (cond turned 4 (cond across 1 0)) ≤ 4
+few-blocks : (top turned across : Bool) → cond top (cond turned 4 0) (cond turned 4 (cond across 1 0)) ≤ cond {A = ℕ} turned 4 1
 few-blocks true true across = omega arith
 few-blocks true false across = omega arith
 few-blocks false true across = omega arith
 few-blocks false false true = omega arith
 few-blocks false false false = omega arith
 
-pub up-few : (side : Side) (at : ℕ) (parts flush turned : Bool) → cost_at (record { side = side; at = at; way = Up }) parts flush turned ≤ 4
-up-few side at parts flush turned = few-blocks (at == 0) turned (flush && at == 4)
+-- an M_IOCTL is turned round, and an M_IOCACK isn't
+few-asked : (kind : MsgKind) (bytes : List ℕ) (at : ℕ) → cond {A = ℕ} (turns_round kind bytes) 4 1 + asking_at Up kind at ≤ 7
+few-asked Ioctl bytes at = omega arith
+few-asked Iocack bytes at = omega arith
+few-asked kind bytes at = at_most (turns_round kind bytes)
+  where
+    at_most : (b : Bool) → cond {A = ℕ} b 4 1 + 0 ≤ 7
+    at_most true = omega arith
+    at_most false = omega arith
+
+not-more : (b : Bool) (n : ℕ) → cond b 0 n ≤ n
+not-more true n = omega arith
+not-more false n = omega arith
+
+pub up-few : (side : Side) (at : ℕ) (m : Message ℕ) → cost (record { side = side; at = at; way = Up }) m ≤ 7
+up-few side at m =
+    omega (arith, few-blocks (at == 0) (is_turned m) (is_flush m.kind && at == 4), few-asked m.kind m.plain at, not-more (at == 0 || has_parts m) (asking_at Up m.kind at))
 
 -- whether flow control stops a message by its band, as its first block tells
 held-by : (chain : List Block) (stops : ℕ → Bool) (v : Bool) → is_held (block_at 0 chain).kind ≡ v → (v && stops (band_of (message_of chain))) ≡ (v && stops (block_at 0 chain).band)

@@ -3,8 +3,8 @@ use Rattle.std.specs.Prelude.{ℕ, ◌≡◌, ◌+◌, ◌≤◌, ◌<◌, List,
 use Rattle.std.proofs.Common.{sym, ap, subst, ◌∙◌, arith}
 use Rattle.std.specs.List.{AllByRecursion}
 use Rattle.strm_types.specs.Kept.{AreIdle}
-use Rattle.strm_types.specs.Ldterms.{IsIdle}
 use Rattle.strm_types.specs.Stacked as plain
+use Rattle.strm_types.specs.Stacked.{IsAtRest}
 use Rattle.strm_types.specs.State as state
 use Rattle.strm_types.specs.State.{State}
 use Rattle.strm_blocks.specs.Blocks.{StoreValue, in_hand, list_at}
@@ -44,7 +44,7 @@ state_with p m sl = record {
 
 module _ {S : Type 0} (view : View S) where
   -- a stack that rests keeps nothing
-  none-kept : (s : StoreValue) (first : ℕ) (e : End S) → IsSide view s first e → AllByRecursion (λ p. IsIdle p) (view.modules s e.stack) → (i : ℕ) → view.keeps e.stack i ≡ 0
+  none-kept : (s : StoreValue) (first : ℕ) (e : End S) → IsSide view s first e → AllByRecursion (λ p. IsAtRest p) (view.modules s e.stack) → (i : ℕ) → view.keeps e.stack i ≡ 0
   none-kept s first e is idle i = view.idle s e.stack is.stack idle i
 
   pub rests : (s : StoreValue) (p : Streams S) → AreBeside view s p → AreIdle (state_in view.modules s p) → (i : ℕ) → kept_by view p i ≡ 0

@@ -1,12 +1,13 @@
 pub mod Alone
+pub mod AnyModules
 pub mod PutBy
 pub mod Took
 pub mod Taken
 pub mod Framing
 pub mod Streams
 pub mod Journals
-pub mod LdtermLists
-pub mod LdtermStacks
+pub mod ModuleLists
+pub mod ModuleStacks
 pub mod Named
 pub mod Nearest
 pub mod Pairs

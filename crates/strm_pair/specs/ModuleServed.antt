@@ -14,14 +14,15 @@ use Rattle.strm_types.specs.ModuleQueues.{at_place}
 use Rattle.strm_types.specs.ModuleTurns.{module_acted, module_turn_ended, moved_on}
 use Rattle.strm_types.specs.Puts.{far}
 use Rattle.strm_types.specs.State.{State, book, stream}
-use Rattle.strm_types.specs.TurnCalls.{Ends, asks_on, bytes_left, called, led, module_at, most_made, treated}
+use Rattle.strm_types.specs.TurnCalls.{Ends, asks_on, bytes_left, called, ldterm_of, led, module_at, most_made, treated}
 use Rattle.strm_blocks.specs.Blocks.{StoreValue, times_in}
 use Rattle.strm_frame.specs.declared.parcels.Sent.{Sent}
 use Rattle.strm_frame.specs.declared.service.Served.{Served}
 use Rattle.strm_frame.specs.Hands.{Handles, HasRoom, OnlyOwn, SamePool}
 use Rattle.strm_frame.specs.Outboxes.{AreChains, parcels_in, sent_of, times_sent}
 use Rattle.strm_frame.specs.Serves.{later_cost, stop_at, stop_of}
-use Rattle.strm_ldterm.specs.Bounds.{turn_cost, turn_height}
+use Rattle.strm_ldterm.specs.Bounds.{turn_height}
+use Rattle.strm_pair.specs.AnyModules.{turn_cost}
 use Rattle.strm_pair.specs.declared.calling.Call.{Call}
 use Rattle.strm_pair.specs.declared.streams.Streams.{Streams}
 use Rattle.strm_pair.specs.Pairs.{state_in, AreBeside, kept_by}
@@ -44,7 +45,7 @@ next_cost here s = call_cost here true s
 
 -- what a call may make fits the books, however far it goes
 abbrev pub MayBook : Spot → Bool → State ℕ → Type 0
-MayBook here again s = (d : Dir) → (book d s).made + most_made (bytes_left here.way again (module_at here s)) < 2 ^ 64
+MayBook here again s = (d : Dir) → (book d s).made + most_made (bytes_left here.way again (ldterm_of (module_at here s))) < 2 ^ 64
 
 -- what the module at a place does in a call
 abbrev pub acts_in : Spot → Bool → Call → State ℕ → Took ℕ (State ℕ)
@@ -54,7 +55,7 @@ acts_in here again call s = module_acted here (called here again (stop_in call) 
 pub record TellsAs (here : Spot) (again : Bool) (call : Call) (s : State ℕ) : Type 0 where
   pub bytes : call.bytes ≡ treated here again (stop_in call) (stream here.side s).modules
   pub asks : call.again ≡ asks_on here again (stop_in call) (stream here.side s).modules
-  pub ends : OnTrue call.stopped (Ends here.way again (module_at here s) call.bytes)
+  pub ends : OnTrue call.stopped (Ends here.way again (ldterm_of (module_at here s)) call.bytes)
   pub over : OnTrue call.stopped (call.again ≡ false)
   pub made : made_of (called here again (stop_in call) (stream here.side s).modules).gone ≤ most_made call.bytes
 
@@ -67,7 +68,7 @@ pub record StackServes {M S : Type 0} (name : M → ℕ) (view : View S) (old ne
   pub bytes : served.bytes ≡ treated here again (stop_of served) (view.modules old x)
   pub asks : served.again ≡ asks_on here again (stop_of served) (view.modules old x)
   pub over : OnTrue served.stopped (served.again ≡ false)
-  pub ends : OnTrue served.stopped (HoldsAt (λ p. Ends here.way again p served.bytes) (view.modules old x) (here.at - 1))
+  pub ends : OnTrue served.stopped (HoldsAt (λ p. Ends here.way again (ldterm_of p) served.bytes) (view.modules old x) (here.at - 1))
   pub made : made_of (called here again (stop_of served) (view.modules old x)).gone ≤ most_made served.bytes
   pub held : view.IsHeld new y
   pub own : OnlyOwn old new (view.owns x) (view.owns y)
@@ -112,7 +113,7 @@ pub record CallsAs {S : Type 0} (view : View S) (old new : StoreValue) (p q : St
 -- Calls treated so many bytes of a turn, which would end here.
 pub record TreatsAs (here : Spot) (bytes : ℕ) (old new : State ℕ) (told told' : Fates) : Type 0 where
   pub gone : List (Fate ℕ)
-  pub within : bytes ≤ bytes_left here.way false (module_at here old)
+  pub within : bytes ≤ bytes_left here.way false (ldterm_of (module_at here old))
   pub stands : here.at - 1 < length (stream here.side new).modules
   pub moves : (name : QueueName) → moved_on plain here name bytes old
       ≡ record { turn = Moved bytes; state = module_turn_ended name here (not (bytes == 0)) new; gone = gone }

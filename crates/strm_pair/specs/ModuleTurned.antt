@@ -7,7 +7,7 @@ use Rattle.strm_types.specs.declared.spots.Spot.{Spot}
 use Rattle.strm_types.specs.Cells.{plain}
 use Rattle.strm_types.specs.ModuleTurns.{module_turned, moved_within}
 use Rattle.strm_types.specs.State.{State, stream}
-use Rattle.strm_types.specs.TurnCalls.{bytes_left, module_at}
+use Rattle.strm_types.specs.TurnCalls.{bytes_left, ldterm_of, module_at}
 use Rattle.strm_types.specs.TurnOutcomes.{stayed_put}
 use Rattle.strm_pair.specs.declared.serving.Begun.{Begun}
 use Rattle.strm_pair.specs.declared.serving.Begun.TheVariants.{Over, Serves}
@@ -20,7 +20,7 @@ pub record MayMove (old new : State ℕ) (name : QueueName) (here : Spot) : Type
   pub inside : 0 < here.at
   pub within : here.at ≤ length (stream here.side old).modules
   pub low : here.at ≤ MODULES
-  pub few : bytes_left here.way false (module_at here old) ≤ 16777216
+  pub few : bytes_left here.way false (ldterm_of (module_at here old)) ≤ 16777216
   pub moves : (turn : Turn) → module_turned plain name turn old ≡ moved_within plain here name turn old
 
 -- Or the turn is over, whatever it is answered.

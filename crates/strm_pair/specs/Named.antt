@@ -1,5 +1,5 @@
 -- The module of a stream whose queues have a name, and what is said of it. Places count from 1 for the module on top.
-use Rattle.std.specs.Prelude.{ℕ, List, [], Option, None, Some}
+use Rattle.std.specs.Prelude.{ℕ, List, [], flat_map, Option, None, Some}
 use Rattle.strm_types.specs.declared.names.Place.{Place}
 use Rattle.strm_types.specs.declared.names.Way.{Way}
 use Rattle.strm_types.specs.Message.{Message}
@@ -19,3 +19,7 @@ at_named place say otherwise ps = at_found say otherwise ps (place_named place p
 -- the messages on its queue of a way
 abbrev pub messages_named : Place → Way → List (Module ℕ) → List (Message ℕ)
 messages_named place way ps = at_named place (messages_at module_queue way) [] ps
+
+-- the messages on the queues of a way of all modules that have one, from the top down
+abbrev pub messages_queued : Way → List (Module ℕ) → List (Message ℕ)
+messages_queued way ps = flat_map (messages_at module_queue way) ps

@@ -13,21 +13,21 @@ use Rattle.strm_types.specs.State.{State, Stream, stream}
 use Rattle.strm_types.specs.TurnOutcomes.{first_size}
 use Rattle.strm_blocks.specs.Blocks.{StoreValue}
 use Rattle.strm_queue.specs.Stored.{messages_on}
-use Rattle.strm_pair.specs.Named.{at_named, messages_named}
+use Rattle.strm_pair.specs.Named.{at_named, messages_named, messages_queued}
 
 -- Each list of the store, read along its chains, is the state's queue: the master's head and driver on the lists 0
--- and 1, and the read and the write queue of the ldterm that stands on its stream on 2 and 3, which are empty where none stands; the
+-- and 1, and on 2 and 3 what stands on the read queues and on the write queues of the modules on its stream, of which one at most has any; the
 -- slave's on 4 to 7. Nothing is in hand.
 pub record Shows (s : StoreValue) (state : State ℕ) : Type 0 where
   pub hand : s.hand ≡ []
   pub master_head : messages_on s 0 ≡ state.master.head.queue.messages
   pub master_driver : messages_on s 1 ≡ state.master.driver.queue.messages
-  pub master_up : messages_on s 2 ≡ messages_named Ldterm Up state.master.modules
-  pub master_down : messages_on s 3 ≡ messages_named Ldterm Down state.master.modules
+  pub master_up : messages_on s 2 ≡ messages_queued Up state.master.modules
+  pub master_down : messages_on s 3 ≡ messages_queued Down state.master.modules
   pub slave_head : messages_on s 4 ≡ state.slave.head.queue.messages
   pub slave_driver : messages_on s 5 ≡ state.slave.driver.queue.messages
-  pub slave_up : messages_on s 6 ≡ messages_named Ldterm Up state.slave.modules
-  pub slave_down : messages_on s 7 ≡ messages_named Ldterm Down state.slave.modules
+  pub slave_up : messages_on s 6 ≡ messages_queued Up state.slave.modules
+  pub slave_down : messages_on s 7 ≡ messages_queued Down state.slave.modules
 
 -- the messages of a stream's queue: the head's read queue, the driver's write queue, or one of a module that stands there
 abbrev pub messages_in : Place → Way → Stream ℕ → List (Message ℕ)

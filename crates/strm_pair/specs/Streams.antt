@@ -1,18 +1,17 @@
 -- What the two streams stand for, beside their store.
 use Rattle.std.specs.Prelude.{ℕ, ◌≡◌, ◌+◌, ◌≤◌, ◌<◌, List, [], length, sum_by}
 use Rattle.std.specs.List.{AllByRecursion}
-use Rattle.strm_types.specs.declared.names.Place.TheVariants.{Ldterm}
 use Rattle.strm_types.specs.declared.names.Way.TheVariants.{Up, Down}
-use Rattle.strm_types.specs.Ldterms.{IsIdle}
 use Rattle.strm_types.specs.Queue.{IsOrdered}
 use Rattle.strm_types.specs.Stacked as plain
+use Rattle.strm_types.specs.Stacked.{IsAtRest}
 use Rattle.strm_types.specs.State.{Stream}
 use Rattle.strm_blocks.specs.Blocks.{StoreValue, list_at}
 use Rattle.strm_frame.specs.Hands.{SameOwn}
 use Rattle.strm_pair.specs.declared.ends.End.{End}
 use Rattle.strm_head.specs.Heads.{head_in}
 use Rattle.strm_queue.specs.Stored.{messages_on, queue_in, IsReady, IsHeadQueue}
-use Rattle.strm_pair.specs.Named.{messages_named}
+use Rattle.strm_pair.specs.Named.{messages_queued}
 
 -- the plain modules that a stack stands for beside a store, the one on top first
 abbrev pub Modules : Type 0 → Type 0
@@ -23,10 +22,11 @@ pub record AreFor (s : StoreValue) (first : ℕ) (owns : ℕ → ℕ) : Type 0 w
   pub owned : (k : ℕ) → 0 < owns k → (first ≤ k) × (k < first + 2)
   pub spare : (k : ℕ) → first ≤ k → k < first + 2 → owns k ≡ 0 → list_at s k ≡ []
 
--- What the two lists show of modules: their read queue and their write queue, which are in order, and no other message stands on a queue.
+-- What the two lists show of modules: what stands on their read queues, and on their write queues. Each queue is in order, and no other message stands on
+-- one.
 pub record AreShown (s : StoreValue) (first : ℕ) (ps : List (plain.Module ℕ)) : Type 0 where
-  pub up : messages_on s first ≡ messages_named Ldterm Up ps
-  pub down : messages_on s (first + 1) ≡ messages_named Ldterm Down ps
+  pub up : messages_on s first ≡ messages_queued Up ps
+  pub down : messages_on s (first + 1) ≡ messages_queued Down ps
   pub ordered : AllByRecursion (λ q. IsOrdered q.messages) (plain.queues_of_modules ps)
   pub many : sum_by (λ q. length q.messages) (plain.queues_of_modules ps) ≡ length (list_at s first) + length (list_at s (first + 1))
 
@@ -40,8 +40,8 @@ pub record View (S : Type 0) : Type 1 where
   pub owns : S → ℕ → ℕ
   pub keeps : S → ℕ → ℕ
   pub frame : (s t : StoreValue) (x : S) → SameOwn s t (owns x) (keeps x) → IsHeld s x → (modules t x ≡ modules s x) × IsHeld t x
-  pub idle : (s : StoreValue) (x : S) → IsHeld s x → AllByRecursion (λ p. IsIdle p) (modules s x) → (i : ℕ) → keeps x i ≡ 0
-  pub shown : (s : StoreValue) (x : S) (first : ℕ) → IsHeld s x → AllByRecursion (λ p. IsIdle p) (modules s x) → AreFor s first (owns x) → AreShown s first (modules s x)
+  pub idle : (s : StoreValue) (x : S) → IsHeld s x → AllByRecursion (λ p. IsAtRest p) (modules s x) → (i : ℕ) → keeps x i ≡ 0
+  pub shown : (s : StoreValue) (x : S) (first : ℕ) → IsHeld s x → AllByRecursion (λ p. IsAtRest p) (modules s x) → AreFor s first (owns x) → AreShown s first (modules s x)
   pub bare : (s : StoreValue) (x : S) → IsHeld s x → modules s x ≡ [] → (k : ℕ) → owns x k ≡ 0
   pub long : (s t : StoreValue) (x : S) → length (modules t x) ≡ length (modules s x)
 

@@ -7,7 +7,7 @@ ghost use Rattle.strm_types.specs.Books.{with_made};
 ghost use Rattle.strm_types.specs.Kept.{AreIdle};
 ghost use Rattle.strm_types.specs.Refused.{in_range};
 ghost use Rattle.strm_types.specs.State.{stream};
-ghost use Rattle.strm_types.specs.TurnCalls.{Begins, bytes_left, module_at};
+ghost use Rattle.strm_types.specs.TurnCalls.{Begins, bytes_left, ldterm_of, module_at};
 ghost use Rattle.strm_blocks.specs.Blocks.{StoreValue};
 ghost use Rattle.strm_frame.specs.Hands.{HasRoom};
 ghost use Rattle.strm_frame.specs.Outboxes.{sent_of};
@@ -92,7 +92,7 @@ impl<S: Drop> Streams<S> {
         requires beside { AreBeside B.view (B.value store.old) self.old }
         requires inside { 0 < here.at }
         requires within { here.at ≤ length (stream here.side (state_in B.view.modules (B.value store.old) self.old)).modules }
-        requires begins { Begins here.way again (module_at here (state_in B.view.modules (B.value store.old) self.old)) }
+        requires begins { Begins here.way again (ldterm_of (module_at here (state_in B.view.modules (B.value store.old) self.old))) }
         requires hand { IsKeptAll B.view (B.value store.old) self.old }
         requires room { HasRoom (B.value store.old) (call_cost here again (state_in B.view.modules (B.value store.old) self.old)) }
         ensures streams { self.new ≡ with_end here.side (record (end_at here.side self.old) { stack = (end_at here.side self.new).stack }) self.old }
@@ -117,7 +117,7 @@ impl<S: Drop> Streams<S> {
         requires beside { AreBeside B.view (B.value store.old) self.old }
         requires inside { 0 < here.at }
         requires within { here.at ≤ length (stream here.side (state_in B.view.modules (B.value store.old) self.old)).modules }
-        requires begins { Begins here.way again (module_at here (state_in B.view.modules (B.value store.old) self.old)) }
+        requires begins { Begins here.way again (ldterm_of (module_at here (state_in B.view.modules (B.value store.old) self.old))) }
         requires hand { IsKeptAll B.view (B.value store.old) self.old }
         requires room { HasRoom (B.value store.old) (call_cost here again (state_in B.view.modules (B.value store.old) self.old)) }
         requires books { MayBook here again (state_in B.view.modules (B.value store.old) self.old) }
@@ -152,7 +152,7 @@ impl<S: Drop> Streams<S> {
         requires inside { 0 < here.at }
         requires low { here.at ≤ MODULES }
         requires within { here.at ≤ length (stream here.side (state_in B.view.modules (B.value store.old) self.old)).modules }
-        requires begins { Begins here.way again (module_at here (state_in B.view.modules (B.value store.old) self.old)) }
+        requires begins { Begins here.way again (ldterm_of (module_at here (state_in B.view.modules (B.value store.old) self.old))) }
         requires hand { IsKeptAll B.view (B.value store.old) self.old }
         requires room { HasRoom (B.value store.old) (call_cost here again (state_in B.view.modules (B.value store.old) self.old)) }
         requires books { MayBook here again (state_in B.view.modules (B.value store.old) self.old) }
@@ -181,8 +181,8 @@ impl<S: Drop> Streams<S> {
         requires inside { 0 < here.at }
         requires low { here.at ≤ MODULES }
         requires within { here.at ≤ length (stream here.side (state_in B.view.modules (B.value store.old) self.old)).modules }
-        requires few { bytes_left here.way false (module_at here (state_in B.view.modules (B.value store.old) self.old)) ≤ 16777216 }
-        requires room { HasRoom (B.value store.old) 4 }
+        requires few { bytes_left here.way false (ldterm_of (module_at here (state_in B.view.modules (B.value store.old) self.old))) ≤ 16777216 }
+        requires room { HasRoom (B.value store.old) 25 }
         requires range { in_range (state_in B.view.modules (B.value store.old) self.old) ≡ true }
         ensures treats { TreatsAs here result (state_in B.view.modules (B.value store.old) self.old)
             (state_in B.view.modules (B.value store.new) self.new) told.old told.new }

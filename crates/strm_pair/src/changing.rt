@@ -1,13 +1,13 @@
 //! Modules that are pushed on a side's stream and taken off it (streamio(7I): I_PUSH, I_POP, I_LOOK; close(2)).
 
-ghost use Rattle.std.specs.Prelude.{ℕ, List, ◌≡◌, ◌<◌, ◌∷◌, not, true, MatchOption, IfSome, Some, length};
+ghost use Rattle.std.specs.Prelude.{ℕ, List, ◌≡◌, ◌<◌, ◌∷◌, ◌&&◌, not, true, MatchOption, IfSome, Some, is_some, length};
 ghost use Rattle.strm_types.specs.declared.answers.Answer.TheVariants.{Done};
 ghost use Rattle.strm_types.specs.Calls.{looked};
 ghost use Rattle.strm_types.specs.Deliver.{tallied};
 ghost use Rattle.strm_types.specs.Journal.{answer_len, reply_in};
 ghost use Rattle.strm_types.specs.Kept.{AreIdle};
 ghost use Rattle.strm_types.specs.Pushes.{all_taken, may_stand, mode_behind, mode_number, mode_on_push, mode_put, modules_emptied, named_by, popped, pushed_named, top_on, with_modules};
-ghost use Rattle.strm_types.specs.Names.{driver_of, enable_if, other};
+ghost use Rattle.strm_types.specs.Names.{driver_of, enable_if, other, place_of};
 ghost use Rattle.strm_types.specs.Queue.{is_none_left};
 ghost use Rattle.strm_types.specs.State.{stream};
 ghost use Rattle.strm_frame.specs.Hands.{HasRoom};
@@ -234,14 +234,15 @@ impl<S: Drop> Streams<S> {
         }
     }
 
-    // What the other side's driver has may come to the read queue of the only module, which stands behind it.
-    fn come_from_driver<B: Stacks<Stack = S>>(&mut self, store: &B, side: Side)
+    // What the other side's driver has may come to the read queue of the module on top, which has this name, where it has one: no other module of the
+    // stream has one then.
+    fn come_from_driver<B: Stacks<Stack = S>>(&mut self, store: &B, side: Side, name: ModuleName)
         ensures { let s = state_in B.view.modules (B.value store.now) self.old in self.new ≡ record self.old {
-          enabled = enable_if (not (is_none_left (stream (other side) s).driver.queue.messages)) (driver_of (other side)) s.enabled;
+          enabled = enable_if (is_some (place_of name) && not (is_none_left (stream (other side) s).driver.queue.messages)) (driver_of (other side)) s.enabled;
         } }
     {
         let other = side.other();
-        let waits = !self.end(other).driver.is_empty(store);
+        let waits = name.place().is_some() && !self.end(other).driver.is_empty(store);
         self.enabled.enable_if(waits, other.driver());
     }
 
@@ -271,7 +272,7 @@ impl<S: Drop> Streams<S> {
         };
         self.put_mode(store, side, mode_on_push(name), told);
         self.put_on(store, side, name);
-        self.come_from_driver(store, side);
+        self.come_from_driver(store, side, name);
         Answer::Done
     }
 }

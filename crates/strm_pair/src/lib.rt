@@ -13,6 +13,7 @@ mod ioctls;
 mod journal;
 mod looking;
 mod messages;
+mod modules;
 mod naming;
 mod pair;
 mod putting;

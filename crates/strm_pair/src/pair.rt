@@ -1,6 +1,6 @@
 //! The pair: calls, turns, and the journal of what was carried out.
 
-ghost use Rattle.std.specs.Prelude.{◌≡◌, ◌≤◌, ◌<◌, [], length, replicate, MatchResult, MatchOption, IsOk, Err, IfOk, slice_get};
+ghost use Rattle.std.specs.Prelude.{◌≡◌, ◌≤◌, ◌<◌, [], length, replicate, MatchResult, MatchOption, IsOk, Err, IfOk, is_some, slice_get};
 ghost use Rattle.strm_types.specs.Calls.{request, map_answer};
 ghost use Rattle.strm_types.specs.Cells.{plain};
 ghost use Rattle.strm_types.specs.declared.entries.Entry.TheVariants.{Called, Turned};
@@ -12,7 +12,8 @@ ghost use Rattle.strm_types.specs.Step.{replay, IsLegal};
 ghost use Rattle.strm_types.specs.Kept.{told_by};
 ghost use Rattle.strm_types.specs.Rules.{no_fates};
 ghost use Rattle.strm_types.specs.Queue.{bytes_of};
-ghost use Rattle.strm_types.specs.State.{AreOrdered, messages_in};
+ghost use Rattle.strm_types.specs.ModuleTurns.{place_named};
+ghost use Rattle.strm_types.specs.State.{AreOrdered, messages_in, stream};
 ghost use Rattle.strm_pair.specs.Shows.{Shows, count_at, first_at, full_at, messages_at};
 ghost use Rattle.strm_pair.specs.Parts.{longest_part};
 ghost use Rattle.strm_pair.specs.Pool.{IsPoolOf};
@@ -26,8 +27,8 @@ use crate::streams::Streams;
 use std::alloc::Global;
 use std::marker::Model;
 use strm_types::{
-    Answer, BANDS, Band, Caller, Config, Content, Entry, Event, Fates, LISTS, NoMemory, QueueName,
-    READ_MAX, ReadBytes, Refusal, Side, Turn, turn_blocks,
+    Answer, BANDS, Band, Caller, Config, Content, Entry, Event, Fates, LISTS, NoMemory, Place,
+    QueueName, READ_MAX, ReadBytes, Refusal, Side, Turn, turn_blocks,
 };
 
 /// A pair of a master and a slave, whose messages stand in a store of its own. Contracts see it as its plain state, its
@@ -169,6 +170,13 @@ impl<B: Stacks + Drop> Pair<B> {
         ensures { result ≡ modules_on side self.now.state }
     {
         self.streams.modules_on::<B>(side)
+    }
+
+    /// Whether a module with queues of a place stands on a side's stream.
+    pub fn has_queues(&self, side: Side, place: Place) -> bool
+        ensures { result ≡ is_some (place_named place (stream side self.now.state).modules) }
+    {
+        self.streams.module_named::<B>(side, place).is_some()
     }
 
     /// Whether a band, from 0 to 7, of a queue is full: its count is at or above its high-water mark. A queue that

@@ -1,6 +1,6 @@
 //! What a call is refused for, by the streams alone.
 
-ghost use Rattle.std.specs.Prelude.{ℕ, ◌≡◌, ◌+◌, ◌≤◌, ◌<◌, ◌^◌, ◌&&◌, not, option_map, [], None};
+ghost use Rattle.std.specs.Prelude.{ℕ, ◌≡◌, ◌+◌, ◌≤◌, ◌<◌, ◌^◌, ◌&&◌, not, option_map, None};
 ghost use Rattle.strm_types.specs.Calls.{request};
 ghost use Rattle.strm_types.specs.Journal.{content_max};
 ghost use Rattle.strm_types.specs.Pushes.{may_stand, named_by};
@@ -20,8 +20,8 @@ use strm_head::put_refusal;
 use strm_queue::standing::has_no_data;
 use strm_types::{
     BANDS, Band, CHANGE_BLOCKS, CLOSE_BLOCKS, Caller, Event, IOCTL_BLOCKS, IOCTL_END, IOCTL_MAX,
-    ModuleName, Openness, Prio, READ_MAX, Refusal, SIGNALS_MAX, Side, WRITE_BLOCKS, Wanted,
-    chunk_count,
+    MODULES, ModuleName, Openness, Prio, READ_MAX, Refusal, SIGNALS_MAX, Side, WRITE_BLOCKS,
+    Wanted, chunk_count,
 };
 
 /// A refusal unless a condition holds.
@@ -41,23 +41,13 @@ pub(crate) fn or_else(first: Option<Refusal>, second: Option<Refusal>) -> Option
     }
 }
 
-// Whether a module of this name may be pushed: so far ldterm alone is built.
+// Whether a module of this name may be pushed: so far pckt isn't built.
 fn is_known(name: Option<ModuleName>) -> bool
     ensures { result ≡ is_known name }
 {
     match name {
-        Some(ModuleName::Ldterm) => true,
-        Some(ModuleName::Ptem | ModuleName::Pckt) | None => false,
-    }
-}
-
-// Whether a module of this name could stand on a stream on which none stands: so far ldterm alone is built.
-fn is_built(name: Option<ModuleName>) -> bool
-    ensures { result ≡ may_stand {C = ℕ} (named_by name) [] }
-{
-    match name {
-        Some(ModuleName::Ldterm) => true,
-        Some(ModuleName::Ptem | ModuleName::Pckt) | None => false,
+        Some(ModuleName::Ldterm | ModuleName::Ptem) => true,
+        Some(ModuleName::Pckt) | None => false,
     }
 }
 
@@ -268,11 +258,15 @@ impl<S: Drop> Streams<S> {
         }
     }
 
-    // Whether a module of a name may be pushed on a side's stream: so far that is an ldterm, where none stands.
+    // Whether a module of a name may be pushed on a side's stream: there is room, and none of its name stands there.
     fn may_push<B: Stacks<Stack = S>>(&self, side: Side, name: Option<ModuleName>) -> bool
         ensures { (s : StoreValue) → result ≡ may_stand (named_by name) (stream side (state_in B.view.modules s self.now)).modules }
     {
-        is_built(name) && B::count(&self.end(side).stack) == 0
+        let Some(kind) = name else {
+            return false;
+        };
+        let stack = &self.end(side).stack;
+        is_known(name) && B::count(stack) < MODULES && !B::has(stack, kind)
     }
 
     /// What a call that isn't refused at once is refused for after all else: what the state says.

@@ -32,8 +32,12 @@ pub(crate) enum Begun {
 impl<S: Drop> Streams<S> {
     ghost use Rattle.strm_pair.specs.Pairs.{state_in, AreBeside, AreHeld, SamePool, kept_by};
 
-    // The place of the module on a side's stream whose queues have a name.
-    fn module_named<B: Stacks<Stack = S>>(&self, side: Side, name: Place) -> Option<usize>
+    /// The place of the module on a side's stream whose queues have a name.
+    pub(crate) fn module_named<B: Stacks<Stack = S>>(
+        &self,
+        side: Side,
+        name: Place,
+    ) -> Option<usize>
         ensures { (s : StoreValue) → result ≡ place_named name (stream side (state_in B.view.modules s self.now)).modules }
     {
         place_named::<B>(&self.end(side).stack, name)
@@ -143,7 +147,7 @@ impl<S: Drop> Streams<S> {
     ) -> Turn
         requires held { AreHeld B.view (B.value store.old) self.old }
         requires rests { AreIdle (state_in B.view.modules (B.value store.old) self.old) }
-        requires room { HasRoom (B.value store.old) 4 }
+        requires room { HasRoom (B.value store.old) 25 }
         requires range { in_range (state_in B.view.modules (B.value store.old) self.old) ≡ true }
         ensures turn { result ≡ (module_turned plain name result (state_in B.view.modules (B.value store.old) self.old)).turn }
         ensures state { state_in B.view.modules (B.value store.new) self.new

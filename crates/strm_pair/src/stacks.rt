@@ -11,14 +11,14 @@ ghost use Rattle.strm_types.specs.Deliver.{AreLower, tallied};
 ghost use Rattle.strm_types.specs.Earlier.{places_of};
 ghost use Rattle.strm_types.specs.Input.{made_of};
 ghost use Rattle.strm_types.specs.ModuleQueues.{at_place, can_pass, full_at, messages_at, place_before, place_past, queue_changed, waits_past};
-ghost use Rattle.strm_types.specs.Modules.{act_among, change_among, put_among, top_name};
+ghost use Rattle.strm_types.specs.Modules.{act_among, change_among, put_among, stands, top_name};
 ghost use Rattle.strm_types.specs.Pushes.{may_stand, named_by};
 ghost use Rattle.strm_types.specs.Puts.{far};
 ghost use Rattle.strm_types.specs.Queue.{bytes_of, count_of};
 ghost use Rattle.strm_types.specs.Refused.{none_waits_up};
 ghost use Rattle.strm_types.specs.Service.{end_relieves, has_more, turn_ended};
 ghost use Rattle.strm_types.specs.Stacked.{module_asks, module_name, module_puts, module_queue, module_serves, with_module_queue};
-ghost use Rattle.strm_types.specs.TurnCalls.{Ends, most_made};
+ghost use Rattle.strm_types.specs.TurnCalls.{Ends, ldterm_of, most_made};
 ghost use Rattle.strm_types.specs.TurnOutcomes.{first_size};
 ghost use Rattle.strm_blocks.specs.Blocks.{StoreValue, in_hand, list_at};
 ghost use Rattle.strm_msg.specs.Messages.{IsChain};
@@ -26,15 +26,15 @@ ghost use Rattle.strm_frame.specs.Hands.{AreIn, CanPut, Handles, Hands, HasRoom,
 ghost use Rattle.strm_frame.specs.Outboxes.{AreChains, cost_of, message_in, parcels_in, sent_of, times_sent};
 ghost use Rattle.strm_frame.specs.Serves.{IsBand, later_cost, least_free, stop_of};
 ghost use Rattle.strm_frame.specs.Stacks.{IsPlace};
-ghost use Rattle.strm_ldterm.specs.Bounds.{turn_cost, turn_height};
-ghost use Rattle.strm_ldterm.specs.Served.{IsServed};
+ghost use Rattle.strm_ldterm.specs.Bounds.{turn_height};
+ghost use Rattle.strm_pair.specs.AnyModules.{MayServe, turn_cost};
 ghost use Rattle.strm_pair.specs.Streams.{View};
 ghost use Rattle.strm_pair.specs.Taken.{TookNone, TookTop};
 
+use crate::modules::AnyModule;
 use arrayvec::ArrayVec;
 use strm_blocks::{Blocks, InHand, TableStore};
-use strm_frame::{Acts, Served, Stream, TurnEnd};
-use strm_ldterm::Ldterm;
+use strm_frame::{Acts, Module, Served, Stream, TurnEnd};
 use strm_types::{Asks, Band, Fates, ModuleName, Note, Place, Rule, Side, Spot, Way};
 
 /// A module that was taken off a stack: its name, and which queues before its own have room again.
@@ -66,6 +66,10 @@ pub trait Stacks: Blocks {
     /// The name of the module on top, if there is one.
     fn look(stack: &Self::Stack) -> Option<ModuleName>
         ensures { (s : StoreValue) → result ≡ top_name module_name (view.modules s stack.now) };
+
+    /// Whether a module of a name stands on a stack (streamio(7I): I_FIND).
+    fn has(stack: &Self::Stack, name: ModuleName) -> bool
+        ensures { (s : StoreValue) → result ≡ stands module_name name (view.modules s stack.now) };
 
     /// The place of queues that the module of a place has, if it has queues.
     fn place(stack: &Self::Stack, at: usize) -> Option<Place>
@@ -188,7 +192,7 @@ pub trait Stacks: Blocks {
         requires inside { 0 < here.at }
         requires within { here.at ≤ length (view.modules (Self.value store.old) stack.old) }
         requires held { view.IsHeld (Self.value store.old) stack.old }
-        requires turn { HoldsAt (IsServed here.way again) (view.modules (Self.value store.old) stack.old) (here.at - 1) }
+        requires turn { HoldsAt (MayServe here.way again) (view.modules (Self.value store.old) stack.old) (here.at - 1) }
         requires kept { AreIn (Self.value store.old) (λ _. 0) (view.keeps stack.old) }
         requires room { HasRoom (Self.value store.old) (at_place (turn_cost here again) 0 here.at (view.modules (Self.value store.old) stack.old)) }
         ensures state { let s = Self.value store.old in view.modules (Self.value store.new) stack.new
@@ -204,7 +208,7 @@ pub trait Stacks: Blocks {
         ensures again { let s = Self.value store.old in
             result.again ≡ at_place (λ p. (module_serves cells.plain here 0 again (stop_of result) p).again) false here.at (view.modules s stack.old) }
         ensures stopped { OnTrue result.stopped ((least_free (Self.value store.new) < STOP_BLOCKS) × (result.again ≡ false)) }
-        ensures ends { OnTrue result.stopped (HoldsAt (λ p. Ends here.way again p result.bytes) (view.modules (Self.value store.old) stack.old) (here.at - 1)) }
+        ensures ends { OnTrue result.stopped (HoldsAt (λ p. Ends here.way again (ldterm_of p) result.bytes) (view.modules (Self.value store.old) stack.old) (here.at - 1)) }
         ensures made { let s = Self.value store.old in
             made_of (act_among (λ p. (module_serves cells.plain here 0 again (stop_of result) p).acted) (here.at - 1) (view.modules s stack.old)).gone ≤ most_made result.bytes }
         ensures held { view.IsHeld (Self.value store.new) stack.new }
@@ -262,41 +266,45 @@ pub trait Stacks: Blocks {
 }
 
 impl Stacks for TableStore {
-    type Stack = Stream<Ldterm<InHand>>;
+    type Stack = Stream<AnyModule<InHand>>;
 
-    ghost use Rattle.strm_pair.specs.LdtermStacks.{stacks_of};
+    ghost use Rattle.strm_pair.specs.ModuleStacks.{stacks_of};
 
     ghost view = { stacks_of ⟦<TableStore as Blocks>⟧.name };
 
-    fn no_module() -> Stream<Ldterm<InHand>> {
+    fn no_module() -> Stream<AnyModule<InHand>> {
         Stream::new()
     }
 
-    fn count(stack: &Stream<Ldterm<InHand>>) -> usize {
+    fn count(stack: &Stream<AnyModule<InHand>>) -> usize {
         stack.modules.len()
     }
 
-    fn look(stack: &Stream<Ldterm<InHand>>) -> Option<ModuleName> {
+    fn look(stack: &Stream<AnyModule<InHand>>) -> Option<ModuleName> {
         stack.look::<TableStore>()
     }
 
-    // Each module of such a stack is an ldterm.
-    fn place(stack: &Stream<Ldterm<InHand>>, at: usize) -> Option<Place> {
-        let _ = stack;
-        let _ = at;
-        ModuleName::Ldterm.place()
+    fn has(stack: &Stream<AnyModule<InHand>>, name: ModuleName) -> bool {
+        stack.has::<TableStore>(name)
     }
 
-    fn place_before(stack: &Stream<Ldterm<InHand>>, way: Way, at: usize) -> Option<usize> {
+    fn place(stack: &Stream<AnyModule<InHand>>, at: usize) -> Option<Place> {
+        match stack.modules.as_slice().get(at - 1) {
+            Some(module) => Module::<TableStore>::name(module).place(),
+            None => None,
+        }
+    }
+
+    fn place_before(stack: &Stream<AnyModule<InHand>>, way: Way, at: usize) -> Option<usize> {
         stack.place_before::<TableStore>(way, at)
     }
 
-    fn place_past(stack: &Stream<Ldterm<InHand>>, way: Way, at: usize) -> Option<usize> {
+    fn place_past(stack: &Stream<AnyModule<InHand>>, way: Way, at: usize) -> Option<usize> {
         stack.place_past::<TableStore>(way, at)
     }
 
     fn can_pass(
-        stack: &Stream<Ldterm<InHand>>,
+        stack: &Stream<AnyModule<InHand>>,
         store: &TableStore,
         way: Way,
         band: Band,
@@ -305,16 +313,16 @@ impl Stacks for TableStore {
         stack.can_pass(store, way, band, at)
     }
 
-    fn let_wait_past(stack: &mut Stream<Ldterm<InHand>>, way: Way, band: Band, at: usize) {
+    fn let_wait_past(stack: &mut Stream<AnyModule<InHand>>, way: Way, band: Band, at: usize) {
         stack.let_wait_past::<TableStore>(way, band, at);
     }
 
-    fn none_waits_up(stack: &Stream<Ldterm<InHand>>, store: &TableStore) -> bool {
+    fn none_waits_up(stack: &Stream<AnyModule<InHand>>, store: &TableStore) -> bool {
         stack.none_waits_up(store)
     }
 
     fn sizes(
-        stack: &Stream<Ldterm<InHand>>,
+        stack: &Stream<AnyModule<InHand>>,
         store: &TableStore,
         at: usize,
         way: Way,
@@ -323,7 +331,7 @@ impl Stacks for TableStore {
     }
 
     fn first_size(
-        stack: &Stream<Ldterm<InHand>>,
+        stack: &Stream<AnyModule<InHand>>,
         store: &TableStore,
         at: usize,
         way: Way,
@@ -332,7 +340,7 @@ impl Stacks for TableStore {
     }
 
     fn count_in_band(
-        stack: &Stream<Ldterm<InHand>>,
+        stack: &Stream<AnyModule<InHand>>,
         store: &TableStore,
         at: usize,
         way: Way,
@@ -342,7 +350,7 @@ impl Stacks for TableStore {
     }
 
     fn is_full(
-        stack: &Stream<Ldterm<InHand>>,
+        stack: &Stream<AnyModule<InHand>>,
         store: &TableStore,
         at: usize,
         way: Way,
@@ -352,7 +360,7 @@ impl Stacks for TableStore {
     }
 
     fn put(
-        stack: &mut Stream<Ldterm<InHand>>,
+        stack: &mut Stream<AnyModule<InHand>>,
         store: &mut TableStore,
         to: Spot,
         message: InHand,
@@ -361,12 +369,12 @@ impl Stacks for TableStore {
         stack.put(store, to, message, told)
     }
 
-    fn asks(stack: &Stream<Ldterm<InHand>>, store: &TableStore, at: usize, way: Way) -> Asks {
+    fn asks(stack: &Stream<AnyModule<InHand>>, store: &TableStore, at: usize, way: Way) -> Asks {
         stack.asks(store, at, way)
     }
 
     fn serve(
-        stack: &mut Stream<Ldterm<InHand>>,
+        stack: &mut Stream<AnyModule<InHand>>,
         store: &mut TableStore,
         here: Spot,
         again: bool,
@@ -376,7 +384,7 @@ impl Stacks for TableStore {
     }
 
     fn end_turn(
-        stack: &mut Stream<Ldterm<InHand>>,
+        stack: &mut Stream<AnyModule<InHand>>,
         store: &TableStore,
         at: usize,
         way: Way,
@@ -386,7 +394,7 @@ impl Stacks for TableStore {
     }
 
     fn take_top(
-        stack: &mut Stream<Ldterm<InHand>>,
+        stack: &mut Stream<AnyModule<InHand>>,
         store: &mut TableStore,
         side: Side,
         rule: Rule,
@@ -398,15 +406,16 @@ impl Stacks for TableStore {
         Some(Taken { name, notes })
     }
 
-    // Where it may stand, it is an ldterm, and nothing stands there.
     fn push(
-        stack: &mut Stream<Ldterm<InHand>>,
+        stack: &mut Stream<AnyModule<InHand>>,
         store: &TableStore,
         name: ModuleName,
         first: usize,
     ) {
         let _ = store;
-        let _ = name;
-        let _ = stack.push::<TableStore>(Ldterm::new(first + 2, first + 3));
+        let Some(module) = AnyModule::made(name, first + 2) else {
+            return;
+        };
+        let _ = stack.push::<TableStore>(module);
     }
 }

@@ -89,7 +89,7 @@ impl<S: Drop> Streams<S> {
     ) -> Turn
         requires held { AreHeld B.view (B.value store.old) self.old }
         requires idle { AreIdle (state_in B.view.modules (B.value store.old) self.old) }
-        requires room { HasRoom (B.value store.old) 4 }
+        requires room { HasRoom (B.value store.old) 7 }
         requires some { is_none_left (messages_on (B.value store.old) (end_at side self.old).driver.list) ≡ false }
         ensures moves { MovesAcross side (state_in B.view.modules (B.value store.old) self.old) result
             (state_in B.view.modules (B.value store.new) self.new) told.old told.new }
@@ -152,7 +152,7 @@ impl<S: Drop> Streams<S> {
     ) -> Turn
         requires held { AreHeld B.view (B.value store.old) self.old }
         requires idle { AreIdle (state_in B.view.modules (B.value store.old) self.old) }
-        requires room { HasRoom (B.value store.old) 4 }
+        requires room { HasRoom (B.value store.old) 7 }
         ensures turn { result ≡ (driver_turned side (state_in B.view.modules (B.value store.old) self.old)).turn }
         ensures state { state_in B.view.modules (B.value store.new) self.new
             ≡ (driver_turned side (state_in B.view.modules (B.value store.old) self.old)).state }

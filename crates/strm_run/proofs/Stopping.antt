@@ -1,6 +1,6 @@
 -- A turn that moved nothing, one of a queue that belongs to no module, and one that got to the end of its message lead to what a turn leads
 -- to that goes to the end of the first message.
-use Rattle.std.proofs.Common.{◌≡◌, ℕ, zero, suc, ◌+◌, ◌-◌, ◌*◌, ◌≤◌, Bool, true, false, cond, List, [], ◌∷◌, map, min, Option, None, Some, is_some, slice_index_or, refl, sym, ap, ◌∙◌, arith}
+use Rattle.std.proofs.Common.{◌≡◌, ℕ, zero, suc, ◌+◌, ◌-◌, ◌*◌, ◌≤◌, Bool, true, false, cond, List, [], ◌∷◌, map, min, Option, None, Some, is_some, slice_index_or, refl, sym, ap, subst, ◌∙◌, arith}
 use Rattle.std.proofs.lemmas.Bool.{eq-eqb}
 use Rattle.std.proofs.lemmas.Bool.Decides.{nat_tests}
 use Rattle.std.specs.Prelude.{nat_lt}
@@ -18,18 +18,19 @@ use Rattle.strm_types.specs.declared.spots.Asks.TheVariants as asked
 use Rattle.strm_types.specs.declared.spots.Spot.{Spot}
 use Rattle.strm_types.specs.Cells.{plain}
 use Rattle.strm_types.specs.Input.{input_begins, is_data, passes, stages, stages_done, treats}
+use Rattle.strm_types.specs.Ldterms.{Ldterm}
 use Rattle.strm_types.specs.Message.{Message}
 use Rattle.strm_types.specs.ModuleQueues.{at_place, messages_at}
 use Rattle.strm_types.specs.ModuleTurns.{Calls, again_at, asked_turn, calls, made_below, moved_by, moved_on, moved_within, place_named, turned_named, turned_there, waits_there, whole_module}
 use Rattle.strm_types.specs.OutputTurns.{output_serves}
 use Rattle.strm_types.specs.Past.{has_room_past}
 use Rattle.strm_types.specs.Queue.{left_with}
-use Rattle.strm_types.specs.Stacked.{Module, module_asks, module_queue, module_rests, module_serves}
+use Rattle.strm_types.specs.Stacked.{Module, OfLdterm, OfPtem, module_asks, module_queue, module_rests, module_serves}
 use Rattle.strm_types.specs.State.{State, Stream, stream}
 use Rattle.strm_types.specs.TurnOutcomes.{TurnOutcome, first_size, stayed_put}
 use Rattle.strm_types.specs.Turns.{turned, turned_at, whole_turn}
 use Rattle.strm_types.specs.Names.{without}
-use Rattle.strm_pair.specs.Named.{messages_named}
+use Rattle.strm_pair.specs.Named.{at_found, messages_named}
 use Rattle.strm_pair.specs.Shows.{first_at}
 use Rattle.strm_run.specs.ScriptRun.{Supply, Enough, Within, is_enough, only, reach, told_of, turn_to}
 
@@ -38,16 +39,16 @@ module _ (side : Side) (at : ℕ) where
   abbrev there : Way → Spot
   there way = record { side = side; at = at; way = way }
 
-  treats-none : (way : Way) (made : ℕ) (p : Module ℕ) → (treats plain (there way) 0 made p).again ≡ false
+  treats-none : (way : Way) (made : ℕ) (p : Ldterm ℕ) → (treats plain (there way) 0 made p).again ≡ false
   treats-none way made p =
       let none : 3 * 0 - stages_done p.stage ≡ 0 = omega arith in
       ap (λ n. is_some (stages plain (there way) n made p).state.in_work) none
 
-  output-once : (made : ℕ) (ms : List (Message ℕ)) (p : Module ℕ) → (output_serves plain (there Down) (Some 0) made ms p).again ≡ false
+  output-once : (made : ℕ) (ms : List (Message ℕ)) (p : Ldterm ℕ) → (output_serves plain (there Down) (Some 0) made ms p).again ≡ false
   output-once made [] p = refl
   output-once made (m ∷ rest) p = refl
 
-  input-once : (made : ℕ) (ms : List (Message ℕ)) (p : Module ℕ) → (input_begins plain (there Up) (Some 0) made ms p).again ≡ false
+  input-once : (made : ℕ) (ms : List (Message ℕ)) (p : Ldterm ℕ) → (input_begins plain (there Up) (Some 0) made ms p).again ≡ false
   input-once made [] p = refl
   input-once made (m ∷ rest) p = by (is_data m.kind)
     where
@@ -56,8 +57,9 @@ module _ (side : Side) (at : ℕ) where
       by false = refl
 
   serves-once : (way : Way) (made : ℕ) (p : Module ℕ) → (module_serves plain (there way) made false (Some 0) p).again ≡ false
-  serves-once Down made p = output-once made p.write_queue.messages p
-  serves-once Up made p = input-once made p.read_queue.messages p
+  serves-once Down made (OfLdterm l) = output-once made l.write_queue.messages l
+  serves-once Up made (OfLdterm l) = input-once made l.read_queue.messages l
+  serves-once way made (OfPtem p) = refl
 
   none-among : (say : Module ℕ → Bool) → ((p : Module ℕ) → say p ≡ false) → (i : ℕ) (ps : List (Module ℕ)) → slice_index_or (map say ps) i false ≡ false
   none-among say none i [] = refl
@@ -138,11 +140,27 @@ module _ (side : Side) (at : ℕ) (way : Way) (name : QueueName) (s : State ℕ)
 abbrev named : Side → Way → QueueName
 named side way = record { side = side; place = Ldterm; way = way }
 
-goes-whole : (side : Side) (way : Way) (n : ℕ) (s : State ℕ) (t : Stream ℕ) (ps : List (Module ℕ)) → (stream side s).modules ≡ ps → first_size (messages_named Ldterm way ps) ≤ n
-    → turned_named plain (named side way) (whole_module Ldterm way (record t { modules = ps })) s (place_named Ldterm ps) ≡ turned_named plain (named side way) (Moved n) s (place_named Ldterm ps)
-goes-whole side way n s t [] is whole = refl
-goes-whole side way n s t (p ∷ ps) is whole = there-alike side 1 way (named side way) s (first_size (messages_at module_queue way p)) n
-    (let first : first_there side 1 way (named side way) s ≡ first_size (messages_at module_queue way p) = ap (λ ps. at_place (λ p. first_size (messages_at module_queue way p)) 0 1 ps) is in omega (arith, first, whole))
+-- what the first message of the one at a place has
+first-among : (way : Way) (i : ℕ) (ps : List (Module ℕ)) → first_size (slice_index_or (map (messages_at module_queue way) ps) i []) ≡ slice_index_or (map (λ p. first_size (messages_at module_queue way p)) ps) i 0
+first-among way i [] = refl
+first-among way zero (p ∷ ps) = refl
+first-among way (suc i) (p ∷ ps) = first-among way i ps
+
+goes-whole : (side : Side) (way : Way) (n : ℕ) (s : State ℕ) (t : Stream ℕ) → (stream side s).modules ≡ t.modules → first_size (messages_named Ldterm way t.modules) ≤ n
+    → turned_named plain (named side way) (whole_module Ldterm way t) s (place_named Ldterm t.modules) ≡ turned_named plain (named side way) (Moved n) s (place_named Ldterm t.modules)
+goes-whole side way n s t is whole = by (place_named Ldterm t.modules) refl
+  where
+    abbrev say : Module ℕ → ℕ
+    say p = first_size (messages_at module_queue way p)
+
+    by : (found : Option ℕ) → place_named Ldterm t.modules ≡ found
+        → turned_named plain (named side way) (whole_module Ldterm way t) s (place_named Ldterm t.modules) ≡ turned_named plain (named side way) (Moved n) s (place_named Ldterm t.modules)
+    by None none = rw none refl
+    by (Some at) found =
+        let fits = subst (λ o. first_size (at_found (messages_at module_queue way) [] t.modules o) ≤ n) found whole in
+        let size = first-among way (at - 1) t.modules in
+        let first : first_there side at way (named side way) s ≡ at_place say 0 at t.modules = ap (λ ps. at_place say 0 at ps) is in
+        rw found (there-alike side at way (named side way) s (at_place say 0 at t.modules) n (omega (arith, fits, size, first)))
 
 -- what an account says of a turn that was answered so
 pub record Accounted (turn : Turn) (name : QueueName) (s : State ℕ) : Type 0 where
@@ -169,9 +187,9 @@ goes-far : (side : Side) (way : Way) (n : ℕ) (s : State ℕ) → (b : Bool) �
     → turned plain (named side way) (turn_to (cond b (Some n) None) (named side way) s) s ≡ turned plain (named side way) (Moved n) s
 goes-far side way n s true is = refl
 goes-far Master way n s false is =
-    goes-whole Master way n (record s { enabled = without (named Master way) s.enabled }) s.master s.master.modules refl (past-end n _ is)
+    goes-whole Master way n (record s { enabled = without (named Master way) s.enabled }) s.master refl (past-end n _ is)
 goes-far Slave way n s false is =
-    goes-whole Slave way n (record s { enabled = without (named Slave way) s.enabled }) s.slave s.slave.modules refl (past-end n _ is)
+    goes-whole Slave way n (record s { enabled = without (named Slave way) s.enabled }) s.slave refl (past-end n _ is)
 
 goes-so : (n : ℕ) (side : Side) (place : Place) (way : Way) (s : State ℕ) →
     let name : QueueName = record { side = side; place = place; way = way } in

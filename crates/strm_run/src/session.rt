@@ -214,15 +214,14 @@ fn size(pair: &Pair<TableStore>, name: QueueName) -> QueueSize
     }
 }
 
-/// How much stands on the queues of the module on a side's stream that has queues. Each module is an ldterm so far.
+/// How much stands on the queues of the module on a side's stream that has queues.
 fn module_sizes(pair: &Pair<TableStore>, side: Side) -> Option<ModuleSizes>
     ensures { result ≡ module_sizes side pair.now.state }
 {
-    let stacked = pair.modules(side);
-    if stacked == 0 {
+    let place = Place::Ldterm;
+    if !pair.has_queues(side, place) {
         return None;
     }
-    let place = Place::Ldterm;
     let up = QueueName {
         side,
         place,

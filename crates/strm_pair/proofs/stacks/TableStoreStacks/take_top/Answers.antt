@@ -1,7 +1,7 @@
 -- The module on top has let all go, and is taken off.
 use Rattle.std.proofs.Common.{◌≡◌, refl, sym, ◌∙◌, arith}
 use Rattle.std.specs.Prelude.{None}
-use Rattle.strm_pair.proofs.LdtermTaken.{none-top, took-top}
+use Rattle.strm_pair.proofs.ModuleTaken.{none-top, took-top}
 use Rattle.strm_pair.proofs.stacks.TableStoreStacks.take_top.Goals as goal
 
 pub returns-in_err-name : goal.returns-in_err-name

@@ -1,6 +1,6 @@
 -- What the first message asks says what becomes of the turn.
 use Rattle.std.proofs.Common.{ℕ, ◌≤◌, length, sym, ap, subst, ◌∙◌, arith}
-use Rattle.strm_types.specs.declared.answers.Turn.TheVariants.{Blocked}
+use Rattle.strm_types.specs.declared.answers.Turn.TheVariants.{Blocked, Idle}
 use Rattle.strm_types.specs.declared.spots.Asks.TheVariants as asked
 use Rattle.strm_types.specs.ModuleQueues.{at_place, messages_at}
 use Rattle.strm_types.specs.ModuleTurns.{stayed_at}
@@ -78,3 +78,14 @@ returns-in-Held-clause-begins g c =
     let found = sym (c.module_named.ensures s) ∙ c.in-Some.is in
     let asks = sym c.in-Held.is ∙ c.asks.ensures.asks ∙ ap (λ (t : Stream ℕ). at_place (module_asks name.way) asked.Empty at t.modules) (c.end.ensures.stream g.B.Stacks.view.modules s) in
     subst (BeginsAs st new name) (sym c.stay-in-Held.ensures.over) (λ turn. turned-asks name at asked.Held turn st c.requires.rests found asks ∙ ap (stayed_put Blocked) (sym c.stay-in-Held.ensures.state))
+
+pub returns-in-Empty-clause-begins : goal.returns-in-Empty-clause-begins
+returns-in-Empty-clause-begins g c =
+    let s = g.B.Blocks.value c.args.store.now in
+    let st = state_in g.B.Stacks.view.modules s c.args.self.now in
+    let name = c.args.name in
+    let at = c.in-Some.at in
+    let new = state_in g.B.Stacks.view.modules s c.stay.new.self in
+    let found = sym (c.module_named.ensures s) ∙ c.in-Some.is in
+    let asks = sym c.in-Empty.is ∙ c.asks.ensures.asks ∙ ap (λ (t : Stream ℕ). at_place (module_asks name.way) asked.Empty at t.modules) (c.end.ensures.stream g.B.Stacks.view.modules s) in
+    subst (BeginsAs st new name) (sym c.stay.ensures.over) (λ turn. turned-asks name at asked.Empty turn st c.requires.rests found asks ∙ ap (stayed_put Idle) (sym c.stay.ensures.state))

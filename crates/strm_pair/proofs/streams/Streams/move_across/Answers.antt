@@ -40,7 +40,7 @@ deliver_alone-requires-clause-low g c =
 pub deliver_alone-requires-clause-room : goal.deliver_alone-requires-clause-room
 deliver_alone-requires-clause-room g c =
     let m = message_of (in_hand (g.B.Blocks.value c.take_first.new.store) (g.B.Blocks.name c.in-Some.message)) in
-    let few = up-few c.other-above.result c.modules_on-at.result (has_parts m) (is_flush m.kind) (is_turned m) in
+    let few = up-few c.other-above.result c.modules_on-at.result m in
     let e = c.in-Some.ensures.frees in
     let room = c.requires.room in
     record { mblks = omega (arith, few, e.mblks, room.mblks); dblks = omega (arith, few, e.dblks, room.dblks) }

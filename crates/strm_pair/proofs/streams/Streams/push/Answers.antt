@@ -1,13 +1,13 @@
 -- The head is told its mode, the module stands there, and what waits before it may come.
 use Rattle.std.proofs.Common.{ℕ, ◌≡◌, ◌∷◌, ap, sym, subst, ◌∙◌}
-use Rattle.std.specs.Prelude.{Option, Some, IfSome}
+use Rattle.std.specs.Prelude.{Option, Some, IfSome, is_some}
 use Rattle.strm_types.specs.Deliver.{Carried, tallied}
-use Rattle.strm_types.specs.Ldterms.{new_ldterm}
 use Rattle.strm_types.specs.Pushes.{may_stand, mode_put, named_by, with_modules}
+use Rattle.strm_types.specs.Names.{place_of}
 use Rattle.strm_types.specs.State.{State, stream}
 use Rattle.strm_pair.specs.declared.streams.Streams.{Streams}
 use Rattle.strm_pair.specs.Pairs.{state_in, AreHeld}
-use Rattle.strm_pair.proofs.LdtermPushed.{new-named}
+use Rattle.strm_pair.proofs.ModulePushed.{made-named}
 use Rattle.strm_pair.proofs.Modes.{driver_comes, modules-stay, pushed-is}
 use Rattle.strm_pair.proofs.streams.Streams.push.Goals as goal
 
@@ -26,27 +26,28 @@ returns-clause-state g c =
     let u = state_in g.B.Stacks.view.modules t c.put_mode.new.self in
     let v = state_in g.B.Stacks.view.modules t c.put_on.new.self in
     let name = c.in-Some.name in
+    let reads = is_some (place_of name) in
     let may = ap (λ (o : Option _). may_stand (named_by o) (stream c.args.side s).modules) (sym c.in-Some.is) ∙ c.requires.may_stand in
-    let new = new-named name (stream c.args.side s).modules may in
-    let stands : v ≡ with_modules c.args.side (new_ldterm ∷ (stream c.args.side u).modules) u =
-    subst (λ o. IfSome o (λ p. v ≡ with_modules c.args.side (p ∷ (stream c.args.side u).modules) u)) new c.put_on.ensures.state in
+    let new = made-named name (stream c.args.side s).modules may in
+    let stands : v ≡ with_modules c.args.side (new.0 ∷ (stream c.args.side u).modules) u =
+    subst (λ o. IfSome o (λ p. v ≡ with_modules c.args.side (p ∷ (stream c.args.side u).modules) u)) new.1 c.put_on.ensures.state in
     let told = c.put_mode.ensures.state ∙ ap (λ m. (mode_put c.args.side m s).state) c.mode_on_push.ensures in
     rw c.in-Some.is
     (ap (λ (p : Streams _). state_in g.B.Stacks.view.modules t p) c.come_from_driver.ensures
-    ∙ ap (driver_comes c.args.side) stands
-    ∙ ap (λ (x : State ℕ). driver_comes c.args.side (with_modules c.args.side (new_ldterm ∷ (stream c.args.side x).modules) x)) told
-    ∙ sym (ap (λ (o : Carried ℕ (State ℕ)). o.state) (pushed-is c.args.side name new_ldterm s new may)))
+    ∙ ap (driver_comes reads c.args.side) stands
+    ∙ ap (λ (x : State ℕ). driver_comes reads c.args.side (with_modules c.args.side (new.0 ∷ (stream c.args.side x).modules) x)) told
+    ∙ sym (ap (λ (o : Carried ℕ (State ℕ)). o.state) (pushed-is c.args.side name new.0 s new.1 may)))
 
 pub returns-clause-told : goal.returns-clause-told
 returns-clause-told g c =
     let s = state_in g.B.Stacks.view.modules (g.B.Blocks.value c.args.store.now) c.args.self.now in
     let name = c.in-Some.name in
     let may = ap (λ (o : Option _). may_stand (named_by o) (stream c.args.side s).modules) (sym c.in-Some.is) ∙ c.requires.may_stand in
-    let new = new-named name (stream c.args.side s).modules may in
+    let new = made-named name (stream c.args.side s).modules may in
     rw c.in-Some.is
     (c.put_mode.ensures.told
     ∙ ap (λ m. tallied (mode_put c.args.side m s).gone c.args.told.now) c.mode_on_push.ensures
-    ∙ sym (ap (λ (o : Carried ℕ (State ℕ)). tallied o.gone c.args.told.now) (pushed-is c.args.side name new_ldterm s new may)))
+    ∙ sym (ap (λ (o : Carried ℕ (State ℕ)). tallied o.gone c.args.told.now) (pushed-is c.args.side name new.0 s new.1 may)))
 
 pub returns-clause-held : goal.returns-clause-held
 returns-clause-held g c =

@@ -30,12 +30,12 @@ pub put_driver-requires-clause-room : goal.put_driver-requires-clause-room
 put_driver-requires-clause-room g c =
     let s = g.B.Blocks.value c.args.store.now in
     let i = g.B.Blocks.name c.args.message in
-    subst (λ way. HasRoom s (below_takes way (has_parts (message_in s i)) true)) (sym c.in-Down.is) (behind-room Down s i c.args.to (state_in g.B.Stacks.view.modules s c.args.self.now) c.in-Down.is c.if-to-eq0.false c.requires.room)
+    subst (λ way. HasRoom s (below_takes way (has_parts (message_in s i)) true)) (sym c.in-Down.is) (behind-room Down s i c.args.to c.in-Down.is c.if-to-eq0.false c.requires.room)
 
 pub put_up-requires-clause-room : goal.put_up-requires-clause-room
 put_up-requires-clause-room g c =
     let s = g.B.Blocks.value c.args.store.now in
-    behind-room Up s (g.B.Blocks.name c.args.message) c.args.to (state_in g.B.Stacks.view.modules s c.args.self.now) c.in-Up.is c.if-to-eq0.false c.requires.room
+    behind-room Up s (g.B.Blocks.name c.args.message) c.args.to c.in-Up.is c.if-to-eq0.false c.requires.room
 
 pub returns-then-to-eq0 : goal.returns-then-to-eq0
 returns-then-to-eq0 g c =

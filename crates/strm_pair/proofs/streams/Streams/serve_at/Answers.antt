@@ -1,11 +1,28 @@
 -- The stack of the side serves, as its call says.
-use Rattle.std.proofs.Common.{sym, subst}
+use Rattle.std.proofs.Common.{◌-◌, sym, subst, arith}
+use Rattle.std.specs.Prelude.{HoldsAt}
 use Rattle.strm_types.specs.declared.names.Side.{Side}
+use Rattle.strm_types.specs.State.{stream}
+use Rattle.strm_pair.specs.AnyModules.{MayServe}
 use Rattle.strm_pair.specs.declared.streams.Streams.{Streams}
 use Rattle.strm_pair.specs.ModuleServed.{StackServes}
-use Rattle.strm_pair.specs.Pairs.{end_at}
-use Rattle.strm_pair.proofs.ServeSteps.{on-true}
+use Rattle.strm_pair.specs.Pairs.{end_at, state_in}
+use Rattle.strm_pair.proofs.ServeSteps.{may-serve, on-true}
 use Rattle.strm_pair.proofs.streams.Streams.serve_at.Goals as goal
+
+pub serve-requires-clause-turn : goal.serve-requires-clause-turn
+serve-requires-clause-turn g c =
+    let here = c.args.here in
+    let st = state_in g.B.Stacks.view.modules (g.B.Blocks.value c.args.store.now) c.args.self.now in
+    subst (λ sd. HoldsAt (MayServe here.way c.args.again) (stream sd st).modules (here.at - 1)) c.in-Master.is
+    (may-serve here.way c.args.again (here.at - 1) (stream here.side st).modules (omega (arith, c.requires.inside, c.requires.within)) c.requires.begins)
+
+pub serve-requires-in-Slave-clause-turn : goal.serve-requires-in-Slave-clause-turn
+serve-requires-in-Slave-clause-turn g c =
+    let here = c.args.here in
+    let st = state_in g.B.Stacks.view.modules (g.B.Blocks.value c.args.store.now) c.args.self.now in
+    subst (λ sd. HoldsAt (MayServe here.way c.args.again) (stream sd st).modules (here.at - 1)) c.in-Slave.is
+    (may-serve here.way c.args.again (here.at - 1) (stream here.side st).modules (omega (arith, c.requires.inside, c.requires.within)) c.requires.begins)
 
 pub returns-in-Master-clause-serves : goal.returns-in-Master-clause-serves
 returns-in-Master-clause-serves g c =

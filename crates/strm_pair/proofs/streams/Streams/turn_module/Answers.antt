@@ -16,6 +16,15 @@ use Rattle.strm_pair.proofs.streams.Streams.turn_module.Goals as goal
 pub end_module_turn-requires-clause-within : goal.end_module_turn-requires-clause-within
 end_module_turn-requires-clause-within g c = let stands = c.call_on-bytes.ensures.treats.stands in let inside = c.in-Serves.ensures.begins.inside in omega arith
 
+pub returns-in-Over-clause-turn : goal.returns-in-Over-clause-turn
+returns-in-Over-clause-turn g c = sym (ap (λ (t : TurnOutcome ℕ). t.turn) (c.in-Over.ensures.begins c.in-Over.turn))
+
+pub returns-in-Over-clause-state : goal.returns-in-Over-clause-state
+returns-in-Over-clause-state g c = sym (ap (λ (t : TurnOutcome ℕ). t.state) (c.in-Over.ensures.begins c.in-Over.turn))
+
+pub returns-in-Over-clause-told : goal.returns-in-Over-clause-told
+returns-in-Over-clause-told g c = sym (ap (λ (t : TurnOutcome ℕ). tallied t.gone c.args.told.now) (c.in-Over.ensures.begins c.in-Over.turn))
+
 pub returns-in-Serves-clause-turn : goal.returns-in-Serves-clause-turn
 returns-in-Serves-clause-turn g c =
     let view = g.B.Stacks.view.modules in

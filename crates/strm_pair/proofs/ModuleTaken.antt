@@ -1,4 +1,4 @@
--- The ldterm on top of a stack of them, taken off it.
+-- The module on top of a stack, taken off it.
 use Rattle.std.proofs.Common.{ℕ, zero, suc, ◌≡◌, ◌<◌, ◌+◌, Bool, true, false, cond, List, [], ◌∷◌, ◌++◌, map, refl, sym, ap, subst, ◌∙◌, arith}
 use Rattle.std.proofs.lemmas.Bool.Decides.{nat_tests}
 use Rattle.std.proofs.lemmas.List.Sums.{sum_by-cons}
@@ -13,7 +13,8 @@ use Rattle.strm_types.specs.Emptied.{of_all, emptied, none_goes, queue_behind, s
 use Rattle.strm_types.specs.Message.{Message}
 use Rattle.strm_types.specs.Modules.{act_among, top_name}
 use Rattle.strm_types.specs.Queue as plain
-use Rattle.strm_types.specs.Stacked.{Module, module_name}
+use Rattle.strm_types.specs.Stacked.{Module, OfLdterm, module_name}
+use Rattle.strm_types.specs.TurnCalls.{ldterm_of}
 use Rattle.strm_blocks.specs.Blocks.{Block, StoreValue, list_at}
 use Rattle.strm_msg.specs.Messages.{message_of}
 use Rattle.strm_queue.specs.Stored.{FreesBlocks}
@@ -22,9 +23,13 @@ use Rattle.strm_frame.specs.Serves.{SameHand}
 use Rattle.strm_frame.specs.Stacks.{all_of, AreHeld}
 use Rattle.strm_frame.specs.declared.stack.Stream.{Stream}
 use Rattle.strm_ldterm.specs.declared.ldterm.Ldterm.{Ldterm}
-use Rattle.strm_ldterm.specs.Stands.{IsHeld, keeps, ldterm_in, owns}
+use Rattle.strm_ldterm.specs.Stands as stands
+use Rattle.strm_ldterm.specs.Stands.{ldterm_in}
+use Rattle.strm_pair.specs.declared.modules.AnyModule.{AnyModule}
+use Rattle.strm_pair.specs.declared.modules.AnyModule.TheVariants as kinds
+use Rattle.strm_pair.specs.AnyModules.{IsHeld, keeps, module_in, owns}
 use Rattle.strm_pair.specs.declared.stacks.Taken.{Taken}
-use Rattle.strm_pair.specs.LdtermStacks.{stacks_of}
+use Rattle.strm_pair.specs.ModuleStacks.{stacks_of}
 use Rattle.strm_pair.specs.Taken.{TookTop, let_go_of}
 
 -- nothing is left on a queue from which all went
@@ -69,44 +74,49 @@ name_or None = names.Ldterm
 name_or (Some name) = name
 
 -- no module stands on a stack that has no name on top
-pub none-top : {M : Type 0} (name : M → ℕ) (s : StoreValue) (xs : List (Ldterm M)) → top_name module_name (map (ldterm_in name s) xs) ≡ None → map (ldterm_in name s) xs ≡ []
+pub none-top : {M : Type 0} (name : M → ℕ) (s : StoreValue) (xs : List (AnyModule M)) → top_name module_name (map (module_in name s) xs) ≡ None → map (module_in name s) xs ≡ []
 none-top name s [] none = refl
 none-top name s (x ∷ xs) none = absurd (cc)
 
 module _ {M : Type 0} (name : M → ℕ) (s t : StoreValue) (side : Side) (rule : Rule) where
   -- nothing stands on the lists of a module that let all go
-  cleared-list : (x y : Ldterm M) (k : ℕ) → ldterm_in name t y ≡ (let_go_of side rule (ldterm_in name s x)).state → 0 < owns y k → list_at t k ≡ []
-  cleared-list x y k is some = by (once y.read_queue.list k) refl
+  cleared-ldterm : (x y : Ldterm M) (k : ℕ) → OfLdterm (ldterm_in name t y) ≡ (let_go_of side rule (OfLdterm (ldterm_in name s x))).state → 0 < stands.owns y k → list_at t k ≡ []
+  cleared-ldterm x y k is some = by (once y.read_queue.list k) refl
     where
       reads : list_at t y.read_queue.list ≡ []
-      reads = no-chain (list_at t y.read_queue.list) (ap (λ (p : Module ℕ). p.read_queue.messages) is ∙ none-behind (ldterm_in name s x).read_queue)
+      reads = no-chain (list_at t y.read_queue.list) (ap (λ (p : Module ℕ). (ldterm_of p).read_queue.messages) is ∙ none-behind (ldterm_in name s x).read_queue)
 
       writes : list_at t y.write_queue.list ≡ []
-      writes = no-chain-before (list_at t y.write_queue.list) _ (ap (λ (p : Module ℕ). p.write_queue.messages) is ∙ none-behind (ldterm_in name s x).write_queue)
+      writes = no-chain-before (list_at t y.write_queue.list) _ (ap (λ (p : Module ℕ). (ldterm_of p).write_queue.messages) is ∙ none-behind (ldterm_in name s x).write_queue)
 
       by : (n : ℕ) → once y.read_queue.list k ≡ n → list_at t k ≡ []
       by zero none = subst (λ l. list_at t l ≡ []) (once-is y.write_queue.list k (omega (arith, some, none))) writes
       by (suc n) one = subst (λ l. list_at t l ≡ []) (once-is y.read_queue.list k (omega (arith, one))) reads
 
-  module _ (told told' : Fates) (taken : Taken) (a b c : Stream (Ldterm M)) where
+  cleared-list : (x y : AnyModule M) (k : ℕ) → module_in name t y ≡ (let_go_of side rule (module_in name s x)).state → 0 < owns y k → list_at t k ≡ []
+  cleared-list (kinds.Ldterm x) (kinds.Ldterm y) k is some = cleared-ldterm x y k is some
+  cleared-list (kinds.Ptem x) (kinds.Ldterm y) k is some = absurd (cc)
+  cleared-list x (kinds.Ptem y) k is some = absurd (omega (arith, some))
+
+  module _ (told told' : Fates) (taken : Taken) (a b c : Stream (AnyModule M)) where
     -- the stack before it, behind the clearing, and without the module
-    took-these : (x : Ldterm M) (xs : List (Ldterm M)) (y : Ldterm M) → a.modules.items ≡ x ∷ xs → b.modules.items ≡ y ∷ c.modules.items
-        → taken.name ≡ names.Ldterm
-        → map (ldterm_in name t) b.modules.items ≡ (act_among (let_go_of side rule) 0 (map (ldterm_in name s) a.modules.items)).state
-        → taken.notes.items ≡ (act_among (let_go_of side rule) 0 (map (ldterm_in name s) a.modules.items)).notes
-        → told' ≡ tallied (act_among (let_go_of side rule) 0 (map (ldterm_in name s) a.modules.items)).gone told
+    took-these : (x : AnyModule M) (xs : List (AnyModule M)) (y : AnyModule M) → a.modules.items ≡ x ∷ xs → b.modules.items ≡ y ∷ c.modules.items
+        → taken.name ≡ module_name (module_in name s x)
+        → map (module_in name t) b.modules.items ≡ (act_among (let_go_of side rule) 0 (map (module_in name s) a.modules.items)).state
+        → taken.notes.items ≡ (act_among (let_go_of side rule) 0 (map (module_in name s) a.modules.items)).notes
+        → told' ≡ tallied (act_among (let_go_of side rule) 0 (map (module_in name s) a.modules.items)).gone told
         → AreHeld (IsHeld name) owns t b.modules.items → ((i : ℕ) → all_of (keeps name) b.modules.items i ≡ 0)
         → OnlyOwn s t (all_of owns a.modules.items) (all_of owns b.modules.items) → SameHand s t → FreesBlocks s t
         → TookTop (stacks_of name) side rule s t a c told told' taken
     took-these x xs y before behind named state notes tells held rests own hand frees =
-        let was = ap (map (ldterm_in name s)) before in
+        let was = ap (map (module_in name s)) before in
         let act = λ (ps : List (Module ℕ)). act_among (let_go_of side rule) 0 ps in
-        let all : ldterm_in name t y ∷ map (ldterm_in name t) c.modules.items ≡ (let_go_of side rule (ldterm_in name s x)).state ∷ map (ldterm_in name s) xs = ap (map (ldterm_in name t)) (sym behind) ∙ state ∙ ap (λ ps. (act ps).state) was in
+        let all : module_in name t y ∷ map (module_in name t) c.modules.items ≡ (let_go_of side rule (module_in name s x)).state ∷ map (module_in name s) xs = ap (map (module_in name t)) (sym behind) ∙ state ∙ ap (λ ps. (act ps).state) was in
         let both : AreHeld (IsHeld name) owns t (y ∷ c.modules.items) = subst (AreHeld (IsHeld name) owns t) behind held in
         let owned : (k : ℕ) → owns y k + all_of owns c.modules.items k ≡ all_of owns a.modules.items k = λ k. sym (sum_by-cons (λ z. owns z k) y c.modules.items) ∙ ap (λ zs. all_of owns zs k) (sym behind) ∙ own.owns_same k in
         record {
-          top = ldterm_in name s x;
-          rest = map (ldterm_in name s) xs;
+          top = module_in name s x;
+          rest = map (module_in name s) xs;
           was = was;
           name = named;
           notes = notes ∙ ap (λ ps. (act ps).notes) was;
@@ -116,23 +126,23 @@ module _ {M : Type 0} (name : M → ℕ) (s t : StoreValue) (side : Side) (rule 
           rests = λ i. omega (arith, rests i, ap (λ zs. all_of (keeps name) zs i) behind, sum_by-cons (λ z. keeps name z i) y c.modules.items);
           owns = λ k. omega (arith, owned k);
           others = own.lists;
-          emptied = λ k some none. cleared-list x y k (ap (first_or (ldterm_in name t y)) all) (omega (arith, owned k, some, none));
+          emptied = λ k some none. cleared-list x y k (ap (first_or (module_in name t y)) all) (omega (arith, owned k, some, none));
           hand = hand;
           frees = frees;
         }
 
-    pub took-top : (popped : Option (Ldterm M)) → top_name module_name (map (ldterm_in name s) a.modules.items) ≡ Some taken.name
-        → map (ldterm_in name t) b.modules.items ≡ (act_among (let_go_of side rule) 0 (map (ldterm_in name s) a.modules.items)).state
-        → taken.notes.items ≡ (act_among (let_go_of side rule) 0 (map (ldterm_in name s) a.modules.items)).notes
-        → told' ≡ tallied (act_among (let_go_of side rule) 0 (map (ldterm_in name s) a.modules.items)).gone told
+    pub took-top : (popped : Option (AnyModule M)) → top_name module_name (map (module_in name s) a.modules.items) ≡ Some taken.name
+        → map (module_in name t) b.modules.items ≡ (act_among (let_go_of side rule) 0 (map (module_in name s) a.modules.items)).state
+        → taken.notes.items ≡ (act_among (let_go_of side rule) 0 (map (module_in name s) a.modules.items)).notes
+        → told' ≡ tallied (act_among (let_go_of side rule) 0 (map (module_in name s) a.modules.items)).gone told
         → AreHeld (IsHeld name) owns t b.modules.items → ((i : ℕ) → all_of (keeps name) b.modules.items i ≡ 0)
         → OnlyOwn s t (all_of owns a.modules.items) (all_of owns b.modules.items) → SameHand s t → FreesBlocks s t
         → MatchOption popped ((b.modules.items ≡ []) × (c ≡ b)) (λ y. b.modules.items ≡ y ∷ c.modules.items)
         → TookTop (stacks_of name) side rule s t a c told told' taken
     took-top popped top state notes tells held rests own hand frees = by a.modules.items refl popped
       where
-        by : (l : List (Ldterm M)) → a.modules.items ≡ l → (popped : Option (Ldterm M)) → MatchOption popped ((b.modules.items ≡ []) × (c ≡ b)) (λ y. b.modules.items ≡ y ∷ c.modules.items) → TookTop (stacks_of name) side rule s t a c told told' taken
-        by [] none popped took = absurd (let e = sym top ∙ ap (λ l. top_name module_name (map (ldterm_in name s) l)) none in cc)
-        by (x ∷ xs) before None took = absurd (let e = sym (ap (map (ldterm_in name t)) took.0) ∙ state ∙ ap (λ l. (act_among (let_go_of side rule) 0 (map (ldterm_in name s) l)).state) before in cc)
+        by : (l : List (AnyModule M)) → a.modules.items ≡ l → (popped : Option (AnyModule M)) → MatchOption popped ((b.modules.items ≡ []) × (c ≡ b)) (λ y. b.modules.items ≡ y ∷ c.modules.items) → TookTop (stacks_of name) side rule s t a c told told' taken
+        by [] none popped took = absurd (let e = sym top ∙ ap (λ l. top_name module_name (map (module_in name s) l)) none in cc)
+        by (x ∷ xs) before None took = absurd (let e = sym (ap (map (module_in name t)) took.0) ∙ state ∙ ap (λ l. (act_among (let_go_of side rule) 0 (map (module_in name s) l)).state) before in cc)
         by (x ∷ xs) before (Some y) took =
-            took-these x xs y before took (ap name_or (sym top ∙ ap (λ l. top_name module_name (map (ldterm_in name s) l)) before)) state notes tells held rests own hand frees
+            took-these x xs y before took (ap name_or (sym top ∙ ap (λ l. top_name module_name (map (module_in name s) l)) before)) state notes tells held rests own hand frees

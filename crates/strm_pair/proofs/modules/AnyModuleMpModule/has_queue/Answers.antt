@@ -1,0 +1,12 @@
+-- Its kind says which queues it has.
+use Rattle.std.proofs.Common.{sym, ap, ◌∙◌}
+use Rattle.strm_types.specs.ModuleQueues.{has_queue}
+use Rattle.strm_types.specs.Stacked.{module_queue}
+use Rattle.strm_pair.specs.AnyModules.{module_in}
+use Rattle.strm_pair.proofs.modules.AnyModuleMpModule.has_queue.Goals as goal
+
+pub returns-in-Ldterm : goal.returns-in-Ldterm
+returns-in-Ldterm g c = λ s. c.has_queue.ensures s ∙ ap (λ x. has_queue module_queue c.args.way (module_in g.B.Blocks.name s x)) (sym c.in-Ldterm.is)
+
+pub returns-in-Ptem : goal.returns-in-Ptem
+returns-in-Ptem g c = λ s. c.has_queue-in-Ptem.ensures s ∙ ap (λ x. has_queue module_queue c.args.way (module_in g.B.Blocks.name s x)) (sym c.in-Ptem.is)

@@ -1,0 +1,11 @@
+-- Its kind says its name.
+use Rattle.std.proofs.Common.{sym, ap, ◌∙◌}
+use Rattle.strm_types.specs.Stacked.{module_name}
+use Rattle.strm_pair.specs.AnyModules.{module_in}
+use Rattle.strm_pair.proofs.modules.AnyModuleMpModule.name.Goals as goal
+
+pub returns-in-Ldterm : goal.returns-in-Ldterm
+returns-in-Ldterm g c = λ s. c.name.ensures s ∙ ap (λ x. module_name (module_in g.B.Blocks.name s x)) (sym c.in-Ldterm.is)
+
+pub returns-in-Ptem : goal.returns-in-Ptem
+returns-in-Ptem g c = λ s. c.name-in-Ptem.ensures s ∙ ap (λ x. module_name (module_in g.B.Blocks.name s x)) (sym c.in-Ptem.is)

@@ -1,0 +1,204 @@
+//! The modules that may stand on a side's stream: ldterm (ldterm(7M)) and ptem (ptem(7M)), each as it is by itself.
+
+ghost use Rattle.std.specs.Prelude.{ℕ, ◌≡◌, ◌≤◌, ◌+◌, None, Some, MatchOption};
+ghost use Rattle.strm_types.specs.Ptems.{new_ptem};
+ghost use Rattle.strm_types.specs.Pushes.{named_by};
+ghost use Rattle.strm_types.specs.Stacked.{OfPtem};
+ghost use Rattle.strm_blocks.specs.Blocks.{StoreValue};
+ghost use Rattle.strm_pair.specs.AnyModules.{IsMade, module_in};
+
+use arrayvec::ArrayVec;
+use strm_blocks::Blocks;
+use strm_frame::{Acts, Module, Served, TurnEnd};
+use strm_ldterm::Ldterm;
+use strm_pty::Ptem;
+use strm_types::{Asks, Band, Fates, ModuleName, Note, Rule, Side, Spot, Way};
+
+/// A module of any kind.
+#[derive(Drop)]
+pub enum AnyModule<Mp> {
+    Ldterm(Ldterm<Mp>),
+    Ptem(Ptem),
+}
+
+impl<Mp: Drop> Default for AnyModule<Mp> {
+    ghost is_default = { λ x. (name : Mp → ℕ) (s : StoreValue) → module_in name s x ≡ OfPtem new_ptem };
+
+    /// What stands in the unused places of an array.
+    fn default() -> AnyModule<Mp> {
+        AnyModule::Ptem(Ptem::new())
+    }
+}
+
+impl<Mp: Drop> AnyModule<Mp> {
+    /// One as its name makes it, with two lists of its own from a number on, where it has queues. So far pckt isn't built.
+    pub(crate) fn made(name: ModuleName, first: usize) -> Option<AnyModule<Mp>>
+        requires { first ≤ 6 }
+        ensures { MatchOption result (named_by {C = ℕ} (Some name) ≡ None) (λ x. IsMade first name x) }
+    {
+        match name {
+            ModuleName::Ldterm => Some(AnyModule::Ldterm(Ldterm::new(first, first + 1))),
+            ModuleName::Ptem => Some(AnyModule::Ptem(Ptem::new())),
+            ModuleName::Pckt => None,
+        }
+    }
+}
+
+impl<B: Blocks> Module<B> for AnyModule<B::Mp> {
+    ghost use Rattle.strm_types.specs.Cells as cells;
+    ghost use Rattle.strm_types.specs.Costs as costs;
+    ghost use Rattle.strm_types.specs.Puts.{far};
+    ghost use Rattle.strm_types.specs.Stacked as plain;
+    ghost use Rattle.strm_types.specs.TurnCalls.{Ends, ldterm_of};
+    ghost use Rattle.strm_ldterm.specs.Bounds.{turn_height};
+    ghost use Rattle.strm_pair.specs.AnyModules as any;
+
+    ghost Plain = { plain.Module ℕ };
+
+    ghost plain = { λ s x. any.module_in B.name s x };
+
+    ghost name_of = { plain.module_name };
+
+    ghost IsHeld = { λ s x. any.IsHeld B.name s x };
+
+    ghost owns = { λ x. any.owns x };
+
+    ghost keeps = { λ x. any.keeps B.name x };
+
+    ghost puts = { plain.module_puts };
+
+    ghost queue_of = { plain.module_queue };
+
+    ghost with_queue = { plain.with_module_queue };
+
+    ghost line_of = { plain.module_line };
+
+    ghost without_line = { plain.without_module_line };
+
+    ghost asks = { plain.module_asks };
+
+    ghost serves = { λ here again stop p. plain.module_serves cells.plain here 0 again stop p };
+
+    ghost MayServe = { any.MayServe };
+
+    ghost MayStop = { λ way again bytes p. Ends way again (ldterm_of p) bytes };
+
+    ghost height = { far };
+
+    ghost cost = { costs.cost };
+
+    ghost turn_height = { turn_height };
+
+    ghost turn_cost = { any.turn_cost };
+
+    fn name(&self) -> ModuleName {
+        match self {
+            AnyModule::Ldterm(ldterm) => Module::<B>::name(ldterm),
+            AnyModule::Ptem(ptem) => Module::<B>::name(ptem),
+        }
+    }
+
+    fn put(&mut self, store: &mut B, here: Spot, message: B::Mp, told: &mut Fates) -> Acts<B::Mp> {
+        match self {
+            AnyModule::Ldterm(ldterm) => ldterm.put(store, here, message, told),
+            AnyModule::Ptem(ptem) => ptem.put(store, here, message, told),
+        }
+    }
+
+    fn has_queue(&self, way: Way) -> bool {
+        match self {
+            AnyModule::Ldterm(ldterm) => Module::<B>::has_queue(ldterm, way),
+            AnyModule::Ptem(ptem) => Module::<B>::has_queue(ptem, way),
+        }
+    }
+
+    fn is_full(&self, store: &B, way: Way, band: Band) -> bool {
+        match self {
+            AnyModule::Ldterm(ldterm) => ldterm.is_full(store, way, band),
+            AnyModule::Ptem(ptem) => ptem.is_full(store, way, band),
+        }
+    }
+
+    fn count(&self, store: &B, way: Way, band: Band) -> usize {
+        match self {
+            AnyModule::Ldterm(ldterm) => ldterm.count(store, way, band),
+            AnyModule::Ptem(ptem) => ptem.count(store, way, band),
+        }
+    }
+
+    fn sizes(&self, store: &B, way: Way) -> (usize, usize) {
+        match self {
+            AnyModule::Ldterm(ldterm) => ldterm.sizes(store, way),
+            AnyModule::Ptem(ptem) => ptem.sizes(store, way),
+        }
+    }
+
+    fn first_size(&self, store: &B, way: Way) -> usize {
+        match self {
+            AnyModule::Ldterm(ldterm) => ldterm.first_size(store, way),
+            AnyModule::Ptem(ptem) => ptem.first_size(store, way),
+        }
+    }
+
+    fn none_waits_up(&self, store: &B) -> bool {
+        match self {
+            AnyModule::Ldterm(ldterm) => ldterm.none_waits_up(store),
+            AnyModule::Ptem(ptem) => ptem.none_waits_up(store),
+        }
+    }
+
+    fn let_wait(&mut self, way: Way, band: Band) {
+        match self {
+            AnyModule::Ldterm(ldterm) => Module::<B>::let_wait(ldterm, way, band),
+            AnyModule::Ptem(ptem) => Module::<B>::let_wait(ptem, way, band),
+        }
+    }
+
+    fn asks(&self, store: &B, way: Way) -> Asks {
+        match self {
+            AnyModule::Ldterm(ldterm) => ldterm.asks(store, way),
+            AnyModule::Ptem(ptem) => ptem.asks(store, way),
+        }
+    }
+
+    fn serve(&mut self, store: &mut B, here: Spot, again: bool, told: &mut Fates) -> Served<B::Mp> {
+        match self {
+            AnyModule::Ldterm(ldterm) => ldterm.serve(store, here, again, told),
+            AnyModule::Ptem(ptem) => ptem.serve(store, here, false, told),
+        }
+    }
+
+    fn end_turn(&mut self, store: &B, way: Way, took: bool) -> TurnEnd {
+        match self {
+            AnyModule::Ldterm(ldterm) => ldterm.end_turn(store, way, took),
+            AnyModule::Ptem(ptem) => ptem.end_turn(store, way, took),
+        }
+    }
+
+    fn clear(
+        &mut self,
+        store: &mut B,
+        side: Side,
+        rule: Rule,
+        told: &mut Fates,
+    ) -> ArrayVec<Note, 4> {
+        match self {
+            AnyModule::Ldterm(ldterm) => ldterm.clear(store, side, rule, told),
+            AnyModule::Ptem(ptem) => ptem.clear(store, side, rule, told),
+        }
+    }
+
+    ghost frame = { λ s t x same held. any.module-frame B.name s t x same held };
+
+    ghost rests = { λ s x way i held may. any.serves-rests B.name s x way i held may };
+
+    ghost either_way = { λ way other p may. any.either-serves way other p may };
+
+    ghost turn_goes = { λ here again stop p may. any.serves-on here again stop p may };
+
+    ghost put_stays = { λ here m p way again may. any.puts-serve here m way again p may };
+
+    ghost queue_stays = { λ at q p way again may. any.queue-serves at q way again p may };
+
+    ghost line_stays = { λ p way again may. any.line-serves way again p may };
+}
