@@ -7,3 +7,6 @@ pub mod Emptiness
 pub mod ToySteps
 pub mod RigSteps
 pub mod FirstSizes
+pub mod Read
+pub mod Behind
+pub mod Asked

@@ -3,6 +3,7 @@
 
 mod carrying;
 mod enabled;
+pub mod ioctls;
 mod modules;
 mod parcels;
 mod places;

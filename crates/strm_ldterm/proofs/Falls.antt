@@ -1,4 +1,4 @@
--- What ldterm sends has less before it than what was put, and less than a call of its service procedure may send.
+-- What a call of ldterm's service procedure sends has less before it than it may have.
 use Rattle.std.proofs.Common.{ℕ, ◌<◌, ◌≤◌, Bool, true, false, arith}
 use Rattle.std.specs.Prelude.{Option}
 use Rattle.strm_types.specs.declared.limits.TheConstants.{MODULES, HOPS}
@@ -8,26 +8,16 @@ use Rattle.strm_types.specs.declared.spots.Spot.{Spot}
 use Rattle.strm_types.specs.Cells.{plain}
 use Rattle.strm_types.specs.Deliver.{AreLower, toward}
 use Rattle.strm_types.specs.LdtermServes.{ldterm_serves}
-use Rattle.strm_types.specs.Ldterms.{Ldterm, ldterm_puts}
-use Rattle.strm_types.specs.Message.{Message}
+use Rattle.strm_types.specs.Ldterms.{Ldterm}
 use Rattle.strm_types.specs.Puts.{far, far_at, is_turned}
 use Rattle.strm_ldterm.specs.Bounds.{turn_height}
-use Rattle.strm_ldterm.proofs.Onward.{puts-send, serves-send}
-
--- the next place the same way
-next-far : (way : Way) (turned : Bool) (here : Spot) → 0 < here.at → here.at ≤ MODULES → far_at (toward way here).way turned (toward way here).at < far_at way turned here.at
-next-far Up true here inside small = omega (arith, inside)
-next-far Up false here inside small = omega (arith, inside)
-next-far Down turned here inside small = omega (arith, small)
+use Rattle.strm_ldterm.proofs.Onward.{serves-send}
 
 -- either of the next places
 turn-far : (way : Way) (turned : Bool) (here : Spot) → 0 < here.at → far_at (toward way here).way turned (toward way here).at < turn_height here
 turn-far Up true here inside = omega (arith, inside)
 turn-far Up false here inside = omega (arith, inside)
 turn-far Down turned here inside = omega (arith, inside)
-
-pub puts-lower : {C : Type 0} (here : Spot) (m : Message C) (p : Ldterm C) → 0 < here.at → here.at ≤ MODULES → AreLower far (far here m) (ldterm_puts here m p).sent
-puts-lower here m p inside small = puts-send here (λ ps. AreLower far (far here m) ps) m p tt (next-far here.way (is_turned m) here inside small, tt)
 
 pub serves-lower : (here : Spot) (again : Bool) (stop : Option ℕ) (p : Ldterm ℕ) → 0 < here.at → AreLower far (turn_height here) (ldterm_serves plain here 0 again stop p).acted.sent
 serves-lower here again stop p inside =

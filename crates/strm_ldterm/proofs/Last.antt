@@ -1,14 +1,20 @@
 -- A message of band 0 that stands last.
 use Rattle.std.proofs.Common.{ℕ, ◌≡◌, ◌≤◌, ◌<◌, ◌+◌, ◌==◌, Bool, true, false, cond, List, [], ◌∷◌, ◌++◌, refl, sym, ap, ◌∙◌, arith, append-nil}
-use Rattle.std.specs.Prelude.{not, ◌&&◌, nat_le, nat_lt, Option, None, Some, IfSome, is_some}
+use Rattle.std.specs.Prelude.{not, ◌&&◌, ◌||◌, nat_le, nat_lt, Option, None, Some, IfSome, is_some}
 use Rattle.std.specs.Option.{option_to_list}
 use Rattle.std.specs.List.{AllByRecursion}
+use Rattle.std.proofs.lemmas.Bool.{and_parts}
 use Rattle.std.proofs.lemmas.Bool.Decides.{nat_tests}
 use Rattle.std.proofs.lemmas.List.Sums.{sum_by-cons, sum_by-append}
 use Rattle.strm_types.specs.declared.kinds.MsgKind.{MsgKind}
 use Rattle.strm_types.specs.declared.kinds.MsgKind.TheVariants as kinds
-use Rattle.strm_types.specs.Message.{Message, is_high_priority, rank_of, band_of, size_of}
+use Rattle.strm_types.specs.Message.{Message, has_parts, is_high_priority, rank_of, band_of, size_of}
 use Rattle.strm_types.specs.declared.limits.TheConstants.{HIGH_PRIORITY_RANK}
+use Rattle.strm_types.specs.declared.names.Way.{Way}
+use Rattle.strm_types.specs.declared.names.Way.TheVariants.{Up, Down}
+use Rattle.strm_types.specs.Commands.{is_asked, is_ioctl}
+use Rattle.strm_types.specs.Ioctls.{read_ioc}
+use Rattle.strm_types.specs.LdtermPuts.{goes_behind, waits_behind, waits_on}
 use Rattle.strm_types.specs.Ldterms.{waits_there}
 use Rattle.strm_types.specs.Queue as plain
 use Rattle.strm_types.specs.Ranked as ranked
@@ -130,13 +136,26 @@ module _ {M : Type 0} (name : M → ℕ) (s : StoreValue) where
       at true is = refl
       at false is = absurd (cc)
 
--- the kinds that wait are of no high priority
-waits-kind : (k : MsgKind) → waits_there k ≡ true → is_high_priority k ≡ false
+-- what waits on a queue is of no high priority
+there-low : (k : MsgKind) → waits_there k ≡ true → is_high_priority k ≡ false
 unfolding is_high_priority
-waits-kind kinds.Data is = refl
-waits-kind kinds.Proto is = refl
-waits-kind _ is = absurd (cc)
+there-low kinds.Data is = refl
+there-low kinds.Proto is = refl
+there-low _ is = absurd (cc)
 
-pub waits-low : (m : Message ℕ) → waits_there m.kind ≡ true → rank_of m ≡ m.band
+ioctl-low : (k : MsgKind) → is_ioctl k ≡ true → is_high_priority k ≡ false
+unfolding is_high_priority
+ioctl-low kinds.Ioctl is = refl
+ioctl-low _ is = absurd (cc)
+
+pub waits-low : (way : Way) (m : Message ℕ) → waits_on way m ≡ true → is_high_priority m.kind ≡ false
+waits-low way m is = at (waits_there m.kind) refl way is
+  where
+    at : (there : Bool) → waits_there m.kind ≡ there → (way : Way) → (there || goes_behind way m) ≡ true → is_high_priority m.kind ≡ false
+    at true e way is = there-low m.kind e
+    at false e Up is = absurd (cc)
+    at false e Down is = ioctl-low m.kind (and_parts (is_ioctl m.kind) (not (has_parts m)) (and_parts (is_asked m) (waits_behind (read_ioc m.plain)) is).0).0
+
+pub low-rank : (m : Message ℕ) → is_high_priority m.kind ≡ false → rank_of m ≡ m.band
 unfolding rank_of
-waits-low m is = ap (λ v. cond v HIGH_PRIORITY_RANK m.band) (waits-kind m.kind is)
+low-rank m is = ap (λ v. cond v HIGH_PRIORITY_RANK m.band) is

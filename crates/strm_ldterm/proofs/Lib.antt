@@ -12,7 +12,6 @@ pub mod Asking
 pub mod Relief
 pub mod Flushed
 pub mod Before
-pub mod Read
 pub mod Passing
 pub mod Turning
 pub mod Counting
@@ -47,3 +46,5 @@ pub mod Spared
 pub mod Pouring
 pub mod Poured
 pub mod Outgone
+pub mod TakenCosts
+pub mod TakingUp

@@ -1,4 +1,4 @@
--- What ldterm sends goes to the places next to its own: one message of a put, and up to three of a call of its service procedure.
+-- What ldterm sends goes to the places next to its own: an M_FLUSH that passes, and up to three messages of a call of its service procedure.
 use Rattle.std.proofs.Common.{ℕ, zero, suc, ◌≡◌, ◌+◌, ◌-◌, ◌*◌, Bool, true, false, cond, List, [], ◌∷◌, ◌++◌, map, refl, sym, subst}
 use Rattle.std.specs.Prelude.{not, ◌&&◌, length, take, Option, None, Some, unwrap_or}
 use Rattle.strm_types.specs.declared.flushing.FlushAsked.{FlushAsked}
@@ -11,11 +11,11 @@ use Rattle.strm_types.specs.declared.rules.Rule.TheVariants.{Flushed, SignalKey,
 use Rattle.strm_types.specs.declared.spots.Spot.{Spot}
 use Rattle.strm_types.specs.Cells.{Cells, cells_made, plain}
 use Rattle.strm_types.specs.Deliver.{Acted, Parcel}
-use Rattle.strm_types.specs.Flushing.{asked_by, is_flush, flush_bytes, flush_message}
+use Rattle.strm_types.specs.Flushing.{asked_by, flush_bytes, flush_message}
 use Rattle.strm_types.specs.Input.{begins_next, cells_left, input_begins, is_data, made_of, next_stage, passes, stage_at, stages, stages_done, then_on, to_treat, treats, with_left}
 use Rattle.strm_types.specs.Keys.{restarts}
 use Rattle.strm_types.specs.LdtermServes.{ldterm_serves}
-use Rattle.strm_types.specs.Ldterms.{Ldterm, Stage, Between, Begun, Answered, both, flush_passes, ldterm_puts, onward, queue_flushed, queued_at, sends, takes_band_0, waits_there, without_line}
+use Rattle.strm_types.specs.Ldterms.{Ldterm, Stage, Between, Begun, Answered, both, flush_passes, onward, queue_flushed, sends, takes_band_0, without_line}
 use Rattle.strm_types.specs.Lines.{Types, edited, has_room}
 use Rattle.strm_types.specs.Message.{Message, cells_of, data_message}
 use Rattle.strm_types.specs.Output.{posts}
@@ -29,7 +29,7 @@ use Rattle.strm_ldterm.proofs.Turned.{again-serves, down-serves, first-serves}
 
 module _ {C : Type 0} (here : Spot) where
   -- an M_FLUSH goes on, and nothing else is sent
-  flush-sent : (m : Message C) (p : Ldterm C) → (flush_passes here m p).sent ≡ onward here.way here m ∷ []
+  pub flush-sent : (m : Message C) (p : Ldterm C) → (flush_passes here m p).sent ≡ onward here.way here m ∷ []
   flush-sent m p = at asked.for_read (takes_band_0 asked.band) asked.for_write
     where
       asked : FlushAsked
@@ -51,15 +51,6 @@ module _ {C : Type 0} (here : Spot) where
       at true false false = refl
       at false first true = refl
       at false first false = refl
-
-  -- what holds of nothing, and of the message going on, holds of what a put sends
-  pub puts-send : (P : List (Parcel C) → Type 0) (m : Message C) (p : Ldterm C) → P [] → P (onward here.way here m ∷ []) → P (ldterm_puts here m p).sent
-  puts-send P m p none one = at (waits_there m.kind) (is_flush m.kind)
-    where
-      at : (waits flush : Bool) → P (cond waits (queued_at here.way m p) (cond flush (flush_passes here m p) (sends (onward here.way here m ∷ []) p))).sent
-      at true flush = none
-      at false true = subst P (sym (flush-sent m p)) one
-      at false false = one
 
 quiet-data : {C : Type 0} (cells : List C) → is_quiet (data_message cells).kind ≡ true
 unfolding data_message

@@ -10,8 +10,9 @@ use Rattle.strm_types.specs.declared.spots.Spot.{Spot}
 use Rattle.strm_types.specs.Deliver.{Acted, tallied}
 use Rattle.strm_types.specs.Flush.{is_data_kind}
 use Rattle.strm_types.specs.Flushing.{is_flush}
+use Rattle.strm_types.specs.LdtermPuts.{ldterm_puts, passes_on_way, waits_on}
 use Rattle.strm_types.specs.Ldterms as ldterms
-use Rattle.strm_types.specs.Ldterms.{sends, both, onward, queue_flushed, line_flushed, read_flushed, write_flushed, takes_band_0, flush_passes, ldterm_puts, queued_at, waits_there}
+use Rattle.strm_types.specs.Ldterms.{sends, both, onward, queue_flushed, line_flushed, read_flushed, write_flushed, takes_band_0, flush_passes, queued_at}
 use Rattle.std.specs.Prelude.{◌&&◌, not}
 use Rattle.strm_types.specs.Message.{Message}
 use Rattle.strm_types.specs.Service.{line_gone}
@@ -27,7 +28,7 @@ use Rattle.strm_ldterm.specs.Does.{Does, Flushes}
 use Rattle.strm_ldterm.proofs.Steps.{still-chain, alters-does}
 
 -- flushes send nothing
-read-sends : (here : Spot) (asked : FlushAsked) (p : ldterms.Ldterm ℕ) → (read_flushed here asked p).sent ≡ []
+pub read-sends : (here : Spot) (asked : FlushAsked) (p : ldterms.Ldterm ℕ) → (read_flushed here asked p).sent ≡ []
 read-sends here asked p =
     elim asked.for_read as (λ v. (cond v (both (queue_flushed Up here asked.band p) (line_flushed here asked.band)) (sends [] p)).sent ≡ []) [
       | true ↦ line-sends ((queue_flushed Up here asked.band p).state)
@@ -77,17 +78,16 @@ module _ {M : Type 0} (name : M → ℕ) (s u : StoreValue) (x z : Ldterm M) (i 
         pool = d.pool;
       }
 
--- a put by the kind of its message
+-- a put by what becomes of its message
 module _ (here : Spot) (m : Message ℕ) (p : ldterms.Ldterm ℕ) where
-  pub puts-wait : waits_there m.kind ≡ true → ldterm_puts here m p ≡ queued_at here.way m p
-  puts-wait is = ap (λ v. cond v (queued_at here.way m p) (cond (is_flush m.kind) (flush_passes here m p) (sends (onward here.way here m ∷ []) p))) is
+  abbrev puts_by : Bool → Bool → Acted ℕ (ldterms.Ldterm ℕ)
+  puts_by waits flush = cond waits (queued_at here.way m p) (cond flush (flush_passes here m p) (passes_on_way here.way here m p))
 
-  pub puts-flush : waits_there m.kind ≡ false → is_flush m.kind ≡ true → ldterm_puts here m p ≡ flush_passes here m p
-  puts-flush is flush =
-      ap (λ v. cond v (queued_at here.way m p) (cond (is_flush m.kind) (flush_passes here m p) (sends (onward here.way here m ∷ []) p))) is
-      ∙ ap (λ v. cond v (flush_passes here m p) (sends (onward here.way here m ∷ []) p)) flush
+  pub puts-wait : waits_on here.way m ≡ true → ldterm_puts here m p ≡ queued_at here.way m p
+  puts-wait is = ap (λ v. puts_by v (is_flush m.kind)) is
 
-  pub puts-pass : waits_there m.kind ≡ false → is_flush m.kind ≡ false → ldterm_puts here m p ≡ sends (onward here.way here m ∷ []) p
-  puts-pass is flush =
-      ap (λ v. cond v (queued_at here.way m p) (cond (is_flush m.kind) (flush_passes here m p) (sends (onward here.way here m ∷ []) p))) is
-      ∙ ap (λ v. cond v (flush_passes here m p) (sends (onward here.way here m ∷ []) p)) flush
+  pub puts-flush : waits_on here.way m ≡ false → is_flush m.kind ≡ true → ldterm_puts here m p ≡ flush_passes here m p
+  puts-flush is flush = ap (λ v. puts_by v (is_flush m.kind)) is ∙ ap (λ v. puts_by false v) flush
+
+  pub puts-pass : waits_on here.way m ≡ false → is_flush m.kind ≡ false → ldterm_puts here m p ≡ passes_on_way here.way here m p
+  puts-pass is flush = ap (λ v. puts_by v (is_flush m.kind)) is ∙ ap (λ v. puts_by false v) flush

@@ -19,17 +19,17 @@ tallied-joined [] b f = refl
 tallied-joined (x ∷ a) b f = tallied-joined a b (counted_with x f)
 
 module _ {M : Type 0} (name : M → ℕ) where
-  times-joined : (i : ℕ) (a b : List (Sent M)) → times_sent name i (a ++ b) ≡ times_sent name i a + times_sent name i b
+  pub times-joined : (i : ℕ) (a b : List (Sent M)) → times_sent name i (a ++ b) ≡ times_sent name i a + times_sent name i b
   unfolding times_sent
   times-joined i [] b = omega arith
   times-joined i (x ∷ a) b = let ih = times-joined i a b in omega arith
 
-  parcels-joined : (s : StoreValue) (a b : List (Sent M)) → parcels_in name s (a ++ b) ≡ parcels_in name s a ++ parcels_in name s b
+  pub parcels-joined : (s : StoreValue) (a b : List (Sent M)) → parcels_in name s (a ++ b) ≡ parcels_in name s a ++ parcels_in name s b
   unfolding parcels_in
   parcels-joined s [] b = refl
   parcels-joined s (x ∷ a) b = ap (λ ps. parcel_in name s x ∷ ps) (parcels-joined s a b)
 
-  chains-joined : (s : StoreValue) (a b : List (Sent M)) → AreChains name s a → AreChains name s b → AreChains name s (a ++ b)
+  pub chains-joined : (s : StoreValue) (a b : List (Sent M)) → AreChains name s a → AreChains name s b → AreChains name s (a ++ b)
   unfolding AreChains
   chains-joined s [] b first second = second
   chains-joined s (x ∷ a) b first second = (first.0, chains-joined s a b first.1 second)

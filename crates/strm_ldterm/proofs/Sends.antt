@@ -121,7 +121,7 @@ unfolding once
 times-held s i chain j = sum_by-cons (λ (h : Held). cond (eqb h.name j) 1 0) (record { name = i; chain = chain }) s.hand
 
 module _ {M : Type 0} (name : M → ℕ) where
-  times-one : (i : ℕ) (z : Sent M) (sent : List (Sent M)) → sent ≡ z ∷ [] → times_sent name i sent ≡ once (name z.message) i
+  pub times-one : (i : ℕ) (z : Sent M) (sent : List (Sent M)) → sent ≡ z ∷ [] → times_sent name i sent ≡ once (name z.message) i
   unfolding times_sent
   times-one i z sent one = let e = ap (times_sent name i) one in omega arith
 

@@ -1,8 +1,7 @@
--- What ldterm sends takes no more blocks than may be taken: what a put sends no more than what was put, and what a call of its service
+-- What ldterm sends takes no more blocks than may be taken: what passes no more than what was put, and what a call of its service
 -- procedure sends no more than is left beside the rest of the byte.
-use Rattle.std.proofs.Common.{ℕ, zero, suc, ◌≡◌, ◌<◌, ◌≤◌, ◌+◌, ◌-◌, ◌*◌, Bool, true, false, cond, List, [], ◌∷◌, ◌++◌, refl, sym, ap, ◌∙◌, arith}
+use Rattle.std.proofs.Common.{ℕ, zero, suc, ◌≡◌, ◌<◌, ◌≤◌, ◌+◌, ◌-◌, ◌*◌, Bool, true, false, cond, List, [], ◌∷◌, ◌++◌, refl, sym, ap, subst, ◌∙◌, arith}
 use Rattle.std.proofs.lemmas.Bool.{false≢true}
-use Rattle.std.proofs.lemmas.Bool.Decides.{nat_tests}
 use Rattle.std.specs.Prelude.{◌==◌, ◌&&◌, ◌||◌, Option, None, Some, is_some, option_map}
 use Rattle.strm_types.specs.declared.kinds.MsgKind.TheVariants as kinds
 use Rattle.strm_types.specs.declared.limits.TheConstants.{MODULES}
@@ -12,19 +11,17 @@ use Rattle.strm_types.specs.declared.spots.Spot.{Spot}
 use Rattle.strm_types.specs.Cells.{cells_made, plain}
 use Rattle.strm_types.specs.Costs.{asking_at, cost}
 use Rattle.strm_types.specs.Deliver.{Acted, Parcel, toward}
-use Rattle.strm_types.specs.Flushing.{is_flush}
 use Rattle.strm_types.specs.Input.{begins_next, cells_left, left_of, made_of, next_stage, stage_at, stages, with_left}
 use Rattle.strm_types.specs.Keys.{restarts}
-use Rattle.strm_types.specs.Ldterms.{Ldterm, Stage, Between, Begun, Answered, ldterm_puts, onward, sends}
-use Rattle.strm_types.specs.Message.{Message, data_message, has_parts}
-use Rattle.strm_types.specs.Puts.{is_turned}
+use Rattle.strm_types.specs.Ldterms.{Ldterm, Stage, Between, Begun, Answered, flush_passes, onward, sends}
+use Rattle.strm_types.specs.Message.{Message, data_message}
 use Rattle.strm_types.specs.Queue.{is_full, is_none_left}
 use Rattle.strm_types.specs.Typing.{bare, echo_dir, echoed, echo_grows, echo_lost, echo_stands, gathered_up, is_lnext, stroke_at, struck}
 use Rattle.strm_types.proofs.CostsBounded.{cost-low, is_quiet, next-cost}
 use Rattle.strm_types.proofs.LdtermStages.{strikes-stay}
 use Rattle.strm_frame.specs.Outboxes.{cost_of}
 use Rattle.strm_ldterm.specs.Turns.{leaves, needs}
-use Rattle.strm_ldterm.proofs.Onward.{puts-send, struck-sends}
+use Rattle.strm_ldterm.proofs.Onward.{flush-sent, struck-sends}
 
 pub none-cost : (C : Type 0) → cost_of (cost {C = C}) [] ≡ 0
 unfolding cost_of
@@ -42,12 +39,12 @@ module _ {C : Type 0} where
   unfolding cost_of
   more-cost way here m n ps quiet few = let one = cost-low (toward way here) m quiet in omega arith
 
-  pub puts-cost : (here : Spot) (m : Message C) (p : Ldterm C) → 0 < here.at → here.at ≤ MODULES → cost_of cost (ldterm_puts here m p).sent ≤ cost here m
-  puts-cost here m p inside small =
-      let one = one-cost (toward here.way here) m in
-      let none = none-cost C in
-      let low = next-cost m here inside small in
-      puts-send here (λ ps. cost_of cost ps ≤ cost here m) m p (omega (arith, none)) (omega (arith, one, low))
+  -- a message that goes on costs no more, and so does an M_FLUSH that passes
+  pub goes-cost : (here : Spot) (m : Message C) → 0 < here.at → here.at ≤ MODULES → cost_of cost (onward here.way here m ∷ []) ≤ cost here m
+  goes-cost here m inside small = let one = one-cost (toward here.way here) m in let low = next-cost m here inside small in omega (arith, one, low)
+
+  pub flush-cost : (here : Spot) (m : Message C) (p : Ldterm C) → 0 < here.at → here.at ≤ MODULES → cost_of cost (flush_passes here m p).sent ≤ cost here m
+  flush-cost here m p inside small = subst (λ ps. cost_of cost ps ≤ cost here m) (sym (flush-sent here m p)) (goes-cost here m inside small)
 
 module _ (here : Spot) where
   abbrev pub Acts : Type 0

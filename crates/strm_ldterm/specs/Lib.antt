@@ -22,3 +22,4 @@ pub mod Bounds
 pub mod PlainRuns
 pub mod Posting
 pub mod Outgone
+pub mod TakingUp

@@ -3,6 +3,7 @@
 #![tactic(auto)]
 
 mod beginning;
+mod behind;
 mod clearing;
 mod echoes;
 mod echoing;
@@ -27,6 +28,7 @@ mod serving;
 mod signalling;
 mod striking;
 mod strokes;
+mod taking_up;
 mod typing;
 
 pub use clearing::clear;

@@ -15,6 +15,7 @@ impl<B: Blocks> Module<B> for Ldterm<B::Mp> {
     ghost use Rattle.strm_types.specs.Cells as cells;
     ghost use Rattle.strm_types.specs.Costs as costs;
     ghost use Rattle.strm_types.specs.LdtermServes.{ldterm_serves};
+    ghost use Rattle.strm_types.specs.LdtermPuts.{ldterm_puts};
     ghost use Rattle.strm_types.specs.Ldterms as plain;
     ghost use Rattle.strm_types.specs.Puts.{far};
     ghost use Rattle.strm_types.specs.TurnCalls.{Ends};
@@ -39,7 +40,7 @@ impl<B: Blocks> Module<B> for Ldterm<B::Mp> {
 
     ghost keeps = { λ x. stands.keeps B.name x };
 
-    ghost puts = { plain.ldterm_puts };
+    ghost puts = { ldterm_puts };
 
     ghost queue_of = { calls.queue_of };
 

@@ -4,25 +4,29 @@ ghost use Rattle.std.specs.Prelude.{ℕ, ◌≡◌, ◌<◌, ◌≤◌, if◌the
 ghost use Rattle.strm_types.specs.declared.names.Way.TheVariants.{Up, Down};
 ghost use Rattle.strm_types.specs.declared.rules.Fates.{Fates};
 ghost use Rattle.strm_types.specs.declared.limits.TheConstants.{MODULES};
-ghost use Rattle.strm_types.specs.Ldterms.{queued_at, sends, onward, flush_passes, ldterm_puts};
+ghost use Rattle.strm_types.specs.LdtermPuts.{ldterm_puts, waits_on};
+ghost use Rattle.strm_types.specs.Ldterms.{queued_at, sends, onward, flush_passes};
+ghost use Rattle.strm_types.specs.Costs.{cost};
 ghost use Rattle.strm_types.specs.Flushing.{is_flush};
 ghost use Rattle.strm_types.specs.declared.spots.Note.TheVariants.{Room};
-ghost use Rattle.strm_types.specs.Message.{Message};
+ghost use Rattle.strm_types.specs.Message.{Message, is_high_priority};
 ghost use Rattle.strm_types.specs.Ldterms.{waits_there};
 ghost use Rattle.strm_types.specs.Queue.{put_on};
 ghost use Rattle.strm_blocks.specs.Blocks.{IsInHand, in_hand, dropped, block_at};
 ghost use Rattle.strm_msg.specs.Messages.{message_of, IsChain};
 ghost use Rattle.strm_queue.specs.Stored.{queue_in, IsReady, Changes, FreesBlocks};
-ghost use Rattle.strm_frame.specs.Hands.{AreIn, CanPut};
+ghost use Rattle.strm_frame.specs.Hands.{AreIn, CanPut, HasRoom};
 ghost use Rattle.strm_frame.specs.Outboxes.{message_in};
 ghost use Rattle.strm_ldterm.specs.Stands.{ldterm_in, keeps, IsHeld};
-ghost use Rattle.strm_ldterm.specs.Does.{Alters, Does};
+ghost use Rattle.strm_ldterm.specs.Does.{Alters, Does, Puts};
 ghost use Rattle.strm_ldterm.specs.Freeing.{FreesNone};
 ghost use Rattle.std.specs.Prelude.{true};
 
+use crate::behind::goes_behind;
 use crate::flushing::{flush_read, flush_write};
 use crate::ldterm::Ldterm;
 use crate::reading::asked_of;
+use crate::taking_up::pass;
 use arrayvec::ArrayVec;
 use strm_blocks::Blocks;
 use strm_frame::{Acts, Outbox, Sent};
@@ -95,7 +99,7 @@ fn wait_before<B: Blocks>(ldterm: &mut Ldterm<B::Mp>, store: &mut B, message: B:
     requires held { IsHeld B.name (B.value store.old) ldterm.old }
     requires can_put { CanPut (B.value store.old) (B.name message) (keeps B.name ldterm.old) }
     requires chain { IsChain (in_hand (B.value store.old) (B.name message)) }
-    requires waits { waits_there (message_in (B.value store.old) (B.name message)).kind ≡ true }
+    requires low { is_high_priority (message_in (B.value store.old) (B.name message)).kind ≡ false }
     requires before { let s = B.value store.old in
         (is_some ldterm.old.echo && not (nat_lt 0 (message_in s (B.name message)).band)) ≡ false }
     ensures { (f : Fates) → let s = B.value store.old in
@@ -115,7 +119,7 @@ fn wait_down<B: Blocks>(ldterm: &mut Ldterm<B::Mp>, store: &mut B, message: B::M
     requires held { IsHeld B.name (B.value store.old) ldterm.old }
     requires can_put { CanPut (B.value store.old) (B.name message) (keeps B.name ldterm.old) }
     requires chain { IsChain (in_hand (B.value store.old) (B.name message)) }
-    requires waits { waits_there (message_in (B.value store.old) (B.name message)).kind ≡ true }
+    requires low { is_high_priority (message_in (B.value store.old) (B.name message)).kind ≡ false }
     ensures { (f : Fates) → let s = B.value store.old in
         Does B.name s (B.value store.new) ldterm.old ldterm.new (B.name message) result f f
         (queued_at Down (message_in s (B.name message)) (ldterm_in B.name s ldterm.old)) }
@@ -129,8 +133,8 @@ fn wait_down<B: Blocks>(ldterm: &mut Ldterm<B::Mp>, store: &mut B, message: B::M
     wait_before(ldterm, store, message)
 }
 
-// Sends a message on to the next place.
-fn pass_on<B: Blocks>(
+/// Sends a message on to the next place.
+pub(crate) fn pass_on<B: Blocks>(
     ldterm: &Ldterm<B::Mp>,
     store: &B,
     here: Spot,
@@ -167,7 +171,7 @@ fn wait<B: Blocks>(
     requires held { IsHeld B.name (B.value store.old) ldterm.old }
     requires can_put { CanPut (B.value store.old) (B.name message) (keeps B.name ldterm.old) }
     requires chain { IsChain (in_hand (B.value store.old) (B.name message)) }
-    requires waits { waits_there (message_in (B.value store.old) (B.name message)).kind ≡ true }
+    requires low { is_high_priority (message_in (B.value store.old) (B.name message)).kind ≡ false }
     ensures { (f : Fates) → let s = B.value store.old in
         Does B.name s (B.value store.new) ldterm.old ldterm.new (B.name message) result f f
         (queued_at way (message_in s (B.name message)) (ldterm_in B.name s ldterm.old)) }
@@ -224,6 +228,16 @@ fn waits_there(kind: MsgKind) -> bool
     matches!(kind, MsgKind::Data | MsgKind::Proto)
 }
 
+// Whether a message in hand waits on the queue of its way.
+fn waits_on<B: Blocks>(store: &B, way: Way, kind: MsgKind, message: &B::Mp) -> bool
+    requires in_hand { IsInHand (B.value store.now) (B.name message.now) }
+    requires chain { IsChain (in_hand (B.value store.now) (B.name message.now)) }
+    requires kind { kind ≡ (block_at 0 (in_hand (B.value store.now) (B.name message.now))).kind }
+    ensures { result ≡ waits_on way (message_in (B.value store.now) (B.name message.now)) }
+{
+    waits_there(kind) || goes_behind(store, way, kind, message)
+}
+
 // Whether a message of a kind asks for a flush.
 fn is_flush(kind: MsgKind) -> bool
     ensures { result ≡ is_flush kind }
@@ -232,8 +246,11 @@ fn is_flush(kind: MsgKind) -> bool
 }
 
 /// Puts a message in hand here, on its way up or down, and says what it does: `put(9E)`. M_DATA and M_PROTO wait for the turn of their
-/// queue, an M_FLUSH is obeyed and goes on, and all else goes on at once. It takes no block. The cost is a step for each block of
-/// the message, and for an M_FLUSH for each on the queues.
+/// queue, and on the way down with them an M_IOCTL of TCSETSW or TCSETSF. An M_FLUSH is obeyed and goes on, and all else goes on at once.
+/// Of an M_IOCACK on its way up that answers TCSETS, TCSETSW or TCSETSF the termios of 35 bytes is taken up first: with TCSETSF what waits
+/// to be read is flushed with the line, and an M_FLUSH goes up; the line goes up where lines are made no longer; and an M_SETOPTS tells the
+/// head its read mode. That takes two blocks of each kind at most, and all else none. The cost is a step for each block of the message, and
+/// for a flush for each on the queues.
 pub fn put<B: Blocks>(
     ldterm: &mut Ldterm<B::Mp>,
     store: &mut B,
@@ -244,19 +261,20 @@ pub fn put<B: Blocks>(
     requires held { IsHeld B.name (B.value store.old) ldterm.old }
     requires can_put { CanPut (B.value store.old) (B.name message) (keeps B.name ldterm.old) }
     requires chain { IsChain (in_hand (B.value store.old) (B.name message)) }
+    requires room { HasRoom (B.value store.old) (cost here (message_in (B.value store.old) (B.name message))) }
     requires inside { 0 < here.at }
     requires small { here.at ≤ MODULES }
-    ensures { let s = B.value store.old in
-        Does B.name s (B.value store.new) ldterm.old ldterm.new (B.name message) result told.old told.new
-        (ldterm_puts here (message_in s (B.name message)) (ldterm_in B.name s ldterm.old)) }
+    ensures { let s = B.value store.old in let m = message_in s (B.name message) in
+        Puts B.name s (B.value store.new) ldterm.old ldterm.new (B.name message) (cost here m) result told.old told.new
+        (ldterm_puts here m (ldterm_in B.name s ldterm.old)) }
 {
     store.audit();
     let kind = store.kind(&message, 0);
-    if waits_there(kind) {
+    if waits_on(store, here.way, kind, &message) {
         return wait(ldterm, store, here.way, message);
     }
     if is_flush(kind) {
         return pass_flush(ldterm, store, here, message, told);
     }
-    pass_on(ldterm, store, here, ArrayVec::new(), message)
+    pass(ldterm, store, here, kind, message, told)
 }

@@ -34,8 +34,8 @@ pub(crate) fn make<B: Blocks>(store: &mut B, kind: MsgKind, bytes: &[u8]) -> B::
     message
 }
 
-// Makes an M_DATA of band 0 of a line and what ends it, in one block. Each byte is copied once.
-fn make_line<B: Blocks>(store: &mut B, line: &[u8], ending: &[u8]) -> B::Mp
+/// Makes an M_DATA of band 0 of a line and what ends it, in one block. Each byte is copied once.
+pub(crate) fn make_line<B: Blocks>(store: &mut B, line: &[u8], ending: &[u8]) -> B::Mp
     requires few { length line.now + length ending.now ≤ 256 }
     requires room { HasRoom (B.value store.old) 1 }
     ensures { MadeOne (B.value store.old) (B.value store.new) (B.name result) (data_message (line.now ++ ending.now)) }

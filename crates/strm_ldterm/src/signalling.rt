@@ -41,8 +41,8 @@ fn keeps_line(termios: &Termios) -> bool
     termios.lflag.contains(LocalModes::NOFLSH)
 }
 
-// Makes a message without parts that goes up.
-fn send_up<B: Blocks>(
+/// Makes a message without parts that goes up.
+pub(crate) fn send_up<B: Blocks>(
     ldterm: &Ldterm<B::Mp>,
     store: &mut B,
     here: Spot,

@@ -20,7 +20,8 @@ use Rattle.strm_types.specs.Modules.{stands}
 use Rattle.strm_types.specs.Names.{direction_at, driver_of, enable_if, is_open, other, place_of}
 use Rattle.strm_types.specs.Options.{options_in}
 use Rattle.strm_types.specs.Ptems.{new_ptem}
-use Rattle.strm_types.specs.Pushes.{enable_waiting, head_above, let_come, may_stand, mode_message, mode_number, mode_on_push, mode_put, named_by, pushed_named, with_modules}
+use Rattle.strm_types.specs.Options.{mode_message, mode_number}
+use Rattle.strm_types.specs.Pushes.{enable_waiting, head_above, let_come, may_stand, mode_on_push, mode_put, named_by, pushed_named, with_modules}
 use Rattle.strm_types.specs.Queue.{is_none_left}
 use Rattle.strm_types.specs.Refused.{is_known}
 use Rattle.strm_types.specs.Stacked.{Module, OfLdterm, OfPtem, module_name, module_queue}

@@ -3,8 +3,6 @@ pub mod Costing
 pub mod Doing
 pub mod Flushed
 pub mod Made
-pub mod Behind
 pub mod Putting
-pub mod Read
 pub mod Taken
 pub mod Tested

@@ -9,13 +9,14 @@ use Rattle.strm_types.specs.declared.names.Way.TheVariants.{Up, Down}
 use Rattle.strm_types.specs.declared.spots.Spot.{Spot}
 use Rattle.strm_types.specs.declared.winsize.Winsize.{Winsize}
 use Rattle.strm_types.specs.Acks.{payload}
+use Rattle.strm_types.specs.Commands.{is_asked, is_ioctl}
 use Rattle.strm_types.specs.Deliver.{Acted, Parcel, toward}
 use Rattle.strm_types.specs.Flush.{is_data_kind}
 use Rattle.strm_types.specs.Ioctls.{read_ioc}
 use Rattle.strm_types.specs.Message.{Message, has_parts}
 use Rattle.strm_types.specs.Ptems as plain
 use Rattle.strm_types.specs.Costs.{cost}
-use Rattle.strm_types.specs.Ptems.{asked_above, asked_below, asked_by_header, asked_on_way, is_asked, is_ioctl, ptem_passes, ptem_puts, ptem_sends, window_signal}
+use Rattle.strm_types.specs.Ptems.{asked_above, asked_below, asked_by_header, asked_on_way, ptem_passes, ptem_puts, ptem_sends, window_signal}
 use Rattle.strm_types.specs.Winsizes.{same_winsize}
 use Rattle.strm_types.proofs.CostsBounded.{next-cost}
 use Rattle.strm_blocks.specs.Blocks.{StoreValue, block_at, in_hand}
@@ -43,31 +44,6 @@ ioctl-plain = refl
 pub signal-plain : is_data_kind Pcsig ≡ false
 unfolding is_data_kind
 signal-plain = refl
-
--- what it looks at in hand has no parts
-ioctl-asked : (kind : MsgKind) (parts : Bool) → (is_ioctl kind && not parts) ≡ true → is_data_kind kind ≡ false
-unfolding is_data_kind
-ioctl-asked Ioctl parts is = refl
-ioctl-asked _ parts is = absurd (cc)
-
-pub asked-plain : (s : StoreValue) (i : ℕ) → is_asked (message_in s i) ≡ true → is_data_kind (block_at 0 (in_hand s i)).kind ≡ false
-asked-plain s i is = ap is_data_kind (sym (kind-is (in_hand s i))) ∙ ioctl-asked (message_in s i).kind (has_parts (message_in s i)) is
-
--- A message in hand is looked at where it is an M_IOCTL.
-pub asked-is : (s : StoreValue) (i : ℕ) (kind : MsgKind) → IsChain (in_hand s i) → kind ≡ (block_at 0 (in_hand s i)).kind → is_ioctl kind ≡ true → is_asked (message_in s i) ≡ true
-asked-is s i kind chain kind_is is =
-    let m = message_in s i in
-    let ioctl : is_ioctl m.kind ≡ true = ap is_ioctl (kind-is (in_hand s i) ∙ sym kind_is) ∙ is in
-    let none : has_parts m ≡ false = parts-same (in_hand s i) chain ∙ ap is_data_kind (sym kind_is) ∙ no-data kind is in
-    ap (λ parts. is_ioctl m.kind && not parts) none ∙ ap (λ b. b && true) ioctl
-  where
-    no-data : (kind : MsgKind) → is_ioctl kind ≡ true → is_data_kind kind ≡ false
-    no-data kind is = ioctl-asked kind false (ap (λ b. b && true) is)
-
-pub asked-not : (s : StoreValue) (i : ℕ) (kind : MsgKind) → kind ≡ (block_at 0 (in_hand s i)).kind → is_ioctl kind ≡ false → is_asked (message_in s i) ≡ false
-asked-not s i kind kind_is is =
-    let m = message_in s i in
-    ap (λ b. b && not (has_parts m)) (ap is_ioctl (kind-is (in_hand s i) ∙ sym kind_is) ∙ is)
 
 -- what becomes of it then, and else
 module _ (here : Spot) (m : Message ℕ) (p : plain.Ptem) where

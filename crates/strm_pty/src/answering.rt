@@ -14,10 +14,11 @@ ghost use Rattle.strm_frame.specs.Hands.{HasRoom};
 ghost use Rattle.strm_frame.specs.Outboxes.{message_in, sent_of};
 ghost use Rattle.strm_pty.specs.Does.{Does, Swaps};
 
-use crate::making::{header_of, make};
+use crate::making::make;
 use crate::taking::{let_go, take_in};
 use arrayvec::ArrayVec;
 use strm_blocks::Blocks;
+use strm_frame::ioctls::header_of;
 use strm_frame::{Acts, Outbox, Sent};
 use strm_queue::Queue;
 use strm_types::{Across, Fates, Ioc, MsgKind, Side, Spot, Way};

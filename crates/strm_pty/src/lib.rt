@@ -7,7 +7,6 @@ mod drivers;
 mod flushing;
 mod making;
 mod module;
-mod payloads;
 pub mod ptem;
 mod replies;
 mod taking;

@@ -5,7 +5,6 @@ ghost use Rattle.std.specs.Option.{option_to_list};
 ghost use Rattle.strm_types.specs.Drivers.{reader_flush};
 ghost use Rattle.strm_types.specs.Flush.{is_data_kind};
 ghost use Rattle.strm_types.specs.Flushing.{asked_by};
-ghost use Rattle.strm_types.specs.Ioctls.{read_ioc};
 ghost use Rattle.strm_types.specs.Refused.{is_a_band};
 ghost use Rattle.strm_blocks.specs.Blocks.{IsInHand, in_hand, block_at};
 ghost use Rattle.strm_frame.specs.Hands.{HasRoom};
@@ -15,7 +14,7 @@ ghost use Rattle.strm_pty.specs.Does.{MadeOne, Makes};
 use strm_blocks::Blocks;
 use strm_frame::Sent;
 use strm_msg::{first_bytes, from_bytes};
-use strm_types::{Band, FlushAsked, Ioc, MsgKind, Spot};
+use strm_types::{Band, FlushAsked, MsgKind, Spot};
 
 /// Makes a message of a kind without parts, of band 0, in one block.
 pub fn make<B: Blocks>(store: &mut B, kind: MsgKind, bytes: &[u8]) -> B::Mp
@@ -59,15 +58,4 @@ pub(crate) fn asked_of<B: Blocks>(store: &B, message: &B::Mp) -> FlushAsked
     let mut bytes = [0; 2];
     let count = first_bytes(store, message, &mut bytes);
     FlushAsked::read(&bytes[..count])
-}
-
-/// The header of an ioctl message in hand, if it has one.
-pub(crate) fn header_of<B: Blocks>(store: &B, message: &B::Mp) -> Option<Ioc>
-    requires in_hand { IsInHand (B.value store.now) (B.name message.now) }
-    requires kind { is_data_kind (block_at 0 (in_hand (B.value store.now) (B.name message.now))).kind ≡ false }
-    ensures { result ≡ read_ioc (message_in (B.value store.now) (B.name message.now)).plain }
-{
-    let mut bytes = [0; 16];
-    let count = first_bytes(store, message, &mut bytes);
-    Ioc::read(&bytes[..count])
 }

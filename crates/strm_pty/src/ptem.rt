@@ -4,10 +4,11 @@ ghost use Rattle.std.specs.Prelude.{◌≡◌, ◌<◌, ◌≤◌, ◌||◌, ◌
 ghost use Rattle.strm_types.specs.declared.limits.TheConstants.{MODULES};
 ghost use Rattle.strm_types.specs.declared.names.Way.TheVariants.{Up, Down};
 ghost use Rattle.strm_types.specs.Acks.{payload};
+ghost use Rattle.strm_types.specs.Commands.{is_asked};
 ghost use Rattle.strm_types.specs.Costs.{cost};
 ghost use Rattle.strm_types.specs.Ptems as plain;
-ghost use Rattle.strm_types.specs.Ptems.{acks, asked_above, asked_below, is_asked, is_ioctl, new_ptem};
-ghost use Rattle.strm_types.specs.Ptems.{ptem_passes, ptem_puts, sets_termios, signal_told, termios_set, window_set, window_told};
+ghost use Rattle.strm_types.specs.Ptems.{acks, asked_above, asked_below, new_ptem};
+ghost use Rattle.strm_types.specs.Ptems.{ptem_passes, ptem_puts, signal_told, termios_set, window_set, window_told};
 ghost use Rattle.strm_types.specs.Signals.{signal_in};
 ghost use Rattle.strm_types.specs.Termios.{read_termios, termios_bytes};
 ghost use Rattle.strm_types.specs.Winsizes.{read_winsize, winsize_bytes};
@@ -17,15 +18,13 @@ ghost use Rattle.strm_frame.specs.Hands.{HasRoom};
 ghost use Rattle.strm_frame.specs.Outboxes.{message_in};
 ghost use Rattle.strm_pty.specs.Beside.{Answers, ptem_in};
 
-use crate::making::header_of;
-use crate::payloads::payload_of;
 use crate::replies::{ack, confirm, hear, nak, raise};
 use arrayvec::ArrayVec;
 use strm_blocks::Blocks;
+use strm_frame::ioctls::{header_of, is_ioctl, payload_of, sets_termios};
 use strm_frame::{Acts, Outbox, Sent};
 use strm_types::{
-    Ioc, MsgKind, Spot, TCGETS, TCSETS, TCSETSF, TCSETSW, TIOCGWINSZ, TIOCSIGNAL, TIOCSWINSZ,
-    Termios, Way, Winsize, signal_in,
+    Ioc, Spot, TCGETS, TIOCGWINSZ, TIOCSIGNAL, TIOCSWINSZ, Termios, Way, Winsize, signal_in,
 };
 
 /// What the terminal is set to. It keeps no messages, and no lists of a store are its own.
@@ -46,20 +45,6 @@ impl Ptem {
             window: Winsize::new(),
         }
     }
-}
-
-// Whether messages of a kind are looked at: M_IOCTL.
-fn is_ioctl(kind: MsgKind) -> bool
-    ensures { result ≡ is_ioctl kind }
-{
-    matches!(kind, MsgKind::Ioctl)
-}
-
-// Whether a command sets the termios.
-fn sets_termios(command: u32) -> bool
-    ensures { result ≡ sets_termios command }
-{
-    command == TCSETS || command == TCSETSW || command == TCSETSF
 }
 
 // Whether a command is another one.

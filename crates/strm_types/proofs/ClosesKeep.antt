@@ -10,9 +10,10 @@ use Rattle.strm_types.specs.Closes.{and_then, closed_at, driver_emptied, ended, 
 use Rattle.strm_types.specs.Deliver.{Carried}
 use Rattle.strm_types.specs.Emptied.{of_all}
 use Rattle.strm_types.specs.Kept.{NothingUnread, state_weight}
+use Rattle.strm_types.specs.Message.{Message}
 use Rattle.strm_types.specs.Names.{is_open}
 use Rattle.strm_types.specs.Places.{weight_gone, weight_made}
-use Rattle.strm_types.specs.Pushes.{all_taken, head_above, modules_emptied, popped, pushed_named, top_taken, with_modules}
+use Rattle.strm_types.specs.Pushes.{all_taken, head_above, ioctl_dropped, modules_emptied, popped, pushed_named, top_taken, with_modules}
 use Rattle.strm_types.specs.Queue.{weight}
 use Rattle.strm_types.specs.Stacked.{Module, IsAtRest}
 use Rattle.strm_types.specs.State.{Head, State, stream}
@@ -95,12 +96,17 @@ module _ {C : Type 0} where
   unread-survives : (side : Side) → Survives side NothingUnread AnyModules
   unread-survives side = record {
     named = λ names s unread. record { master = unread.master; slave = unread.slave };
+    dropped = dropped side;
     apart = apart side;
     given = λ m s unread. delivered-unread (head_above side) m s unread;
     good = λ s unread. tt;
     below = λ l ls good. tt;
   }
     where
+      dropped : (side : Side) (ms : List (Message C)) (s : State C) → NothingUnread s → NothingUnread (ioctl_dropped side ms s)
+      dropped Master ms s unread = record { master = unread.master; slave = unread.slave }
+      dropped Slave ms s unread = record { master = unread.master; slave = unread.slave }
+
       apart : (side : Side) (ps : List (Module C)) (s : State C) → AnyModules ps → NothingUnread s → NothingUnread (with_modules side ps s)
       apart Master ps s good unread = record { master = unread.master; slave = unread.slave }
       apart Slave ps s good unread = record { master = unread.master; slave = unread.slave }

@@ -54,7 +54,7 @@ use Rattle.strm_types.proofs.Replay.{or_else-none, unless-none}
 use Rattle.strm_types.proofs.WriteSteps.{cells_sent-holds}
 use Rattle.strm_types.specs.Earlier.{modules_on}
 use Rattle.strm_types.specs.Stacked.{Module}
-use Rattle.strm_types.specs.Pushes.{head_above, named_by, popped, pushed_named, with_modules}
+use Rattle.strm_types.specs.Pushes.{head_above, ioctl_dropped, named_by, popped, pushed_named, with_modules}
 use Rattle.strm_types.proofs.PushHolds.{Survives, pop-holds, push-holds}
 
 -- the place below a side's head
@@ -163,12 +163,17 @@ module _ {C : Type 0} where
   survives : (side : Side) → Survives {C = C} side IsCutOff AnyModules
   survives side = record {
     named = λ names s cut. record { slave = cut.slave };
+    dropped = dropped side;
     apart = apart side;
     given = λ m s cut. delivered-cut (head_above side) m s cut;
     good = λ s cut. tt;
     below = λ l ls good. tt;
   }
     where
+      dropped : (side : Side) (ms : List (Message C)) (s : State C) → IsCutOff s → IsCutOff (ioctl_dropped side ms s)
+      dropped Master ms s cut = record { slave = cut.slave }
+      dropped Slave ms s cut = record { slave = cut.slave }
+
       apart : (side : Side) (ps : List (Module C)) (s : State C) → AnyModules ps → IsCutOff s → IsCutOff (with_modules side ps s)
       apart Master ps s good cut = record { slave = cut.slave }
       apart Slave ps s good cut = record { slave = cut.slave }

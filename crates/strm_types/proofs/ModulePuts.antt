@@ -183,7 +183,7 @@ module _ {C : Type 0} (here : Spot) (m : Message C) (some : 0 < here.at) (few : 
       let first = input_flushed here command l in
       lower-append first.sent (termios_taken here t m first.state).sent (input-lower command l way acked) (termios-lower t first.state way acked)
 
-  ldterm-lower : (l : Ldterm C) → Lower (ldterm_puts here m l).sent
+  pub ldterm-lower : (l : Ldterm C) → Lower (ldterm_puts here m l).sent
   ldterm-lower l = puts-each here m l (λ t. Lower t.sent) (record {
     waits = λ is. tt;
     flushes = λ is. flush-lower l;

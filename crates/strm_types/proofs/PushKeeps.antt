@@ -16,12 +16,13 @@ use Rattle.strm_types.specs.Emptied.{of_all, cells_gone}
 use Rattle.strm_types.specs.Kept.{state_weight}
 use Rattle.strm_types.specs.LdtermWeights.{ldterm_weight, weight_begun, weight_in_work}
 use Rattle.strm_types.specs.Ldterms.{IsIdle, Ldterm, new_ldterm}
+use Rattle.strm_types.specs.Message.{Message}
 use Rattle.strm_types.specs.ModuleQueues.{has_queue}
 use Rattle.strm_types.specs.Names.{direction_at}
 use Rattle.strm_types.specs.Options.{mode_message}
 use Rattle.strm_types.specs.Places.{weight_gone, weight_made}
 use Rattle.strm_types.specs.Ptems.{new_ptem}
-use Rattle.strm_types.specs.Pushes.{all_taken, head_above, let_come, mode_behind, mode_on_push, mode_put, modules_emptied, named_by, popped, pushed, pushed_named, top_on, top_taken, with_modules}
+use Rattle.strm_types.specs.Pushes.{all_taken, below_top, head_above, ioctl_dropped, let_come, mode_behind, mode_on_push, mode_put, modules_emptied, named_by, popped, pushed, pushed_named, taken_off, top_on, top_taken, with_modules}
 use Rattle.strm_types.specs.Queue.{Queue, weight}
 use Rattle.strm_types.specs.Service.{line_gone}
 use Rattle.strm_types.specs.Stacked.{Module, OfLdterm, OfPtem, IsAtRest, module_name, module_queue, module_weight, modules_weight}
@@ -134,8 +135,8 @@ module _ {C : Type 0} (p : C → Bool) where
   push-keeps side (Some names.Pckt) s = refl
 
   -- a pop
-  pub pop-keeps : (side : Side) (s : State C) → AllByRecursion (λ l. IsAtRest l) (stream side s).modules → Keeps (popped side s) (state_weight p s)
-  pop-keeps side s idle =
+  off-keeps : (side : Side) (s : State C) → AllByRecursion (λ l. IsAtRest l) (stream side s).modules → Keeps (taken_off side s) (state_weight p s)
+  off-keeps side s idle =
       let ps = (stream side s).modules in
       let t = top_taken ModulePopped side ps s in
       let u = mode_put side (mode_behind (top_on side s)) t.state in
@@ -144,3 +145,11 @@ module _ {C : Type 0} (p : C → Bool) where
       let gone = gone-append p t.gone u.gone in
       let made = made-append p t.gone u.gone in
       omega arith
+
+  -- no byte stands in the slot of an ioctl
+  dropped-keeps : (side : Side) (ms : List (Message C)) (s : State C) → state_weight p (ioctl_dropped side ms s) ≡ state_weight p s
+  dropped-keeps Master ms s = refl
+  dropped-keeps Slave ms s = refl
+
+  pub pop-keeps : (side : Side) (s : State C) → AllByRecursion (λ l. IsAtRest l) (stream side s).modules → Keeps (popped side s) (state_weight p s)
+  pop-keeps side s idle = omega (arith, off-keeps side s idle, dropped-keeps side (below_top (stream side s).modules) (taken_off side s).state)

@@ -1,33 +1,42 @@
--- By the kind of the message.
-use Rattle.std.proofs.Common.{sym, ap, subst, ◌∙◌}
+-- By what becomes of the message.
+use Rattle.std.proofs.Common.{ℕ, sym, ap, subst, ◌∙◌, arith}
+use Rattle.strm_types.specs.Costs.{cost}
 use Rattle.strm_types.specs.Flushing.{is_flush}
-use Rattle.strm_types.specs.Ldterms.{waits_there}
+use Rattle.strm_types.specs.Ldterms.{flush_passes, queued_at}
 use Rattle.strm_blocks.specs.Blocks.{in_hand}
 use Rattle.strm_msg.proofs.Chains.{kind-is}
 use Rattle.strm_frame.specs.Outboxes.{message_in}
 use Rattle.strm_frame.proofs.Handing.{can-in_hand}
 use Rattle.strm_ldterm.specs.Stands.{ldterm_in}
-use Rattle.strm_ldterm.specs.Does.{Does}
-use Rattle.strm_ldterm.proofs.Passing.{puts-wait, puts-flush, puts-pass}
+use Rattle.strm_ldterm.specs.Does.{Puts}
+use Rattle.strm_ldterm.proofs.Last.{waits-low}
+use Rattle.strm_ldterm.proofs.Passing.{puts-flush, puts-pass, puts-wait}
+use Rattle.strm_ldterm.proofs.Spending.{flush-cost, none-cost}
+use Rattle.strm_ldterm.proofs.TakingUp.{does-puts}
 use Rattle.strm_ldterm.proofs.putting.put.Goals as goal
 
 pub kind-kind-requires-clause-in_hand : goal.kind-kind-requires-clause-in_hand
 kind-kind-requires-clause-in_hand g c = can-in_hand _ _ _ c.audit.ensures c.requires.can_put
 
-pub wait-requires-clause-waits : goal.wait-requires-clause-waits
-wait-requires-clause-waits g c =
-    let chain = in_hand (g.B.Blocks.value c.args.store.now) (g.B.Blocks.name c.args.message) in
-    ap waits_there (kind-is chain ∙ sym c.kind-kind.ensures) ∙ sym c.waits_there.ensures ∙ c.if-waits_there.true
+pub waits_on-requires-clause-in_hand : goal.waits_on-requires-clause-in_hand
+waits_on-requires-clause-in_hand g c = can-in_hand _ _ _ c.audit.ensures c.requires.can_put
 
-pub returns-then-waits_there : goal.returns-then-waits_there
-returns-then-waits_there g c =
+pub wait-requires-clause-low : goal.wait-requires-clause-low
+wait-requires-clause-low g c = waits-low c.args.here.way (message_in (g.B.Blocks.value c.args.store.now) (g.B.Blocks.name c.args.message)) (sym c.waits_on.ensures ∙ c.if-waits_on.true)
+
+pub returns-then-waits_on : goal.returns-then-waits_on
+returns-then-waits_on g c =
     let name = g.B.Blocks.name in
     let s = g.B.Blocks.value c.args.store.now in
+    let t = g.B.Blocks.value c.wait.new.store in
     let x = c.args.ldterm.now in
     let i = name c.args.message in
     let f = c.args.told.now in
-    let waits = ap waits_there (kind-is (in_hand s i) ∙ sym c.kind-kind.ensures) ∙ sym c.waits_there.ensures ∙ c.if-waits_there.true in
-    subst (λ a. Does name s (g.B.Blocks.value c.wait.new.store) x c.wait.new.ldterm i c.wait.result f f a) (sym (puts-wait c.args.here (message_in s i) (ldterm_in name s x) waits)) (c.wait.ensures f)
+    let here = c.args.here in
+    let m = message_in s i in
+    let p = ldterm_in name s x in
+    subst (λ a. Puts name s t x c.wait.new.ldterm i (cost here m) c.wait.result f f a) (sym (puts-wait here m p (sym c.waits_on.ensures ∙ c.if-waits_on.true)))
+    (does-puts name s t x c.wait.new.ldterm i (cost here m) c.wait.result f f (queued_at here.way m p) (c.wait.ensures f) (let none = none-cost ℕ in omega arith))
 
 pub pass_flush-requires-clause-kind : goal.pass_flush-requires-clause-kind
 pass_flush-requires-clause-kind g c =
@@ -38,12 +47,16 @@ pub returns-then-is_flush : goal.returns-then-is_flush
 returns-then-is_flush g c =
     let name = g.B.Blocks.name in
     let s = g.B.Blocks.value c.args.store.now in
+    let t = g.B.Blocks.value c.pass_flush.new.store in
     let x = c.args.ldterm.now in
     let i = name c.args.message in
-    let seen = kind-is (in_hand s i) ∙ sym c.kind-kind.ensures in
-    let waits = ap waits_there seen ∙ sym c.waits_there.ensures ∙ c.if-waits_there.false in
-    let flush = ap is_flush seen ∙ sym c.is_flush.ensures ∙ c.if-is_flush.true in
-    subst (λ a. Does name s (g.B.Blocks.value c.pass_flush.new.store) x c.pass_flush.new.ldterm i c.pass_flush.result c.args.told.now c.pass_flush.new.told a) (sym (puts-flush c.args.here (message_in s i) (ldterm_in name s x) waits flush)) c.pass_flush.ensures
+    let f = c.args.told.now in
+    let here = c.args.here in
+    let m = message_in s i in
+    let p = ldterm_in name s x in
+    let flush = ap is_flush (kind-is (in_hand s i) ∙ sym c.kind-kind.ensures) ∙ sym c.is_flush.ensures ∙ c.if-is_flush.true in
+    subst (λ a. Puts name s t x c.pass_flush.new.ldterm i (cost here m) c.pass_flush.result f c.pass_flush.new.told a) (sym (puts-flush here m p (sym c.waits_on.ensures ∙ c.if-waits_on.false) flush))
+    (does-puts name s t x c.pass_flush.new.ldterm i (cost here m) c.pass_flush.result f c.pass_flush.new.told (flush_passes here m p) c.pass_flush.ensures (flush-cost here m p c.requires.inside c.requires.small))
 
 pub returns : goal.returns
 returns g c =
@@ -51,10 +64,8 @@ returns g c =
     let s = g.B.Blocks.value c.args.store.now in
     let x = c.args.ldterm.now in
     let i = name c.args.message in
-    let f = c.args.told.now in
-    let seen = kind-is (in_hand s i) ∙ sym c.kind-kind.ensures in
-    let waits = ap waits_there seen ∙ sym c.waits_there.ensures ∙ c.if-waits_there.false in
-    let flush = ap is_flush seen ∙ sym c.is_flush.ensures ∙ c.if-is_flush.false in
-    let did = c.pass_on.ensures f in
-    subst (λ a. Does name s s x x i c.pass_on.result f f a) (sym (puts-pass c.args.here (message_in s i) (ldterm_in name s x) waits flush))
-    (record { state = did.state; notes = did.notes ∙ c.new.ensures; sent = did.sent; told = did.told; held = did.held; own = did.own; chains = did.chains; hands = did.hands; frees = did.frees; pool = did.pool })
+    let here = c.args.here in
+    let m = message_in s i in
+    let p = ldterm_in name s x in
+    let flush = ap is_flush (kind-is (in_hand s i) ∙ sym c.kind-kind.ensures) ∙ sym c.is_flush.ensures ∙ c.if-is_flush.false in
+    subst (λ a. Puts name s (g.B.Blocks.value c.pass.new.store) x c.pass.new.ldterm i (cost here m) c.pass.result c.args.told.now c.pass.new.told a) (sym (puts-pass here m p (sym c.waits_on.ensures ∙ c.if-waits_on.false) flush)) c.pass.ensures

@@ -3,7 +3,7 @@ use Rattle.std.proofs.Common.{ap}
 use Rattle.strm_frame.specs.Outboxes.{message_in}
 use Rattle.strm_frame.proofs.Handing.{can-in_hand}
 use Rattle.strm_queue.specs.Stored.{queue_in}
-use Rattle.strm_ldterm.proofs.Last.{put-beside, stays-beside, waits-low}
+use Rattle.strm_ldterm.proofs.Last.{low-rank, put-beside, stays-beside}
 use Rattle.strm_ldterm.proofs.Steps.{waits-down}
 use Rattle.strm_ldterm.proofs.putting.wait_before.Goals as goal
 
@@ -20,6 +20,6 @@ returns g c = λ f.
     let w = queue_in s x.write_queue in
     waits-down name s (g.B.Blocks.value e.new.store) x (name c.args.message) e.new.queue
     (record { notes = c.note_if.result; sent = c.none.result }) f e.result c.audit.ensures c.requires.held c.requires.can_put e.ensures.frees c.none.ensures
-    (ap (λ ms. record w { messages = ms }) (put-beside name s x.echo m w.messages c.requires.held.echoes (waits-low m c.requires.waits) c.requires.before))
+    (ap (λ ms. record w { messages = ms }) (put-beside name s x.echo m w.messages c.requires.held.echoes (low-rank m c.requires.low) c.requires.before))
     (stays-beside name s x.echo m c.requires.before)
     e.ensures.changes e.ensures.queue e.ensures.enables c.note_if.ensures

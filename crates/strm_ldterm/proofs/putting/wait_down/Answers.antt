@@ -4,7 +4,8 @@ use Rattle.std.specs.Prelude.{◌&&◌, not, nat_lt, is_some}
 use Rattle.std.proofs.lemmas.Bool.Decides.{nat_tests}
 use Rattle.strm_types.specs.declared.names.Way.TheVariants.{Down}
 use Rattle.strm_types.specs.Ldterms as ldterms
-use Rattle.strm_types.specs.Ldterms.{queued_at, waits_there}
+use Rattle.strm_types.specs.Ldterms.{queued_at}
+use Rattle.strm_types.specs.Message.{is_high_priority}
 use Rattle.strm_blocks.specs.Blocks.{in_hand}
 use Rattle.strm_msg.specs.Messages.{message_of, IsChain}
 use Rattle.strm_msg.proofs.Chains.{band-is}
@@ -22,10 +23,10 @@ wait_before-requires-clause-chain g c =
     let same = still-chain g.B.Blocks.name (g.B.Blocks.value c.args.store.now) (g.B.Blocks.value c.settle_echo.new.store) c.args.ldterm.now c.settle_echo.new.ldterm (g.B.Blocks.name c.args.message) c.audit.ensures c.requires.can_put c.settle_echo.ensures.alters in
     subst IsChain (sym same) c.requires.chain
 
-pub wait_before-requires-clause-waits : goal.wait_before-requires-clause-waits
-wait_before-requires-clause-waits g c =
+pub wait_before-requires-clause-low : goal.wait_before-requires-clause-low
+wait_before-requires-clause-low g c =
     let same = still-chain g.B.Blocks.name (g.B.Blocks.value c.args.store.now) (g.B.Blocks.value c.settle_echo.new.store) c.args.ldterm.now c.settle_echo.new.ldterm (g.B.Blocks.name c.args.message) c.audit.ensures c.requires.can_put c.settle_echo.ensures.alters in
-    ap (λ chain. waits_there (message_of chain).kind) same ∙ c.requires.waits
+    ap (λ chain. is_high_priority (message_of chain).kind) same ∙ c.requires.low
 
 pub returns-then-band-eq0 : goal.returns-then-band-eq0
 returns-then-band-eq0 g c = λ f.

@@ -4,7 +4,7 @@ use Rattle.strm_types.specs.Flushing.{asked_by}
 use Rattle.strm_blocks.specs.Blocks.{in_hand}
 use Rattle.strm_msg.specs.Bytes.{bytes_of}
 use Rattle.strm_msg.proofs.MadePlain.{plain-is}
-use Rattle.strm_pty.proofs.Read.{first-of, asked-first}
+use Rattle.strm_frame.proofs.Read.{first-of, asked-first}
 use Rattle.strm_pty.proofs.making.asked_of.Goals as goal
 
 pub returns-clause-asked : goal.returns-clause-asked

@@ -10,9 +10,10 @@ use Rattle.strm_types.specs.Ptems.{signal_told, signals_up}
 use Rattle.strm_types.specs.Signals.{signal_in}
 use Rattle.strm_frame.specs.Outboxes.{message_in}
 use Rattle.strm_pty.specs.Beside.{Answers, ptem_in}
-use Rattle.strm_pty.proofs.Behind.{signal-first}
+use Rattle.strm_frame.proofs.Behind.{signal-first}
 use Rattle.strm_pty.proofs.Costing.{nak-below-cost, raise-cost}
-use Rattle.strm_pty.proofs.Replied.{asked-plain, swaps-answers}
+use Rattle.strm_frame.proofs.Asked.{asked-plain}
+use Rattle.strm_pty.proofs.Replied.{swaps-answers}
 use Rattle.strm_pty.proofs.ptem.hear_signal.Goals as goal
 
 pub payload_of-given-requires-clause-kind : goal.payload_of-given-requires-clause-kind

@@ -10,9 +10,10 @@ use Rattle.strm_types.specs.Ptems.{window_signal, window_told}
 use Rattle.strm_types.specs.Winsizes.{read_winsize}
 use Rattle.strm_frame.specs.Outboxes.{message_in}
 use Rattle.strm_pty.specs.Beside.{Answers, ptem_in}
-use Rattle.strm_pty.proofs.Behind.{first-tell, window_read}
+use Rattle.strm_frame.proofs.Behind.{first-tell, window_read}
 use Rattle.strm_pty.proofs.Costing.{hear-cost, nak-below-cost}
-use Rattle.strm_pty.proofs.Replied.{asked-plain, swaps-answers}
+use Rattle.strm_frame.proofs.Asked.{asked-plain}
+use Rattle.strm_pty.proofs.Replied.{swaps-answers}
 use Rattle.strm_pty.proofs.ptem.hear_window.Goals as goal
 
 pub payload_of-given-requires-clause-kind : goal.payload_of-given-requires-clause-kind

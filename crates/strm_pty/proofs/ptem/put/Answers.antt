@@ -7,7 +7,8 @@ use Rattle.strm_frame.specs.Outboxes.{message_in}
 use Rattle.strm_pty.specs.Beside.{Answers, ptem_in}
 use Rattle.strm_pty.proofs.Costing.{room-above, room-below}
 use Rattle.strm_pty.proofs.Doing.{room-less}
-use Rattle.strm_pty.proofs.Replied.{asked-is, asked-not, asked-plain, puts-above, puts-below, puts-other}
+use Rattle.strm_frame.proofs.Asked.{asked-is, asked-not, asked-plain}
+use Rattle.strm_pty.proofs.Replied.{puts-above, puts-below, puts-other}
 use Rattle.strm_pty.proofs.ptem.put.Goals as goal
 
 pub returns-then-not-is_ioctl : goal.returns-then-not-is_ioctl

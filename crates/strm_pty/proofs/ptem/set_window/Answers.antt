@@ -11,9 +11,10 @@ use Rattle.strm_types.specs.Winsizes.{read_winsize}
 use Rattle.strm_frame.specs.Outboxes.{message_in, sent_of}
 use Rattle.strm_pty.specs.Beside.{Answers, ptem_in}
 use Rattle.strm_pty.specs.Does.{Swaps}
-use Rattle.strm_pty.proofs.Behind.{all-said, first-tell, window_read}
+use Rattle.strm_frame.proofs.Behind.{all-said, first-tell, window_read}
 use Rattle.strm_pty.proofs.Costing.{nak-above-cost, set-cost}
-use Rattle.strm_pty.proofs.Replied.{asked-plain, swaps-answers}
+use Rattle.strm_frame.proofs.Asked.{asked-plain}
+use Rattle.strm_pty.proofs.Replied.{swaps-answers}
 use Rattle.strm_pty.proofs.ptem.set_window.Goals as goal
 
 pub payload_of-given-requires-clause-kind : goal.payload_of-given-requires-clause-kind

@@ -5,7 +5,8 @@ use Rattle.strm_types.specs.declared.kinds.MsgKind.TheVariants.{Setopts}
 use Rattle.strm_types.specs.Deliver.{tallied}
 use Rattle.strm_types.specs.Flush.{is_data_kind}
 use Rattle.strm_types.specs.Message.{Message}
-use Rattle.strm_types.specs.Pushes.{head_above, mode_message}
+use Rattle.strm_types.specs.Options.{mode_message}
+use Rattle.strm_types.specs.Pushes.{head_above}
 use Rattle.strm_types.specs.Puts.{delivered}
 use Rattle.strm_blocks.specs.Blocks.{in_hand}
 use Rattle.strm_msg.specs.Messages.{message_of}

@@ -4,8 +4,8 @@ use Rattle.strm_types.specs.Ioctls.{read_ioc}
 use Rattle.strm_blocks.specs.Blocks.{in_hand}
 use Rattle.strm_msg.specs.Bytes.{bytes_of}
 use Rattle.strm_msg.proofs.MadePlain.{plain-is}
-use Rattle.strm_pty.proofs.Read.{first-of, ioc-first}
-use Rattle.strm_pty.proofs.making.header_of.Goals as goal
+use Rattle.strm_frame.proofs.Read.{first-of, ioc-first}
+use Rattle.strm_frame.proofs.ioctls.header_of.Goals as goal
 
 pub returns : goal.returns
 returns g c =

@@ -10,7 +10,7 @@ use Rattle.strm_types.specs.Ioctls.{word_at}
 use Rattle.strm_types.specs.Signals.{signal_in}
 use Rattle.strm_types.specs.Winsizes.{half_at}
 use Rattle.strm_msg.specs.Taken.{filled}
-use Rattle.strm_pty.proofs.Read.{first-of}
+use Rattle.strm_frame.proofs.Read.{first-of}
 
 -- of 52 bytes that were read, those behind the header; none are behind it where no more than 16 were read
 pub behind-first : (buffer bytes : List ℕ) (count : ℕ) → length buffer ≡ 52 → count ≡ min (length buffer) (length bytes) → drop 16 (take count (filled buffer bytes)) ≡ take 36 (drop 16 bytes)

@@ -4,8 +4,8 @@ use Rattle.strm_types.specs.Acks.{payload}
 use Rattle.strm_blocks.specs.Blocks.{in_hand}
 use Rattle.strm_msg.specs.Bytes.{bytes_of}
 use Rattle.strm_msg.proofs.MadePlain.{plain-is}
-use Rattle.strm_pty.proofs.Behind.{behind-first, none-behind, rest-all}
-use Rattle.strm_pty.proofs.payloads.payload_of.Goals as goal
+use Rattle.strm_frame.proofs.Behind.{behind-first, none-behind, rest-all}
+use Rattle.strm_frame.proofs.ioctls.payload_of.Goals as goal
 
 pub returns-then-count-gt16 : goal.returns-then-count-gt16
 returns-then-count-gt16 g c =
