@@ -18,7 +18,7 @@ use Rattle.strm_types.specs.declared.spots.Asks.TheVariants as asked
 use Rattle.strm_types.specs.declared.spots.Spot.{Spot}
 use Rattle.strm_types.specs.Cells.{plain}
 use Rattle.strm_types.specs.Input.{input_begins, is_data, passes, stages, stages_done, treats}
-use Rattle.strm_types.specs.Ldterms.{Ldterm}
+use Rattle.strm_types.specs.Ldterms as ldterms
 use Rattle.strm_types.specs.Message.{Message}
 use Rattle.strm_types.specs.ModuleQueues.{at_place, messages_at}
 use Rattle.strm_types.specs.ModuleTurns.{Calls, again_at, asked_turn, calls, made_below, moved_by, moved_on, moved_within, place_named, turned_named, turned_there, waits_there, whole_module}
@@ -39,16 +39,16 @@ module _ (side : Side) (at : ℕ) where
   abbrev there : Way → Spot
   there way = record { side = side; at = at; way = way }
 
-  treats-none : (way : Way) (made : ℕ) (p : Ldterm ℕ) → (treats plain (there way) 0 made p).again ≡ false
+  treats-none : (way : Way) (made : ℕ) (p : ldterms.Ldterm ℕ) → (treats plain (there way) 0 made p).again ≡ false
   treats-none way made p =
       let none : 3 * 0 - stages_done p.stage ≡ 0 = omega arith in
       ap (λ n. is_some (stages plain (there way) n made p).state.in_work) none
 
-  output-once : (made : ℕ) (ms : List (Message ℕ)) (p : Ldterm ℕ) → (output_serves plain (there Down) (Some 0) made ms p).again ≡ false
+  output-once : (made : ℕ) (ms : List (Message ℕ)) (p : ldterms.Ldterm ℕ) → (output_serves plain (there Down) (Some 0) made ms p).again ≡ false
   output-once made [] p = refl
   output-once made (m ∷ rest) p = refl
 
-  input-once : (made : ℕ) (ms : List (Message ℕ)) (p : Ldterm ℕ) → (input_begins plain (there Up) (Some 0) made ms p).again ≡ false
+  input-once : (made : ℕ) (ms : List (Message ℕ)) (p : ldterms.Ldterm ℕ) → (input_begins plain (there Up) (Some 0) made ms p).again ≡ false
   input-once made [] p = refl
   input-once made (m ∷ rest) p = by (is_data m.kind)
     where
@@ -150,7 +150,7 @@ goes-whole : (side : Side) (way : Way) (n : ℕ) (s : State ℕ) (t : Stream ℕ
     → turned_named plain (named side way) (whole_module Ldterm way t) s (place_named Ldterm t.modules) ≡ turned_named plain (named side way) (Moved n) s (place_named Ldterm t.modules)
 goes-whole side way n s t is whole = by (place_named Ldterm t.modules) refl
   where
-    abbrev say : Module ℕ → ℕ
+    say : Module ℕ → ℕ
     say p = first_size (messages_at module_queue way p)
 
     by : (found : Option ℕ) → place_named Ldterm t.modules ≡ found

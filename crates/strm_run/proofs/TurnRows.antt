@@ -16,6 +16,7 @@ use Rattle.strm_types.specs.Ldterms.{Ldterm, new_ldterm}
 use Rattle.strm_types.specs.Message.{Message, band_of, cells_of, data_message, is_held, is_high_priority, rank_of, size_of}
 use Rattle.strm_types.specs.Names.{driver_of}
 use Rattle.strm_types.specs.Queue.{Queue}
+use Rattle.strm_types.specs.Stacked.{OfLdterm}
 use Rattle.strm_types.specs.State.{Stream, new_stream, opening}
 use Rattle.strm_types.proofs.Samples.{ordinary}
 use Rattle.strm_run.specs.Script.{queue_in_stream}
@@ -34,7 +35,7 @@ fresh = new_ldterm
 abbrev typed_on : Stream ℕ
 typed_on = record new_stream {
   opened = Open;
-  modules = record fresh { read_queue = waiting (ordinary (97 ∷ 10 ∷ 98 ∷ []) ∷ []) fresh.read_queue } ∷ [];
+  modules = OfLdterm (record fresh { read_queue = waiting (ordinary (97 ∷ 10 ∷ 98 ∷ []) ∷ []) fresh.read_queue }) ∷ [];
 }
 
 abbrev written_on : Stream ℕ

@@ -1,5 +1,5 @@
-//! Scripts run from memory to memory: the titled scenes of `sessions`, `scripts`, `messages`, `ioctls`, `keys`, `echo`, `outputs` and `turns`, and readers,
-//! writers and lines that no scene can show.
+//! Scripts run from memory to memory: the titled scenes of `sessions`, `scripts`, `messages`, `ioctls`, `keys`, `echo`, `outputs`, `ptem` and `turns`, and
+//! readers, writers and lines that no scene can show.
 
 mod echo;
 mod ioctls;
@@ -7,6 +7,7 @@ mod keys;
 mod messages;
 mod no_memory;
 mod outputs;
+mod ptem;
 mod scripts;
 mod sessions;
 mod turns;
@@ -122,6 +123,7 @@ fn each_scene_answers_as_it_says(rt: HostRuntime) -> Result<(), Fail> {
     plays_scenes(&rt, rt.alloc(), &outputs::OUTPUT)?;
     plays_scenes(&rt, rt.alloc(), &outputs::STOPPED)?;
     plays_scenes(&rt, rt.alloc(), &sessions::SESSIONS)?;
+    plays_scenes(&rt, rt.alloc(), &ptem::PTEM)?;
     plays_scenes(&rt, rt.alloc(), &echo::BYTES)?;
     plays_scenes(&rt, rt.alloc(), &echo::RUBBING_OUT)?;
     plays_scenes(&rt, rt.alloc(), &echo::FULL)?;
