@@ -16,10 +16,7 @@ word words i = (slice_index_or words i (record { ref_ptr = (0, 0); now = [] })).
 
 -- what a number says is typed
 abbrev pub typed_by : ℕ → Option Typed
-typed_by 0 = Some Nothing
-typed_by 1 = Some Lines
-typed_by 2 = Some Raw
-typed_by _ = None
+typed_by n = if n == 0 then Some Nothing else (if n == 1 then Some Lines else (if n == 2 then Some Raw else None))
 
 -- eight numbers in the ranges of a plan
 pub record IsPlan (words : Words) : Type 0 where
