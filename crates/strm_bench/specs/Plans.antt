@@ -4,7 +4,7 @@ use Rattle.std.specs.Borrow.{Bor}
 use Rattle.strm_bench.specs.Numbers.{IsNumber, number_of}
 use Rattle.strm_bench.specs.declared.plans.Plan.{Plan}
 use Rattle.strm_bench.specs.declared.plans.Typed.{Typed}
-use Rattle.strm_bench.specs.declared.plans.Typed.TheVariants.{Nothing, Lines, Raw}
+use Rattle.strm_bench.specs.declared.plans.Typed.TheVariants.{Nothing, Lines, Raw, Shown, ShownRaw}
 
 -- the words of a line
 abbrev pub Words : Type 0
@@ -16,7 +16,8 @@ word words i = (slice_index_or words i (record { ref_ptr = (0, 0); now = [] })).
 
 -- what a number says is typed
 abbrev pub typed_by : ℕ → Option Typed
-typed_by n = if n == 0 then Some Nothing else (if n == 1 then Some Lines else (if n == 2 then Some Raw else None))
+typed_by n = if n == 0 then Some Nothing else (if n == 1 then Some Lines else (if n == 2 then Some Raw
+    else (if n == 3 then Some Shown else (if n == 4 then Some ShownRaw else None))))
 
 -- eight numbers in the ranges of a plan
 pub record IsPlan (words : Words) : Type 0 where
@@ -33,7 +34,7 @@ pub record IsPlan (words : Words) : Type 0 where
   pub some_blocks : 0 < number_of (word words 4)
   pub few_blocks : number_of (word words 4) ≤ 65536
   pub warm_or_not : number_of (word words 6) ≤ 1
-  pub known : number_of (word words 7) ≤ 2
+  pub known : number_of (word words 7) ≤ 4
   pub line : number_of (word words 7) ≡ 1 → number_of (word words 2) ≤ 256
 
 -- a plan has the numbers that the words spell

@@ -8,7 +8,8 @@ ghost use Rattle.strm_bench.specs.Plans.{IsPlan, Says, typed_by};
 use crate::plans::{Plan, Typed};
 
 /// The plan that eight words say, each a number: blocks from 1 to 65536, a size of at most 4096, then 1 for a warm plan and else 0, and
-/// what is typed: 0 for nothing, 1 for lines, whose size is at most 256, and 2 for raw mode.
+/// what is typed: 0 for bytes without a line discipline, 1 for lines, whose size is at most 256, 2 for raw mode, and 3 and 4 for what the slave
+/// writes, by the first modes and in raw mode.
 pub fn read_plan(words: &[&str]) -> Option<Plan>
     ensures known { IsSome result ↔ IsPlan words.now }
     ensures numbers { IfSome result (Says words.now) }
@@ -51,6 +52,8 @@ fn typed_as(number: u32) -> Option<Typed>
         0 => Some(Typed::Nothing),
         1 => Some(Typed::Lines),
         2 => Some(Typed::Raw),
+        3 => Some(Typed::Shown),
+        4 => Some(Typed::ShownRaw),
         _ => None,
     }
 }

@@ -84,7 +84,16 @@ fn sets_up(pair: &mut Pair<TableStore>, plan: &Plan, out: &mut Content) -> bool 
     }
     pushes(pair, ModuleName::Ptem, out)
         && pushes(pair, ModuleName::Ldterm, out)
-        && (plan.typed == Typed::Lines || makes_raw(pair, out))
+        && (matches!(plan.typed, Typed::Lines | Typed::Shown) || makes_raw(pair, out))
+}
+
+// Who writes in a plan, and who reads.
+fn ends(plan: &Plan) -> (Caller, Caller) {
+    if matches!(plan.typed, Typed::Shown | Typed::ShownRaw) {
+        (SLAVE, MASTER)
+    } else {
+        (MASTER, SLAVE)
+    }
 }
 
 // What a plan writes in each round: bytes, or the end of a line.
@@ -110,9 +119,9 @@ fn turns(pair: &mut Pair<TableStore>) -> bool {
     true
 }
 
-// A write on the master, and the turns that carry it to the slave's head; whether all went well.
-fn sends(pair: &mut Pair<TableStore>, bytes: &[u8], out: &mut Content) -> bool {
-    calls(pair, MASTER, &Event::Write { bytes }, out) && turns(pair)
+// A write, and the turns that carry it to the head across; whether all went well.
+fn sends(pair: &mut Pair<TableStore>, writer: Caller, bytes: &[u8], out: &mut Content) -> bool {
+    calls(pair, writer, &Event::Write { bytes }, out) && turns(pair)
 }
 
 // A read of what is echoed on the master, where lines are typed; whether it was granted.
@@ -120,11 +129,11 @@ fn echoes(pair: &mut Pair<TableStore>, plan: &Plan, out: &mut Content) -> bool {
     plan.typed != Typed::Lines || calls(pair, MASTER, &Event::Read { n: 4096 }, out)
 }
 
-// A read of up to so many bytes on the slave; whether it was granted.
-fn reads(pair: &mut Pair<TableStore>, n: u32, out: &mut Content) -> bool
+// A read of up to so many bytes; whether it was granted.
+fn reads(pair: &mut Pair<TableStore>, reader: Caller, n: u32, out: &mut Content) -> bool
     ensures { OnTrue result (length out.new.items ≤ n) }
 {
-    pair.call(SLAVE, &Event::Read { n }, out).is_ok()
+    pair.call(reader, &Event::Read { n }, out).is_ok()
 }
 
 // The rounds on a pair: how many bytes were read.
@@ -136,16 +145,17 @@ fn rounds(pair: &mut Pair<TableStore>, plan: &Plan) -> Option<u64>
         return None;
     }
     for _ in 0..plan.standing {
-        if !sends(pair, &BYTES[..1], &mut out) {
+        if !sends(pair, MASTER, &BYTES[..1], &mut out) {
             return None;
         }
     }
+    let (writer, reader) = ends(plan);
     let mut read = 0u64;
     for _ in 0..plan.rounds {
-        if !sends(pair, written(plan), &mut out) || !echoes(pair, plan, &mut out) {
+        if !sends(pair, writer, written(plan), &mut out) || !echoes(pair, plan, &mut out) {
             return None;
         }
-        if !reads(pair, plan.size, &mut out) {
+        if !reads(pair, reader, plan.size, &mut out) {
             return None;
         }
         read = read.saturating_add(out.len() as u64);
