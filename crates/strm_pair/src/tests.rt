@@ -441,14 +441,15 @@ fn a_closed_master_hangs_the_slave_up(rt: HostRuntime) -> Result<(), Fail> {
     Ok(run(&rt, rt.alloc(), SIZES, &OPENING, &CLOSING_THE_MASTER)?)
 }
 
-const UNKNOWN: [Step<'static>; 7] = [
-    Step::Call(
-        SLAVE,
-        Event::Push {
-            name: Some(ModuleName::Ptem),
-        },
-        INVALID,
-    ),
+const PTEM: Event<&'static [u8]> = Event::Push {
+    name: Some(ModuleName::Ptem),
+};
+
+const UNKNOWN: [Step<'static>; 10] = [
+    Step::Call(SLAVE, PTEM, DONE),
+    Step::Call(SLAVE, PTEM, INVALID),
+    Step::Call(SLAVE, Event::Look, Ok(Answer::Name(ModuleName::Ptem))),
+    Step::Call(SLAVE, Event::Pop, DONE),
     Step::Call(
         SLAVE,
         Event::Push {
@@ -460,10 +461,10 @@ const UNKNOWN: [Step<'static>; 7] = [
     Step::Call(SLAVE, Event::Pop, INVALID),
     Step::Call(SLAVE, Event::Look, INVALID),
     Step::Call(SLAVE, NO_BAND, INVALID),
-    Step::Entered(3, b""),
+    Step::Entered(6, b""),
 ];
 
 #[test]
-fn no_other_module_and_no_eighth_band_is_known(rt: HostRuntime) -> Result<(), Fail> {
+fn one_ptem_stands_and_no_eighth_band_is_known(rt: HostRuntime) -> Result<(), Fail> {
     Ok(run(&rt, rt.alloc(), SIZES, &OPENING, &UNKNOWN)?)
 }

@@ -6,8 +6,8 @@ use crate::pair::kept::Kept;
 use std::alloc::{AllocError, Global};
 use std::collections::VecDeque;
 use strm_types::{
-    Answer, Band, Caller, Config, Entry, Event, FlushQueues, Openness, Place, QueueName, Refusal,
-    Side, Turn,
+    Answer, Band, Caller, Config, Entry, Event, FlushQueues, ModuleName, Openness, Place,
+    QueueName, Refusal, Side, Turn,
 };
 
 // A queue: the sizes of its messages, the first one first, and all their bytes in order; its marks, whether it wants
@@ -140,6 +140,8 @@ impl PlainQueue {
 struct PlainEnd {
     opened: Openness,
     hung_up: bool,
+    // Whether a ptem stands there: bytes and flushes pass it.
+    ptem: bool,
     head: PlainQueue,
     driver: PlainQueue,
 }
@@ -149,6 +151,7 @@ impl PlainEnd {
         PlainEnd {
             opened: Openness::Never,
             hung_up: false,
+            ptem: false,
             head: PlainQueue::new(alloc, 5120, 1024),
             driver: PlainQueue::new(alloc, 512, 128),
         }
@@ -158,10 +161,11 @@ impl PlainEnd {
         self.opened == Openness::Open
     }
 
-    // The end is opened or closed, with a head as it was made.
+    // The end is opened or closed, with a head as it was made and without a module.
     fn becomes(&mut self, opened: Openness) {
         self.opened = opened;
         self.hung_up = false;
+        self.ptem = false;
         self.head.renew();
     }
 
@@ -213,7 +217,7 @@ fn blocks_wanted(event: &Event<&[u8]>) -> usize {
 fn is_wrong(side: Side, event: &Event<&[u8]>) -> bool {
     match event {
         Event::Unlock => side == Side::Slave,
-        Event::Push { .. } => true,
+        Event::Push { name } => *name != Some(ModuleName::Ptem),
         Event::Flush {
             band: Some(band),
             ..
@@ -328,6 +332,7 @@ impl PlainPair {
         match event {
             Event::Write { .. } => Ok(answer == Answer::Count(self.write(side, bytes)?)),
             Event::Read { n } => self.reads(side, n as usize, answer, bytes),
+            Event::Look => Ok(answer == Answer::Name(ModuleName::Ptem)),
             _ => {
                 self.changes(side, event)?;
                 Ok(answer == Answer::Done)
@@ -343,6 +348,8 @@ impl PlainPair {
             Event::OpenSlave => self.open_slave()?,
             Event::Shut => self.shut(side)?,
             Event::Flush { what, band } => self.flush(side, what, takes_zero(band))?,
+            Event::Push { .. } => self.end_mut(side).ptem = true,
+            Event::Pop => self.end_mut(side).ptem = false,
             _ => (),
         }
         Ok(())
@@ -533,7 +540,8 @@ impl PlainPair {
             Event::OpenMaster if self.master.opened != Openness::Never => Some(Refusal::Einval),
             Event::OpenSlave if self.slave.is_open() => Some(Refusal::Einval),
             Event::OpenSlave if self.locked => Some(Refusal::Eagain),
-            Event::Pop | Event::Look => Some(Refusal::Einval),
+            Event::Push { .. } if end.ptem => Some(Refusal::Einval),
+            Event::Pop | Event::Look if !end.ptem => Some(Refusal::Einval),
             Event::Write { .. } if end.driver.is_full() => Some(Refusal::Eagain),
             Event::Read { n } if *n > 0 && waits => Some(Refusal::Eagain),
             _ => None,
