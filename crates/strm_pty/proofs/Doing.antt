@@ -152,6 +152,10 @@ module _ {M : Type 0} (name : M → ℕ) where
     chains = second.chains;
   }
 
+  -- the message is freed, and the others are made behind that
+  pub freed-then : (s t u : StoreValue) (i k : ℕ) (made : List (Sent M)) (ps : List (Parcel ℕ)) → IsStore s → IsInHand s i → t ≡ dropped s i → Makes name t u k made ps → Swaps name s u i k made ps
+  freed-then s t u i k made ps st is after makes = swaps-then s t u i k [] made ps (swaps-freed s t i [] st is after refl) makes refl
+
   -- that is a put that does nothing with its queue
   pub swaps-does : (s t : StoreValue) (q : Queue) (m n k : ℕ) (acts : Acts M) (f : Fates) (ps : List (Parcel ℕ)) → IsReady s q → acts.notes.items ≡ [] → Swaps name s t m n (sent_of acts.sent) ps → n ≤ k
       → Does name s t q q m k acts f f (record { state = queue_in s q; notes = []; sent = ps; gone = [] })
@@ -210,3 +214,9 @@ room-kept name s t u i k come freed hands room = record {
 
 pub room-less : (s : StoreValue) (n k : ℕ) → k ≤ n → HasRoom s n → HasRoom s k
 room-less s n k le room = record { mblks = (let c = room.mblks in omega arith); dblks = (let c = room.dblks in omega arith) }
+
+-- behind a message that was freed alone
+pub room-freed : (s t : StoreValue) (i n k : ℕ) → IsStore s → IsInHand s i → t ≡ dropped s i → k ≤ n → HasRoom s n → HasRoom t k
+room-freed s t i n k st is after le room =
+    let freed = subst (λ v. Shifts s v (once i) (λ _. 0) 0) (sym after) (shifts-freed s i st (can-of s i is)) in
+    record { mblks = (let a = freed.mblks in let b = room.mblks in omega arith); dblks = (let a = freed.dblks in let b = room.dblks in omega arith) }

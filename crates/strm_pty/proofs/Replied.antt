@@ -1,6 +1,6 @@
 -- Puts at ptem, step by step.
-use Rattle.std.proofs.Common.{ℕ, ◌≡◌, ◌<◌, ◌≤◌, ◌+◌, Bool, true, false, cond, List, [], ◌∷◌, refl, sym, ap, subst, ◌∙◌, arith}
-use Rattle.std.specs.Prelude.{◌&&◌, not, Some}
+use Rattle.std.proofs.Common.{ℕ, ◌≡◌, ◌<◌, ◌≤◌, ◌+◌, Bool, true, false, cond, List, [], ◌∷◌, refl, sym, ap, subst, ◌∙◌, take, arith}
+use Rattle.std.specs.Prelude.{◌&&◌, not, Option, Some}
 use Rattle.strm_types.specs.declared.kinds.MsgKind.{MsgKind}
 use Rattle.strm_types.specs.declared.kinds.MsgKind.TheVariants.{Ioctl, Iocack, Pcsig}
 use Rattle.strm_types.specs.declared.ioctls.Ioc.{Ioc}
@@ -8,15 +8,16 @@ use Rattle.strm_types.specs.declared.limits.TheConstants.{MODULES}
 use Rattle.strm_types.specs.declared.names.Way.TheVariants.{Up, Down}
 use Rattle.strm_types.specs.declared.spots.Spot.{Spot}
 use Rattle.strm_types.specs.declared.winsize.Winsize.{Winsize}
-use Rattle.strm_types.specs.Acks.{payload}
+use Rattle.strm_types.specs.Acks.{ack_message, payload, telling_message}
 use Rattle.strm_types.specs.Commands.{is_asked, is_ioctl}
 use Rattle.strm_types.specs.Deliver.{Acted, Parcel, toward}
 use Rattle.strm_types.specs.Flush.{is_data_kind}
-use Rattle.strm_types.specs.Ioctls.{read_ioc}
+use Rattle.strm_types.specs.Ioctls.{nak_message, read_ioc}
+use Rattle.strm_types.specs.Ldterms.{onward}
 use Rattle.strm_types.specs.Message.{Message, has_parts}
 use Rattle.strm_types.specs.Ptems as plain
 use Rattle.strm_types.specs.Costs.{cost}
-use Rattle.strm_types.specs.Ptems.{asked_above, asked_below, asked_by_header, asked_on_way, ptem_passes, ptem_puts, ptem_sends, window_signal}
+use Rattle.strm_types.specs.Ptems.{acks, asked_above, asked_below, asked_by_header, asked_on_way, naks, ptem_passes, ptem_puts, ptem_sends, set_above, window_signal}
 use Rattle.strm_types.specs.Winsizes.{same_winsize}
 use Rattle.strm_types.proofs.CostsBounded.{next-cost}
 use Rattle.strm_blocks.specs.Blocks.{StoreValue, block_at, in_hand}
@@ -25,12 +26,15 @@ use Rattle.strm_msg.proofs.Chains.{kind-is}
 use Rattle.strm_msg.proofs.MadePlain.{parts-same}
 use Rattle.strm_frame.specs.declared.modules.Acts.{Acts}
 use Rattle.strm_frame.specs.declared.parcels.Sent.{Sent}
+use Rattle.strm_frame.specs.Hands.{HasRoom}
 use Rattle.strm_frame.specs.Outboxes.{cost_of, message_in, sent_of}
+use Rattle.strm_frame.proofs.Behind.{all-said, first-tell, read_of}
 use Rattle.strm_frame.proofs.Handing.{one-chains, one-hands, one-parts}
 use Rattle.strm_pty.specs.declared.ptem.Ptem.{Ptem}
-use Rattle.strm_pty.specs.Beside.{Answers, ptem_in}
+use Rattle.strm_pty.specs.Beside.{Answers, MayAnswer, MayPass, ptem_in}
 use Rattle.strm_pty.specs.Does.{Makes, Swaps}
-use Rattle.strm_pty.proofs.Doing.{makes-none}
+use Rattle.strm_pty.proofs.Costing.{ack-cost, nak-above-cost, nak-below-cost, room-above, room-below, set-cost}
+use Rattle.strm_pty.proofs.Doing.{makes-none, room-less}
 
 -- the kinds that ptem makes have no parts
 pub ack-plain : is_data_kind Iocack ≡ false
@@ -102,3 +106,60 @@ module _ {M : Type 0} (name : M → ℕ) where
         spends = record { mblks = omega arith; dblks = omega arith };
         pool = record { mblks = refl; dblks = refl };
       }
+
+-- an M_IOCTL that is put may be answered
+module _ (s : StoreValue) (i : ℕ) (here : Spot) (passes : MayPass s i here) (room : HasRoom s (cost here (message_in s i))) (asked : is_asked (message_in s i) ≡ true) where
+  pub may-above : here.way ≡ Down → MayAnswer s i here Down
+  may-above way = record {
+    passes = passes;
+    asked = asked;
+    goes = way;
+    room = room-less s (cost here (message_in s i)) 3 (room-above here (message_in s i) asked passes.inside way) room;
+  }
+
+  pub may-below : here.way ≡ Up → MayAnswer s i here Up
+  may-below way = record {
+    passes = passes;
+    asked = asked;
+    goes = way;
+    room = room-less s (cost here (message_in s i)) 2 (room-below here (message_in s i) asked passes.inside way) room;
+  }
+
+-- what was read of the first bytes of a payload is read of it all, and where that says something, they are it all
+module _ {A : Type 0} (read : List ℕ → Option A) (k : ℕ) (p bytes : List ℕ) (said : Option A) (less : k < 36) (is : said ≡ read_of read k bytes) (first : bytes ≡ take 36 p) where
+  pub read-all : (o : Option A) → said ≡ o → read_of read k p ≡ o
+  read-all o says = sym (first-tell read k 36 p less) ∙ ap (read_of read k) (sym first) ∙ sym is ∙ says
+
+  pub read-whole : (v : A) → said ≡ Some v → bytes ≡ p
+  read-whole v says = first ∙ all-said read k 36 p v less (ap (read_of read k) (sym first) ∙ sym is ∙ says)
+
+-- an M_IOCTL was freed, and its answer was made
+module _ {M : Type 0} (name : M → ℕ) (s t : StoreValue) (i : ℕ) (here : Spot) (ioc : Ioc) (acts : Acts M) (none : acts.notes.items ≡ []) where
+  pub ack-answers : (x : Ptem) (bytes given : List ℕ) → MayAnswer s i here Down → bytes ≡ given → Swaps name s t i 1 (sent_of acts.sent) (onward Up here (ack_message ioc bytes) ∷ [])
+      → Answers name s t x i (cost here (message_in s i)) acts (acks Up here ioc given (ptem_in x))
+  ack-answers x bytes given may is swaps =
+      swaps-answers name s t x i 1 (cost here (message_in s i)) acts (onward Up here (ack_message ioc given) ∷ []) none
+      (subst (λ xs. Swaps name s t i 1 (sent_of acts.sent) (onward Up here (ack_message ioc xs) ∷ [])) is swaps)
+      (ack-cost here (message_in s i) may.asked may.passes.inside ioc given may.goes may.passes.small)
+
+  pub refuse-above : (x : Ptem) → MayAnswer s i here Down → Swaps name s t i 1 (sent_of acts.sent) (onward Up here (nak_message ioc) ∷ [])
+      → Answers name s t x i (cost here (message_in s i)) acts (naks Up here ioc (ptem_in x))
+  refuse-above x may swaps =
+      swaps-answers name s t x i 1 (cost here (message_in s i)) acts (onward Up here (nak_message ioc) ∷ []) none swaps
+      (nak-above-cost here (message_in s i) may.asked may.passes.inside ioc may.goes)
+
+  pub refuse-below : (x : Ptem) → MayAnswer s i here Up → Swaps name s t i 1 (sent_of acts.sent) (onward Down here (nak_message ioc) ∷ [])
+      → Answers name s t x i (cost here (message_in s i)) acts (naks Down here ioc (ptem_in x))
+  refuse-below x may swaps =
+      swaps-answers name s t x i 1 (cost here (message_in s i)) acts (onward Down here (nak_message ioc) ∷ []) none swaps
+      (nak-below-cost here (message_in s i) may.asked may.passes.inside ioc may.goes)
+
+  -- what it set is told, too
+  pub set-answers : (x x' : Ptem) (bytes given : List ℕ) → MayAnswer s i here Down → bytes ≡ given
+      → Swaps name s t i 3 (sent_of acts.sent) (onward Up here (ack_message ioc bytes) ∷ (onward Down here (telling_message ioc bytes) ∷ window_signal here x.window x'.window))
+      → Answers name s t x' i (cost here (message_in s i)) acts (set_above here ioc given (ptem_in x) (ptem_in x'))
+  set-answers x x' bytes given may is swaps =
+      let sends = λ (xs : List ℕ). onward Up here (ack_message ioc xs) ∷ (onward Down here (telling_message ioc xs) ∷ window_signal here x.window x'.window) in
+      swaps-answers name s t x' i 3 (cost here (message_in s i)) acts (sends given) none
+      (subst (λ xs. Swaps name s t i 3 (sent_of acts.sent) (sends xs)) is swaps)
+      (set-cost here (message_in s i) may.asked may.passes.inside ioc given x.window x'.window may.goes may.passes.small)

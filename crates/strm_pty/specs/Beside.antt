@@ -1,13 +1,20 @@
 -- The module ptem beside a store: what it stands for, and what a put at it did (ptem(7M)).
-use Rattle.std.specs.Prelude.{ℕ, ◌≡◌, false, []}
+use Rattle.std.specs.Prelude.{ℕ, ◌≡◌, ◌<◌, ◌≤◌, true, false, []}
+use Rattle.strm_types.specs.declared.limits.TheConstants.{MODULES}
+use Rattle.strm_types.specs.declared.names.Way.{Way}
+use Rattle.strm_types.specs.declared.names.Way.TheVariants.{Up, Down}
+use Rattle.strm_types.specs.declared.spots.Spot.{Spot}
+use Rattle.strm_types.specs.Commands.{is_asked}
 use Rattle.strm_types.specs.Deliver.{Acted}
+use Rattle.strm_types.specs.Message.{Message}
 use Rattle.strm_types.specs.Ptems as plain
 use Rattle.strm_types.specs.Costs.{cost}
 use Rattle.strm_types.specs.Service.{Serving}
-use Rattle.strm_blocks.specs.Blocks.{StoreValue}
+use Rattle.strm_blocks.specs.Blocks.{StoreValue, IsInHand, in_hand}
+use Rattle.strm_msg.specs.Messages.{IsChain}
 use Rattle.strm_frame.specs.declared.modules.Acts.{Acts}
-use Rattle.strm_frame.specs.Hands.{Hands, SamePool, Spends}
-use Rattle.strm_frame.specs.Outboxes.{sent_of, times_sent, parcels_in, AreChains, cost_of}
+use Rattle.strm_frame.specs.Hands.{Hands, HasRoom, SamePool, Spends}
+use Rattle.strm_frame.specs.Outboxes.{message_in, sent_of, times_sent, parcels_in, AreChains, cost_of}
 use Rattle.strm_pty.specs.declared.ptem.Ptem.{Ptem}
 
 -- what it stands for, whatever the store holds
@@ -25,6 +32,29 @@ pub record Answers {M : Type 0} (name : M → ℕ) (old new : StoreValue) (x' : 
   pub hands : Hands old new message (λ _. 0) (λ _. 0) (λ i. times_sent name i (sent_of acts.sent))
   pub spends : Spends old new most (cost_of cost is.sent)
   pub pool : SamePool old new
+
+-- that, of a message that is put here, as a definition says of it and of what was set before
+abbrev pub Puts : {M : Type 0} → (M → ℕ) → StoreValue → StoreValue → Ptem → Ptem → ℕ → Spot → Acts M → (Message ℕ → plain.Ptem → Acted ℕ plain.Ptem) → Type 0
+Puts name old new x x' message here acts is = let m = message_in old message in Answers name old new x' message (cost here m) acts (is m (ptem_in x))
+
+-- how many blocks of each kind the answers to an M_IOCTL take at most, by the way that it goes
+abbrev pub answer_blocks : Way → ℕ
+answer_blocks Down = 3
+answer_blocks Up = 2
+
+-- a message that may be put at a module's place
+pub record MayPass (store : StoreValue) (message : ℕ) (here : Spot) : Type 0 where
+  pub held : IsInHand store message
+  pub chain : IsChain (in_hand store message)
+  pub inside : 0 < here.at
+  pub small : here.at ≤ MODULES
+
+-- an M_IOCTL that may be answered there, on this way: the blocks for its answers are free
+pub record MayAnswer (store : StoreValue) (message : ℕ) (here : Spot) (way : Way) : Type 0 where
+  pub passes : MayPass store message here
+  pub asked : is_asked (message_in store message) ≡ true
+  pub goes : here.way ≡ way
+  pub room : HasRoom store (answer_blocks way)
 
 -- a call of a service procedure where there is none: nothing is done
 abbrev pub idle : plain.Ptem → Serving ℕ plain.Ptem

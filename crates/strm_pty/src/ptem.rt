@@ -4,7 +4,6 @@ ghost use Rattle.std.specs.Prelude.{◌≡◌, ◌<◌, ◌≤◌, ◌||◌, ◌
 ghost use Rattle.strm_types.specs.declared.limits.TheConstants.{MODULES};
 ghost use Rattle.strm_types.specs.declared.names.Way.TheVariants.{Up, Down};
 ghost use Rattle.strm_types.specs.Acks.{payload};
-ghost use Rattle.strm_types.specs.Commands.{is_asked};
 ghost use Rattle.strm_types.specs.Costs.{cost};
 ghost use Rattle.strm_types.specs.Ptems as plain;
 ghost use Rattle.strm_types.specs.Ptems.{acks, asked_above, asked_below, new_ptem};
@@ -16,7 +15,7 @@ ghost use Rattle.strm_blocks.specs.Blocks.{IsInHand, in_hand};
 ghost use Rattle.strm_msg.specs.Messages.{IsChain};
 ghost use Rattle.strm_frame.specs.Hands.{HasRoom};
 ghost use Rattle.strm_frame.specs.Outboxes.{message_in};
-ghost use Rattle.strm_pty.specs.Beside.{Answers, ptem_in};
+ghost use Rattle.strm_pty.specs.Beside.{MayAnswer, MayPass, Puts, ptem_in};
 
 use crate::replies::{ack, confirm, hear, nak, raise};
 use arrayvec::ArrayVec;
@@ -47,21 +46,10 @@ impl Ptem {
     }
 }
 
-// Whether a command is another one.
-fn is_command(command: u32, other: u32) -> bool
-    ensures { result ≡ (command == other) }
-{
-    command == other
-}
-
 // Sends a message on to the next place.
 fn pass_on<B: Blocks>(ptem: &Ptem, store: &B, here: Spot, message: B::Mp) -> Acts<B::Mp>
-    requires in_hand { IsInHand (B.value store.now) (B.name message) }
-    requires chain { IsChain (in_hand (B.value store.now) (B.name message)) }
-    requires inside { 0 < here.at }
-    requires small { here.at ≤ MODULES }
-    ensures { let s = B.value store.now in let m = message_in s (B.name message) in
-        Answers B.name s s ptem.now (B.name message) (cost here m) result (ptem_passes here m (ptem_in ptem.now)) }
+    requires { MayPass (B.value store.now) (B.name message) here }
+    ensures { let s = B.value store.now in Puts B.name s s ptem.now ptem.now (B.name message) here result (ptem_passes here) }
 {
     let _ = ptem;
     let _ = store;
@@ -82,15 +70,9 @@ fn tell_termios<B: Blocks>(
     ioc: Ioc,
     message: B::Mp,
 ) -> Acts<B::Mp>
-    requires in_hand { IsInHand (B.value store.old) (B.name message) }
-    requires asked { is_asked (message_in (B.value store.old) (B.name message)) ≡ true }
-    requires down { here.way ≡ Down }
-    requires room { HasRoom (B.value store.old) 3 }
-    requires inside { 0 < here.at }
-    requires small { here.at ≤ MODULES }
-    ensures { let s = B.value store.old in let m = message_in s (B.name message) in
-        Answers B.name s (B.value store.new) ptem.now (B.name message) (cost here m) result
-        (acks Up here ioc (termios_bytes ptem.now.termios) (ptem_in ptem.now)) }
+    requires { MayAnswer (B.value store.old) (B.name message) here Down }
+    ensures { Puts B.name (B.value store.old) (B.value store.new) ptem.now ptem.now (B.name message) here result
+        (λ m. acks Up here ioc (termios_bytes ptem.now.termios)) }
 {
     let bytes = ptem.termios.bytes();
     ack(store, here, ioc, &bytes, message)
@@ -104,15 +86,9 @@ fn tell_window<B: Blocks>(
     ioc: Ioc,
     message: B::Mp,
 ) -> Acts<B::Mp>
-    requires in_hand { IsInHand (B.value store.old) (B.name message) }
-    requires asked { is_asked (message_in (B.value store.old) (B.name message)) ≡ true }
-    requires down { here.way ≡ Down }
-    requires room { HasRoom (B.value store.old) 3 }
-    requires inside { 0 < here.at }
-    requires small { here.at ≤ MODULES }
-    ensures { let s = B.value store.old in let m = message_in s (B.name message) in
-        Answers B.name s (B.value store.new) ptem.now (B.name message) (cost here m) result
-        (acks Up here ioc (winsize_bytes ptem.now.window) (ptem_in ptem.now)) }
+    requires { MayAnswer (B.value store.old) (B.name message) here Down }
+    ensures { Puts B.name (B.value store.old) (B.value store.new) ptem.now ptem.now (B.name message) here result
+        (λ m. acks Up here ioc (winsize_bytes ptem.now.window)) }
 {
     let bytes = ptem.window.bytes();
     ack(store, here, ioc, &bytes, message)
@@ -126,15 +102,9 @@ fn set_termios<B: Blocks>(
     ioc: Ioc,
     message: B::Mp,
 ) -> Acts<B::Mp>
-    requires in_hand { IsInHand (B.value store.old) (B.name message) }
-    requires asked { is_asked (message_in (B.value store.old) (B.name message)) ≡ true }
-    requires down { here.way ≡ Down }
-    requires room { HasRoom (B.value store.old) 3 }
-    requires inside { 0 < here.at }
-    requires small { here.at ≤ MODULES }
-    ensures { let s = B.value store.old in let m = message_in s (B.name message) in let given = payload m.plain in
-        Answers B.name s (B.value store.new) ptem.new (B.name message) (cost here m) result
-        (termios_set here ioc given (read_termios given) (ptem_in ptem.old)) }
+    requires { MayAnswer (B.value store.old) (B.name message) here Down }
+    ensures { Puts B.name (B.value store.old) (B.value store.new) ptem.old ptem.new (B.name message) here result
+        (λ m. let given = payload m.plain in termios_set here ioc given (read_termios given)) }
 {
     let given = payload_of(store, &message);
     let Some(termios) = Termios::read(given.as_slice()) else {
@@ -153,15 +123,9 @@ fn set_window<B: Blocks>(
     ioc: Ioc,
     message: B::Mp,
 ) -> Acts<B::Mp>
-    requires in_hand { IsInHand (B.value store.old) (B.name message) }
-    requires asked { is_asked (message_in (B.value store.old) (B.name message)) ≡ true }
-    requires down { here.way ≡ Down }
-    requires room { HasRoom (B.value store.old) 3 }
-    requires inside { 0 < here.at }
-    requires small { here.at ≤ MODULES }
-    ensures { let s = B.value store.old in let m = message_in s (B.name message) in let given = payload m.plain in
-        Answers B.name s (B.value store.new) ptem.new (B.name message) (cost here m) result
-        (window_set here ioc given (read_winsize given) (ptem_in ptem.old)) }
+    requires { MayAnswer (B.value store.old) (B.name message) here Down }
+    ensures { Puts B.name (B.value store.old) (B.value store.new) ptem.old ptem.new (B.name message) here result
+        (λ m. let given = payload m.plain in window_set here ioc given (read_winsize given)) }
 {
     let given = payload_of(store, &message);
     let Some(window) = Winsize::read(given.as_slice()) else {
@@ -180,15 +144,9 @@ fn hear_window<B: Blocks>(
     ioc: Ioc,
     message: B::Mp,
 ) -> Acts<B::Mp>
-    requires in_hand { IsInHand (B.value store.old) (B.name message) }
-    requires asked { is_asked (message_in (B.value store.old) (B.name message)) ≡ true }
-    requires up { here.way ≡ Up }
-    requires room { HasRoom (B.value store.old) 2 }
-    requires inside { 0 < here.at }
-    requires small { here.at ≤ MODULES }
-    ensures { let s = B.value store.old in let m = message_in s (B.name message) in
-        Answers B.name s (B.value store.new) ptem.new (B.name message) (cost here m) result
-        (window_told here ioc (read_winsize (payload m.plain)) (ptem_in ptem.old)) }
+    requires { MayAnswer (B.value store.old) (B.name message) here Up }
+    ensures { Puts B.name (B.value store.old) (B.value store.new) ptem.old ptem.new (B.name message) here result
+        (λ m. window_told here ioc (read_winsize (payload m.plain))) }
 {
     let given = payload_of(store, &message);
     let Some(window) = Winsize::read(given.as_slice()) else {
@@ -207,15 +165,9 @@ fn hear_signal<B: Blocks>(
     ioc: Ioc,
     message: B::Mp,
 ) -> Acts<B::Mp>
-    requires in_hand { IsInHand (B.value store.old) (B.name message) }
-    requires asked { is_asked (message_in (B.value store.old) (B.name message)) ≡ true }
-    requires up { here.way ≡ Up }
-    requires room { HasRoom (B.value store.old) 2 }
-    requires inside { 0 < here.at }
-    requires small { here.at ≤ MODULES }
-    ensures { let s = B.value store.old in let m = message_in s (B.name message) in
-        Answers B.name s (B.value store.new) ptem.now (B.name message) (cost here m) result
-        (signal_told here ioc (signal_in (payload m.plain)) (ptem_in ptem.now)) }
+    requires { MayAnswer (B.value store.old) (B.name message) here Up }
+    ensures { Puts B.name (B.value store.old) (B.value store.new) ptem.now ptem.now (B.name message) here result
+        (λ m. signal_told here ioc (signal_in (payload m.plain))) }
 {
     let given = payload_of(store, &message);
     match signal_in(given.as_slice()) {
@@ -232,27 +184,20 @@ fn put_above<B: Blocks>(
     ioc: Ioc,
     message: B::Mp,
 ) -> Acts<B::Mp>
-    requires in_hand { IsInHand (B.value store.old) (B.name message) }
-    requires chain { IsChain (in_hand (B.value store.old) (B.name message)) }
-    requires asked { is_asked (message_in (B.value store.old) (B.name message)) ≡ true }
-    requires down { here.way ≡ Down }
-    requires room { HasRoom (B.value store.old) 3 }
-    requires inside { 0 < here.at }
-    requires small { here.at ≤ MODULES }
-    ensures { let s = B.value store.old in let m = message_in s (B.name message) in
-        Answers B.name s (B.value store.new) ptem.new (B.name message) (cost here m) result
-        (asked_above here ioc (payload m.plain) m (ptem_in ptem.old)) }
+    requires { MayAnswer (B.value store.old) (B.name message) here Down }
+    ensures { Puts B.name (B.value store.old) (B.value store.new) ptem.old ptem.new (B.name message) here result
+        (λ m. asked_above here ioc (payload m.plain) m) }
 {
-    if is_command(ioc.command, TCGETS) {
+    if ioc.command == TCGETS {
         return tell_termios(ptem, store, here, ioc, message);
     }
-    if is_command(ioc.command, TIOCGWINSZ) {
+    if ioc.command == TIOCGWINSZ {
         return tell_window(ptem, store, here, ioc, message);
     }
     if sets_termios(ioc.command) {
         return set_termios(ptem, store, here, ioc, message);
     }
-    if is_command(ioc.command, TIOCSWINSZ) {
+    if ioc.command == TIOCSWINSZ {
         return set_window(ptem, store, here, ioc, message);
     }
     pass_on(ptem, store, here, message)
@@ -266,21 +211,14 @@ fn put_below<B: Blocks>(
     ioc: Ioc,
     message: B::Mp,
 ) -> Acts<B::Mp>
-    requires in_hand { IsInHand (B.value store.old) (B.name message) }
-    requires chain { IsChain (in_hand (B.value store.old) (B.name message)) }
-    requires asked { is_asked (message_in (B.value store.old) (B.name message)) ≡ true }
-    requires up { here.way ≡ Up }
-    requires room { HasRoom (B.value store.old) 2 }
-    requires inside { 0 < here.at }
-    requires small { here.at ≤ MODULES }
-    ensures { let s = B.value store.old in let m = message_in s (B.name message) in
-        Answers B.name s (B.value store.new) ptem.new (B.name message) (cost here m) result
-        (asked_below here ioc (payload m.plain) m (ptem_in ptem.old)) }
+    requires { MayAnswer (B.value store.old) (B.name message) here Up }
+    ensures { Puts B.name (B.value store.old) (B.value store.new) ptem.old ptem.new (B.name message) here result
+        (λ m. asked_below here ioc (payload m.plain) m) }
 {
-    if is_command(ioc.command, TIOCSWINSZ) {
+    if ioc.command == TIOCSWINSZ {
         return hear_window(ptem, store, here, ioc, message);
     }
-    if is_command(ioc.command, TIOCSIGNAL) {
+    if ioc.command == TIOCSIGNAL {
         return hear_signal(ptem, store, here, ioc, message);
     }
     pass_on(ptem, store, here, message)
@@ -301,9 +239,8 @@ pub fn put<B: Blocks>(ptem: &mut Ptem, store: &mut B, here: Spot, message: B::Mp
     requires room { let s = B.value store.old in HasRoom s (cost here (message_in s (B.name message))) }
     requires inside { 0 < here.at }
     requires small { here.at ≤ MODULES }
-    ensures { let s = B.value store.old in let m = message_in s (B.name message) in
-        Answers B.name s (B.value store.new) ptem.new (B.name message) (cost here m) result
-        (ptem_puts here m (ptem_in ptem.old)) }
+    ensures { Puts B.name (B.value store.old) (B.value store.new) ptem.old ptem.new (B.name message) here result
+        (ptem_puts here) }
 {
     store.audit();
     let kind = store.kind(&message, 0);

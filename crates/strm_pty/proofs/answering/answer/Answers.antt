@@ -1,7 +1,7 @@
 -- The message is freed, and the answer made.
-use Rattle.std.proofs.Common.{refl, []}
+use Rattle.std.proofs.Common.{arith}
 use Rattle.strm_types.specs.declared.kinds.MsgKind.TheVariants.{Iocnak}
-use Rattle.strm_pty.proofs.Doing.{swaps-freed, swaps-then, makes-one, room-left}
+use Rattle.strm_pty.proofs.Doing.{freed-then, makes-one, room-freed}
 use Rattle.strm_pty.proofs.Made.{nak-plain, nak-parcel}
 use Rattle.strm_pty.proofs.answering.answer.Goals as goal
 
@@ -16,14 +16,12 @@ returns-clause-swaps g c =
     let u = g.B.Blocks.value c.make-message.new.store in
     let i = name c.args.message in
     let bytes = c.bytes-header.result in
-    swaps-then name s t u i 1 [] _ _ (swaps-freed name s t i [] c.audit.ensures c.requires.in_hand c.free.ensures refl)
+    freed-then name s t u i 1 _ _ c.audit.ensures c.requires.in_hand c.free.ensures
     (makes-one name t u (record { to = c.toward.result; message = c.make-message.result }) Iocnak bytes _ _ c.make-message.ensures c.one.ensures
-    (nak-parcel c.toward.result bytes c.args.here c.refused.result c.args.ioc c.toward.ensures c.bytes-header.ensures.bytes c.refused.ensures)) refl
+    (nak-parcel c.toward.result bytes c.args.here c.refused.result c.args.ioc c.toward.ensures c.bytes-header.ensures.bytes c.refused.ensures))
 
 pub make-message-requires-clause-room : goal.make-message-requires-clause-room
 make-message-requires-clause-room g c =
-    let name = g.B.Blocks.name in
     let s = g.B.Blocks.value c.args.store.now in
     let t = g.B.Blocks.value c.free.new.self in
-    let freed = swaps-freed name s t (name c.args.message) [] c.audit.ensures c.requires.in_hand c.free.ensures refl in
-    room-left s t _ _ 0 1 freed.hands c.requires.room
+    room-freed s t (g.B.Blocks.name c.args.message) 1 1 c.audit.ensures c.requires.in_hand c.free.ensures (omega arith) c.requires.room

@@ -3,17 +3,16 @@ use Rattle.std.proofs.Common.{◌≡◌, [], ◌∷◌, sym, ap, subst, ◌∙�
 use Rattle.std.specs.Prelude.{None, Some}
 use Rattle.strm_types.specs.declared.names.Way.TheVariants.{Down}
 use Rattle.strm_types.specs.Acks.{ack_message, payload}
-use Rattle.strm_types.specs.Ioctls.{nak_message}
 use Rattle.strm_types.specs.Ldterms.{onward}
 use Rattle.strm_types.specs.Costs.{cost}
 use Rattle.strm_types.specs.Ptems.{signal_told, signals_up}
 use Rattle.strm_types.specs.Signals.{signal_in}
 use Rattle.strm_frame.specs.Outboxes.{message_in}
 use Rattle.strm_pty.specs.Beside.{Answers, ptem_in}
-use Rattle.strm_frame.proofs.Behind.{signal-first}
-use Rattle.strm_pty.proofs.Costing.{nak-below-cost, raise-cost}
 use Rattle.strm_frame.proofs.Asked.{asked-plain}
-use Rattle.strm_pty.proofs.Replied.{swaps-answers}
+use Rattle.strm_frame.proofs.Behind.{signal-first}
+use Rattle.strm_pty.proofs.Costing.{raise-cost}
+use Rattle.strm_pty.proofs.Replied.{refuse-below, swaps-answers}
 use Rattle.strm_pty.proofs.ptem.hear_signal.Goals as goal
 
 pub payload_of-given-requires-clause-kind : goal.payload_of-given-requires-clause-kind
@@ -23,16 +22,14 @@ pub returns-in-None : goal.returns-in-None
 returns-in-None g c =
     let name = g.B.Blocks.name in
     let s = g.B.Blocks.value c.args.store.now in
+    let t = g.B.Blocks.value c.nak.new.store in
     let i = name c.args.message in
     let here = c.args.here in
-    let m = message_in s i in
-    let p = payload m.plain in
+    let p = payload (message_in s i).plain in
     let x = c.args.ptem.now in
     let said : c.signal_in.result ≡ signal_in p = c.signal_in.ensures ∙ ap signal_in (c.as_slice.ensures.value ∙ c.payload_of-given.ensures) ∙ signal-first p in
-    let none : signal_in p ≡ None = sym said ∙ c.in-None.is in
-    subst (λ o. Answers name s (g.B.Blocks.value c.nak.new.store) x i (cost here m) c.nak.result (signal_told here c.args.ioc o (ptem_in x))) (sym none)
-    (swaps-answers name s (g.B.Blocks.value c.nak.new.store) x i 1 (cost here m) c.nak.result (onward Down here (nak_message c.args.ioc) ∷ []) c.nak.ensures.notes c.nak.ensures.swaps
-    (nak-below-cost here m c.requires.asked c.requires.inside c.args.ioc c.requires.up))
+    subst (λ o. Answers name s t x i (cost here (message_in s i)) c.nak.result (signal_told here c.args.ioc o (ptem_in x))) (sym c.in-None.is ∙ said)
+    (refuse-below name s t i here c.args.ioc c.nak.result c.nak.ensures.notes x c.requires c.nak.ensures.swaps)
 
 pub returns-in-Some : goal.returns-in-Some
 returns-in-Some g c =
@@ -47,7 +44,6 @@ returns-in-Some g c =
     let x = c.args.ptem.now in
     let signal = c.in-Some.signal in
     let said : c.signal_in.result ≡ signal_in p = c.signal_in.ensures ∙ ap signal_in (c.as_slice.ensures.value ∙ c.payload_of-given.ensures) ∙ signal-first p in
-    let is : signal_in p ≡ Some signal = sym said ∙ c.in-Some.is in
-    subst (λ o. Answers name s t x i (cost here m) c.raise.result (signal_told here ioc o (ptem_in x))) (sym is)
+    subst (λ o. Answers name s t x i (cost here m) c.raise.result (signal_told here ioc o (ptem_in x))) (sym c.in-Some.is ∙ said)
     (swaps-answers name s t x i 2 (cost here m) c.raise.result (signals_up here signal ∷ (onward Down here (ack_message ioc []) ∷ [])) c.raise.ensures.notes c.raise.ensures.swaps
-    (raise-cost here m c.requires.asked c.requires.inside ioc signal c.requires.up))
+    (raise-cost here m c.requires.asked c.requires.passes.inside ioc signal c.requires.goes))

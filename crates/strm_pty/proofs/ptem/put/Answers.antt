@@ -4,11 +4,9 @@ use Rattle.std.specs.Prelude.{Some}
 use Rattle.strm_types.specs.Ioctls.{read_ioc}
 use Rattle.strm_types.specs.Costs.{cost}
 use Rattle.strm_frame.specs.Outboxes.{message_in}
-use Rattle.strm_pty.specs.Beside.{Answers, ptem_in}
-use Rattle.strm_pty.proofs.Costing.{room-above, room-below}
-use Rattle.strm_pty.proofs.Doing.{room-less}
+use Rattle.strm_pty.specs.Beside.{Answers, MayPass, ptem_in}
 use Rattle.strm_frame.proofs.Asked.{asked-is, asked-not, asked-plain}
-use Rattle.strm_pty.proofs.Replied.{puts-above, puts-below, puts-other}
+use Rattle.strm_pty.proofs.Replied.{may-above, may-below, puts-above, puts-below, puts-other}
 use Rattle.strm_pty.proofs.ptem.put.Goals as goal
 
 pub returns-then-not-is_ioctl : goal.returns-then-not-is_ioctl
@@ -27,33 +25,19 @@ header_of-requires-clause-kind g c =
     let i = g.B.Blocks.name c.args.message in
     asked-plain s i (asked-is s i c.kind-kind.result c.requires.chain c.kind-kind.ensures (sym c.is_ioctl.ensures ∙ c.if-not-is_ioctl.false))
 
-pub put_above-requires-clause-asked : goal.put_above-requires-clause-asked
-put_above-requires-clause-asked g c =
+pub put_above-requires : goal.put_above-requires
+put_above-requires g c =
     let s = g.B.Blocks.value c.args.store.now in
     let i = g.B.Blocks.name c.args.message in
-    asked-is s i c.kind-kind.result c.requires.chain c.kind-kind.ensures (sym c.is_ioctl.ensures ∙ c.if-not-is_ioctl.false)
+    let passes : MayPass s i c.args.here = record { held = c.requires.in_hand; chain = c.requires.chain; inside = c.requires.inside; small = c.requires.small } in
+    may-above s i c.args.here passes c.requires.room (asked-is s i c.kind-kind.result c.requires.chain c.kind-kind.ensures (sym c.is_ioctl.ensures ∙ c.if-not-is_ioctl.false)) c.in-Down.is
 
-pub put_below-requires-clause-asked : goal.put_below-requires-clause-asked
-put_below-requires-clause-asked g c =
+pub put_below-requires : goal.put_below-requires
+put_below-requires g c =
     let s = g.B.Blocks.value c.args.store.now in
     let i = g.B.Blocks.name c.args.message in
-    asked-is s i c.kind-kind.result c.requires.chain c.kind-kind.ensures (sym c.is_ioctl.ensures ∙ c.if-not-is_ioctl.false)
-
-pub put_above-requires-clause-room : goal.put_above-requires-clause-room
-put_above-requires-clause-room g c =
-    let s = g.B.Blocks.value c.args.store.now in
-    let i = g.B.Blocks.name c.args.message in
-    let m = message_in s i in
-    let asked = asked-is s i c.kind-kind.result c.requires.chain c.kind-kind.ensures (sym c.is_ioctl.ensures ∙ c.if-not-is_ioctl.false) in
-    room-less s (cost c.args.here m) 3 (room-above c.args.here m asked c.requires.inside c.in-Down.is) c.requires.room
-
-pub put_below-requires-clause-room : goal.put_below-requires-clause-room
-put_below-requires-clause-room g c =
-    let s = g.B.Blocks.value c.args.store.now in
-    let i = g.B.Blocks.name c.args.message in
-    let m = message_in s i in
-    let asked = asked-is s i c.kind-kind.result c.requires.chain c.kind-kind.ensures (sym c.is_ioctl.ensures ∙ c.if-not-is_ioctl.false) in
-    room-less s (cost c.args.here m) 2 (room-below c.args.here m asked c.requires.inside c.in-Up.is) c.requires.room
+    let passes : MayPass s i c.args.here = record { held = c.requires.in_hand; chain = c.requires.chain; inside = c.requires.inside; small = c.requires.small } in
+    may-below s i c.args.here passes c.requires.room (asked-is s i c.kind-kind.result c.requires.chain c.kind-kind.ensures (sym c.is_ioctl.ensures ∙ c.if-not-is_ioctl.false)) c.in-Up.is
 
 pub returns-in-Down : goal.returns-in-Down
 returns-in-Down g c =

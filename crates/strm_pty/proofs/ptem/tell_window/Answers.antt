@@ -1,25 +1,9 @@
 -- The size of the window is what the answer gives.
-use Rattle.std.proofs.Common.{[], ◌∷◌, subst}
-use Rattle.strm_types.specs.declared.names.Way.TheVariants.{Up}
-use Rattle.strm_types.specs.Acks.{ack_message}
-use Rattle.strm_types.specs.Ldterms.{onward}
-use Rattle.strm_types.specs.Costs.{cost}
 use Rattle.strm_types.specs.Winsizes.{winsize_bytes}
-use Rattle.strm_frame.specs.Outboxes.{message_in, sent_of}
-use Rattle.strm_pty.specs.Does.{Swaps}
-use Rattle.strm_pty.proofs.Costing.{ack-cost}
-use Rattle.strm_pty.proofs.Replied.{swaps-answers}
+use Rattle.strm_pty.proofs.Replied.{ack-answers}
 use Rattle.strm_pty.proofs.ptem.tell_window.Goals as goal
 
 pub returns : goal.returns
 returns g c =
-    let name = g.B.Blocks.name in
-    let s = g.B.Blocks.value c.args.store.now in
-    let t = g.B.Blocks.value c.ack.new.store in
-    let i = name c.args.message in
-    let here = c.args.here in
-    let m = message_in s i in
-    let x = c.args.ptem.now in
-    swaps-answers name s t x i 1 (cost here m) c.ack.result (onward Up here (ack_message c.args.ioc (winsize_bytes x.window)) ∷ []) c.ack.ensures.notes
-    (subst (λ xs. Swaps name s t i 1 (sent_of c.ack.result.sent) (onward Up here (ack_message c.args.ioc xs) ∷ [])) c.bytes-bytes.ensures.bytes c.ack.ensures.swaps)
-    (ack-cost here m c.requires.asked c.requires.inside c.args.ioc (winsize_bytes x.window) c.requires.down c.requires.small)
+    ack-answers g.B.Blocks.name (g.B.Blocks.value c.args.store.now) (g.B.Blocks.value c.ack.new.store) (g.B.Blocks.name c.args.message) c.args.here c.args.ioc c.ack.result c.ack.ensures.notes
+    c.args.ptem.now _ (winsize_bytes c.args.ptem.now.window) c.requires c.bytes-bytes.ensures.bytes c.ack.ensures.swaps

@@ -8,7 +8,7 @@ use Rattle.strm_types.specs.Ioctls.{ioc_bytes}
 use Rattle.strm_types.specs.Ldterms.{onward}
 use Rattle.strm_types.specs.Typing.{bare}
 use Rattle.strm_pty.proofs.Replied.{ack-plain, ioctl-plain, makes-as}
-use Rattle.strm_pty.proofs.Doing.{makes-both, room-left, room-less, swaps-freed, swaps-then}
+use Rattle.strm_pty.proofs.Doing.{freed-then, makes-both, room-freed, room-left, room-less}
 use Rattle.strm_pty.proofs.replies.confirm.Goals as goal
 
 pub send-first-requires-clause-kind : goal.send-first-requires-clause-kind
@@ -19,30 +19,24 @@ send-second-requires-clause-kind g c = ioctl-plain
 
 pub send-first-requires-clause-room : goal.send-first-requires-clause-room
 send-first-requires-clause-room g c =
-    let name = g.B.Blocks.name in
     let s = g.B.Blocks.value c.args.store.now in
     let t = g.B.Blocks.value c.free.new.self in
-    let freed = swaps-freed name s t (name c.args.message) [] c.audit.ensures c.requires.in_hand c.free.ensures refl in
-    room-less t 3 1 (omega arith) (room-left s t _ _ 0 3 freed.hands c.requires.room)
+    room-freed s t (g.B.Blocks.name c.args.message) 3 1 c.audit.ensures c.requires.in_hand c.free.ensures (omega arith) c.requires.room
 
 pub send-second-requires-clause-room : goal.send-second-requires-clause-room
 send-second-requires-clause-room g c =
-    let name = g.B.Blocks.name in
     let s = g.B.Blocks.value c.args.store.now in
     let t = g.B.Blocks.value c.free.new.self in
     let u = g.B.Blocks.value c.send-first.new.store in
-    let freed = swaps-freed name s t (name c.args.message) [] c.audit.ensures c.requires.in_hand c.free.ensures refl in
-    room-less u 2 1 (omega arith) (room-left t u _ _ 1 2 c.send-first.ensures.hands (room-left s t _ _ 0 3 freed.hands c.requires.room))
+    room-less u 2 1 (omega arith) (room-left t u _ _ 1 2 c.send-first.ensures.hands (room-freed s t (g.B.Blocks.name c.args.message) 3 3 c.audit.ensures c.requires.in_hand c.free.ensures (omega arith) c.requires.room))
 
 pub signal_change-third-requires-clause-room : goal.signal_change-third-requires-clause-room
 signal_change-third-requires-clause-room g c =
-    let name = g.B.Blocks.name in
     let s = g.B.Blocks.value c.args.store.now in
     let t = g.B.Blocks.value c.free.new.self in
     let u = g.B.Blocks.value c.send-first.new.store in
     let v = g.B.Blocks.value c.send-second.new.store in
-    let freed = swaps-freed name s t (name c.args.message) [] c.audit.ensures c.requires.in_hand c.free.ensures refl in
-    room-left u v _ _ 1 1 c.send-second.ensures.hands (room-left t u _ _ 1 2 c.send-first.ensures.hands (room-left s t _ _ 0 3 freed.hands c.requires.room))
+    room-left u v _ _ 1 1 c.send-second.ensures.hands (room-left t u _ _ 1 2 c.send-first.ensures.hands (room-freed s t (g.B.Blocks.name c.args.message) 3 3 c.audit.ensures c.requires.in_hand c.free.ensures (omega arith) c.requires.room))
 
 pub returns-clause-swaps : goal.returns-clause-swaps
 returns-clause-swaps g c =
@@ -64,5 +58,5 @@ returns-clause-swaps g c =
     let two = makes-as name u v 1 _ _ _ _ c.send-second.ensures refl (ap (λ xs. onward Down here (bare Ioctl xs) ∷ []) telling) in
     let both = makes-both name t u v 1 1 (first ∷ []) (second ∷ []) _ _ one two in
     let all = makes-both name t v w 2 1 (first ∷ second ∷ []) third _ _ both c.signal_change-third.ensures in
-    swaps-then name s t w i 3 [] _ _ (swaps-freed name s t i [] c.audit.ensures c.requires.in_hand c.free.ensures refl)
-    (makes-as name t w 3 _ _ _ _ all (ap (λ xs. first ∷ second ∷ xs) (append-nil third)) refl) refl
+    freed-then name s t w i 3 _ _ c.audit.ensures c.requires.in_hand c.free.ensures
+    (makes-as name t w 3 _ _ _ _ all (ap (λ xs. first ∷ second ∷ xs) (append-nil third)) refl)
