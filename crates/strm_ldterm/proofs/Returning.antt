@@ -6,6 +6,7 @@ use Rattle.std.specs.Prelude.{Option, None, Some, is_some}
 use Rattle.strm_types.specs.Message.{Message}
 use Rattle.strm_types.specs.Queue as plain
 use Rattle.strm_types.specs.Ldterms as ldterms
+use Rattle.strm_types.specs.Input.{back_on}
 use Rattle.strm_types.proofs.Ranked.{sum-put_back}
 use Rattle.strm_blocks.specs.Blocks.{Block, StoreValue, IsStore, IsInHand, list_at, in_hand, placed, dropped, put_back, rank_of, names_of, total}
 use Rattle.strm_blocks.proofs.Laws.{total-placed, total-dropped, used-is, references-is, free_m-is, free_d-more}
@@ -19,13 +20,14 @@ use Rattle.strm_queue.specs.Stored.{queue_in, messages_on, IsReady, Changes, Fre
 use Rattle.strm_queue.proofs.Holding.{put_back-messages}
 use Rattle.strm_queue.proofs.Placed.{Landed, landed}
 use Rattle.strm_queue.proofs.Queued.{queue-by}
-use Rattle.strm_frame.specs.Hands.{once, CanPut}
-use Rattle.strm_frame.proofs.Handing.{freed-hands, freed-spends}
+use Rattle.strm_frame.specs.Hands.{AreIn, CanPut, OnlyOwn}
+use Rattle.strm_frame.specs.Outboxes.{message_in}
 use Rattle.strm_frame.proofs.Shifting.{shifts-joined}
 use Rattle.strm_ldterm.specs.declared.ldterm.Ldterm.{Ldterm}
 use Rattle.strm_ldterm.specs.Stands.{ldterm_in, owns, keeps, IsHeld, kept_in, with_last}
 use Rattle.strm_ldterm.specs.Does.{Alters}
 use Rattle.strm_ldterm.specs.Frames.{ldterm-frame}
+use Rattle.strm_ldterm.proofs.Finished.{work-splits, work-shown, work-can, work-held}
 use Rattle.strm_ldterm.proofs.Beside.{read-plain, read-held, read-own, write-plain, write-held, write-own, without-same}
 
 -- what a message leaves that is put back
@@ -77,78 +79,82 @@ none-there (Some x) is = absurd (false≢true (sym is))
 pub alone : {M : Type 0} (name : M → ℕ) (s : StoreValue) (x : Ldterm M) → x.echo ≡ None → (ldterm_in name s x).write_queue.messages ≡ messages_on s x.write_queue.list
 alone name s x quiet = ap (λ o. messages_on s x.write_queue.list ++ option_to_list (kept_in name s o)) quiet ∙ append-nil (messages_on s x.write_queue.list)
 
--- A message that was kept, and is no longer.
-module _ {M : Type 0} (name : M → ℕ) (s : StoreValue) (x y : Ldterm M) (i : ℕ) (st : IsStore s) (held : IsHeld name s y) (can : CanPut s i (keeps name y)) (splits : (j : ℕ) → keeps name x j ≡ once i j + keeps name y j)
-    (same : (k : ℕ) → owns y k ≡ owns x k) where
-  framed : (ldterm_in name (dropped s i) y ≡ ldterm_in name s y) × IsHeld name (dropped s i) y
-  framed = ldterm-frame name s (dropped s i) y (without-same name s y i st can) held
+-- a message of which nothing is left is freed
+pub freed-changes : (s : StoreValue) (q : Queue) (i : ℕ) → IsReady s q → Changes (dropped s i) (dropped s i) q q
+freed-changes s q i ready = record {
+  ready = record { messages = ready.messages; counted = ready.counted };
+  list = refl;
+  others = λ k other. refl;
+  hand = refl;
+  mblks = refl;
+  dblks = refl;
+}
 
-  pub freed-plain : ldterm_in name (dropped s i) y ≡ ldterm_in name s y
-  freed-plain = framed.0
+pub freed-frees : (s : StoreValue) (i : ℕ) → IsInHand s i → FreesBlocks s (dropped s i)
+freed-frees s i is_in = record {
+  mblks = omega (arith, free_m-is s, free_m-is (dropped s i), used-is s, used-is (dropped s i), total-dropped length s i is_in);
+  dblks = free_d-more s (dropped s i) refl (λ d. omega (arith, references-is s d, references-is (dropped s i) d, total-dropped (names_of d) s i is_in));
+}
 
-  -- it is freed
-  pub freed-alters : Alters name s (dropped s i) x y
-  freed-alters =
-      let h = freed-hands s i (keeps name y) st can in
-      let b = freed-spends s i (keeps name y) 0 st can in
+-- The message in work leaves the hand, and what is left of it goes back.
+module _ {M : Type 0} (name : M → ℕ) (s : StoreValue) (x : Ldterm M) (m : M) (there : x.in_work ≡ Some m) (st : IsStore s) (held : IsHeld name s x) (kept : AreIn s (λ _. 0) (keeps name x)) where
+  abbrev idle : Ldterm M
+  idle = record x { in_work = None }
+
+  abbrev rest : StoreValue
+  rest = dropped s (name m)
+
+  can : CanPut s (name m) (keeps name idle)
+  can = work-can name s x m there kept
+
+  framed : (ldterm_in name rest idle ≡ ldterm_in name s idle) × IsHeld name rest idle
+  framed = ldterm-frame name s rest idle (without-same name s idle (name m) st can) (work-held name s x m there held)
+
+  returned-alters : (t : StoreValue) (q q' : Queue) (y : Ldterm M) → Changes rest t q q' → FreesBlocks s t → ((j : ℕ) → keeps name y j ≡ keeps name idle j) → IsHeld name t y → OnlyOwn rest t (owns idle) (owns y)
+      → Alters name s t x y
+  returned-alters t q q' y changes frees same is own =
+      let h = shifts-joined s t (name m) q q' st (record { apart = λ j. let a = can.apart j in omega arith }) changes frees in
       record {
-        held = framed.1;
-        own = record { lists = λ k none. refl; owns_same = same };
-        fewer = λ j. let e = splits j in omega arith;
+        held = is;
+        own = record { lists = own.lists; owns_same = own.owns_same };
+        fewer = λ j. let e = work-splits name s x m there j in let k = same j in omega arith;
         hands = record {
-          counts = λ j. let c = h.counts j in let e = splits j in omega arith;
-          others = λ j gone kept some. let e = splits j in h.others j (omega arith) (omega arith) some;
+          counts = λ j. let c = h.counts j in let e = work-splits name s x m there j in let k = same j in omega arith;
+          others = λ j gone kept some. let e = work-splits name s x m there j in let k = same j in h.others j (omega arith) some;
         };
-        frees = record { mblks = (let m = b.mblks in omega arith); dblks = (let m = b.dblks in omega arith) };
-        pool = record { mblks = refl; dblks = refl };
+        frees = frees;
+        pool = h.pool;
       }
 
-  -- it goes back to the read queue
-  module _ (t : StoreValue) (q' : Queue) (changes : Changes (dropped s i) t y.read_queue q') (frees : FreesBlocks s t) where
-    pub back-plain : (q : plain.Queue ℕ) → queue_in t q' ≡ q → ldterm_in name t (record y { read_queue = q' }) ≡ record (ldterm_in name s y) { read_queue = q }
-    back-plain q is =
-        read-plain name (dropped s i) t y q' framed.1 changes
-        ∙ ap (λ (p : ldterms.Ldterm ℕ). record p { read_queue = queue_in t q' }) framed.0
-        ∙ ap (λ (r : plain.Queue ℕ). record (ldterm_in name s y) { read_queue = r }) is
+  -- to the read queue
+  module _ (t : StoreValue) (q' : Queue) (changes : Changes rest t x.read_queue q') where
+    pub read-returned : queue_in t q' ≡ back_on (Some (message_in s (name m))) (queue_in s x.read_queue)
+        → ldterm_in name t (record idle { read_queue = q' }) ≡ (let p = ldterm_in name s x in record p { in_work = None; read_queue = back_on p.in_work p.read_queue })
+    read-returned is =
+        let p = ldterm_in name s x in
+        read-plain name rest t idle q' framed.1 changes
+        ∙ ap (λ (r : ldterms.Ldterm ℕ). record r { read_queue = queue_in t q' }) framed.0
+        ∙ ap (λ (r : plain.Queue ℕ). record p { in_work = None; read_queue = r }) is
+        ∙ ap (λ o. record p { in_work = None; read_queue = back_on o p.read_queue }) (sym (work-shown name s x m there))
 
-    pub back-alters : Alters name s t x (record y { read_queue = q' })
-    back-alters =
-        let h = shifts-joined s t i y.read_queue q' st (record { apart = λ j. let a = can.apart j in omega arith }) changes frees in
-        let own = read-own name (dropped s i) t y q' framed.1 changes in
-        record {
-          held = read-held name (dropped s i) t y q' framed.1 changes;
-          own = record { lists = λ k none. own.lists k (same k ∙ none); owns_same = λ k. own.owns_same k ∙ same k };
-          fewer = λ j. let e = splits j in omega arith;
-          hands = record {
-            counts = λ j. let c = h.counts j in let e = splits j in omega arith;
-            others = λ j gone kept some. let e = splits j in h.others j (omega arith) some;
-          };
-          frees = frees;
-          pool = h.pool;
-        }
+    pub read-returned-alters : FreesBlocks s t → Alters name s t x (record idle { read_queue = q' })
+    read-returned-alters frees =
+        returned-alters t x.read_queue q' (record idle { read_queue = q' }) changes frees (λ j. refl) (read-held name rest t idle q' framed.1 changes) (read-own name rest t idle q' framed.1 changes)
 
-  -- or to the write queue, where no echo stands
-  module _ (t : StoreValue) (q' : Queue) (changes : Changes (dropped s i) t y.write_queue q') (frees : FreesBlocks s t) where
-    pub down-plain : (q : plain.Queue ℕ) → y.echo ≡ None → queue_in t q' ≡ q → ldterm_in name t (record y { write_queue = q' }) ≡ record (ldterm_in name s y) { write_queue = q }
-    down-plain q quiet is =
-        let last : with_last (kept_in name (dropped s i) y.echo) (queue_in t q') ≡ queue_in t q' =
-        ap (λ o. with_last (kept_in name (dropped s i) o) (queue_in t q')) quiet ∙ ap (λ (ms : List (Message ℕ)). record (queue_in t q') { messages = ms }) (append-nil (queue_in t q').messages) in
-        write-plain name (dropped s i) t y q' framed.1 changes
-        ∙ ap (λ (p : ldterms.Ldterm ℕ). record p { write_queue = with_last (kept_in name (dropped s i) y.echo) (queue_in t q') }) framed.0
-        ∙ ap (λ (r : plain.Queue ℕ). record (ldterm_in name s y) { write_queue = r }) (last ∙ is)
+  -- to the write queue, where no echo stands
+  module _ (t : StoreValue) (q' : Queue) (changes : Changes rest t x.write_queue q') where
+    pub write-returned : x.echo ≡ None → queue_in t q' ≡ back_on (Some (message_in s (name m))) (queue_in s x.write_queue)
+        → ldterm_in name t (record idle { write_queue = q' }) ≡ (let p = ldterm_in name s x in record p { in_work = None; write_queue = back_on p.in_work p.write_queue })
+    write-returned quiet is =
+        let p = ldterm_in name s x in
+        let last : with_last (kept_in name rest x.echo) (queue_in t q') ≡ queue_in t q' =
+        ap (λ o. with_last (kept_in name rest o) (queue_in t q')) quiet ∙ ap (λ (ms : List (Message ℕ)). record (queue_in t q') { messages = ms }) (append-nil (queue_in t q').messages) in
+        write-plain name rest t idle q' framed.1 changes
+        ∙ ap (λ (r : ldterms.Ldterm ℕ). record r { write_queue = with_last (kept_in name rest x.echo) (queue_in t q') }) framed.0
+        ∙ ap (λ (r : plain.Queue ℕ). record p { in_work = None; write_queue = r }) (last ∙ is)
+        ∙ ap (λ o. record p { in_work = None; write_queue = back_on o (queue_in s x.write_queue) }) (sym (work-shown name s x m there))
+        ∙ ap (λ (ms : List (Message ℕ)). record p { in_work = None; write_queue = back_on p.in_work (record (queue_in s x.write_queue) { messages = ms }) }) (sym (alone name s x quiet))
 
-    pub down-alters : Alters name s t x (record y { write_queue = q' })
-    down-alters =
-        let h = shifts-joined s t i y.write_queue q' st (record { apart = λ j. let a = can.apart j in omega arith }) changes frees in
-        let own = write-own name (dropped s i) t y q' framed.1 changes in
-        record {
-          held = write-held name (dropped s i) t y q' framed.1 changes;
-          own = record { lists = λ k none. own.lists k (same k ∙ none); owns_same = λ k. own.owns_same k ∙ same k };
-          fewer = λ j. let e = splits j in omega arith;
-          hands = record {
-            counts = λ j. let c = h.counts j in let e = splits j in omega arith;
-            others = λ j gone kept some. let e = splits j in h.others j (omega arith) some;
-          };
-          frees = frees;
-          pool = h.pool;
-        }
+    pub write-returned-alters : FreesBlocks s t → Alters name s t x (record idle { write_queue = q' })
+    write-returned-alters frees =
+        returned-alters t x.write_queue q' (record idle { write_queue = q' }) changes frees (λ j. refl) (write-held name rest t idle q' framed.1 changes) (write-own name rest t idle q' framed.1 changes)

@@ -1,19 +1,20 @@
 //! The end of a call of the read queue's service procedure (ldterm(7M); srv(9E); putbq(9F)).
 
-ghost use Rattle.std.specs.Prelude.{◌≡◌, ◌≤◌, ◌<◌, length, None, []};
+ghost use Rattle.std.specs.Prelude.{◌≡◌, ◌≤◌, ◌<◌, length, None, Some, []};
 ghost use Rattle.std.specs.Option.{option_to_list};
 ghost use Rattle.strm_types.specs.declared.rules.Fates.{Fates};
 ghost use Rattle.strm_types.specs.declared.limits.TheConstants.{MODULES};
 ghost use Rattle.strm_types.specs.Cells.{plain};
 ghost use Rattle.strm_types.specs.Input.{back_on, cells_left, finished};
 ghost use Rattle.strm_types.specs.Ldterms.{sends};
+ghost use Rattle.strm_types.specs.Message.{cells_of};
 ghost use Rattle.strm_types.specs.Queue.{put_back};
 ghost use Rattle.strm_types.specs.Typing.{gathered_up};
 ghost use Rattle.strm_blocks.specs.Blocks.{IsInHand, in_hand, dropped};
 ghost use Rattle.strm_msg.specs.Messages.{message_of, IsChain};
 ghost use Rattle.strm_queue.specs.Stored.{queue_in, IsReady, Changes, FreesBlocks};
 ghost use Rattle.strm_frame.specs.Hands.{AreIn};
-ghost use Rattle.strm_frame.specs.Outboxes.{sent_of};
+ghost use Rattle.strm_frame.specs.Outboxes.{message_in, sent_of};
 ghost use Rattle.strm_ldterm.specs.Stands.{ldterm_in, keeps, IsHeld};
 ghost use Rattle.strm_ldterm.specs.Does.{Alters, Proceeds};
 ghost use Rattle.strm_ldterm.specs.Freeing.{FreesNone};
@@ -26,8 +27,8 @@ use strm_msg::booked_size;
 use strm_queue::Queue;
 use strm_types::{Spot, Way};
 
-/// Puts a message in hand back on a queue, in front of all of at most its rank: putbq(9F).
-pub(crate) fn put_back<B: Blocks>(store: &mut B, queue: &mut Queue, message: B::Mp)
+// Puts a message in hand back on a queue, in front of all of at most its rank: putbq(9F).
+fn put_back<B: Blocks>(store: &mut B, queue: &mut Queue, message: B::Mp)
     requires ready { IsReady (B.value store.old) queue.old }
     requires in_hand { IsInHand (B.value store.old) (B.name message) }
     requires chain { IsChain (in_hand (B.value store.old) (B.name message)) }
@@ -41,7 +42,26 @@ pub(crate) fn put_back<B: Blocks>(store: &mut B, queue: &mut Queue, message: B::
     queue.putbq(store, message);
 }
 
-// What is left of the message in work goes back to the front of its queue. Where nothing is left of it, it is freed.
+/// What is left of a message that was in work goes back to the front of a queue. Where nothing is left of it, it is freed.
+pub(crate) fn return_rest<B: Blocks>(store: &mut B, queue: &mut Queue, message: B::Mp)
+    requires ready { IsReady (B.value store.old) queue.old }
+    requires in_hand { IsInHand (B.value store.old) (B.name message) }
+    requires chain { IsChain (in_hand (B.value store.old) (B.name message)) }
+    ensures queue { let s = B.value store.old in
+        queue_in (B.value store.new) queue.new ≡ back_on (Some (message_in s (B.name message))) (queue_in s queue.old) }
+    ensures changes { Changes (dropped (B.value store.old) (B.name message)) (B.value store.new) queue.old queue.new }
+    ensures frees { FreesBlocks (B.value store.old) (B.value store.new) }
+    ensures blocks { 0 < length (cells_of (message_in (B.value store.old) (B.name message))) →
+        FreesNone (B.value store.old) (B.value store.new) }
+{
+    if booked_size(store, &message) == 0 {
+        store.free(message);
+        return;
+    }
+    put_back(store, queue, message);
+}
+
+// What is left of the message in work goes back to the front of the read queue.
 fn return_work<B: Blocks>(ldterm: &mut Ldterm<B::Mp>, store: &mut B)
     requires held { IsHeld B.name (B.value store.old) ldterm.old }
     requires kept { AreIn (B.value store.old) (λ _. 0) (keeps B.name ldterm.old) }
@@ -55,11 +75,7 @@ fn return_work<B: Blocks>(ldterm: &mut Ldterm<B::Mp>, store: &mut B)
         return;
     };
     store.audit();
-    if booked_size(store, &message) == 0 {
-        store.free(message);
-        return;
-    }
-    put_back(store, &mut ldterm.read_queue, message);
+    return_rest(store, &mut ldterm.read_queue, message);
 }
 
 /// What was gathered goes up as one message, where there is any.

@@ -20,7 +20,7 @@ ghost use Rattle.strm_ldterm.specs.Outgone.{data_of, let_go};
 ghost use Rattle.strm_ldterm.specs.Stands.{IsData, IsHeld, keeps, ldterm_in, stage_in};
 ghost use Rattle.strm_ldterm.specs.Turns.{stages_left};
 
-use crate::finishing::put_back;
+use crate::finishing::return_rest;
 use crate::ldterm::Ldterm;
 use crate::opening::{OutputBegun, begin_output};
 use crate::posting::post_bytes;
@@ -28,10 +28,9 @@ use crate::serving::of_whole;
 use arrayvec::ArrayVec;
 use strm_blocks::Blocks;
 use strm_frame::{Acts, Outbox, Sent, Served};
-use strm_msg::booked_size;
 use strm_types::{Band, Fates, Spot, Way};
 
-// What is left of the message in work goes back to the front of the write queue. Where nothing is left of it, it is freed.
+// What is left of the message in work goes back to the front of the write queue.
 fn return_output<B: Blocks>(ldterm: &mut Ldterm<B::Mp>, store: &mut B)
     requires held { IsHeld B.name (B.value store.old) ldterm.old }
     requires kept { AreIn (B.value store.old) (λ _. 0) (keeps B.name ldterm.old) }
@@ -46,11 +45,7 @@ fn return_output<B: Blocks>(ldterm: &mut Ldterm<B::Mp>, store: &mut B)
         return;
     };
     store.audit();
-    if booked_size(store, &message) == 0 {
-        store.free(message);
-        return;
-    }
-    put_back(store, &mut ldterm.write_queue, message);
+    return_rest(store, &mut ldterm.write_queue, message);
 }
 
 // Gives a message of data in hand another band.
