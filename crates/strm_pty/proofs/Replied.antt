@@ -1,7 +1,6 @@
 -- Puts at ptem, step by step.
 use Rattle.std.proofs.Common.{ℕ, ◌≡◌, ◌<◌, ◌≤◌, ◌+◌, Bool, true, false, cond, List, [], ◌∷◌, refl, sym, ap, subst, ◌∙◌, take, arith}
-use Rattle.std.specs.Prelude.{◌&&◌, not, Option, Some}
-use Rattle.strm_types.specs.declared.kinds.MsgKind.{MsgKind}
+use Rattle.std.specs.Prelude.{Option, Some}
 use Rattle.strm_types.specs.declared.kinds.MsgKind.TheVariants.{Ioctl, Iocack, Pcsig}
 use Rattle.strm_types.specs.declared.ioctls.Ioc.{Ioc}
 use Rattle.strm_types.specs.declared.limits.TheConstants.{MODULES}
@@ -9,21 +8,19 @@ use Rattle.strm_types.specs.declared.names.Way.TheVariants.{Up, Down}
 use Rattle.strm_types.specs.declared.spots.Spot.{Spot}
 use Rattle.strm_types.specs.declared.winsize.Winsize.{Winsize}
 use Rattle.strm_types.specs.Acks.{ack_message, payload, telling_message}
-use Rattle.strm_types.specs.Commands.{is_asked, is_ioctl}
+use Rattle.strm_types.specs.Commands.{is_asked}
 use Rattle.strm_types.specs.Deliver.{Acted, Parcel, toward}
 use Rattle.strm_types.specs.Flush.{is_data_kind}
 use Rattle.strm_types.specs.Ioctls.{nak_message, read_ioc}
 use Rattle.strm_types.specs.Ldterms.{onward}
-use Rattle.strm_types.specs.Message.{Message, has_parts}
+use Rattle.strm_types.specs.Message.{Message}
 use Rattle.strm_types.specs.Ptems as plain
 use Rattle.strm_types.specs.Costs.{cost}
 use Rattle.strm_types.specs.Ptems.{acks, asked_above, asked_below, asked_by_header, asked_on_way, naks, ptem_passes, ptem_puts, ptem_sends, set_above, window_signal}
 use Rattle.strm_types.specs.Winsizes.{same_winsize}
 use Rattle.strm_types.proofs.CostsBounded.{next-cost}
-use Rattle.strm_blocks.specs.Blocks.{StoreValue, block_at, in_hand}
+use Rattle.strm_blocks.specs.Blocks.{StoreValue, in_hand}
 use Rattle.strm_msg.specs.Messages.{IsChain}
-use Rattle.strm_msg.proofs.Chains.{kind-is}
-use Rattle.strm_msg.proofs.MadePlain.{parts-same}
 use Rattle.strm_frame.specs.declared.modules.Acts.{Acts}
 use Rattle.strm_frame.specs.declared.parcels.Sent.{Sent}
 use Rattle.strm_frame.specs.Hands.{HasRoom}

@@ -1,11 +1,10 @@
 //! The module ptem: the ioctls of a terminal on a pseudoterminal (ptem(7M), termio(7I)).
 
-ghost use Rattle.std.specs.Prelude.{◌≡◌, ◌<◌, ◌≤◌, ◌||◌, ◌==◌, true, [], ◌∷◌};
+ghost use Rattle.std.specs.Prelude.{◌≡◌, ◌<◌, ◌≤◌};
 ghost use Rattle.strm_types.specs.declared.limits.TheConstants.{MODULES};
 ghost use Rattle.strm_types.specs.declared.names.Way.TheVariants.{Up, Down};
 ghost use Rattle.strm_types.specs.Acks.{payload};
 ghost use Rattle.strm_types.specs.Costs.{cost};
-ghost use Rattle.strm_types.specs.Ptems as plain;
 ghost use Rattle.strm_types.specs.Ptems.{acks, asked_above, asked_below, new_ptem};
 ghost use Rattle.strm_types.specs.Ptems.{ptem_passes, ptem_puts, signal_told, termios_set, window_set, window_told};
 ghost use Rattle.strm_types.specs.Signals.{signal_in};

@@ -1,6 +1,5 @@
 -- What is no signal is refused; else it goes up.
 use Rattle.std.proofs.Common.{◌≡◌, [], ◌∷◌, sym, ap, subst, ◌∙◌}
-use Rattle.std.specs.Prelude.{None, Some}
 use Rattle.strm_types.specs.declared.names.Way.TheVariants.{Down}
 use Rattle.strm_types.specs.Acks.{ack_message, payload}
 use Rattle.strm_types.specs.Ldterms.{onward}
