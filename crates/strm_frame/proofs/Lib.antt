@@ -10,3 +10,4 @@ pub mod FirstSizes
 pub mod Read
 pub mod Behind
 pub mod Asked
+pub mod Seeking

@@ -16,10 +16,10 @@ mod stack;
 
 pub use carrying::{deliver, deliver_all};
 pub use enabled::Enabled;
-pub use modules::{Acts, Module};
+pub use modules::{Acts, LetGo, Module};
 pub use parcels::{Outbox, Sent};
 pub use places::Stations;
-pub use queues::{clear_queue, end_queue_turn};
+pub use queues::{Emptied, clear_queue, end_queue_turn};
 pub use service::{Served, TurnEnd};
 pub use stack::Stream;
 

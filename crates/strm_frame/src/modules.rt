@@ -1,16 +1,18 @@
 //! What may stand on a stream between its head and its driver.
 
-ghost use Rattle.std.specs.Prelude.{ℕ, ◌≡◌, ◌<◌, ◌≤◌, length, Bool, true, false, List, Option};
+ghost use Rattle.std.specs.Prelude.{ℕ, ◌≡◌, ◌<◌, ◌≤◌, length, Bool, true, false, List, [], Option};
 ghost use Rattle.std.specs.Bool.{OnTrue};
 ghost use Rattle.strm_types.specs.declared.names.ModuleName.{ModuleName};
 ghost use Rattle.strm_types.specs.declared.names.Way.{Way};
-ghost use Rattle.strm_types.specs.declared.names.Way.TheVariants.{Up};
+ghost use Rattle.strm_types.specs.declared.names.Way.TheVariants.{Up, Down};
 ghost use Rattle.strm_types.specs.declared.spots.Spot.{Spot};
 ghost use Rattle.strm_types.specs.declared.spots.Asks.{Asks};
+ghost use Rattle.strm_types.specs.Dropped.{is_met};
 ghost use Rattle.strm_types.specs.Input.{made_of};
 ghost use Rattle.strm_types.specs.Message.{Message};
 ghost use Rattle.strm_types.specs.TurnCalls.{most_made};
 ghost use Rattle.strm_types.specs.TurnOutcomes.{first_size};
+ghost use Rattle.strm_types.specs.declared.keys.TheConstants.{LINE_MAX};
 ghost use Rattle.strm_types.specs.declared.limits.TheConstants.{BANDS, MODULES, STOP_BLOCKS};
 ghost use Rattle.strm_types.specs.Deliver.{Acted, AreLower, tallied};
 ghost use Rattle.strm_types.specs.Queue.{Queue, bytes_of, count_of};
@@ -37,6 +39,27 @@ use strm_types::{Asks, Band, Fates, ModuleName, Note, Rule, Side, Spot, Way};
 pub struct Acts<Mp> {
     pub notes: ArrayVec<Note, 4>,
     pub sent: Outbox<Mp>,
+}
+
+/// What comes of it that a module lets all go: which queues before its own have room again, and whether the M_IOCTL that is sought
+/// stood on its write queue.
+#[derive(Drop)]
+pub struct LetGo {
+    pub notes: ArrayVec<Note, 4>,
+    pub met: bool,
+}
+
+impl LetGo {
+    /// Nothing stood there.
+    pub fn nothing() -> LetGo
+        ensures notes { result.notes.items ≡ [] }
+        ensures met { result.met ≡ false }
+    {
+        LetGo {
+            notes: ArrayVec::new(),
+            met: false,
+        }
+    }
 }
 
 /// A module: its own state, and lists of the store that nothing else touches (STREAMS Programming Guide, "Modules").
@@ -167,6 +190,11 @@ pub trait Module<B: Blocks>: Drop {
         requires { IsHeld (B.value store.now) self.now }
         ensures { result ≡ has_no_data (messages_at queue_of Up (plain (B.value store.now) self.now)) };
 
+    /// How many bytes stand in its unfinished line, at most 255.
+    fn line_len(&self) -> usize
+        ensures line { (s : StoreValue) → result ≡ length (line_of (plain s self.now)) }
+        ensures few { result ≤ LINE_MAX };
+
     /// Has a writer of a band wait at its queue of a way, until there is room again: want-write is set there.
     fn let_wait(&mut self, way: Way, band: Band)
         requires band { band.0 < BANDS }
@@ -240,20 +268,23 @@ pub trait Module<B: Blocks>: Drop {
         ensures keeps { (i : ℕ) → keeps self.new i ≡ keeps self.old i };
 
     /// Lets all go that stands on its queues and in its line, before the module is taken off a side's stream. The bytes go by
-    /// a rule. It tells which queues before its own have room again.
+    /// a rule. It tells which queues before its own have room again, and whether the M_IOCTL of a number stood on its write queue, where
+    /// one is sought.
     fn clear(
         &mut self,
         store: &mut B,
         side: Side,
         rule: Rule,
+        seeking: Option<u32>,
         told: &mut Fates,
-    ) -> ArrayVec<Note, 4>
+    ) -> LetGo
         requires held { IsHeld (B.value store.old) self.old }
         requires rests { (i : ℕ) → keeps self.old i ≡ 0 }
         ensures state { let s = B.value store.old in plain (B.value store.new) self.new ≡
             (cleared queue_of with_queue line_of without_line side rule (plain s self.old)).state }
-        ensures notes { let s = B.value store.old in result.items ≡
+        ensures notes { let s = B.value store.old in result.notes.items ≡
             (cleared queue_of with_queue line_of without_line side rule (plain s self.old)).notes }
+        ensures met { result.met ≡ is_met seeking (messages_at queue_of Down (plain (B.value store.old) self.old)) }
         ensures told { let s = B.value store.old in told.new ≡
             tallied (cleared queue_of with_queue line_of without_line side rule (plain s self.old)).gone told.old }
         ensures held { IsHeld (B.value store.new) self.new }

@@ -1,6 +1,7 @@
 //! The modules of a stream.
 
-ghost use Rattle.std.specs.Prelude.{ℕ, ◌≡◌, ◌<◌, ◌≤◌, ◌-◌, [], ◌∷◌, length, map, true, false, MatchOption, MatchResult};
+ghost use Rattle.std.specs.Prelude.{ℕ, ◌≡◌, ◌<◌, ◌≤◌, ◌-◌, ◌*◌, [], ◌∷◌, length, map, sum_by, true, false, MatchOption, MatchResult};
+ghost use Rattle.strm_types.specs.declared.keys.TheConstants.{LINE_MAX};
 ghost use Rattle.strm_types.specs.declared.limits.TheConstants.{MODULES};
 ghost use Rattle.strm_types.specs.Deliver.{AreLower, tallied};
 ghost use Rattle.strm_types.specs.Modules.{put_among, may_push, stands, top_name};
@@ -29,6 +30,18 @@ fn stands<B: Blocks, M: Module<B>>(modules: &[M], name: ModuleName) -> bool
         return false;
     };
     first.name().is_same(name) || stands(rest, name)
+}
+
+// How many bytes stand in the unfinished lines of these modules.
+fn line_lens<B: Blocks, M: Module<B>>(modules: &[M]) -> usize
+    requires { length modules.now ≤ MODULES }
+    ensures lines { (s : StoreValue) → result ≡ sum_by (λ p. length (M.line_of p)) (map (M.plain s) modules.now) }
+    ensures few { result ≤ LINE_MAX * length modules.now }
+{
+    let Some((first, rest)) = modules.split_first() else {
+        return 0;
+    };
+    first.line_len() + line_lens(rest)
 }
 
 // Puts a message at one of several modules, counted from 0.
@@ -93,6 +106,16 @@ impl<M: Default + Drop> Stream<M> {
         ensures { (s : StoreValue) → result ≡ stands M.name_of name (map (M.plain s) self.now.modules.items) }
     {
         stands(self.modules.as_slice(), name)
+    }
+
+    /// How many bytes stand in the unfinished lines of the modules.
+    pub fn line_lens<B: Blocks>(&self) -> usize
+    where
+        M: Module<B>,
+        ensures lines { (s : StoreValue) → result ≡ sum_by (λ p. length (M.line_of p)) (map (M.plain s) self.now.modules.items) }
+        ensures few { result ≤ LINE_MAX * MODULES }
+    {
+        line_lens::<B, M>(self.modules.as_slice())
     }
 
     /// Pushes a module on top: `I_PUSH` of streamio(7I). It comes back where three stand, or one of its name.

@@ -1,9 +1,11 @@
 //! The ioctl that is under way on a stream, at its head (ioctl(2), streamio(7I): I_STR).
 
-ghost use Rattle.std.specs.Prelude.{◌≡◌, ◌≤◌, [], length, MatchOption, if◌then◌else◌};
+ghost use Rattle.std.specs.Prelude.{ℕ, ◌≡◌, ◌≤◌, List, [], length, MatchOption, if◌then◌else◌};
 ghost use Rattle.strm_types.specs.declared.answers.Answer.TheVariants.{Done, Bytes};
+ghost use Rattle.strm_types.specs.Dropped.{is_met, number_sought, slot_dropped};
 ghost use Rattle.strm_types.specs.Ioctls.{ioctl_message};
 ghost use Rattle.strm_types.specs.Journal.{answer_len, reply_in};
+ghost use Rattle.strm_types.specs.Message.{Message};
 ghost use Rattle.strm_types.specs.Slots as slots;
 ghost use Rattle.strm_types.specs.Slots.{ack_body, is_free, slot_answered, slot_behind, told_of, with_answer};
 ghost use Rattle.strm_blocks.specs.Blocks.{StoreValue, free_m, free_d};
@@ -158,6 +160,35 @@ impl Head {
         ensures queue { self.new.queue ≡ self.old.queue }
     {
         self.ioctl = Slot::Waiting { number, command };
+    }
+
+    /// The number of the ioctl that waits for its answer, if one does.
+    pub fn number_sought(&self) -> Option<u32>
+        ensures { result ≡ number_sought self.now.ioctl }
+    {
+        match self.ioctl {
+            Slot::Waiting { number, .. } => Some(number),
+            Slot::Free | Slot::Acked { .. } | Slot::Nacked { .. } => None,
+        }
+    }
+
+    /// Ends the ioctl that waits for its answer, where its M_IOCTL was met among messages that go with a module: nobody will answer it any
+    /// more, so its caller is told EINVAL, as by a driver that doesn't know the command (streamio(7I): I_POP).
+    pub fn drop_ioctl(&mut self, met: bool)
+        ensures state { (s : StoreValue) (ms : List (Message ℕ)) → met ≡ is_met (number_sought self.old.ioctl) ms →
+            head_in s self.new ≡ record (head_in s self.old) { ioctl = slot_dropped ms (plain_slot self.old.ioctl) } }
+        ensures queue { self.new.queue ≡ self.old.queue }
+    {
+        let Slot::Waiting { number, command } = self.ioctl else {
+            return;
+        };
+        if met {
+            self.ioctl = Slot::Nacked {
+                number,
+                command,
+                refusal: Refusal::Einval,
+            };
+        }
     }
 
     /// What a call for the answer of the ioctl of a number is refused for: EINVAL where it isn't under way, EAGAIN while it waits.

@@ -8,10 +8,12 @@ use Rattle.strm_types.specs.declared.rules.Rule.{Rule}
 use Rattle.strm_types.specs.declared.spots.Note.{Note}
 use Rattle.strm_types.specs.declared.spots.Note.TheVariants.{Room}
 use Rattle.strm_types.specs.Deliver.{Goes, counted_with, tallied}
+use Rattle.strm_types.specs.Dropped.{is_met}
 use Rattle.strm_types.specs.Emptied.{of_all, cells_gone, queue_behind, writer_goes}
 use Rattle.strm_types.specs.Ldterms as ldterms
 use Rattle.strm_types.specs.Ldterms.{without_line}
 use Rattle.strm_types.specs.Message.{Message}
+use Rattle.strm_types.specs.ModuleQueues.{messages_at}
 use Rattle.strm_types.specs.Names.{direction_at}
 use Rattle.strm_types.specs.Queue as plain
 use Rattle.strm_types.specs.Service.{cleared, line_gone}
@@ -85,6 +87,9 @@ module _ {M : Type 0} (name : M → ℕ) where
           let p = ldterm_in name s x in
           ap (λ v. cond {A = List Note} v (Room Up ∷ []) [] ++ cond {A = List Note} down (Room Down ∷ []) []) ups
           ∙ ap (λ v. cond {A = List Note} (writer_goes of_all p.read_queue) (Room Up ∷ []) [] ++ cond {A = List Note} v (Room Down ∷ []) []) (downs ∙ ap (λ (q : plain.Queue ℕ). writer_goes of_all q) write-list)
+
+      pub cleared-met : (sought : Option ℕ) → is_met sought (messages_on t x.write_queue.list) ≡ is_met sought (messages_at queue_of Down (ldterm_in name s x))
+      cleared-met sought = ap (λ (q : plain.Queue ℕ). is_met sought q.messages) write-list
 
       pub cleared-told : (f f1 f2 f3 : Fates) → f1 ≡ counted_with (Goes (direction_at Up side) rule (cells_gone of_all (messages_on s x.read_queue.list))) f → f2 ≡ tallied (line_gone side rule x.line) f1
           → f3 ≡ counted_with (Goes (direction_at Down side) rule (cells_gone of_all (messages_on t x.write_queue.list))) f2

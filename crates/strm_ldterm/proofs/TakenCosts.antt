@@ -2,7 +2,7 @@
 use Rattle.std.proofs.Common.{ℕ, ◌≡◌, ◌<◌, ◌≤◌, ◌+◌, ◌-◌, Bool, true, false, cond, List, [], ◌∷◌, ◌++◌, refl, ap, subst, sym, ◌∙◌, arith}
 use Rattle.std.proofs.lemmas.Bool.{eqb-true}
 use Rattle.std.proofs.lemmas.Bool.Decides.{nat_tests}
-use Rattle.std.specs.Prelude.{◌==◌, ◌||◌, ◌*◌, min, None}
+use Rattle.std.specs.Prelude.{◌==◌, ◌&&◌, ◌||◌, ◌*◌, min, not, None}
 use Rattle.strm_types.specs.declared.ioctls.TheConstants.{TCSETSF}
 use Rattle.strm_types.specs.declared.kinds.MsgKind.{MsgKind}
 use Rattle.strm_types.specs.declared.kinds.MsgKind.TheVariants.{Iocack}
@@ -56,7 +56,7 @@ ack-cost to m acked way few =
     form : Way → MsgKind → Bool → ℕ
     form w kind parts =
         let turned = turns_round kind m.plain in
-        cond (to.at == 0) (cond turned 4 0) (below_cost w parts (across_at (is_flush kind) to.at) turned) + cond (to.at == 0 || parts) 0 (asking_at w kind to.at)
+        cond (to.at == 0) (cond turned 4 0) (below_cost w parts (across_at (is_flush kind && not parts) to.at) turned) + cond (to.at == 0 || parts) 0 (asking_at w kind to.at)
 
     at : (top : Bool) → (to.at == 0) ≡ top → cond {A = ℕ} top 0 0 + cond (top || false) 0 (2 * min to.at MODULES) ≡ 2 * to.at
     at true is = let none = eqb-true to.at 0 is in omega arith

@@ -1,8 +1,11 @@
 //! What the module lets go when it is taken off its stream (ldterm(7M); streamio(7I): I_POP; close(2)).
 
 ghost use Rattle.std.specs.Prelude.{ℕ, ◌≡◌, []};
+ghost use Rattle.strm_types.specs.declared.names.Way.TheVariants.{Down};
 ghost use Rattle.strm_types.specs.Deliver.{tallied};
+ghost use Rattle.strm_types.specs.Dropped.{is_met};
 ghost use Rattle.strm_types.specs.Ldterms.{without_line};
+ghost use Rattle.strm_types.specs.ModuleQueues.{messages_at};
 ghost use Rattle.strm_types.specs.Service.{cleared, line_gone};
 ghost use Rattle.strm_queue.specs.Stored.{FreesBlocks};
 ghost use Rattle.strm_frame.specs.Hands.{OnlyOwn};
@@ -15,10 +18,9 @@ use crate::flushing::direction_at;
 use crate::ldterm::Ldterm;
 use crate::lines::Line;
 use crate::putting::rooms;
-use arrayvec::ArrayVec;
 use strm_blocks::Blocks;
-use strm_frame::clear_queue;
-use strm_types::{Fates, Note, Rule, Side, Way};
+use strm_frame::{LetGo, clear_queue};
+use strm_types::{Fates, Rule, Side, Way};
 
 // The unfinished line goes by a rule. It came up; where no byte stands in it, nothing is told.
 fn clear_line(line: &mut Line, side: Side, rule: Rule, told: &mut Fates)
@@ -34,21 +36,23 @@ fn clear_line(line: &mut Line, side: Side, rule: Rule, told: &mut Fates)
 
 /// Lets all go that stands on its queues and in its line, before the module is taken off a side's stream: the messages of its read
 /// queue, then the unfinished line, then the messages of its write queue. The bytes go by a rule. It tells which queues before its
-/// own have room again, the read queue's first. It keeps nothing in hand, and takes no block. The cost is a step for each block on
-/// the queues.
+/// own have room again, the read queue's first, and whether the M_IOCTL of a number stood on its write queue, where one is sought. It
+/// keeps nothing in hand, and takes no block. The cost is a step for each block on the queues.
 pub fn clear<B: Blocks>(
     ldterm: &mut Ldterm<B::Mp>,
     store: &mut B,
     side: Side,
     rule: Rule,
+    seeking: Option<u32>,
     told: &mut Fates,
-) -> ArrayVec<Note, 4>
+) -> LetGo
     requires held { IsHeld B.name (B.value store.old) ldterm.old }
     requires rests { (i : ℕ) → keeps B.name ldterm.old i ≡ 0 }
     ensures state { let s = B.value store.old in ldterm_in B.name (B.value store.new) ldterm.new ≡
         (cleared queue_of with_queue line_of without_line side rule (ldterm_in B.name s ldterm.old)).state }
-    ensures notes { let s = B.value store.old in result.items ≡
+    ensures notes { let s = B.value store.old in result.notes.items ≡
         (cleared queue_of with_queue line_of without_line side rule (ldterm_in B.name s ldterm.old)).notes }
+    ensures met { result.met ≡ is_met seeking (messages_at queue_of Down (ldterm_in B.name (B.value store.old) ldterm.old)) }
     ensures told { let s = B.value store.old in told.new ≡
         tallied (cleared queue_of with_queue line_of without_line side rule (ldterm_in B.name s ldterm.old)).gone told.old }
     ensures held { IsHeld B.name (B.value store.new) ldterm.new }
@@ -58,9 +62,12 @@ pub fn clear<B: Blocks>(
     ensures frees { FreesBlocks (B.value store.old) (B.value store.new) }
 {
     let up = direction_at(Way::Up, side);
-    let above = clear_queue(store, &mut ldterm.read_queue, up, rule, told);
+    let above = clear_queue(store, &mut ldterm.read_queue, None, up, rule, told);
     clear_line(&mut ldterm.line, side, rule, told);
     let down = direction_at(Way::Down, side);
-    let below = clear_queue(store, &mut ldterm.write_queue, down, rule, told);
-    rooms(above, below)
+    let below = clear_queue(store, &mut ldterm.write_queue, seeking, down, rule, told);
+    LetGo {
+        notes: rooms(above.room, below.room),
+        met: below.met,
+    }
 }

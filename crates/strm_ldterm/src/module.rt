@@ -5,10 +5,9 @@ ghost use Rattle.strm_types.specs.declared.names.ModuleName.TheVariants as names
 
 use crate::ldterm::Ldterm;
 use crate::{clearing, ending, ldterm, putting, queues, serving};
-use arrayvec::ArrayVec;
 use strm_blocks::Blocks;
-use strm_frame::{Acts, Module, Served, TurnEnd};
-use strm_types::{Asks, Band, Fates, ModuleName, Note, Rule, Side, Spot, Way};
+use strm_frame::{Acts, LetGo, Module, Served, TurnEnd};
+use strm_types::{Asks, Band, Fates, ModuleName, Rule, Side, Spot, Way};
 
 impl<B: Blocks> Module<B> for Ldterm<B::Mp> {
     ghost use Rattle.strm_types.specs.Asking as asking;
@@ -100,6 +99,10 @@ impl<B: Blocks> Module<B> for Ldterm<B::Mp> {
         queues::none_waits_up(self, store)
     }
 
+    fn line_len(&self) -> usize {
+        self.line.len()
+    }
+
     fn let_wait(&mut self, way: Way, band: Band) {
         match way {
             Way::Up => self.read_queue.let_wait(band),
@@ -126,9 +129,10 @@ impl<B: Blocks> Module<B> for Ldterm<B::Mp> {
         store: &mut B,
         side: Side,
         rule: Rule,
+        seeking: Option<u32>,
         told: &mut Fates,
-    ) -> ArrayVec<Note, 4> {
-        clearing::clear(self, store, side, rule, told)
+    ) -> LetGo {
+        clearing::clear(self, store, side, rule, seeking, told)
     }
 
     ghost frame = { λ s t x same held. ldterm-frame B.name s t x same held };

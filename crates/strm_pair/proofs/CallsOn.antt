@@ -178,8 +178,9 @@ module _ (here : Spot) where
         }
 
     -- or it is at its end
-    ends-there : call.again ≡ false → TreatsAs here (bytes + call.bytes) s0 st f f''
-    ends-there over =
+    ends-there : (count : ℕ) → count ≤ 3 * bytes + stages_done (ldterm_of (module_at here s)).stage → ((d : Dir) → (book d s).made ≤ (book d s0).made + echo_most * (3 * bytes + 2 * count))
+        → call.again ≡ false → TreatsAs here (bytes + call.bytes) s0 st f f''
+    ends-there count few held over =
         let ps = (stream here.side s).modules in
         let stop = stop_in call in
         let last = λ (name : QueueName). reached-last here s0 name again bytes gone s r stop (sym tells.asks ∙ over) (stopped-at call.stopped again call.bytes s tells.bytes tells.ends) in
@@ -192,12 +193,13 @@ module _ (here : Spot) where
           stands = subst (λ v. here.at - 1 < length (stream here.side v).modules) (sym state) (omega (arith, r.inside, led-length here again stop s));
           moves = λ name. ap (λ n. moved_on plain here name n s0) (sym same) ∙ (last name).1 ∙ ap (λ n. to name n (led here again stop s).state) same ∙ ap (to name (bytes + call.bytes)) (sym state);
           tells = told-on;
+          made = λ d. omega (arith, held d, called-books again call s st tells state d, few, done-few (ldterm_of (module_at here s)).stage);
         }
 
     pub along : (count : ℕ) → count ≤ 3 * bytes + stages_done (ldterm_of (module_at here s)).stage → ((d : Dir) → (book d s).made ≤ (book d s0).made + echo_most * (3 * bytes + 2 * count))
         → (more : Bool) → call.again ≡ more → Along more here (bytes + call.bytes) s0 st f f''
     along count few held true is = goes-on count few held is
-    along count few held false is = ends-there is
+    along count few held false is = ends-there count few held is
 
     pub comes-closer : (more : Bool) → call.again ≡ more → still_to_come more here st < suc (3 * bytes_left here.way again (ldterm_of (module_at here s)) - stages_done (ldterm_of (module_at here s)).stage)
     comes-closer true works =

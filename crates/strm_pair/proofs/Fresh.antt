@@ -1,5 +1,5 @@
 -- A pair over a store with nothing in it, with an empty journal, is as new.
-use Rattle.std.proofs.Common.{ℕ, ◌≡◌, List, [], ap, sym, subst, refl, ◌∙◌}
+use Rattle.std.proofs.Common.{ℕ, ◌≡◌, List, [], ap, sym, subst, refl, ◌∙◌, arith}
 use Rattle.std.specs.Prelude.{replicate}
 use Rattle.strm_types.specs.declared.limits.Config.{Config}
 use Rattle.strm_types.specs.State.{opening}
@@ -13,6 +13,8 @@ use Rattle.strm_blocks.specs.Blocks.{Block, Held, StoreValue, empty_store}
 use Rattle.strm_pair.specs.declared.streams.Streams.{Streams}
 use Rattle.strm_pair.specs.declared.journal.Journal.{Journal}
 use Rattle.strm_pair.specs.Pairs.{state_in, AreHeld, free_in, journal_of}
+use Rattle.strm_types.specs.declared.names.Dir.TheVariants.{MasterToSlave, SlaveToMaster}
+use Rattle.strm_types.specs.Ledgers.{FewBooked}
 use Rattle.strm_pair.specs.PairViews.{pair_of, IsKept}
 use Rattle.strm_pair.proofs.Shown.{free-empty}
 use Rattle.strm_pair.proofs.Steps.{led-nowhere}
@@ -23,11 +25,17 @@ pub record AreFresh {S : Type 0} (view : View S) (mblks dblks : ℕ) (p : Stream
   pub state : state_in view.modules (empty_store mblks dblks) p ≡ opening
   pub held : AreHeld view (empty_store mblks dblks) p
 
+-- nothing is booked at the opening
+opening-few : FewBooked {C = ℕ} opening
+opening-few MasterToSlave = omega arith
+opening-few SlaveToMaster = omega arith
+
 pub fresh-kept : {S : Type 0} (view : View S) (s : StoreValue) (p : Streams S) (j : Journal) (limits : Config) (fates : Fates) → s ≡ empty_store limits.mblks limits.dblks → AreFresh view limits.mblks limits.dblks p
     → journal_of j ≡ [] → j.most_entries ≡ limits.journal_events → j.most_bytes ≡ limits.journal_bytes → fates ≡ no_fates → IsKept view s p j limits fates
 fresh-kept view s p j limits fates blank fresh empty events bytes none = record {
   replayed = ap (λ v. state_in view.modules v p) blank ∙ fresh.state ∙ sym (led-nowhere j empty);
   legal = subst (λ js. IsLegal plain opening js) (sym empty) tt;
+  few = subst FewBooked (sym (ap (λ v. state_in view.modules v p) blank ∙ fresh.state)) opening-few;
   told = none ∙ ap (λ js. told_by plain opening js no_fates) (sym empty);
   held = subst (λ v. AreHeld view v p) (sym blank) fresh.held;
   mblks = ap (λ (v : StoreValue). v.mblks) blank;

@@ -5,6 +5,7 @@ pub mod Sides
 pub mod MadeModules
 pub mod ModuleTaken
 pub mod Takings
+pub mod Dropping
 pub mod Puttings
 pub mod ModulePushed
 pub mod Modes
@@ -30,3 +31,4 @@ pub mod ChunkSteps
 mod Refusing
 mod Fresh
 mod Tried
+pub mod Balanced

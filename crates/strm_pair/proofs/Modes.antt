@@ -61,6 +61,16 @@ pub modules-stay : (side : Side) (mode : Option ReadMode) (s : State ℕ) → (s
 modules-stay side None s = refl
 modules-stay side (Some mode) s = ap (λ (t : Carried ℕ (State ℕ)). (stream side t.state).modules) (puts-mode side mode s) ∙ told-stays (is_open (stream side s).opened) side mode s
 
+-- So does the ioctl under way.
+ioctl-told : (opened : Bool) (side : Side) (mode : ReadMode) (s : State ℕ) → (stream side (told_mode opened side mode s).state).head.ioctl ≡ (stream side s).head.ioctl
+ioctl-told true Master mode s = refl
+ioctl-told true Slave mode s = refl
+ioctl-told false side mode s = refl
+
+pub ioctl-stays : (side : Side) (mode : Option ReadMode) (s : State ℕ) → (stream side (mode_put side mode s).state).head.ioctl ≡ (stream side s).head.ioctl
+ioctl-stays side None s = refl
+ioctl-stays side (Some mode) s = ap (λ (t : Carried ℕ (State ℕ)). (stream side t.state).head.ioctl) (puts-mode side mode s) ∙ ioctl-told (is_open (stream side s).opened) side mode s
+
 -- the same with these modules
 abbrev among : Side → List (Module ℕ) → Carried ℕ (State ℕ) → Carried ℕ (State ℕ)
 among side ms t = record { state = with_modules side ms t.state; gone = t.gone }

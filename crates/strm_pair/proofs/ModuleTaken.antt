@@ -9,7 +9,7 @@ use Rattle.strm_types.specs.declared.names.Side.{Side}
 use Rattle.strm_types.specs.declared.rules.Fates.{Fates}
 use Rattle.strm_types.specs.declared.rules.Rule.{Rule}
 use Rattle.strm_types.specs.Deliver.{tallied}
-use Rattle.strm_types.specs.Emptied.{of_all, emptied, none_goes, queue_behind, stayed}
+use Rattle.strm_types.specs.Emptied.{of_all, emptied, none_goes, queue_behind}
 use Rattle.strm_types.specs.Message.{Message}
 use Rattle.strm_types.specs.Modules.{act_among, top_name}
 use Rattle.strm_types.specs.Queue as plain
@@ -22,6 +22,7 @@ use Rattle.strm_frame.specs.Hands.{once, OnlyOwn}
 use Rattle.strm_frame.specs.Serves.{SameHand}
 use Rattle.strm_frame.specs.Stacks.{all_of, AreHeld}
 use Rattle.strm_frame.specs.declared.stack.Stream.{Stream}
+use Rattle.strm_frame.proofs.Seeking.{all-gone}
 use Rattle.strm_ldterm.specs.declared.ldterm.Ldterm.{Ldterm}
 use Rattle.strm_ldterm.specs.Stands as stands
 use Rattle.strm_ldterm.specs.Stands.{ldterm_in}
@@ -33,10 +34,6 @@ use Rattle.strm_pair.specs.ModuleStacks.{stacks_of}
 use Rattle.strm_pair.specs.Taken.{TookTop, let_go_of}
 
 -- nothing is left on a queue from which all went
-all-gone : (ms : List (Message ℕ)) → stayed of_all ms ≡ []
-all-gone [] = refl
-all-gone (m ∷ ms) = all-gone ms
-
 none-behind : (q : plain.Queue ℕ) → (queue_behind of_all q).messages ≡ []
 none-behind q = by (none_goes of_all q)
   where

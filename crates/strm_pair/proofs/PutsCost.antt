@@ -20,7 +20,7 @@ use Rattle.strm_types.specs.Ioctls.{read_ioc, nak_message}
 use Rattle.strm_types.specs.Message.{Message, has_parts}
 use Rattle.strm_types.specs.Names.{is_master, is_open, other}
 use Rattle.strm_types.specs.Earlier.{driver_place, modules_on}
-use Rattle.strm_types.specs.Puts.{across_of, is_turned, passed_up, put_at_driver, put_at_head, put_behind, turns_round}
+use Rattle.strm_types.specs.Puts.{across_of, is_bare_flush, is_turned, passed_up, put_at_driver, put_at_head, put_behind, turns_round}
 use Rattle.strm_types.specs.Queue.{Queue}
 use Rattle.strm_types.specs.State.{Head, State, stream}
 use Rattle.strm_types.proofs.PutsFall.{few-stand, reads-alone}
@@ -198,7 +198,7 @@ module _ (C : Type 0) where
 
   head-turns : (here : Spot) (m : Message C) → asking_at Down m.kind (here.at + 1) ≡ 0 → FitsHead true (record { to = toward Down here; message = m } ∷ [])
   head-turns here m none =
-      let down = below-head here (has_parts m) (is_flush m.kind) (is_turned m) in
+      let down = below-head here (has_parts m) (is_bare_flush m) (is_turned m) in
       few-fits 1 3 4 _ (one-few 3 (toward Down here) m (omega (arith, down, not-asked (toward Down here) (has_parts m) m.kind none))) (omega arith)
 
   round-fits : (here : Spot) (asked : FlushAsked) → FitsHead asked.for_write (turned_round here asked)
@@ -250,7 +250,7 @@ module _ (C : Type 0) where
       let at = modules_on here.side s in
       let asked = asking-up here.side (has_parts m) m.kind at here.at past in
       let most = cond (is_turned m) 4 0 + asking_cost (record here { way = Up }) (has_parts m) m.kind in
-      let low = up-low at (is_flush m.kind) (is_turned m) (few-on here.side s) in
+      let low = up-low at (is_bare_flush m) (is_turned m) (few-on here.side s) in
       few-fits 0 most (cond (is_turned m) 4 (cond across 1 0) + asking_cost (record here { way = Up }) (has_parts m) m.kind) _
       (one-few most (record here { at = at; way = Up }) m (omega (arith, low, asked)))
       (omega (arith, up-more across (is_turned m)))
@@ -286,7 +286,7 @@ pub behind-cost : {C : Type 0} (to : Spot) (m : Message C) (s : State C) → (to
     → below_takes to.way (has_parts m) (is_across to m) + cost_of cost (put_behind to.way to m s).sent ≤ cost to m
 behind-cost {C = C} to m s inside past =
     let above : modules_on to.side s < to.at = grind (arith, nat_tests) in
-    omega (arith, behind-head to (has_parts m) (is_flush m.kind) (is_turned m) inside, behind-fits C to.way to m s above)
+    omega (arith, behind-head to (has_parts m) (is_bare_flush m) (is_turned m) inside, behind-fits C to.way to m s above)
 
 takes-few : (way : Way) (parts across turned : Bool) → below_takes way parts across ≤ below_cost way parts across turned
 takes-few Down true across turned = omega arith
@@ -297,4 +297,4 @@ takes-few Up parts false turned = omega arith
 
 pub behind-takes : {C : Type 0} (to : Spot) (m : Message C) → (to.at ≡ 0 → ⊥) → below_takes to.way (has_parts m) (is_across to m) ≤ cost to m
 behind-takes to m inside =
-    omega (arith, behind-head to (has_parts m) (is_flush m.kind) (is_turned m) inside, takes-few to.way (has_parts m) (is_across to m) (is_turned m))
+    omega (arith, behind-head to (has_parts m) (is_bare_flush m) (is_turned m) inside, takes-few to.way (has_parts m) (is_across to m) (is_turned m))

@@ -5,8 +5,7 @@ use Rattle.strm_types.specs.declared.names.Side.{Side}
 use Rattle.strm_types.specs.declared.names.Side.TheVariants.{Master, Slave}
 use Rattle.strm_types.specs.declared.kinds.MsgKind.TheVariants as kinds
 use Rattle.strm_types.specs.Flush.{is_data_kind}
-use Rattle.strm_types.specs.Emptied.{of_all, stayed, emptied, none_goes, queue_behind}
-use Rattle.strm_types.specs.Message.{Message}
+use Rattle.strm_types.specs.Emptied.{of_all, emptied, none_goes, queue_behind}
 use Rattle.strm_types.specs.Queue as state
 use Rattle.strm_types.specs.Stacked as stacked
 use Rattle.strm_types.specs.State as streams
@@ -19,6 +18,7 @@ use Rattle.strm_queue.specs.declared.queue.Queue.{Queue}
 use Rattle.strm_queue.specs.Flows.{plain_flows}
 use Rattle.strm_queue.specs.Stored.{queue_in, HoldsReadable, IsHeadQueue, IsReady, Keeps, Changes}
 use Rattle.strm_queue.proofs.Placed.{ready-same}
+use Rattle.strm_frame.proofs.Seeking.{all-gone}
 use Rattle.strm_pty.specs.Does.{OnlyQueue}
 use Rattle.strm_pair.specs.declared.ends.End.{End}
 use Rattle.strm_pair.specs.declared.streams.Streams.{Streams}
@@ -171,10 +171,6 @@ as-side view t first e e' same stays is = record {
 }
 
 -- a queue from which all went has what readers may read
-all-gone : (ms : List (Message ℕ)) → stayed of_all ms ≡ []
-all-gone [] = refl
-all-gone (m ∷ ms) = all-gone ms
-
 no-chain : (l : List (List Block)) → map message_of l ≡ [] → l ≡ []
 no-chain [] none = refl
 no-chain (chain ∷ l) none = absurd (cc)

@@ -6,6 +6,7 @@ use Rattle.strm_types.specs.State.{State, opening}
 use Rattle.strm_types.specs.declared.rules.Fates.{Fates}
 use Rattle.strm_types.specs.Deliver.{tallied}
 use Rattle.strm_types.specs.Kept.{AreIdle, gone, told_by}
+use Rattle.strm_types.specs.Ledgers.{FewBooked}
 use Rattle.strm_types.specs.Rules.{no_fates}
 use Rattle.strm_types.specs.Journal.{PlainEntry}
 use Rattle.strm_types.specs.Step.{Step, after, replay, IsLegal}
@@ -39,11 +40,12 @@ told-on base (x ∷ es) e fates = told-on (after plain base x) es e (tallied (go
 
 pub kept-step : {S : Type 0} (view : View S) (s new : StoreValue) (p q : Streams S) (j k : Journal) (limits : Config) (fates fates' : Fates) (entry : PlainEntry) → IsKept view s p j limits fates
     → Step plain (state_in view.modules s p) entry (after plain (state_in view.modules s p) entry)
-    → state_in view.modules new q ≡ after plain (state_in view.modules s p) entry → AreHeld view new q → SamePool s new → fates' ≡ tallied (gone plain (state_in view.modules s p) entry) fates
+    → state_in view.modules new q ≡ after plain (state_in view.modules s p) entry → AreHeld view new q → SamePool s new → FewBooked (state_in view.modules new q) → fates' ≡ tallied (gone plain (state_in view.modules s p) entry) fates
     → journal_of k ≡ journal_of j ++ entry ∷ [] → k.most_entries ≡ j.most_entries → k.most_bytes ≡ j.most_bytes → IsKept view new q k limits fates'
-kept-step view s new p q j k limits fates fates' entry kept step stands held pool told added events bytes = record {
+kept-step view s new p q j k limits fates fates' entry kept step stands held pool few told added events bytes = record {
   replayed = stands ∙ sym (led-on view s p j k limits fates entry kept added);
   legal = subst (λ js. IsLegal plain opening js) (sym added) (kept-legal plain opening (state_in view.modules s p) (after plain (state_in view.modules s p) entry) (journal_of j) entry kept.replayed step kept.legal);
+  few = few;
   told = told
       ∙ ap (λ f. tallied (gone plain (state_in view.modules s p) entry) f) kept.told
       ∙ ap (λ t. tallied (gone plain t entry) (told_by plain opening (journal_of j) no_fates)) kept.replayed

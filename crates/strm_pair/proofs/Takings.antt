@@ -1,6 +1,6 @@
 -- The module on top of a side's stream, taken off it.
 use Rattle.std.proofs.Common.{ℕ, zero, suc, ◌≡◌, ◌≤◌, ◌<◌, ◌+◌, List, [], ◌∷◌, ◌++◌, length, refl, sym, ap, subst, ◌∙◌, arith}
-use Rattle.std.specs.Prelude.{None, Some}
+use Rattle.std.specs.Prelude.{Some}
 use Rattle.strm_types.specs.declared.names.QueueName.{QueueName}
 use Rattle.strm_types.specs.declared.names.Side.{Side}
 use Rattle.strm_types.specs.declared.names.Side.TheVariants.{Master, Slave}
@@ -23,7 +23,7 @@ use Rattle.strm_pair.specs.declared.streams.Streams.{Streams}
 use Rattle.strm_pair.specs.Framing.{stays-master, stays-slave, still}
 use Rattle.strm_pair.specs.Pairs.{state_in, end_at, with_end, AreBeside, AreHeld, kept_by}
 use Rattle.strm_pair.specs.Streams.{View, stream_in, IsSide}
-use Rattle.strm_pair.specs.Taken.{TookNone, TookTop, WithoutTop, let_go_of}
+use Rattle.strm_pair.specs.Taken.{TookTop, WithoutTop, let_go_of}
 use Rattle.strm_pair.proofs.Sides.{both, queue-same, side-stays, stream-stays, stream_of}
 
 -- what was let go first, and then the rest
@@ -116,31 +116,7 @@ with_enabled names p = record p { enabled = names }
 enabled-beside : {S : Type 0} (view : View S) (t : StoreValue) (names : List QueueName) (p : Streams S) → AreBeside view t p → AreBeside view t (with_enabled names p)
 enabled-beside view t names p beside = record { master = beside.master; slave = beside.slave }
 
-same-stack : {S : Type 0} (p : Streams S) (side : Side) (y : S) → y ≡ (end_at side p).stack → with_end side (record (end_at side p) { stack = y }) p ≡ p
-same-stack p Master y same = ap (λ x. record p { master = record p.master { stack = x } }) same
-same-stack p Slave y same = ap (λ x. record p { slave = record p.slave { stack = x } }) same
-
 module _ {S : Type 0} (view : View S) (side : Side) (rule : Rule) (s : StoreValue) (p : Streams S) (held : AreHeld view s p) (told : Fates) where
-  -- none stood there
-  nothing-went : view.modules s (end_at side p).stack ≡ [] → WithoutTop view side rule s s p p told told None
-  nothing-went none =
-      let st = state_in view.modules s p in
-      let bare : (stream side st).modules ≡ [] = modules-are view s p side ∙ none in
-      record {
-        name_is = sym (ap (λ ms. top_name module_name ms) bare);
-        state = sym (ap (λ ms. (top_taken rule side ms st).state) bare);
-        tells = sym (ap (λ ms. tallied (top_taken rule side ms st).gone told) bare);
-        held = held;
-        frees = record { mblks = omega arith; dblks = omega arith };
-        pool = record { mblks = refl; dblks = refl };
-      }
-
-  pub none-went : (t : StoreValue) (q : Streams S) (told' : Fates) → q ≡ with_end side (record (end_at side p) { stack = (end_at side q).stack }) p → TookNone view s t (end_at side p).stack (end_at side q).stack told told' → WithoutTop view side rule s t p q told told' None
-  none-went t q told' same took =
-      subst (λ f. WithoutTop view side rule s t p q told f None) (sym took.tells)
-      (subst (λ u. WithoutTop view side rule s u p q told told None) (sym took.store)
-      (subst (λ r. WithoutTop view side rule s s p r told told None) (sym (same ∙ same-stack p side (end_at side q).stack took.stack)) (nothing-went took.none)))
-
   -- the module on top went, and these queues are enabled behind it
   pub top-went : (t : StoreValue) (q : Streams S) (told' : Fates) (taken : Taken) (names : List QueueName) → q ≡ with_end side (record (end_at side p) { stack = (end_at side q).stack }) p → TookTop view side rule s t (end_at side p).stack (end_at side q).stack told told' taken
       → names ≡ without_module side taken.name (noted side (place_of taken.name) (earlier_at side 1 (state_in view.modules s p)) taken.notes.items p.enabled)

@@ -14,7 +14,7 @@ use Rattle.strm_types.specs.Flushing.{is_flush}
 use Rattle.strm_types.specs.Message.{Message, band_of, has_parts, is_held}
 use Rattle.strm_types.specs.Names.{other, is_open}
 use Rattle.strm_types.specs.Past.{has_room_past, writer_waits}
-use Rattle.strm_types.specs.Puts.{far_at, is_turned, turns_round}
+use Rattle.strm_types.specs.Puts.{far_at, is_bare_flush, is_turned, turns_round}
 use Rattle.strm_types.specs.Queue as plain
 use Rattle.strm_types.specs.Queue.{left_with}
 use Rattle.strm_types.specs.State.{State, stream}
@@ -102,7 +102,7 @@ not-more false n = omega arith
 
 pub up-few : (side : Side) (at : ℕ) (m : Message ℕ) → cost (record { side = side; at = at; way = Up }) m ≤ 7
 up-few side at m =
-    omega (arith, few-blocks (at == 0) (is_turned m) (is_flush m.kind && at == 4), few-asked m.kind m.plain at, not-more (at == 0 || has_parts m) (asking_at Up m.kind at))
+    omega (arith, few-blocks (at == 0) (is_turned m) (is_bare_flush m && at == 4), few-asked m.kind m.plain at, not-more (at == 0 || has_parts m) (asking_at Up m.kind at))
 
 -- whether flow control stops a message by its band, as its first block tells
 held-by : (chain : List Block) (stops : ℕ → Bool) (v : Bool) → is_held (block_at 0 chain).kind ≡ v → (v && stops (band_of (message_of chain))) ≡ (v && stops (block_at 0 chain).band)

@@ -1,5 +1,5 @@
 -- What the calls of a turn of a module's queue did to the store, the streams and what has gone.
-use Rattle.std.specs.Prelude.{ℕ, ◌≡◌, ◌≤◌, ◌<◌, ◌+◌, ◌-◌, ◌==◌, ◌%◌, ◌^◌, Bool, true, false, not, List, length, Option, HoldsAt}
+use Rattle.std.specs.Prelude.{ℕ, ◌≡◌, ◌≤◌, ◌<◌, ◌+◌, ◌-◌, ◌*◌, ◌==◌, ◌%◌, ◌^◌, Bool, true, false, not, List, length, Option, HoldsAt}
 use Rattle.std.specs.Bool.{OnTrue}
 use Rattle.strm_types.specs.declared.answers.Turn.TheVariants.{Moved}
 use Rattle.strm_types.specs.declared.names.Dir.{Dir}
@@ -14,7 +14,7 @@ use Rattle.strm_types.specs.ModuleQueues.{at_place}
 use Rattle.strm_types.specs.ModuleTurns.{module_acted, module_turn_ended, moved_on}
 use Rattle.strm_types.specs.Puts.{far}
 use Rattle.strm_types.specs.State.{State, book, stream}
-use Rattle.strm_types.specs.TurnCalls.{Ends, asks_on, bytes_left, called, ldterm_of, led, module_at, most_made, treated}
+use Rattle.strm_types.specs.TurnCalls.{Ends, asks_on, bytes_left, called, echo_most, ldterm_of, led, module_at, most_made, treated}
 use Rattle.strm_blocks.specs.Blocks.{StoreValue, times_in}
 use Rattle.strm_frame.specs.declared.parcels.Sent.{Sent}
 use Rattle.strm_frame.specs.declared.service.Served.{Served}
@@ -110,7 +110,7 @@ pub record CallsAs {S : Type 0} (view : View S) (old new : StoreValue) (p q : St
   pub room : OnTrue call.again (HasRoom new (next_cost here (state_in view.modules new q)))
   pub pool : SamePool old new
 
--- Calls treated so many bytes of a turn, which would end here.
+-- Calls treated so many bytes of a turn, which would end here, and made so much at most.
 pub record TreatsAs (here : Spot) (bytes : ℕ) (old new : State ℕ) (told told' : Fates) : Type 0 where
   pub gone : List (Fate ℕ)
   pub within : bytes ≤ bytes_left here.way false (ldterm_of (module_at here old))
@@ -118,3 +118,4 @@ pub record TreatsAs (here : Spot) (bytes : ℕ) (old new : State ℕ) (told told
   pub moves : (name : QueueName) → moved_on plain here name bytes old
       ≡ record { turn = Moved bytes; state = module_turn_ended name here (not (bytes == 0)) new; gone = gone }
   pub tells : told' ≡ tallied gone told
+  pub made : (d : Dir) → (book d new).made ≤ (book d old).made + echo_most * (9 * bytes + 8)

@@ -6,6 +6,7 @@ use Rattle.strm_types.specs.State.{State, opening}
 use Rattle.strm_types.specs.Step.{replay, IsLegal}
 use Rattle.strm_types.specs.declared.rules.Fates.{Fates}
 use Rattle.strm_types.specs.Kept.{told_by}
+use Rattle.strm_types.specs.Ledgers.{FewBooked}
 use Rattle.strm_types.specs.Rules.{no_fates}
 use Rattle.strm_types.specs.Pair.{PairState}
 use Rattle.strm_blocks.specs.Blocks.{StoreValue}
@@ -33,12 +34,13 @@ pair_of view s streams journal limits fates = record {
   fates = fates;
 }
 
--- The blocks stand for the state to which the journal leads from the opening, each entry of it is a legal step; the
+-- The blocks stand for the state to which the journal leads from the opening, each entry of it is a legal step; no more is booked than a ledger can hold; the
 -- numbers that are kept beside the blocks are those of the blocks, and nothing is in hand; what has gone is told by its rules; and the sizes are those that
 -- the pair was made with.
 pub record IsKept {S : Type 0} (view : View S) (s : StoreValue) (streams : Streams S) (journal : Journal) (limits : Config) (fates : Fates) : Type 0 where
   pub replayed : state_in view.modules s streams ≡ led_to journal
   pub legal : IsLegal plain opening (journal_of journal)
+  pub few : FewBooked (state_in view.modules s streams)
   pub told : fates ≡ told_by plain opening (journal_of journal) no_fates
   pub held : AreHeld view s streams
   pub mblks : s.mblks ≡ limits.mblks

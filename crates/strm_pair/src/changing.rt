@@ -4,10 +4,11 @@ ghost use Rattle.std.specs.Prelude.{ℕ, List, ◌≡◌, ◌<◌, ◌∷◌, �
 ghost use Rattle.strm_types.specs.declared.answers.Answer.TheVariants.{Done};
 ghost use Rattle.strm_types.specs.Calls.{looked};
 ghost use Rattle.strm_types.specs.Deliver.{tallied};
+ghost use Rattle.strm_types.specs.Dropped.{is_met};
 ghost use Rattle.strm_types.specs.Journal.{answer_len, reply_in};
 ghost use Rattle.strm_types.specs.Kept.{AreIdle};
 ghost use Rattle.strm_types.specs.Options.{mode_number};
-ghost use Rattle.strm_types.specs.Pushes.{all_taken, may_stand, mode_behind, mode_on_push, mode_put, modules_emptied, named_by, popped, pushed_named, top_on, with_modules};
+ghost use Rattle.strm_types.specs.Pushes.{all_taken, below_top, may_stand, mode_behind, mode_on_push, mode_put, modules_emptied, named_by, popped, pushed_named, top_on, with_modules};
 ghost use Rattle.strm_types.specs.Names.{driver_of, enable_if, other, place_of};
 ghost use Rattle.strm_types.specs.Queue.{is_none_left};
 ghost use Rattle.strm_types.specs.State.{stream};
@@ -52,16 +53,26 @@ fn mode_behind(name: Option<ModuleName>) -> Option<ReadMode>
     }
 }
 
+/// What was on top of a side's stream before it was taken off: its name, where a module stood there, and whether the M_IOCTL that is
+/// sought went with it.
+#[derive(Drop)]
+pub(crate) struct TakenOff {
+    pub name: Option<ModuleName>,
+    pub met: bool,
+}
+
 impl<S: Drop> Streams<S> {
     ghost use Rattle.strm_blocks.specs.Blocks.{StoreValue};
     ghost use Rattle.strm_pair.specs.Pairs.{state_in, end_at, with_end, AreHeld, SamePool};
 
-    // Takes the module on top off the stack of a side, and changes nothing else of the streams.
+    // Takes the module on top off the stack of a side, and changes nothing else of the streams. It tells whether the M_IOCTL of a number
+    // went with it, where one is sought.
     fn take_off<B: Stacks<Stack = S>>(
         &mut self,
         store: &mut B,
         side: Side,
         rule: Rule,
+        seeking: Option<u32>,
         told: &mut Fates,
     ) -> Option<Taken>
         requires held { AreHeld B.view (B.value store.old) self.old }
@@ -70,29 +81,39 @@ impl<S: Drop> Streams<S> {
         ensures took { let s = B.value store.old in let t = B.value store.new in
             let x = (end_at side self.old).stack in let y = (end_at side self.new).stack in
             MatchOption result (TookNone B.view s t x y told.old told.new) (λ taken. TookTop B.view side rule s t x y told.old told.new taken) }
+        ensures met { IfSome result
+            (λ taken. taken.met ≡ is_met seeking (below_top (stream side (state_in B.view.modules (B.value store.old) self.old)).modules)) }
     {
         match side {
-            Side::Master => B::take_top(&mut self.master.stack, store, side, rule, told),
-            Side::Slave => B::take_top(&mut self.slave.stack, store, side, rule, told),
+            Side::Master => B::take_top(&mut self.master.stack, store, side, rule, seeking, told),
+            Side::Slave => B::take_top(&mut self.slave.stack, store, side, rule, seeking, told),
         }
     }
 
     /// Takes the module off that is on top of a side's stream, and tells its name, where one stands there: what stands on its
     /// queues and in its line goes by a rule, its queues aren't enabled any more, and queues before them have room again where
-    /// that lets a writer go.
+    /// that lets a writer go. It tells whether the M_IOCTL of a number went with it, where one is sought.
     pub(crate) fn take_top<B: Stacks<Stack = S>>(
         &mut self,
         store: &mut B,
         side: Side,
         rule: Rule,
+        seeking: Option<u32>,
         told: &mut Fates,
-    ) -> Option<ModuleName>
+    ) -> TakenOff
         requires held { AreHeld B.view (B.value store.old) self.old }
         requires idle { AreIdle (state_in B.view.modules (B.value store.old) self.old) }
-        ensures { WithoutTop B.view side rule (B.value store.old) (B.value store.new) self.old self.new told.old told.new result }
+        ensures taken { WithoutTop B.view side rule (B.value store.old) (B.value store.new) self.old self.new told.old told.new result.name }
+        ensures met { result.met
+            ≡ is_met seeking (below_top (stream side (state_in B.view.modules (B.value store.old) self.old)).modules) }
     {
         let earlier = self.earlier::<B>(side, 1);
-        let taken = self.take_off(store, side, rule, told)?;
+        let Some(taken) = self.take_off(store, side, rule, seeking, told) else {
+            return TakenOff {
+                name: None,
+                met: false,
+            };
+        };
         let place = taken.name.place();
         note(
             &mut self.enabled,
@@ -102,7 +123,10 @@ impl<S: Drop> Streams<S> {
             taken.notes.as_slice(),
         );
         self.enabled.forget(side, taken.name);
-        Some(taken.name)
+        TakenOff {
+            name: Some(taken.name),
+            met: taken.met,
+        }
     }
 
     // Takes all modules off a side's stream, which are so many.
@@ -127,7 +151,7 @@ impl<S: Drop> Streams<S> {
         if count == 0 {
             return;
         }
-        self.take_top(store, side, rule, told);
+        self.take_top(store, side, rule, None, told);
         self.take_all(store, side, rule, told, count - 1);
     }
 
@@ -179,8 +203,8 @@ impl<S: Drop> Streams<S> {
         self.deliver_alone(store, head, message, told);
     }
 
-    /// Pops the module that is on top of a side's stream: what it has goes, and the head is told its read mode. Nothing where
-    /// no module stands (streamio(7I): I_POP).
+    /// Pops the module that is on top of a side's stream: what it has goes, and the head is told its read mode. The ioctl under way ends as
+    /// refused where its M_IOCTL went with the module, as nobody will answer it any more. Nothing where no module stands (streamio(7I): I_POP).
     #[inline(never)]
     pub fn pop<B: Stacks<Stack = S>>(
         &mut self,
@@ -197,8 +221,10 @@ impl<S: Drop> Streams<S> {
         ensures held { AreHeld B.view (B.value store.new) self.new }
         ensures pool { SamePool (B.value store.old) (B.value store.new) }
     {
-        let name = self.take_top(store, side, Rule::ModulePopped, told);
-        self.put_mode(store, side, mode_behind(name), told);
+        let seeking = self.end(side).head.number_sought();
+        let taken = self.take_top(store, side, Rule::ModulePopped, seeking, told);
+        self.put_mode(store, side, mode_behind(taken.name), told);
+        self.drop_ioctl::<B>(side, taken.met);
         Answer::Done
     }
 

@@ -63,10 +63,11 @@ impl<S: Drop> Streams<S> {
         ensures pool { SamePool (B.value store.old) (B.value store.new) }
     {
         let direction = side.head().direction();
-        let lets_go = match side {
+        let gone = match side {
             Side::Master => clear_queue(
                 store,
                 &mut self.master.head.queue,
+                None,
                 direction,
                 Rule::EndClosed,
                 told,
@@ -74,12 +75,13 @@ impl<S: Drop> Streams<S> {
             Side::Slave => clear_queue(
                 store,
                 &mut self.slave.head.queue,
+                None,
                 direction,
                 Rule::EndClosed,
                 told,
             ),
         };
-        self.let_go::<B>(side, Way::Up, 0, lets_go);
+        self.let_go::<B>(side, Way::Up, 0, gone.room);
     }
 
     // Lets all go that stands at a side's driver.
@@ -93,10 +95,11 @@ impl<S: Drop> Streams<S> {
     {
         let direction = side.driver().direction();
         let at = self.driver_place::<B>(side);
-        let lets_go = match side {
+        let gone = match side {
             Side::Master => clear_queue(
                 store,
                 &mut self.master.driver,
+                None,
                 direction,
                 Rule::EndClosed,
                 told,
@@ -104,12 +107,13 @@ impl<S: Drop> Streams<S> {
             Side::Slave => clear_queue(
                 store,
                 &mut self.slave.driver,
+                None,
                 direction,
                 Rule::EndClosed,
                 told,
             ),
         };
-        self.let_go::<B>(side, Way::Down, at, lets_go);
+        self.let_go::<B>(side, Way::Down, at, gone.room);
     }
 
     // A side is closed, with a head as new.

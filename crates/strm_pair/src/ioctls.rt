@@ -1,12 +1,16 @@
 //! Ioctls on a side's stream, and the signals that wait at its head (ioctl(2), streamio(7I): I_STR).
 
-ghost use Rattle.std.specs.Prelude.{ℕ, ◌≡◌, ◌≤◌, ◌<◌, [], true, length};
+ghost use Rattle.std.specs.Prelude.{ℕ, ◌≡◌, ◌≤◌, ◌<◌, List, [], true, length};
 ghost use Rattle.strm_types.specs.declared.limits.TheConstants.{IOCTL_BLOCKS, IOCTL_END, IOCTL_MAX, READ_MAX, SIGNALS_MAX};
 ghost use Rattle.strm_types.specs.Calls.{ioctl_begun, ioctl_sent, ioctl_told, signals_told};
 ghost use Rattle.strm_types.specs.Deliver.{tallied};
+ghost use Rattle.strm_types.specs.Dropped.{is_met, number_sought};
 ghost use Rattle.strm_types.specs.Journal.{answer_len, reply_in};
 ghost use Rattle.strm_types.specs.Kept.{AreIdle};
+ghost use Rattle.strm_types.specs.Message.{Message};
+ghost use Rattle.strm_types.specs.Pushes.{ioctl_dropped};
 ghost use Rattle.strm_types.specs.Refused.{may_ask};
+ghost use Rattle.strm_types.specs.State.{stream};
 ghost use Rattle.strm_blocks.specs.Blocks.{StoreValue};
 ghost use Rattle.strm_frame.specs.Hands.{HasRoom};
 ghost use Rattle.strm_pair.specs.Parts.{longest_part};
@@ -31,6 +35,18 @@ impl<S: Drop> Streams<S> {
         match side {
             Side::Master => self.master.head.begin_ioctl(number, command),
             Side::Slave => self.slave.head.begin_ioctl(number, command),
+        }
+    }
+
+    // The ioctl that waits on a side's stream ends as refused, where its M_IOCTL was met among messages that go with a module.
+    pub(crate) fn drop_ioctl<B: Stacks<Stack = S>>(&mut self, side: Side, met: bool)
+        ensures state { (s : StoreValue) (ms : List (Message ℕ)) → met ≡ is_met (number_sought (stream side (state_in B.view.modules s self.old)).head.ioctl) ms →
+            state_in B.view.modules s self.new ≡ ioctl_dropped side ms (state_in B.view.modules s self.old) }
+        ensures held { (s : StoreValue) → AreHeld B.view s self.old → AreHeld B.view s self.new }
+    {
+        match side {
+            Side::Master => self.master.head.drop_ioctl(met),
+            Side::Slave => self.slave.head.drop_ioctl(met),
         }
     }
 

@@ -11,6 +11,7 @@ mod earlier;
 mod ends;
 mod ioctls;
 mod journal;
+mod ledgers;
 mod looking;
 mod messages;
 mod modules;

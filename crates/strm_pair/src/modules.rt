@@ -7,12 +7,11 @@ ghost use Rattle.strm_types.specs.Stacked.{OfPtem};
 ghost use Rattle.strm_blocks.specs.Blocks.{StoreValue};
 ghost use Rattle.strm_pair.specs.AnyModules.{IsMade, module_in};
 
-use arrayvec::ArrayVec;
 use strm_blocks::Blocks;
-use strm_frame::{Acts, Module, Served, TurnEnd};
+use strm_frame::{Acts, LetGo, Module, Served, TurnEnd};
 use strm_ldterm::Ldterm;
 use strm_pty::Ptem;
-use strm_types::{Asks, Band, Fates, ModuleName, Note, Rule, Side, Spot, Way};
+use strm_types::{Asks, Band, Fates, ModuleName, Rule, Side, Spot, Way};
 
 /// A module of any kind.
 #[derive(Drop)]
@@ -147,6 +146,13 @@ impl<B: Blocks> Module<B> for AnyModule<B::Mp> {
         }
     }
 
+    fn line_len(&self) -> usize {
+        match self {
+            AnyModule::Ldterm(ldterm) => Module::<B>::line_len(ldterm),
+            AnyModule::Ptem(ptem) => Module::<B>::line_len(ptem),
+        }
+    }
+
     fn let_wait(&mut self, way: Way, band: Band) {
         match self {
             AnyModule::Ldterm(ldterm) => Module::<B>::let_wait(ldterm, way, band),
@@ -180,11 +186,12 @@ impl<B: Blocks> Module<B> for AnyModule<B::Mp> {
         store: &mut B,
         side: Side,
         rule: Rule,
+        seeking: Option<u32>,
         told: &mut Fates,
-    ) -> ArrayVec<Note, 4> {
+    ) -> LetGo {
         match self {
-            AnyModule::Ldterm(ldterm) => ldterm.clear(store, side, rule, told),
-            AnyModule::Ptem(ptem) => ptem.clear(store, side, rule, told),
+            AnyModule::Ldterm(ldterm) => ldterm.clear(store, side, rule, seeking, told),
+            AnyModule::Ptem(ptem) => ptem.clear(store, side, rule, seeking, told),
         }
     }
 

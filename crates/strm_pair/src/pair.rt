@@ -1,8 +1,8 @@
 //! The pair: calls, turns, and the journal of what was carried out.
 
-ghost use Rattle.std.specs.Prelude.{◌≡◌, ◌≤◌, ◌<◌, [], length, replicate, MatchResult, MatchOption, IsOk, Err, IfOk, is_some, slice_get};
+ghost use Rattle.std.specs.Prelude.{◌≡◌, ◌≤◌, ◌<◌, ◌+◌, if◌then◌else◌, sum_by, [], length, replicate, MatchResult, MatchOption, IsOk, Err, IfOk, is_some, slice_get};
 ghost use Rattle.strm_types.specs.Calls.{request, map_answer};
-ghost use Rattle.strm_types.specs.Cells.{plain};
+ghost use Rattle.strm_types.specs.Cells.{Origin, plain, tagged};
 ghost use Rattle.strm_types.specs.declared.entries.Entry.TheVariants.{Called, Turned};
 ghost use Rattle.strm_types.specs.Earlier.{modules_on};
 ghost use Rattle.strm_types.specs.Pair.{new_pair, call_refused, queue_refused, AddsEntry};
@@ -10,10 +10,11 @@ ghost use Rattle.strm_types.specs.Journal.{entries_in, reply_in, answer_len};
 ghost use Rattle.strm_types.specs.Refused.{enough, has_room};
 ghost use Rattle.strm_types.specs.Step.{replay, IsLegal};
 ghost use Rattle.strm_types.specs.Kept.{told_by};
+ghost use Rattle.strm_types.specs.Ledgers.{is_booked, ledger_of, own_places_of, places_of};
 ghost use Rattle.strm_types.specs.Rules.{no_fates};
 ghost use Rattle.strm_types.specs.Queue.{bytes_of};
 ghost use Rattle.strm_types.specs.ModuleTurns.{place_named};
-ghost use Rattle.strm_types.specs.State.{AreOrdered, messages_in, stream};
+ghost use Rattle.strm_types.specs.State.{AreOrdered, messages_in, opening, stream};
 ghost use Rattle.strm_pair.specs.Shows.{Shows, count_at, first_at, full_at, messages_at};
 ghost use Rattle.strm_pair.specs.Parts.{longest_part};
 ghost use Rattle.strm_pair.specs.Pool.{IsPoolOf};
@@ -21,14 +22,15 @@ ghost use Rattle.strm_pair.specs.PairViews.{sizes_over};
 
 use crate::answers::own;
 use crate::journal::Journal;
+use crate::ledgers::sum;
 use crate::refusals::{blocks_asked, content_most, or_else, unless};
 use crate::stacks::Stacks;
 use crate::streams::Streams;
 use std::alloc::Global;
 use std::marker::Model;
 use strm_types::{
-    Answer, BANDS, Band, Caller, Config, Content, Entry, Event, Fates, LISTS, NoMemory, Place,
-    QueueName, READ_MAX, ReadBytes, Refusal, Side, Turn, turn_blocks,
+    Answer, BANDS, Band, Caller, Config, Content, Dir, Entry, Event, Fates, LISTS, Ledger,
+    NoMemory, Place, QueueName, READ_MAX, ReadBytes, Refusal, Side, Turn, turn_blocks,
 };
 
 /// A pair of a master and a slave, whose messages stand in a store of its own. Contracts see it as its plain state, its
@@ -129,6 +131,32 @@ impl<B: Stacks + Drop> Pair<B> {
         ensures { result.now ≡ self.now.fates }
     {
         &self.fates
+    }
+
+    /// The ledger of a direction: how many bytes were written and made there, how many stand on its queues and in its unfinished
+    /// lines, and how many have gone by each rule since the journal began. Every byte that was booked has exactly one place, in its direction: on a
+    /// queue, in a line, or among what has gone by one rule; and no other byte has any. So written and made add up to all others.
+    ///
+    /// The cost is a step for each module and each rule: what stands on the queues is told by the balance.
+    pub fn ledger(&self, direction: Dir) -> Ledger
+        ensures ledger { result ≡ ledger_of direction self.now.state self.now.fates }
+        ensures balance { result.written + result.made ≡ result.queued + (result.inline + sum_by (λ n. n) result.fates) }
+        ensures replayed { self.now.state ≡ replay plain opening self.now.journal }
+        ensures told { self.now.fates ≡ told_by plain opening self.now.journal no_fates }
+        ensures once { (o : Origin) → places_of o self.now.journal ≡ (if is_booked o (replay tagged opening self.now.journal) then 1 else 0) }
+        ensures own { (o : Origin) → own_places_of o self.now.journal ≡ (if is_booked o (replay tagged opening self.now.journal) then 1 else 0) }
+    {
+        let book = self.streams.book(direction);
+        let inline = self.streams.line_lens::<B>(direction) as u64;
+        let fates = self.fates.of(direction);
+        let elsewhere = inline + sum(fates);
+        Ledger {
+            written: book.written,
+            made: book.made,
+            queued: book.written + book.made - elsewhere,
+            inline,
+            fates: *fates,
+        }
     }
 
     /// The store, whose lists show the queues of the state, each chain read along its links from read place to write
@@ -278,6 +306,7 @@ impl<B: Stacks + Drop> Pair<B> {
         if let Some(refusal) = self.refusal(caller, event) {
             return Err(refusal);
         }
+        self.store.audit();
         let told = &mut self.fates;
         let answer = self
             .streams

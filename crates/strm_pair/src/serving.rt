@@ -6,6 +6,7 @@ ghost use Rattle.strm_types.specs.Cells.{plain};
 ghost use Rattle.strm_types.specs.Deliver.{tallied};
 ghost use Rattle.strm_types.specs.Kept.{AreIdle};
 ghost use Rattle.strm_types.specs.ModuleQueues.{at_place};
+ghost use Rattle.strm_types.specs.Ledgers.{FewBooked};
 ghost use Rattle.strm_types.specs.ModuleTurns.{module_turn_ended, module_turned, place_named, queue_ended, stayed_at};
 ghost use Rattle.strm_types.specs.Refused.{in_range};
 ghost use Rattle.strm_types.specs.Service.{end_relieves, has_more};
@@ -153,6 +154,7 @@ impl<S: Drop> Streams<S> {
         ensures state { state_in B.view.modules (B.value store.new) self.new
             ≡ (module_turned plain name result (state_in B.view.modules (B.value store.old) self.old)).state }
         ensures told { told.new ≡ tallied (module_turned plain name result (state_in B.view.modules (B.value store.old) self.old)).gone told.old }
+        ensures few { FewBooked (state_in B.view.modules (B.value store.new) self.new) }
         ensures held { AreHeld B.view (B.value store.new) self.new }
         ensures pool { SamePool (B.value store.old) (B.value store.new) }
     {

@@ -1,23 +1,24 @@
 //! The modules of a side's stream, beside a store (streamio(7I): I_PUSH, I_POP, I_LOOK; STREAMS Programming Guide, "Modules"). Places count
 //! from 1 for the module on top.
 
-ghost use Rattle.std.specs.Prelude.{ℕ, ◌≡◌, ◌<◌, ◌≤◌, ◌+◌, ◌-◌, true, false, [], ◌∷◌, length, slice_index_or, HoldsAt, IfSome, MatchOption, None, Some};
+ghost use Rattle.std.specs.Prelude.{ℕ, ◌≡◌, ◌<◌, ◌≤◌, ◌+◌, ◌-◌, true, false, [], ◌∷◌, length, sum_by, slice_index_or, HoldsAt, IfSome, MatchOption, None, Some};
 ghost use Rattle.std.specs.Bool.{OnTrue};
 ghost use Rattle.strm_types.specs.declared.limits.TheConstants.{BANDS, STOP_BLOCKS};
 ghost use Rattle.strm_types.specs.declared.spots.Asks.TheVariants.{Empty};
 ghost use Rattle.strm_types.specs.Cells as cells;
 ghost use Rattle.strm_types.specs.Costs.{cost};
 ghost use Rattle.strm_types.specs.Deliver.{AreLower, tallied};
+ghost use Rattle.strm_types.specs.Dropped.{is_met};
 ghost use Rattle.strm_types.specs.Earlier.{places_of};
 ghost use Rattle.strm_types.specs.Input.{made_of};
 ghost use Rattle.strm_types.specs.ModuleQueues.{at_place, can_pass, full_at, messages_at, place_before, place_past, queue_changed, waits_past};
 ghost use Rattle.strm_types.specs.Modules.{act_among, change_among, put_among, stands, top_name};
-ghost use Rattle.strm_types.specs.Pushes.{may_stand, named_by};
+ghost use Rattle.strm_types.specs.Pushes.{below_top, may_stand, named_by};
 ghost use Rattle.strm_types.specs.Puts.{far};
 ghost use Rattle.strm_types.specs.Queue.{bytes_of, count_of};
 ghost use Rattle.strm_types.specs.Refused.{none_waits_up};
 ghost use Rattle.strm_types.specs.Service.{end_relieves, has_more, turn_ended};
-ghost use Rattle.strm_types.specs.Stacked.{module_asks, module_name, module_puts, module_queue, module_serves, with_module_queue};
+ghost use Rattle.strm_types.specs.Stacked.{module_asks, module_line, module_name, module_puts, module_queue, module_serves, with_module_queue};
 ghost use Rattle.strm_types.specs.TurnCalls.{Ends, ldterm_of, most_made};
 ghost use Rattle.strm_types.specs.TurnOutcomes.{first_size};
 ghost use Rattle.strm_blocks.specs.Blocks.{StoreValue, in_hand, list_at};
@@ -37,11 +38,13 @@ use strm_blocks::{Blocks, InHand, TableStore};
 use strm_frame::{Acts, Module, Served, Stream, TurnEnd};
 use strm_types::{Asks, Band, Fates, ModuleName, Note, Place, Rule, Side, Spot, Way};
 
-/// A module that was taken off a stack: its name, and which queues before its own have room again.
+/// A module that was taken off a stack: its name, which queues before its own have room again, and whether the M_IOCTL that is sought
+/// stood on its write queue.
 #[derive(Drop)]
 pub struct Taken {
     pub name: ModuleName,
     pub notes: ArrayVec<Note, 4>,
+    pub met: bool,
 }
 
 /// A store with the stacks of modules whose messages stand in it. A stack's type is known where the store's is, and nowhere
@@ -107,6 +110,10 @@ pub trait Stacks: Blocks {
     fn none_waits_up(stack: &Self::Stack, store: &Self) -> bool
         requires { view.IsHeld (Self.value store.now) stack.now }
         ensures { result ≡ none_waits_up (view.modules (Self.value store.now) stack.now) };
+
+    /// How many bytes stand in the unfinished lines of the modules.
+    fn line_lens(stack: &Self::Stack) -> usize
+        ensures { (s : StoreValue) → result ≡ sum_by (λ p. length (module_line p)) (view.modules s stack.now) };
 
     /// How many messages stand on a queue of the module of a place, and how many bytes they have; nothing without one.
     fn sizes(stack: &Self::Stack, store: &Self, at: usize, way: Way) -> (usize, usize)
@@ -236,19 +243,22 @@ pub trait Stacks: Blocks {
         ensures keeps { (i : ℕ) → view.keeps stack.new i ≡ view.keeps stack.old i };
 
     /// Takes the module on top off its stack, which keeps nothing in hand: what stands on the queues and in the line of the
-    /// module goes by a rule. `None` where no module stands (streamio(7I): I_POP; close(2)).
+    /// module goes by a rule. It tells whether the M_IOCTL of a number went with them, where one is sought. `None` where no module stands
+    /// (streamio(7I): I_POP; close(2)).
     fn take_top(
         stack: &mut Self::Stack,
         store: &mut Self,
         side: Side,
         rule: Rule,
+        seeking: Option<u32>,
         told: &mut Fates,
     ) -> Option<Taken>
         requires held { view.IsHeld (Self.value store.old) stack.old }
         requires rests { (i : ℕ) → view.keeps stack.old i ≡ 0 }
-        ensures { MatchOption result
+        ensures took { MatchOption result
             (TookNone view (Self.value store.old) (Self.value store.new) stack.old stack.new told.old told.new)
-            (λ taken. TookTop view side rule (Self.value store.old) (Self.value store.new) stack.old stack.new told.old told.new taken) };
+            (λ taken. TookTop view side rule (Self.value store.old) (Self.value store.new) stack.old stack.new told.old told.new taken) }
+        ensures met { IfSome result (λ taken. taken.met ≡ is_met seeking (below_top (view.modules (Self.value store.old) stack.old))) };
 
     /// Pushes a module on top of a stack, as its name makes it: one that may stand there (streamio(7I): I_PUSH). The queues of the
     /// stack stand on two lists, behind those of its stream's ends, which start from a number on.
@@ -319,6 +329,10 @@ impl Stacks for TableStore {
 
     fn none_waits_up(stack: &Stream<AnyModule<InHand>>, store: &TableStore) -> bool {
         stack.none_waits_up(store)
+    }
+
+    fn line_lens(stack: &Stream<AnyModule<InHand>>) -> usize {
+        stack.line_lens::<TableStore>()
     }
 
     fn sizes(
@@ -398,12 +412,17 @@ impl Stacks for TableStore {
         store: &mut TableStore,
         side: Side,
         rule: Rule,
+        seeking: Option<u32>,
         told: &mut Fates,
     ) -> Option<Taken> {
         let name = stack.look::<TableStore>()?;
-        let notes = stack.clear_top(store, side, rule, told);
+        let gone = stack.clear_top(store, side, rule, seeking, told);
         stack.pop();
-        Some(Taken { name, notes })
+        Some(Taken {
+            name,
+            notes: gone.notes,
+            met: gone.met,
+        })
     }
 
     fn push(

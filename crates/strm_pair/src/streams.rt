@@ -1,6 +1,7 @@
 //! Both streams of a pair, and what calls and turns do to them, on the store in which their messages stand.
 
 ghost use Rattle.std.specs.Prelude.{ℕ, ◌≡◌, ◌+◌, ◌≤◌, ◌<◌, true, false, [], length, min, None};
+ghost use Rattle.strm_types.specs.Ledgers.{FewBooked};
 ghost use Rattle.strm_types.specs.Cells.{plain};
 ghost use Rattle.strm_types.specs.State.{opening, new_stream};
 ghost use Rattle.strm_types.specs.declared.answers.Answer.TheVariants.{Done, Bytes};
@@ -228,6 +229,7 @@ impl<S: Drop> Streams<S> {
         ensures turn { result ≡ (turned plain name result (state_in B.view.modules (B.value store.old) self.old)).turn }
         ensures state { state_in B.view.modules (B.value store.new) self.new
             ≡ (turned plain name result (state_in B.view.modules (B.value store.old) self.old)).state }
+        ensures few { FewBooked (state_in B.view.modules (B.value store.new) self.new) }
         ensures held { AreHeld B.view (B.value store.new) self.new }
         ensures pool { SamePool (B.value store.old) (B.value store.new) }
         ensures told { told.new ≡ tallied (turned plain name result (state_in B.view.modules (B.value store.old) self.old)).gone told.old }

@@ -18,7 +18,7 @@ use Rattle.strm_types.specs.Ioctls.{nak_message}
 use Rattle.strm_types.specs.Ldterms.{onward}
 use Rattle.strm_types.specs.Message.{Message, has_parts}
 use Rattle.strm_types.specs.Ptems.{signals_up, sigwinch, window_signal}
-use Rattle.strm_types.specs.Puts.{is_turned, turns_round}
+use Rattle.strm_types.specs.Puts.{is_bare_flush, is_turned, turns_round}
 use Rattle.strm_types.specs.Typing.{bare}
 use Rattle.strm_types.specs.Winsizes.{same_winsize}
 use Rattle.strm_frame.specs.Outboxes.{cost_of}
@@ -98,10 +98,10 @@ module _ (here : Spot) where
 
     below-at : cost (record here { way = Up }) m ≡ 5
     below-at =
-        ap (λ top. up_form top (is_turned m) (across_at (is_flush m.kind) here.at) (has_parts m) m.kind here.at) (inside here.at some)
-        ∙ ap (λ t. up_form false t (across_at (is_flush m.kind) here.at) (has_parts m) m.kind here.at) turned
-        ∙ ap (λ parts. up_form false true (across_at (is_flush m.kind) here.at) parts m.kind here.at) none
-        ∙ ap (λ kind. up_form false true (across_at (is_flush m.kind) here.at) false kind here.at) ioctl
+        ap (λ top. up_form top (is_turned m) (across_at (is_bare_flush m) here.at) (has_parts m) m.kind here.at) (inside here.at some)
+        ∙ ap (λ t. up_form false t (across_at (is_bare_flush m) here.at) (has_parts m) m.kind here.at) turned
+        ∙ ap (λ parts. up_form false true (across_at (is_bare_flush m) here.at) parts m.kind here.at) none
+        ∙ ap (λ kind. up_form false true (across_at (is_bare_flush m) here.at) false kind here.at) ioctl
 
     above-is : here.way ≡ Down → cost here m ≡ 3 + 7 * (suc MODULES - here.at)
     above-is way = subst (λ w. cost (record here { way = w }) m ≡ 3 + 7 * (suc MODULES - here.at)) (sym way) above-at

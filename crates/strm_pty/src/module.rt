@@ -4,8 +4,8 @@
 use crate::ptem::{self, Ptem};
 use arrayvec::ArrayVec;
 use strm_blocks::Blocks;
-use strm_frame::{Acts, Module, Outbox, Served, TurnEnd};
-use strm_types::{Asks, Band, Fates, ModuleName, Note, Rule, Side, Spot, Way};
+use strm_frame::{Acts, LetGo, Module, Outbox, Served, TurnEnd};
+use strm_types::{Asks, Band, Fates, ModuleName, Rule, Side, Spot, Way};
 
 impl<B: Blocks> Module<B> for Ptem {
     ghost use Rattle.std.specs.Prelude.{◌≡◌, refl, None, [], false};
@@ -87,6 +87,10 @@ impl<B: Blocks> Module<B> for Ptem {
         true
     }
 
+    fn line_len(&self) -> usize {
+        0
+    }
+
     fn let_wait(&mut self, _way: Way, _band: Band) {}
 
     fn asks(&self, _store: &B, _way: Way) -> Asks {
@@ -123,9 +127,10 @@ impl<B: Blocks> Module<B> for Ptem {
         _store: &mut B,
         _side: Side,
         _rule: Rule,
+        _seeking: Option<u32>,
         _told: &mut Fates,
-    ) -> ArrayVec<Note, 4> {
-        ArrayVec::new()
+    ) -> LetGo {
+        LetGo::nothing()
     }
 
     ghost frame = { λ s t x same held. (refl, held) };

@@ -13,11 +13,11 @@ use Rattle.strm_types.specs.Names.{is_enabled}
 use Rattle.strm_types.specs.declared.events.Event.TheVariants as calls
 use Rattle.strm_types.specs.Calls.{Request, Reply}
 use Rattle.strm_types.specs.Refused.{or_else, unless, refused, refused_at_once, refused_by_state, blocks_asked}
-use Rattle.strm_run.specs.Script.{Command, Open, Call, Flush, Put, Get, Turn as TurnOf, Run, Show}
+use Rattle.strm_run.specs.Script.{Command, Open, Call, Flush, Put, Get, Turn as TurnOf, Run, Show, Ledger}
 use Rattle.strm_run.specs.ScriptReading.{Reading, Silent, Malformed, Spoken, reading}
 use Rattle.strm_run.specs.ScriptAnswers.{printed_line, reply_line, turn_line, Ran, Wrong}
 use Rattle.strm_run.specs.ScriptRun as script
-use Rattle.strm_run.specs.ScriptRun.{Supply, Enough, Within, TooFew, next_of, rest_of, PlainPair, Happened, call_refusal, turn_refusal, call_happens, turn_happens, told_of, call_of, turn_of, is_enosr, turns_of, by_call, by_flush, prio_of, wanted_of, by_named, by_put, by_get, by_show, by_turn, by_run, by_open, answered, told_from, told_after, first_of, line_if, Told, new_plain}
+use Rattle.strm_run.specs.ScriptRun.{Supply, Enough, Within, TooFew, next_of, rest_of, PlainPair, Happened, call_refusal, turn_refusal, call_happens, turn_happens, told_of, call_of, turn_of, is_enosr, turns_of, by_call, by_flush, prio_of, wanted_of, by_named, by_put, by_get, by_show, by_ledger, by_turn, by_run, by_open, answered, told_from, told_after, first_of, line_if, Told, new_plain}
 use Rattle.strm_run.proofs.Supplies.{is_want, call_happens-short, turn_happens-short, answered-enough}
 use Rattle.strm_run.proofs.Events.{turns_none, turns_err, turns_ok, turns_zero}
 
@@ -149,7 +149,7 @@ named-same side asked (Some x) account p h = call_answer Enough p (record { side
 
 answered-same : (command : Command) (account : List Supply) (pair : Option PlainPair) → (answered command account pair).is_short ≡ false
     → SameAnswer (answered command account pair) (answered command [] pair)
-unfolding answered by_call by_flush by_put by_get by_show by_turn by_run
+unfolding answered by_call by_flush by_put by_get by_show by_ledger by_turn by_run
 answered-same (Open blocks) account None h = open-same (unwrap_or blocks 256) account h
 answered-same (Open blocks) account (Some p) h = record { line = refl; pair = refl }
 answered-same (Call side asked) account None h = record { line = refl; pair = refl }
@@ -171,6 +171,8 @@ answered-same (Run n) account (Some p) h =
     record { line = ap Ran same.count; pair = ap Some same.pair }
 answered-same (Show side) account None h = record { line = refl; pair = refl }
 answered-same (Show side) account (Some p) h = record { line = refl; pair = refl }
+answered-same (Ledger direction) account None h = record { line = refl; pair = refl }
+answered-same (Ledger direction) account (Some p) h = record { line = refl; pair = refl }
 
 -- a line with a command, and the same line where the events get their blocks
 told_spoken : (n : ℕ) (account : List Supply) (pair : Option PlainPair) (line : List ℕ) (lines : List (List ℕ)) (command : Command) → reading line ≡ Spoken command

@@ -1,6 +1,7 @@
 -- Which lines spell which command: spellings of each command, and lines that are none.
 use Rattle.std.proofs.Common.{ℕ, ◌≢◌, List, [], ◌∷◌, refl, inl, inr, lit<, lit≤, arith}
 use Rattle.std.specs.Prelude.{codes, None, Some}
+use Rattle.strm_types.specs.declared.names.Dir.TheVariants.{MasterToSlave, SlaveToMaster}
 use Rattle.strm_types.specs.declared.names.Side.TheVariants.{Master, Slave}
 use Rattle.strm_types.specs.declared.names.Way.TheVariants.{Up}
 use Rattle.strm_types.specs.declared.names.Place.TheVariants.{Ldterm}
@@ -14,7 +15,7 @@ use Rattle.strm_types.specs.declared.modes.ReadMode.TheVariants.{MessageDiscard}
 use Rattle.strm_types.specs.declared.modes.ControlMode.TheVariants.{Refuse}
 use Rattle.strm_run.specs.declared.commands.NamedPrio.TheVariants as prios
 use Rattle.strm_run.specs.declared.commands.NamedWanted.TheVariants as wanteds
-use Rattle.strm_run.specs.Script.{Open, Call, Flush, Put, Get, Turn, Run, Show, module_name, IsName, IsUnknown, IsNumber, Itself, Named, Coded, Sets, Raw, Gets, SetsWindow, Signals, Sends, IsSpelled, digit_of, hex_of, escaped}
+use Rattle.strm_run.specs.Script.{Open, Call, Flush, Put, Get, Turn, Run, Show, Ledger, module_name, IsName, IsUnknown, IsNumber, Itself, Named, Coded, Sets, Raw, Gets, SetsWindow, Signals, Sends, IsSpelled, digit_of, hex_of, escaped}
 
 twelve : IsNumber (codes "12") 12
 unfolding digit_of
@@ -52,6 +53,9 @@ look-is-spelled = refl
 
 pub show-is-spelled : IsSpelled (Show Master) (codes "show m")
 show-is-spelled = refl
+
+pub ledgers-are-spelled : IsSpelled (Ledger MasterToSlave) (codes "ledger ms") × IsSpelled (Ledger SlaveToMaster) (codes "ledger sm")
+ledgers-are-spelled = (refl, refl)
 
 -- a push by the name of a module, and by a name that none has
 pub push-is-spelled : IsSpelled (Call Slave (Push (Some modules.Ptem))) (codes "push s ptem")

@@ -1,6 +1,8 @@
 -- Each command is read where it is spelled, and only there.
 use Rattle.std.proofs.Common.{◌≡◌, ◌≢◌, ℕ, ◌≤◌, true, false, List, [], ◌∷◌, ◌++◌, length, Option, None, Some, option_map, refl, sym, ap, ◌∙◌, inl, inr, append_assoc, append-nil, codes, subst, ltb}
 use Rattle.std.proofs.lemmas.Bool.{cond-true, cond-false, le-ltb, lt-ltb, ltb-true, leb-true, le-leb, and_parts, cases_Bool}
+use Rattle.strm_types.specs.declared.names.Dir.{Dir}
+use Rattle.strm_types.specs.declared.names.Dir.TheVariants.{MasterToSlave, SlaveToMaster}
 use Rattle.strm_types.specs.declared.names.Side.{Side}
 use Rattle.strm_types.specs.declared.names.Side.TheVariants.{Master, Slave}
 use Rattle.strm_types.specs.declared.names.Place.{Place}
@@ -18,8 +20,8 @@ use Rattle.strm_types.specs.declared.modes.Mode.{Mode}
 use Rattle.strm_run.specs.declared.commands.NamedPrio.{NamedPrio}
 use Rattle.strm_run.specs.declared.commands.NamedWanted.{NamedWanted}
 use Rattle.std.specs.List.{AllByRecursion, list_all}
-use Rattle.strm_run.specs.Script.{Command, Open, Call, Flush, Put, Get, Turn, Run, Show, mode_name, IsPut, IsGetOf, IsUsualGet, side_name, place_name, way_name, queue_name, module_name, flush_name, is_letter, is_silent, with_side, IsName, IsNumber, IsWithNumber, IsFlush, IsIoctl, IsSpelled}
-use Rattle.strm_run.specs.ScriptReading.{Silent, Malformed, Spoken, spoken, reading, and_then, after, at_end, Front, number_in, text_in, side_in, place_in, way_in, queue_in, placed_in, sided_in, behind_side, side_alone, module_in, is_name, flush_queues_in, band_in, pushed_in, flushed_in, open_in, named_in, write_in, read_in, turn_in, run_in, sided_call_in, push_in, flush_in, show_in, stream_in, put_in, get_in, set_mode_in, message_in, ioctl_in, poll_in, control_in, command_in}
+use Rattle.strm_run.specs.Script.{Command, Open, Call, Flush, Put, Get, Turn, Run, Show, Ledger, mode_name, IsPut, IsGetOf, IsUsualGet, side_name, direction_name, place_name, way_name, queue_name, module_name, flush_name, is_letter, is_silent, with_side, IsName, IsNumber, IsWithNumber, IsFlush, IsIoctl, IsSpelled}
+use Rattle.strm_run.specs.ScriptReading.{Silent, Malformed, Spoken, spoken, reading, and_then, after, at_end, Front, number_in, text_in, side_in, place_in, way_in, queue_in, placed_in, sided_in, behind_side, side_alone, module_in, is_name, flush_queues_in, band_in, pushed_in, flushed_in, open_in, named_in, write_in, read_in, turn_in, run_in, sided_call_in, push_in, flush_in, show_in, stream_in, put_in, get_in, set_mode_in, message_in, ioctl_in, poll_in, control_in, direction_in, ledger_in, command_in}
 use Rattle.strm_run.proofs.Grammar.{and_then-found, option_map-found, after-found, number-found, number-only, text-found, text-only}
 use Rattle.strm_run.proofs.Fronts.{either-found, at_end-found, whole-found, Stands, before-found, side-found}
 use Rattle.strm_run.proofs.MessageSpellings.{behind_side-found, put-found, get-found, set_mode-found, put_on-only, get_of-only, mode_in-only}
@@ -334,6 +336,21 @@ message-found line command h = elim (either-found _ _ command h) [
   ]
 ]
 
+direction-found : (line : List ℕ) (direction : Dir) → direction_in line ≡ Some direction → line ≡ direction_name direction
+unfolding direction_in
+direction-found line direction h = elim (either-found _ _ direction h) [
+  | inl a ↦ let w = whole-found (codes "ms") MasterToSlave direction line a in w.1 ∙ ap direction_name w.0
+  | inr b ↦ let w = whole-found (codes "sm") SlaveToMaster direction line b in w.1 ∙ ap direction_name w.0
+]
+
+ledger-found : (line : List ℕ) (command : Command) → ledger_in line ≡ Some command → IsSpelled command line
+unfolding ledger_in
+ledger-found line command h =
+    let named = option_map-found (λ direction. Ledger direction) (and_then direction_in (after (codes "ledger ") line)) command h in
+    let rest = and_then-found direction_in (after (codes "ledger ") line) named.value named.first in
+    subst (λ c. IsSpelled c line) named.second
+    (after-found (codes "ledger ") line rest.value rest.first ∙ ap (λ k. codes "ledger " ++ k) (direction-found rest.value named.value rest.second))
+
 command-found : (line : List ℕ) (command : Command) → command_in line ≡ Some command → IsSpelled command line
 unfolding command_in
 command-found line command h = elim (either-found _ _ command h) [
@@ -352,7 +369,10 @@ command-found line command h = elim (either-found _ _ command h) [
               | inl a ↦ stream-found line command a
               | inr b ↦ elim (either-found _ _ command b) [
                 | inl a ↦ message-found line command a
-                | inr b ↦ control-found line command b
+                | inr b ↦ elim (either-found _ _ command b) [
+                  | inl a ↦ control-found line command a
+                  | inr b ↦ ledger-found line command b
+                ]
               ]
             ]
           ]
@@ -428,6 +448,12 @@ unfolding command_in open_in named_in write_in read_in turn_in run_in stream_in 
 poll-only Master n line (digits, number, e) = rw (e, number-only digits n number) (refl, refl)
 poll-only Slave n line (digits, number, e) = rw (e, number-only digits n number) (refl, refl)
 
+-- a look at a ledger
+ledger-only : (direction : Dir) (line : List ℕ) → line ≡ codes "ledger " ++ direction_name direction → IsRead (Ledger direction) line
+unfolding command_in open_in named_in write_in read_in turn_in run_in stream_in sided_call_in push_in flush_in show_in message_in put_in get_in set_mode_in control_in ioctl_in poll_in ledger_in direction_in
+ledger-only MasterToSlave line h = rw (h) (refl, refl)
+ledger-only SlaveToMaster line h = rw (h) (refl, refl)
+
 -- each command is read where it is spelled, and its line isn't silent
 command-only : (command : Command) (line : List ℕ) → IsSpelled command line → IsRead command line
 unfolding command_in open_in named_in write_in read_in turn_in run_in stream_in sided_call_in push_in flush_in show_in side_in side_alone
@@ -469,6 +495,7 @@ command-only (Turn name) line h = rw (h, queue-only name) (refl, refl)
 command-only (Run n) line (digits, number, e) = rw (e, number-only digits n number) (refl, refl)
 command-only (Show Master) line h = rw (h) (refl, refl)
 command-only (Show Slave) line h = rw (h) (refl, refl)
+command-only (Ledger direction) line h = ledger-only direction line h
 
 -- the whole line
 pub reading-only : (command : Command) (line : List ℕ) → IsSpelled command line → length line ≤ 4096 → reading line ≡ Spoken command

@@ -22,10 +22,10 @@ use Rattle.strm_types.specs.State.{State, stream}
 use Rattle.strm_types.specs.declared.events.Event.TheVariants as calls
 use Rattle.strm_types.specs.Calls.{Request}
 use Rattle.strm_types.specs.Refused.{or_else, unless, at_end, refused_at_once, refused_by_state}
-use Rattle.strm_run.specs.Script.{Command, Open, Call, Flush, Put, Get, Turn as TurnOf, Run, Show}
+use Rattle.strm_run.specs.Script.{Command, Open, Call, Flush, Put, Get, Turn as TurnOf, Run, Show, Ledger}
 use Rattle.strm_run.specs.ScriptReading.{Reading, Silent, Malformed, Spoken, reading}
 use Rattle.strm_run.specs.ScriptRun as script
-use Rattle.strm_run.specs.ScriptRun.{Supply, Enough, TooFew, PlainPair, Happened, call_refusal, turn_refusal, call_happens, turn_happens, call_of, turn_of, is_enosr, turns_of, no_turns, counted, by_call, by_flush, prio_of, wanted_of, by_named, by_put, by_get, by_show, by_turn, by_run, by_open, answered, told_from, new_plain}
+use Rattle.strm_run.specs.ScriptRun.{Supply, Enough, TooFew, PlainPair, Happened, call_refusal, turn_refusal, call_happens, turn_happens, call_of, turn_of, is_enosr, turns_of, no_turns, counted, by_call, by_flush, prio_of, wanted_of, by_named, by_put, by_get, by_show, by_ledger, by_turn, by_run, by_open, answered, told_from, new_plain}
 use Rattle.strm_run.proofs.Events.{turns_none, turns_err, turns_ok, turns_zero}
 
 -- a refusal is for want of blocks
@@ -231,7 +231,7 @@ named-enough side asked (Some x) p = record { not_short = call-enough p _ (asked
 
 -- a command whose events get their blocks
 pub answered-enough : (command : Command) (pair : Option PlainPair) → AllEnough (answered command [] pair).is_short (answered command [] pair).account
-unfolding answered by_call by_flush by_put by_get by_show by_turn by_run by_open
+unfolding answered by_call by_flush by_put by_get by_show by_ledger by_turn by_run by_open
 answered-enough (Open blocks) None = open-enough (unwrap_or blocks 256)
 answered-enough (Open blocks) (Some p) = record { not_short = refl; none_left = refl }
 answered-enough (Call side asked) None = record { not_short = refl; none_left = refl }
@@ -249,6 +249,8 @@ answered-enough (Run n) None = record { not_short = refl; none_left = refl }
 answered-enough (Run n) (Some p) = turns-enough n p
 answered-enough (Show side) None = record { not_short = refl; none_left = refl }
 answered-enough (Show side) (Some p) = record { not_short = refl; none_left = refl }
+answered-enough (Ledger direction) None = record { not_short = refl; none_left = refl }
+answered-enough (Ledger direction) (Some p) = record { not_short = refl; none_left = refl }
 
 -- a script whose events get their blocks has no short line
 told-line : (n : ℕ) (pair : Option PlainPair) (line : List ℕ) (lines : List (List ℕ)) (r : Reading) → reading line ≡ r

@@ -11,7 +11,7 @@ use Rattle.strm_run.specs.ScriptRun.{size_at}
 use Rattle.strm_run.specs.declared.answers.Line.{Line}
 use Rattle.strm_run.specs.declared.answers.ModuleSizes.{ModuleSizes}
 use Rattle.strm_run.specs.declared.answers.QueueSize.{QueueSize}
-use Rattle.strm_run.specs.declared.answers.Line.TheVariants.{Done, Turned, Ran, Sizes, Refused, Wrong}
+use Rattle.strm_run.specs.declared.answers.Line.TheVariants.{Done, Turned, Ran, Sizes, Booked, Refused, Wrong}
 
 -- how much stands on the queues of the module on a side's stream that has queues
 abbrev pub module_sizes : Side → State ℕ → Option ModuleSizes
@@ -34,5 +34,6 @@ line_of bytes (Done answer) = script.reply_line (Ok (reply_in answer bytes))
 line_of bytes (Turned turn) = script.turn_line (Ok turn)
 line_of bytes (Ran n) = script.Ran n
 line_of bytes (Sizes side head stacked driver) = script.Sizes side (head ∷ (sizes_of stacked ++ driver ∷ []))
+line_of bytes (Booked booked) = script.Booked booked.direction booked.ledger
 line_of bytes (Refused refusal) = script.Refused refusal
 line_of bytes (Wrong n) = script.Wrong n

@@ -2,6 +2,8 @@
 use Rattle.std.specs.Prelude.{◌≡◌, ◌≢◌, ℕ, ◌≤◌, ◌<◌, ◌+◌, ◌-◌, ◌*◌, nat_le, ◌==◌, ◌&&◌, Bool, true, if◌then◌else◌, List, [], ◌∷◌, ◌++◌, length, codes, Option, None, Some, ◌⊎◌}
 use Rattle.std.specs.Int.{w16, to_be_bytes}
 use Rattle.std.specs.List.{AllByRecursion}
+use Rattle.strm_types.specs.declared.names.Dir.{Dir}
+use Rattle.strm_types.specs.declared.names.Dir.TheVariants.{MasterToSlave, SlaveToMaster}
 use Rattle.strm_types.specs.declared.names.Side.{Side}
 use Rattle.strm_types.specs.declared.names.Side.TheVariants.{Master, Slave}
 use Rattle.strm_types.specs.declared.names.Way.{Way}
@@ -37,6 +39,7 @@ pub data Command : Type 0 where
   Turn : QueueName → Command
   Run : ℕ → Command  -- so many turns at most
   Show : Side → Command  -- what stands on the queues of a side's stream
+  Ledger : Dir → Command  -- where the bytes of a direction are
 
 -- the most bytes of a line, without its LF
 abbrev pub line_max : ℕ
@@ -58,6 +61,11 @@ place_name Driver = codes "drv"
 abbrev pub way_name : Way → List ℕ
 way_name Up = codes "r"
 way_name Down = codes "w"
+
+-- a direction: from the master to the slave, or back
+abbrev pub direction_name : Dir → List ℕ
+direction_name MasterToSlave = codes "ms"
+direction_name SlaveToMaster = codes "sm"
 
 -- the name of a queue without its side, as `drv.w`, and with it, as `m.drv.w`
 abbrev pub queue_in_stream : QueueName → List ℕ
@@ -293,6 +301,7 @@ IsSpelled (Get side wanted cmax dmax) line = IsUsualGet side wanted cmax dmax li
 IsSpelled (Turn name) line = line ≡ codes "turn " ++ queue_name name
 IsSpelled (Run n) line = IsWithNumber (codes "run ") n line
 IsSpelled (Show side) line = line ≡ codes "show " ++ side_name side
+IsSpelled (Ledger direction) line = line ≡ codes "ledger " ++ direction_name direction
 
 -- a line that asks for nothing: an empty one, and a comment
 abbrev pub is_silent : List ℕ → Bool

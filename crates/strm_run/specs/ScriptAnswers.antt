@@ -1,5 +1,5 @@
 -- The answer lines of a script.
-use Rattle.std.specs.Prelude.{ℕ, ◌/◌, ◌%◌, ◌+◌, nat_lt, nat_le, ◌==◌, ◌&&◌, ◌||◌, Bool, true, false, if◌then◌else◌, List, [], ◌∷◌, ◌++◌, length, codes, Option, None, Some, Result, Ok, Err}
+use Rattle.std.specs.Prelude.{ℕ, ◌/◌, ◌%◌, ◌+◌, nat_lt, nat_le, ◌==◌, ◌&&◌, ◌||◌, Bool, true, false, if◌then◌else◌, List, [], ◌∷◌, ◌++◌, length, codes, Option, None, Some, Result, Ok, Err, slice_index_or}
 use Rattle.std.specs.List.{flat_map}
 use Rattle.std.specs.Fmt.{decimal}
 use Rattle.strm_types.specs.declared.answers.Turn.{Turn}
@@ -10,10 +10,15 @@ use Rattle.strm_types.specs.declared.answers.Answer.TheVariants.{Done, Name, Cou
 use Rattle.strm_types.specs.declared.answers.Answer.TheVariants as answers
 use Rattle.strm_types.specs.declared.modes.Prio.{Prio}
 use Rattle.strm_types.specs.declared.modes.Prio.TheVariants.{High, Band}
+use Rattle.strm_types.specs.declared.ledger.Ledger.{Ledger}
+use Rattle.strm_types.specs.declared.names.Dir.{Dir}
 use Rattle.strm_types.specs.declared.names.ModuleName.{ModuleName}
 use Rattle.strm_types.specs.declared.names.Side.{Side}
+use Rattle.strm_types.specs.declared.rules.Rule.{Rule}
+use Rattle.strm_types.specs.declared.rules.Rule.TheVariants.{Read, Igncr, EraseKey, Erased, Killed, EofKey, SignalKey, FlowKey, LnextKey, ReprintKey, LineFull, LineOver, Flushed, RestDiscarded, ControlDropped, Doubled, ModulePopped, EndClosed, Replaced, Onocr, EchoFull}
 use Rattle.strm_types.specs.Calls.{Reply}
-use Rattle.strm_run.specs.Script.{side_name, queue_in_stream, module_name}
+use Rattle.strm_types.specs.Rules.{number_of}
+use Rattle.strm_run.specs.Script.{side_name, direction_name, queue_in_stream, module_name}
 use Rattle.strm_run.specs.declared.answers.QueueSize.{QueueSize}
 
 -- an answer line, without its LF
@@ -31,6 +36,7 @@ pub data Line : Type 0 where
   Empty : Line
   Ran : ℕ → Line
   Sizes : Side → List QueueSize → Line  -- of the queues of a side's stream, from the head down
+  Booked : Dir → Ledger → Line  -- how much was written and made in a direction, and where it is
   Refused : Refusal → Line
   Wrong : ℕ → Line
 
@@ -108,6 +114,46 @@ abbrev pub signals_text : List ℕ → List ℕ
 signals_text [] = codes " -"
 signals_text (n ∷ ns) = flat_map spaced_signal (n ∷ ns)
 
+-- the name of a rule by which bytes go
+abbrev pub rule_name : Rule → List ℕ
+rule_name Read = codes "read"
+rule_name Igncr = codes "igncr"
+rule_name EraseKey = codes "erase-key"
+rule_name Erased = codes "erased"
+rule_name Killed = codes "killed"
+rule_name EofKey = codes "eof-key"
+rule_name SignalKey = codes "signal-key"
+rule_name FlowKey = codes "flow-key"
+rule_name LnextKey = codes "lnext-key"
+rule_name ReprintKey = codes "reprint-key"
+rule_name LineFull = codes "line-full"
+rule_name LineOver = codes "line-over"
+rule_name Flushed = codes "flushed"
+rule_name RestDiscarded = codes "rest-discarded"
+rule_name ControlDropped = codes "control-dropped"
+rule_name Doubled = codes "doubled"
+rule_name ModulePopped = codes "module-popped"
+rule_name EndClosed = codes "end-closed"
+rule_name Replaced = codes "replaced"
+rule_name Onocr = codes "onocr"
+rule_name EchoFull = codes "echo-full"
+
+-- the rules, in the order of their numbers
+abbrev pub in_order : List Rule
+in_order =
+    Read ∷ Igncr ∷ EraseKey ∷ Erased ∷ Killed ∷ EofKey ∷ SignalKey ∷ FlowKey ∷ LnextKey ∷ ReprintKey ∷ LineFull
+    ∷ LineOver ∷ Flushed ∷ RestDiscarded ∷ ControlDropped ∷ Doubled ∷ ModulePopped ∷ EndClosed ∷ Replaced ∷ Onocr ∷ EchoFull ∷ []
+
+-- how many bytes have gone by a rule, behind its name, and nothing where none have
+abbrev pub rule_text : Rule → ℕ → List ℕ
+rule_text rule n = if n == 0 then [] else codes " " ++ (rule_name rule ++ (codes " " ++ decimal n))
+
+abbrev pub counted_text : List ℕ → Rule → List ℕ
+counted_text counts rule = rule_text rule (slice_index_or counts (number_of rule) 0)
+
+abbrev pub rules_text : List ℕ → List ℕ
+rules_text counts = flat_map (counted_text counts) in_order
+
 -- the text of an answer line
 unfoldable pub line_text : Line → List ℕ
 line_text Plain = codes "ok"
@@ -124,6 +170,8 @@ line_text Held = codes "blocked"
 line_text Empty = codes "idle"
 line_text (Ran n) = codes "ran " ++ decimal n
 line_text (Sizes side sizes) = codes "show " ++ side_name side ++ flat_map (λ size. codes " " ++ size_text size) sizes
+line_text (Booked direction ledger) =
+    codes "ledger " ++ (direction_name direction ++ (codes " written " ++ (decimal ledger.written ++ (codes " made " ++ (decimal ledger.made ++ (codes " queued " ++ (decimal ledger.queued ++ (codes " inline " ++ (decimal ledger.inline ++ rules_text ledger.fates)))))))))
 line_text (Refused refusal) = codes "err " ++ refusal_name refusal
 line_text (Wrong n) = codes "err line " ++ decimal n
 

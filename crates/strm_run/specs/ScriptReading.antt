@@ -2,6 +2,8 @@
 -- the contract of public functions of the crate that reads scripts.
 use Rattle.std.specs.Prelude.{ℕ, ◌+◌, ◌*◌, nat_lt, nat_le, ◌==◌, ◌&&◌, ◌||◌, suc, Bool, true, false, if◌then◌else◌, List, [], ◌∷◌, ◌++◌, length, take, drop, codes, Option, None, Some, option_map}
 use Rattle.std.specs.List.{position_or_len, list_all}
+use Rattle.strm_types.specs.declared.names.Dir.{Dir}
+use Rattle.strm_types.specs.declared.names.Dir.TheVariants.{MasterToSlave, SlaveToMaster}
 use Rattle.strm_types.specs.declared.names.Side.{Side}
 use Rattle.strm_types.specs.declared.names.Side.TheVariants.{Master, Slave}
 use Rattle.strm_types.specs.declared.names.Way.{Way}
@@ -26,7 +28,7 @@ use Rattle.strm_run.specs.declared.commands.NamedWanted.TheVariants as wanteds
 use Rattle.strm_types.specs.declared.ioctls.TheConstants.{TCGETS, TCSETS, TCSETSW, TCSETSF, TIOCGWINSZ, TIOCSWINSZ, TIOCSIGNAL}
 use Rattle.strm_types.specs.Calls.{Request}
 use Rattle.strm_run.specs.declared.commands.WindowSize.{WindowSize}
-use Rattle.strm_run.specs.Script.{Command, Open, Call, Flush, Put, Get, Turn, Run, Show, usual_size, byte_max, short_max, window_bytes, line_max, number_max, digit_of, is_letter, hex_of, escaped, is_silent}
+use Rattle.strm_run.specs.Script.{Command, Open, Call, Flush, Put, Get, Turn, Run, Show, Ledger, usual_size, byte_max, short_max, window_bytes, line_max, number_max, digit_of, is_letter, hex_of, escaped, is_silent}
 
 -- what a line says
 pub data Reading : Type 0 where
@@ -251,6 +253,10 @@ mode_in line =
     (either_of (whole (codes "protdat") (modes.Control Data) line)
     (whole (codes "protdis") (modes.Control Discard) line)))))
 
+-- the direction whose word a text is
+unfoldable pub direction_in : List ℕ → Option Dir
+direction_in line = either_of (whole (codes "ms") MasterToSlave line) (whole (codes "sm") SlaveToMaster line)
+
 -- each command where the line spells it
 unfoldable pub open_in : List ℕ → Option Command
 open_in line =
@@ -422,6 +428,10 @@ poll_in line =
 unfoldable pub control_in : List ℕ → Option Command
 control_in line = either_of (ioctl_in line) (poll_in line)
 
+-- a look at the ledger of a direction
+unfoldable pub ledger_in : List ℕ → Option Command
+ledger_in line = option_map (λ direction. Ledger direction) (and_then direction_in (after (codes "ledger ") line))
+
 -- the command that a line spells
 unfoldable pub command_in : List ℕ → Option Command
 command_in line =
@@ -433,7 +443,8 @@ command_in line =
     (either_of (run_in line)
     (either_of (stream_in line)
     (either_of (message_in line)
-    (control_in line))))))))
+    (either_of (control_in line)
+    (ledger_in line)))))))))
 
 -- the command, if the line is well formed
 abbrev pub spoken : Option Command → Reading

@@ -4,6 +4,7 @@ use Rattle.strm_types.specs.declared.limits.Config.{Config}
 use Rattle.strm_types.specs.declared.answers.Turn.{Turn}
 use Rattle.strm_types.specs.declared.answers.Turn.TheVariants.{Moved, Blocked, Idle}
 use Rattle.strm_types.specs.declared.events.Caller.{Caller}
+use Rattle.strm_types.specs.declared.names.Dir.{Dir}
 use Rattle.strm_types.specs.declared.names.Side.TheVariants.{Master}
 use Rattle.strm_types.specs.declared.names.Place.{Place}
 use Rattle.strm_types.specs.declared.names.Place.TheVariants.{Head, Ldterm, Driver}
@@ -12,6 +13,9 @@ use Rattle.strm_types.specs.declared.names.Way.TheVariants.{Up, Down}
 use Rattle.strm_types.specs.declared.refusals.Refusal.{Refusal}
 use Rattle.strm_types.specs.declared.refusals.Refusal.TheVariants.{Einval, Enxio, Enosr}
 use Rattle.strm_types.specs.ModuleTurns.{place_named}
+use Rattle.strm_types.specs.Kept.{told_by}
+use Rattle.strm_types.specs.Ledgers.{ledger_of}
+use Rattle.strm_types.specs.Rules.{no_fates}
 use Rattle.strm_types.specs.State.{State, opening, stream}
 use Rattle.strm_types.specs.Names.{head_of, driver_of}
 use Rattle.strm_types.specs.Queue.{bytes_of}
@@ -30,9 +34,9 @@ use Rattle.strm_types.specs.Turns.{turned, whole_turn}
 use Rattle.strm_types.specs.Calls.{Request, Reply, called}
 use Rattle.strm_types.specs.Journal.{PlainEntry}
 use Rattle.strm_types.specs.Refused.{refused, turn_refused, blocks_asked}
-use Rattle.strm_run.specs.Script.{Command, Open, Call, Flush, Put, Get, Turn as TurnOf, Run, Show, lines_of}
+use Rattle.strm_run.specs.Script.{Command, Open, Call, Flush, Put, Get, Turn as TurnOf, Run, Show, Ledger, lines_of}
 use Rattle.strm_run.specs.ScriptReading.{Silent, Malformed, Spoken, reading}
-use Rattle.strm_run.specs.ScriptAnswers.{Line, Sizes, Refused, Wrong, Ran, printed_line, reply_line, turn_line}
+use Rattle.strm_run.specs.ScriptAnswers.{Line, Sizes, Booked, Refused, Wrong, Ran, printed_line, reply_line, turn_line}
 use Rattle.strm_run.specs.declared.answers.QueueSize.{QueueSize}
 use Rattle.strm_run.specs.declared.commands.NamedPrio.{NamedPrio}
 use Rattle.strm_run.specs.declared.commands.NamedPrio.TheVariants as prios
@@ -229,6 +233,15 @@ by_show side account p = record {
   is_short = false;
 }
 
+-- a look at the ledger of a direction, which is no event: what has gone is told by the journal
+unfoldable pub by_ledger : Dir → List Supply → PlainPair → Answered
+by_ledger direction account p = record {
+  line = Booked direction (ledger_of direction p.state (told_by plain opening p.journal no_fates));
+  pair = Some p;
+  account = account;
+  is_short = false;
+}
+
 -- a turn by a command
 unfoldable pub by_turn : QueueName → List Supply → PlainPair → Answered
 by_turn name account p =
@@ -297,6 +310,7 @@ answered (Get side wanted cmax dmax) account pair = with_pair (by_get side wante
 answered (TurnOf name) account pair = with_pair (by_turn name) account pair
 answered (Run n) account pair = with_pair (by_run n) account pair
 answered (Show side) account pair = with_pair (by_show side) account pair
+answered (Ledger direction) account pair = with_pair (by_ledger direction) account pair
 
 -- What lines lead to: the text, the first line in which the pool was short of blocks for an event, and the first malformed line, at
 -- which the script ends.

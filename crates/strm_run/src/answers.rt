@@ -8,6 +8,7 @@ ghost use Rattle.strm_run.specs.ScriptAnswers.{hex_digit, is_escaped, printed, q
 ghost use Rattle.strm_run.specs.ScriptAnswers.{prio_text, part_text, more_text, signal_text, signals_text, reply_line, Text};
 ghost use Rattle.strm_run.specs.Lines.{line_of};
 
+use crate::ledgers::LedgerOf;
 use std::fmt;
 use strm_types::{Answer, ModuleName, Place, Prio, QueueName, Refusal, Side, Turn, Way};
 
@@ -42,6 +43,8 @@ pub enum Line {
         stacked: Option<ModuleSizes>,
         driver: QueueSize,
     },
+    /// So many bytes of a direction were written and made, and so many are in each place.
+    Booked(LedgerOf),
     /// The command was refused.
     Refused(Refusal),
     /// The line of this number is malformed.
@@ -455,6 +458,7 @@ impl fmt::Display for Shown<'_> {
                     }
                 }
             }
+            Line::Booked(booked) => write!(f, "{booked}"),
             Line::Refused(refusal) => {
                 let name = name(*refusal);
                 write!(f, "err {name}")

@@ -1,6 +1,6 @@
 //! The commands of a script.
 
-use strm_types::{Event, FlushQueues, QueueName, Side};
+use strm_types::{Dir, Event, FlushQueues, QueueName, Side};
 
 /// A priority, as a script names it. The number may be none that a band has.
 #[derive(Clone, Copy)]
@@ -70,6 +70,10 @@ pub enum Command {
     /// Tells what stands on the queues of a side's stream.
     Show {
         side: Side,
+    },
+    /// Tells where the bytes of a direction are.
+    Ledger {
+        direction: Dir,
     },
 }
 

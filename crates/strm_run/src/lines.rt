@@ -6,7 +6,7 @@ ghost use Rattle.strm_run.specs.Script.{IsSpelled};
 ghost use Rattle.strm_run.specs.ScriptReading.{open_in, named_in, write_in, read_in, turn_in, run_in};
 ghost use Rattle.strm_run.specs.ScriptReading.{sided_call_in, push_in, flush_in, show_in, stream_in};
 ghost use Rattle.strm_run.specs.ScriptReading.{parts_put, put_in, get_of, get_in, set_mode_in, message_in};
-ghost use Rattle.strm_run.specs.ScriptReading.{ioctl_in, poll_in, control_in};
+ghost use Rattle.strm_run.specs.ScriptReading.{ioctl_in, poll_in, control_in, ledger_in};
 ghost use Rattle.strm_run.specs.ScriptReading.{command_in, reading, Spoken};
 ghost use Rattle.strm_run.specs.Commands.{commands_of, reading_of};
 
@@ -15,7 +15,8 @@ use crate::ioctls::asked;
 use crate::numbers::{number, number_at};
 use crate::texts::{part, text};
 use crate::words::{
-    after, band, flush_queues, is_name, mode, module, prio, queue, side, side_behind, wanted,
+    after, band, direction, flush_queues, is_name, mode, module, prio, queue, side, side_behind,
+    wanted,
 };
 use std::alloc::{AllocError, Global};
 use strm_types::{Event, Side};
@@ -331,6 +332,15 @@ fn of_control(alloc: Global, line: &[u8]) -> Result<Option<Command>, AllocError>
     Ok(poll(line))
 }
 
+/// `ledger D`.
+#[tactic(auto, unfolding(crate::specs::ScriptReading::ledger_in))]
+fn ledger(line: &[u8]) -> Option<Command>
+    ensures { commands_of result ≡ ledger_in line.now }
+{
+    let direction = direction(after(line, b"ledger ")?)?;
+    Some(Command::Ledger { direction })
+}
+
 /// The command that a line spells.
 #[tactic(auto, unfolding(crate::specs::ScriptReading::command_in))]
 fn command(alloc: Global, line: &[u8]) -> Result<Option<Command>, AllocError>
@@ -360,7 +370,10 @@ fn command(alloc: Global, line: &[u8]) -> Result<Option<Command>, AllocError>
     if let Some(command) = of_message(alloc, line)? {
         return Ok(Some(command));
     }
-    of_control(alloc, line)
+    if let Some(command) = of_control(alloc, line)? {
+        return Ok(Some(command));
+    }
+    Ok(ledger(line))
 }
 
 /// What a line says, by its length, its first byte and its command.

@@ -7,6 +7,7 @@ mod answers;
 mod commands;
 mod engine;
 mod ioctls;
+mod ledgers;
 mod lines;
 mod numbers;
 mod output;

@@ -7,6 +7,11 @@ ghost use Rattle.strm_run.specs.ScriptRun.{by_call, by_flush, by_turn, by_run, b
 ghost use Rattle.strm_run.specs.ScriptRun.{by_put, by_get, band_of, prio_of, wanted_of};
 ghost use Rattle.strm_run.specs.ScriptRun.{script_limits, is_enosr, reach, size_at};
 ghost use Rattle.strm_types.specs.Names.{head_of, driver_of};
+ghost use Rattle.strm_types.specs.Cells as cells;
+ghost use Rattle.strm_types.specs.Kept.{told_by};
+ghost use Rattle.strm_types.specs.Ledgers.{ledger_of};
+ghost use Rattle.strm_types.specs.Rules.{no_fates};
+ghost use Rattle.strm_types.specs.State.{opening};
 ghost use Rattle.strm_run.specs.Lines.{module_sizes};
 ghost use Rattle.strm_run.specs.Commands.{command_of};
 ghost use Rattle.strm_run.specs.Plain.{plain};
@@ -14,12 +19,13 @@ ghost use Rattle.strm_run.specs.Outcomes.{LeadsTo, Leads};
 
 use crate::answers::{Line, ModuleSizes, QueueSize};
 use crate::commands::{Command, NamedPrio, NamedWanted};
+use crate::ledgers::LedgerOf;
 use std::alloc::{AllocError, Global};
 use strm_blocks::TableStore;
 use strm_pair::Pair;
 use strm_types::{
-    Band, Caller, Config, Content, Event, FlushQueues, Place, Prio, QueueName, Refusal, Side, Turn,
-    Wanted, Way,
+    Band, Caller, Config, Content, Dir, Event, FlushQueues, Place, Prio, QueueName, Refusal, Side,
+    Turn, Wanted, Way,
 };
 
 /// How many blocks of each kind a pair gets where a script names no number.
@@ -259,6 +265,23 @@ fn show(pair: &Pair<TableStore>, side: Side) -> Answered
     }
 }
 
+/// A look at the ledger of a direction.
+fn ledger(pair: &Pair<TableStore>, direction: Dir) -> Answered
+    ensures { result ≡ record {
+      line = Line.Booked (record {
+        direction = direction;
+        ledger = ledger_of direction pair.now.state (told_by cells.plain opening pair.now.journal no_fates);
+      });
+      short = false;
+    } }
+{
+    let ledger = pair.ledger(direction);
+    Answered {
+        line: Line::Booked(LedgerOf { direction, ledger }),
+        short: false,
+    }
+}
+
 /// Whether a turn that is answered so stopped within its message, which had so many bytes: only one of a module's queue may.
 fn has_stopped(place: Place, size: usize, turn: Turn) -> bool
     ensures { result ≡ is_some (reach place size turn) }
@@ -353,6 +376,7 @@ fn on_pair(pair: &mut Pair<TableStore>, command: &Command, out: &mut Content) ->
         Command::Turn { name } => turn(pair, *name),
         Command::Run { turns } => run(pair, *turns),
         Command::Show { side } => show(pair, *side),
+        Command::Ledger { direction } => ledger(pair, *direction),
     }
 }
 

@@ -1,9 +1,10 @@
-//! Scripts run from memory to memory: the titled scenes of `sessions`, `scripts`, `messages`, `ioctls`, `keys`, `echo`, `outputs`, `ptem` and `turns`, and
+//! Scripts run from memory to memory: the titled scenes of `sessions`, `scripts`, `messages`, `ioctls`, `keys`, `echo`, `outputs`, `ptem`, `turns` and `ledgers`, and
 //! readers, writers and lines that no scene can show.
 
 mod echo;
 mod ioctls;
 mod keys;
+mod ledgers;
 mod messages;
 mod no_memory;
 mod outputs;
@@ -114,6 +115,7 @@ fn each_scene_answers_as_it_says(rt: HostRuntime) -> Result<(), Fail> {
     plays_scenes(&rt, rt.alloc(), &scripts::STREAMS)?;
     plays_scenes(&rt, rt.alloc(), &messages::MESSAGES)?;
     plays_scenes(&rt, rt.alloc(), &ioctls::IOCTLS)?;
+    plays_scenes(&rt, rt.alloc(), &ioctls::POPPED)?;
     plays_scenes(&rt, rt.alloc(), &keys::LINES)?;
     plays_scenes(&rt, rt.alloc(), &keys::EDITING)?;
     plays_scenes(&rt, rt.alloc(), &keys::SIGNALS)?;
@@ -124,6 +126,7 @@ fn each_scene_answers_as_it_says(rt: HostRuntime) -> Result<(), Fail> {
     plays_scenes(&rt, rt.alloc(), &outputs::STOPPED)?;
     plays_scenes(&rt, rt.alloc(), &sessions::SESSIONS)?;
     plays_scenes(&rt, rt.alloc(), &ptem::PTEM)?;
+    plays_scenes(&rt, rt.alloc(), &ledgers::LEDGERS)?;
     plays_scenes(&rt, rt.alloc(), &echo::BYTES)?;
     plays_scenes(&rt, rt.alloc(), &echo::RUBBING_OUT)?;
     plays_scenes(&rt, rt.alloc(), &echo::FULL)?;
@@ -154,7 +157,7 @@ fn a_last_line_may_lack_its_end(rt: HostRuntime) {
 }
 
 // Lines about a stream that are malformed.
-const MALFORMED_LINES: [&[u8]; 48] = [
+const MALFORMED_LINES: [&[u8]; 54] = [
     b"ioctl m",
     b"ioctl m TCGET",
     b"ioctl s TCGETS \"x\"",
@@ -203,6 +206,12 @@ const MALFORMED_LINES: [&[u8]; 48] = [
     b"flush m rw1",
     b"show",
     b"show m.head.r",
+    b"ledger",
+    b"ledger ",
+    b"ledger xx",
+    b"ledger m",
+    b"ledger ms ",
+    b"ledger  ms",
 ];
 
 #[test]

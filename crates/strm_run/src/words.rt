@@ -6,13 +6,13 @@ ghost use Rattle.std.specs.List.{list_all};
 ghost use Rattle.strm_run.specs.Script.{is_letter};
 ghost use Rattle.strm_run.specs.ScriptReading.{and_then, after, side_in, place_in, way_in, queue_in};
 ghost use Rattle.strm_run.specs.ScriptReading.{side_alone, module_in, is_name, flush_queues_in, band_in};
-ghost use Rattle.strm_run.specs.ScriptReading.{prio_at, wanted_at, mode_in};
+ghost use Rattle.strm_run.specs.ScriptReading.{prio_at, wanted_at, mode_in, direction_in};
 ghost use Rattle.strm_run.specs.Views.{front_of};
 
 use crate::commands::{NamedPrio, NamedWanted};
 use crate::numbers::{number, number_at};
 use strm_types::{
-    ControlMode, FlushQueues, Mode, ModuleName, Place, QueueName, ReadMode, Side, Way,
+    ControlMode, Dir, FlushQueues, Mode, ModuleName, Place, QueueName, ReadMode, Side, Way,
 };
 
 /// What follows a word at the front of a text.
@@ -193,6 +193,18 @@ pub fn mode(text: &[u8]) -> Option<Mode>
         b"protnorm" => Some(Mode::Control(ControlMode::Refuse)),
         b"protdat" => Some(Mode::Control(ControlMode::Data)),
         b"protdis" => Some(Mode::Control(ControlMode::Discard)),
+        _ => None,
+    }
+}
+
+/// The direction whose word a text is: `ms`, from the master to the slave, or `sm`.
+#[tactic(auto, unfolding(crate::specs::ScriptReading::direction_in))]
+pub fn direction(text: &[u8]) -> Option<Dir>
+    ensures { result ≡ direction_in text.now }
+{
+    match text {
+        b"ms" => Some(Dir::MasterToSlave),
+        b"sm" => Some(Dir::SlaveToMaster),
         _ => None,
     }
 }

@@ -6,13 +6,16 @@ use Rattle.std.specs.List.{AllByRecursion}
 use Rattle.strm_types.specs.declared.names.Side.{Side}
 use Rattle.strm_types.specs.declared.names.Side.TheVariants.{Master, Slave}
 use Rattle.strm_types.specs.declared.rules.Rule.TheVariants.{EndClosed}
+use Rattle.strm_types.specs.declared.names.Dir.{Dir}
+use Rattle.strm_types.specs.declared.names.Way.TheVariants.{Up}
 use Rattle.strm_types.specs.Closes.{and_then, closed_at, driver_emptied, ended, head_emptied, hung_up_at, stream_emptied}
 use Rattle.strm_types.specs.Deliver.{Carried}
 use Rattle.strm_types.specs.Emptied.{of_all}
 use Rattle.strm_types.specs.Kept.{NothingUnread, state_weight}
-use Rattle.strm_types.specs.Names.{is_open}
+use Rattle.strm_types.specs.Message.{Message}
+use Rattle.strm_types.specs.Names.{is_open, direction_at}
 use Rattle.strm_types.specs.Places.{weight_gone, weight_made}
-use Rattle.strm_types.specs.Pushes.{all_taken, head_above, modules_emptied, popped, pushed_named, top_taken, with_modules}
+use Rattle.strm_types.specs.Pushes.{all_taken, head_above, ioctl_dropped, modules_emptied, popped, pushed_named, top_taken, with_modules}
 use Rattle.strm_types.specs.Queue.{weight}
 use Rattle.strm_types.specs.Stacked.{Module, IsAtRest}
 use Rattle.strm_types.specs.State.{Head, State, stream}
@@ -26,7 +29,7 @@ use Rattle.strm_types.proofs.PushKeeps.{modules_emptied-keeps}
 abbrev AreIdleAt : {C : Type 0} → Side → State C → Type 0
 AreIdleAt side s = AllByRecursion (λ l. IsAtRest l) (stream side s).modules
 
-module _ {C : Type 0} (p : C → Bool) where
+module _ {C : Type 0} (p : Dir → C → Bool) where
   -- what a pair comes to that had so many cells
   abbrev Keeps : Carried C (State C) → ℕ → Type 0
   Keeps t n = state_weight p t.state + weight_gone p t.gone ≡ n + weight_made p t.gone
@@ -60,16 +63,16 @@ module _ {C : Type 0} (p : C → Bool) where
   taken-head Master (l ∷ ls) s = taken-head Master ls (top_taken EndClosed Master (l ∷ ls) s).state
   taken-head Slave (l ∷ ls) s = taken-head Slave ls (top_taken EndClosed Slave (l ∷ ls) s).state
 
-  head-behind : (side : Side) (s : State C) → weight p (stream side (head_emptied EndClosed of_all side s).state).head.queue.messages ≡ 0
-  head-behind Master s = behind-all p s.master.head.queue
-  head-behind Slave s = behind-all p s.slave.head.queue
+  head-behind : (side : Side) (s : State C) → weight (p (direction_at Up side)) (stream side (head_emptied EndClosed of_all side s).state).head.queue.messages ≡ 0
+  head-behind Master s = behind-all (p (direction_at Up Master)) s.master.head.queue
+  head-behind Slave s = behind-all (p (direction_at Up Slave)) s.slave.head.queue
 
-  head-gone : (side : Side) (s : State C) → weight p (stream side (stream_emptied side s).state).head.queue.messages ≡ 0
+  head-gone : (side : Side) (s : State C) → weight (p (direction_at Up side)) (stream side (stream_emptied side s).state).head.queue.messages ≡ 0
   head-gone side s =
       let t = head_emptied EndClosed of_all side s in
-      ap (λ (h : Head C). weight p h.queue.messages) (taken-head side (stream side t.state).modules t.state) ∙ head-behind side s
+      ap (λ (h : Head C). weight (p (direction_at Up side)) h.queue.messages) (taken-head side (stream side t.state).modules t.state) ∙ head-behind side s
 
-  ended-keeps : (side : Side) (s : State C) → weight p (stream side s).head.queue.messages ≡ 0 → state_weight p (ended side s) ≡ state_weight p s
+  ended-keeps : (side : Side) (s : State C) → weight (p (direction_at Up side)) (stream side s).head.queue.messages ≡ 0 → state_weight p (ended side s) ≡ state_weight p s
   ended-keeps Master s none = omega (arith, none)
   ended-keeps Slave s none = omega (arith, none)
 
@@ -95,12 +98,17 @@ module _ {C : Type 0} where
   unread-survives : (side : Side) → Survives side NothingUnread AnyModules
   unread-survives side = record {
     named = λ names s unread. record { master = unread.master; slave = unread.slave };
+    dropped = dropped side;
     apart = apart side;
     given = λ m s unread. delivered-unread (head_above side) m s unread;
     good = λ s unread. tt;
     below = λ l ls good. tt;
   }
     where
+      dropped : (side : Side) (ms : List (Message C)) (s : State C) → NothingUnread s → NothingUnread (ioctl_dropped side ms s)
+      dropped Master ms s unread = record { master = unread.master; slave = unread.slave }
+      dropped Slave ms s unread = record { master = unread.master; slave = unread.slave }
+
       apart : (side : Side) (ps : List (Module C)) (s : State C) → AnyModules ps → NothingUnread s → NothingUnread (with_modules side ps s)
       apart Master ps s good unread = record { master = unread.master; slave = unread.slave }
       apart Slave ps s good unread = record { master = unread.master; slave = unread.slave }

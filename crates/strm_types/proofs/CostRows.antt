@@ -98,11 +98,11 @@ parted-down = refl
 pub parted-up : costs Up (parted asks) ≡ 4 ∷ 4 ∷ 4 ∷ 4 ∷ 4 ∷ []
 parted-up = refl
 
-pub parted-reads-up : costs Up (parted reads) ≡ 0 ∷ 0 ∷ 0 ∷ 0 ∷ 1 ∷ []
+pub parted-reads-up : costs Up (parted reads) ≡ 0 ∷ 0 ∷ 0 ∷ 0 ∷ 0 ∷ []
 parted-reads-up = refl
 
 pub parted-takes : own Down (parted asks) ≡ 1 ∷ 0 ∷ 0 ∷ 0 ∷ 0 ∷ []
 parted-takes = refl
 
-pub parted-reads-take : own Up (parted reads) ≡ 0 ∷ 0 ∷ 0 ∷ 0 ∷ 1 ∷ []
+pub parted-reads-take : own Up (parted reads) ≡ 0 ∷ 0 ∷ 0 ∷ 0 ∷ 0 ∷ []
 parted-reads-take = refl

@@ -11,7 +11,7 @@ use Rattle.strm_types.specs.declared.spots.Spot.{Spot}
 use Rattle.strm_types.specs.Costs.{across_at, asking_at, asking_cost, below_cost, cost, cost_at, is_across}
 use Rattle.strm_types.specs.Deliver.{toward}
 use Rattle.strm_types.specs.Message.{Message, has_parts}
-use Rattle.strm_types.specs.Puts.{is_turned}
+use Rattle.strm_types.specs.Puts.{is_bare_flush, is_turned}
 use Rattle.strm_types.specs.Flushing.{is_flush}
 
 below-few : (way : Way) (parts across turned : Bool) → below_cost way parts across turned ≤ 4
@@ -127,4 +127,4 @@ asking-less parts kind here inside small =
 -- A message costs no more from the next place on.
 pub next-cost : {C : Type 0} (m : Message C) (here : Spot) → 0 < here.at → here.at ≤ MODULES → cost (toward here.way here) m ≤ cost here m
 next-cost m here inside small =
-    omega (arith, next-base (has_parts m) (is_flush m.kind) (is_turned m) here inside small, asking-less (has_parts m) m.kind here inside small)
+    omega (arith, next-base (has_parts m) (is_bare_flush m) (is_turned m) here inside small, asking-less (has_parts m) m.kind here inside small)

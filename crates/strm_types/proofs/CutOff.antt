@@ -39,7 +39,7 @@ use Rattle.strm_types.specs.Ioctls.{asking, ioctl_message}
 use Rattle.strm_types.specs.Journal.{PlainEntry}
 use Rattle.strm_types.specs.Message.{Message, has_parts}
 use Rattle.strm_types.specs.Names.{direction_from, is_closed, is_open}
-use Rattle.strm_types.specs.Puts.{delivered, passed_up, put_at_driver, put_at_head, put_below, put_in, put_at_module, put_behind}
+use Rattle.strm_types.specs.Puts.{delivered, is_bare_flush, passed_up, put_at_driver, put_at_head, put_at_module, put_behind, put_below, put_in}
 use Rattle.strm_types.specs.Queue.{Queue}
 use Rattle.strm_types.specs.Refused.{goes_down, or_else, refused_at_once, refused_by_state, unless}
 use Rattle.strm_types.specs.Slots.{PlainSlot, slot_behind}
@@ -54,7 +54,7 @@ use Rattle.strm_types.proofs.Replay.{or_else-none, unless-none}
 use Rattle.strm_types.proofs.WriteSteps.{cells_sent-holds}
 use Rattle.strm_types.specs.Earlier.{modules_on}
 use Rattle.strm_types.specs.Stacked.{Module}
-use Rattle.strm_types.specs.Pushes.{head_above, named_by, popped, pushed_named, with_modules}
+use Rattle.strm_types.specs.Pushes.{head_above, ioctl_dropped, named_by, popped, pushed_named, with_modules}
 use Rattle.strm_types.proofs.PushHolds.{Survives, pop-holds, push-holds}
 
 -- the place below a side's head
@@ -119,7 +119,7 @@ module _ {C : Type 0} where
 
   behind-cut : (way : Way) (here : Spot) (m : Message C) (s : State C) → IsCutOff s → IsCutOff (put_behind way here m s).state
   behind-cut Down here m s cut = driver-cut here.side here m s cut
-  behind-cut Up here m s cut = either-cut (is_flush m.kind && here.at == suc MODULES) (put_at_driver here.side here m s) (passed_up here m s) (driver-cut here.side here m s cut) cut
+  behind-cut Up here m s cut = either-cut (is_bare_flush m && here.at == suc MODULES) (put_at_driver here.side here m s) (passed_up here m s) (driver-cut here.side here m s cut) cut
 
   below-cut : (way : Way) (here : Spot) (m : Message C) (s : State C) → IsCutOff s → IsCutOff (put_below way here m s).state
   below-cut way here m s cut =
@@ -163,12 +163,17 @@ module _ {C : Type 0} where
   survives : (side : Side) → Survives {C = C} side IsCutOff AnyModules
   survives side = record {
     named = λ names s cut. record { slave = cut.slave };
+    dropped = dropped side;
     apart = apart side;
     given = λ m s cut. delivered-cut (head_above side) m s cut;
     good = λ s cut. tt;
     below = λ l ls good. tt;
   }
     where
+      dropped : (side : Side) (ms : List (Message C)) (s : State C) → IsCutOff s → IsCutOff (ioctl_dropped side ms s)
+      dropped Master ms s cut = record { slave = cut.slave }
+      dropped Slave ms s cut = record { slave = cut.slave }
+
       apart : (side : Side) (ps : List (Module C)) (s : State C) → AnyModules ps → IsCutOff s → IsCutOff (with_modules side ps s)
       apart Master ps s good cut = record { slave = cut.slave }
       apart Slave ps s good cut = record { slave = cut.slave }

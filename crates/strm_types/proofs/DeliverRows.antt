@@ -42,10 +42,10 @@ echoed = Comes SlaveToMaster (97 ∷ 94 ∷ []) ∷ Goes MasterToSlave rules.Era
 pub echo-is-told : tallied echoed no_fates ≡ told_more MasterToSlave rules.EraseKey 1 (made_more SlaveToMaster 2 no_fates)
 echo-is-told = refl
 
-pub echo-is-made : weight_made (λ c. true) echoed ≡ 2
+pub echo-is-made : weight_made (λ direction c. true) echoed ≡ 2
 echo-is-made = refl
 
-pub key-has-gone : weight_gone (λ c. true) echoed ≡ 1
+pub key-has-gone : weight_gone (λ direction c. true) echoed ≡ 1
 key-has-gone = refl
 
 pub echo-is-mapped : map (map_fate (λ c. c + 1)) echoed ≡ Comes SlaveToMaster (98 ∷ 95 ∷ []) ∷ Goes MasterToSlave rules.EraseKey (128 ∷ []) ∷ []

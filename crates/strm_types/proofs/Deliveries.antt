@@ -7,10 +7,12 @@ use Rattle.strm_types.specs.declared.limits.TheConstants.{HOPS}
 use Rattle.strm_types.specs.declared.names.Side.{Side}
 use Rattle.strm_types.specs.declared.names.Way.TheVariants.{Down}
 use Rattle.strm_types.specs.declared.spots.Spot.{Spot}
+use Rattle.strm_types.specs.declared.names.Dir.{Dir}
+use Rattle.strm_types.specs.Names.{direction_from}
 use Rattle.strm_types.specs.Flushing.{asked_of, flush_bytes, flush_message}
 use Rattle.strm_types.specs.Kept.{NothingUnread, state_weight}
 use Rattle.strm_types.specs.Message.{Message, weight_of}
-use Rattle.strm_types.specs.Places.{weight_gone, weight_made}
+use Rattle.strm_types.specs.Places.{weight_gone, weight_made, direction_to}
 use Rattle.strm_types.specs.Puts.{SameEnds, delivered, far, flushed_on, put_in}
 use Rattle.strm_types.specs.State.{State}
 use Rattle.strm_types.proofs.DeliveryHolds.{carried-holds}
@@ -20,8 +22,8 @@ use Rattle.strm_types.proofs.PutsKeep.{puts-keep, puts-same, puts-unread}
 use Rattle.strm_types.proofs.PutWeights.{weight-flush}
 
 module _ {C : Type 0} where
-  pub delivered-keeps : (p : C → Bool) (to : Spot) (m : Message C) (s : State C) → to.at ≤ 4 →
-      state_weight p (delivered to m s).state + weight_gone p (delivered to m s).gone ≡ state_weight p s + (weight_of p m + weight_made p (delivered to m s).gone)
+  pub delivered-keeps : (p : Dir → C → Bool) (to : Spot) (m : Message C) (s : State C) → to.at ≤ 4 →
+      state_weight p (delivered to m s).state + weight_gone p (delivered to m s).gone ≡ state_weight p s + (weight_of (p (direction_to to)) m + weight_made p (delivered to m s).gone)
   delivered-keeps p to m s low = carried-keeps p (state_weight p) far put_in (puts-keep p) (puts-fall C) HOPS (record { to = to; message = m }) (far-within to m low) s
 
   pub delivered-unread : (to : Spot) (m : Message C) (s : State C) → NothingUnread s → NothingUnread (delivered to m s).state
@@ -30,11 +32,11 @@ module _ {C : Type 0} where
   pub delivered-same : (to : Spot) (m : Message C) (s : State C) → SameEnds s (delivered to m s).state
   delivered-same to m s = carried-holds (SameEnds s) put_in (puts-same s) HOPS (record { to = to; message = m }) s (record { master = refl; slave = refl; locked = refl; next_ioctl = refl; from_master = refl; from_slave = refl })
 
-  pub flushed_on-keeps : (p : C → Bool) (band : Option Band) (side : Side) (what : FlushQueues) (s : State C) →
+  pub flushed_on-keeps : (p : Dir → C → Bool) (band : Option Band) (side : Side) (what : FlushQueues) (s : State C) →
       state_weight p (flushed_on band side what s).state + weight_gone p (flushed_on band side what s).gone ≡ state_weight p s + weight_made p (flushed_on band side what s).gone
   flushed_on-keeps p band side what s =
       let bytes = flush_bytes (asked_of what band) in
-      omega (arith, delivered-keeps p (record { side = side; at = 1; way = Down }) (flush_message bytes) s (omega arith), weight-flush p bytes)
+      omega (arith, delivered-keeps p (record { side = side; at = 1; way = Down }) (flush_message bytes) s (omega arith), weight-flush (p (direction_from side)) bytes)
 
   pub flushed_on-unread : (band : Option Band) (side : Side) (what : FlushQueues) (s : State C) → NothingUnread s → NothingUnread (flushed_on band side what s).state
   flushed_on-unread band side what s unread = delivered-unread (record { side = side; at = 1; way = Down }) (flush_message (flush_bytes (asked_of what band))) s unread

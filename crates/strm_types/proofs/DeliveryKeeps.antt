@@ -3,10 +3,11 @@ use Rattle.std.proofs.Common.{ℕ, zero, suc, ◌≡◌, ◌<◌, ◌+◌, Bool,
 use Rattle.std.specs.List.{AllByRecursion}
 use Rattle.strm_types.specs.Message.{Message}
 use Rattle.strm_types.specs.declared.spots.Spot.{Spot}
+use Rattle.strm_types.specs.declared.names.Dir.{Dir}
 use Rattle.strm_types.specs.Deliver.{Parcel, Fate, Took, Carried, in_turn, carried, Falls}
 use Rattle.strm_types.specs.Places.{weight_sent, weight_gone, weight_made, PutKeeps, CarryKeeps}
 
-module _ {C : Type 0} (p : C → Bool) where
+module _ {C : Type 0} (p : Dir → C → Bool) where
   pub gone-append : (xs ys : List (Fate C)) → weight_gone p (xs ++ ys) ≡ weight_gone p xs + weight_gone p ys
   gone-append [] ys = omega arith
   gone-append (x ∷ xs) ys = let ih = gone-append xs ys in omega arith
@@ -15,7 +16,7 @@ module _ {C : Type 0} (p : C → Bool) where
   made-append [] ys = omega arith
   made-append (x ∷ xs) ys = let ih = made-append xs ys in omega arith
 
-module _ {C S : Type 0} (p : C → Bool) (weigh : S → ℕ) where
+module _ {C S : Type 0} (p : Dir → C → Bool) (weigh : S → ℕ) where
   pub in_turn-keeps : (carry : Parcel C → S → Carried C S) (ps : List (Parcel C)) → AllByRecursion (CarryKeeps p weigh carry) ps → (s : S) →
       weigh (in_turn carry ps s).state + weight_gone p (in_turn carry ps s).gone ≡ weigh s + (weight_sent p ps + weight_made p (in_turn carry ps s).gone)
   in_turn-keeps carry [] all s = omega arith

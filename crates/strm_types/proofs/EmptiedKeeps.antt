@@ -4,6 +4,9 @@ use Rattle.std.specs.Prelude.{not, count_by}
 use Rattle.strm_types.specs.declared.names.Side.{Side}
 use Rattle.strm_types.specs.declared.names.Side.TheVariants.{Master, Slave}
 use Rattle.strm_types.specs.declared.rules.Rule.{Rule}
+use Rattle.strm_types.specs.declared.names.Dir.{Dir}
+use Rattle.strm_types.specs.declared.names.Way.TheVariants.{Up, Down}
+use Rattle.strm_types.specs.Names.{direction_at}
 use Rattle.strm_types.specs.Deliver.{Carried}
 use Rattle.strm_types.specs.Closes.{head_emptied, driver_emptied, and_then}
 use Rattle.strm_types.specs.Emptied.{Choice, of_all, stayed, cells_gone, emptied, none_goes, queue_behind}
@@ -40,26 +43,27 @@ module _ {C : Type 0} where
     pub behind-keeps : (chosen : Choice) (q : Queue C) → weight p (queue_behind chosen q).messages + count_by p (cells_gone chosen q.messages) ≡ weight p q.messages
     behind-keeps chosen q = ap (λ (ms : List (Message C)). weight p ms + count_by p (cells_gone chosen q.messages)) (behind-is chosen q) ∙ stayed-keeps chosen q.messages
 
+    -- all messages go
+    pub behind-all : (q : Queue C) → weight p (queue_behind of_all q).messages ≡ 0
+    behind-all q = ap (λ (ms : List (Message C)). weight p ms) (behind-is of_all q ∙ none-stays q.messages)
+
+  module _ (p : Dir → C → Bool) where
     -- what a pair comes to that had so many cells
     abbrev Keeps : Carried C (State C) → ℕ → Type 0
     Keeps t n = state_weight p t.state + weight_gone p t.gone ≡ n + weight_made p t.gone
 
     -- over a side's head and its driver
     pub head_emptied-keeps : (rule : Rule) (chosen : Choice) (side : Side) (s : State C) → Keeps (head_emptied rule chosen side s) (state_weight p s)
-    head_emptied-keeps rule chosen Master s = omega (arith, behind-keeps chosen s.master.head.queue)
-    head_emptied-keeps rule chosen Slave s = omega (arith, behind-keeps chosen s.slave.head.queue)
+    head_emptied-keeps rule chosen Master s = omega (arith, behind-keeps (p (direction_at Up Master)) chosen s.master.head.queue)
+    head_emptied-keeps rule chosen Slave s = omega (arith, behind-keeps (p (direction_at Up Slave)) chosen s.slave.head.queue)
 
     pub driver_emptied-keeps : (rule : Rule) (chosen : Choice) (side : Side) (s : State C) → Keeps (driver_emptied rule chosen side s) (state_weight p s)
-    driver_emptied-keeps rule chosen Master s = omega (arith, behind-keeps chosen s.master.driver.queue)
-    driver_emptied-keeps rule chosen Slave s = omega (arith, behind-keeps chosen s.slave.driver.queue)
+    driver_emptied-keeps rule chosen Master s = omega (arith, behind-keeps (p (direction_at Down Master)) chosen s.master.driver.queue)
+    driver_emptied-keeps rule chosen Slave s = omega (arith, behind-keeps (p (direction_at Down Slave)) chosen s.slave.driver.queue)
 
     -- one after the other
     pub and_then-keeps : (n : ℕ) (t : Carried C (State C)) (next : State C → Carried C (State C)) → Keeps t n → ((s : State C) → Keeps (next s) (state_weight p s)) → Keeps (and_then t next) n
     and_then-keeps n t next is keeps = omega (arith, is, keeps t.state, gone-append p t.gone (next t.state).gone, made-append p t.gone (next t.state).gone)
-
-    -- all messages go
-    pub behind-all : (q : Queue C) → weight p (queue_behind of_all q).messages ≡ 0
-    behind-all q = ap (λ (ms : List (Message C)). weight p ms) (behind-is of_all q ∙ none-stays q.messages)
 
   -- a side that isn't open has nothing for its readers: so it stays
   behind-none : (chosen : Choice) (q : Queue C) → q.messages ≡ [] → (queue_behind chosen q).messages ≡ []

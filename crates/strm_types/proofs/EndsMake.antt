@@ -10,6 +10,7 @@ use Rattle.strm_types.specs.declared.names.Way.{Way}
 use Rattle.strm_types.specs.declared.names.Way.TheVariants.{Up, Down}
 use Rattle.strm_types.specs.declared.spots.Across.{Across}
 use Rattle.strm_types.specs.declared.spots.Spot.{Spot}
+use Rattle.strm_types.specs.declared.names.Dir.{Dir}
 use Rattle.strm_types.specs.Deliver.{Acted}
 use Rattle.strm_types.specs.Drivers.{answered, crosses, driver_put, flush_down, freed, ioctl_put, own_flushed, put_across, put_down, taken_in}
 use Rattle.strm_types.specs.Flushing.{asked_by}
@@ -21,7 +22,7 @@ use Rattle.strm_types.specs.Places.{weight_made}
 use Rattle.strm_types.specs.Queue.{Queue}
 use Rattle.strm_types.specs.State.{Head}
 
-module _ {C : Type 0} (p : C → Bool) where
+module _ {C : Type 0} (p : Dir → C → Bool) where
   abbrev MakesNone : {S : Type 0} → Acted C S → Type 0
   MakesNone t = weight_made p t.gone ≡ 0
 

@@ -221,7 +221,7 @@ module _ {C : Type 0} (cells : Cells C) (are : AreCells cells) where
       at places.Head s = refl
       at places.Ldterm s = module_turned-forgets cells are name turn s
 
-  after-forgets : (s : State C) (e : PlainEntry) → after plain (map_state cells.byte s) e ≡ map_state cells.byte (after cells s e)
+  pub after-forgets : (s : State C) (e : PlainEntry) → after plain (map_state cells.byte s) e ≡ map_state cells.byte (after cells s e)
   after-forgets s (Called caller asked answer) = ap (λ (o : Outcome ℕ). o.state) (call-forgets caller asked s)
   after-forgets s (Turned name turn) = ap (λ (o : TurnOutcome ℕ). o.state) (turn-forgets name turn s)
 

@@ -28,15 +28,15 @@ module _ {C : Type 0} where
   abbrev fates : Dir → Got C → List (Fate C)
   fates dir g = Goes dir rules.Read (cells_got g) ∷ []
 
-  pub get_queue-keeps : (p : C → Bool) (dir : Dir) (wanted : Wanted) (cmax dmax : ℕ) (q : Queue C) →
-      weight p (get_queue wanted cmax dmax q).messages + weight_gone p (get_gone dir wanted cmax dmax q.messages) ≡ weight p q.messages + weight_made p (get_gone dir wanted cmax dmax q.messages)
+  pub get_queue-keeps : (p : Dir → C → Bool) (dir : Dir) (wanted : Wanted) (cmax dmax : ℕ) (q : Queue C) →
+      weight (p dir) (get_queue wanted cmax dmax q).messages + weight_gone p (get_gone dir wanted cmax dmax q.messages) ≡ weight (p dir) q.messages + weight_made p (get_gone dir wanted cmax dmax q.messages)
   get_queue-keeps p dir wanted cmax dmax q = at (gets_none wanted q.messages)
     where
-      at : (none : Bool) → let g = head_get wanted cmax dmax q.messages in weight p (cond none q (queue_got g q)).messages + weight_gone p (cond none [] (fates dir g)) ≡ weight p q.messages + weight_made p (cond none [] (fates dir g))
+      at : (none : Bool) → let g = head_get wanted cmax dmax q.messages in weight (p dir) (cond none q (queue_got g q)).messages + weight_gone p (cond none [] (fates dir g)) ≡ weight (p dir) q.messages + weight_made p (cond none [] (fates dir g))
       at true = omega arith
       at false =
           let g = head_get wanted cmax dmax q.messages in
-          omega (arith, get-kept p wanted cmax dmax q.messages, count-joined p (part g.control) (part g.body), ap (λ (ms : List (Message C)). weight p ms) (left-got g q))
+          omega (arith, get-kept (p dir) wanted cmax dmax q.messages, count-joined (p dir) (part g.control) (part g.body), ap (λ (ms : List (Message C)). weight (p dir) ms) (left-got g q))
 
 module _ {C D : Type 0} (f : C → D) where
   gets-forget : (wanted : Wanted) (q : List (Message C)) → gets_none wanted (map_messages f q) ≡ gets_none wanted q

@@ -6,6 +6,8 @@ use Rattle.strm_types.specs.declared.names.Side.{Side}
 use Rattle.strm_types.specs.declared.names.Side.TheVariants.{Master, Slave}
 use Rattle.strm_types.specs.declared.names.Way.TheVariants.{Down}
 use Rattle.strm_types.specs.declared.spots.Spot.{Spot}
+use Rattle.strm_types.specs.declared.names.Dir.{Dir}
+use Rattle.strm_types.specs.Names.{direction_from}
 use Rattle.strm_types.specs.Calls.{ioctl_begun, ioctl_sent, ioctl_told, signals_told, map_outcome}
 use Rattle.strm_types.specs.Ioctls.{asking, ioctl_message}
 use Rattle.strm_types.specs.Kept.{NothingUnread, state_weight}
@@ -26,7 +28,7 @@ unfolding weight_of cells_of
 weight-ioctl p ioc body = refl
 
 module _ {C : Type 0} where
-  module _ (p : C → Bool) where
+  module _ (p : Dir → C → Bool) where
     begun-keeps : (side : Side) (command : ℕ) (s : State C) → state_weight p (ioctl_begun side command s) ≡ state_weight p s
     begun-keeps Master command s = refl
     begun-keeps Slave command s = refl
@@ -49,7 +51,7 @@ module _ {C : Type 0} where
         let ioc = asking command s.next_ioctl in
         let m : Message C = ioctl_message ioc body in
         let begun = ioctl_begun side command s in
-        omega (arith, told-keeps side (delivered (below side) m begun).state, delivered-keeps p (below side) m begun (omega arith), weight-ioctl p ioc body, begun-keeps side command s)
+        omega (arith, told-keeps side (delivered (below side) m begun).state, delivered-keeps p (below side) m begun (omega arith), weight-ioctl (p (direction_from side)) ioc body, begun-keeps side command s)
 
   begun-unread : (side : Side) (command : ℕ) (s : State C) → NothingUnread s → NothingUnread (ioctl_begun side command s)
   begun-unread Master command s unread = record { master = unread.master; slave = unread.slave }

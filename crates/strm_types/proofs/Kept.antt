@@ -18,8 +18,9 @@ use Rattle.strm_types.specs.declared.names.Dir.TheVariants.{MasterToSlave, Slave
 use Rattle.strm_types.specs.declared.names.Side.{Side}
 use Rattle.strm_types.specs.declared.names.Side.TheVariants.{Master, Slave}
 use Rattle.strm_types.specs.declared.refusals.Refusal.TheVariants.{Einval, Enxio}
+use Rattle.strm_types.specs.declared.names.Way.TheVariants.{Up}
 use Rattle.strm_types.specs.Cells.{Cells, cells_written, bytes_of}
-use Rattle.strm_types.specs.Names.{direction_from, direction_of, head_of, is_open}
+use Rattle.strm_types.specs.Names.{direction_from, direction_of, head_of, is_open, direction_at}
 use Rattle.strm_types.specs.Message.{Message}
 use Rattle.strm_types.specs.Pushes.{named_by}
 use Rattle.strm_types.specs.Queue.{Queue, weight, left_with, relieved}
@@ -34,7 +35,7 @@ use Rattle.strm_types.specs.Refused.{or_else, unless, asks_a_band, refused_at_on
 use Rattle.strm_types.specs.Step.{Step}
 use Rattle.strm_types.specs.Turns.{turned}
 use Rattle.strm_types.specs.Places.{weight_gone, weight_made}
-use Rattle.strm_types.specs.Kept.{state_weight, NothingUnread, AreIdle, MayTest, cells_taken, came, gone}
+use Rattle.strm_types.specs.Kept.{state_weight, NothingUnread, AreIdle, MayTest, cells_taken, came, gone, count_came}
 use Rattle.strm_types.proofs.ClosesKeep.{closed_at-keeps, closed_at-unread, pop-unread, push-unread}
 use Rattle.strm_types.proofs.PushKeeps.{pop-keeps, push-keeps}
 use Rattle.strm_types.proofs.Deliveries.{flushed_on-keeps, flushed_on-unread, delivered-unread}
@@ -59,27 +60,27 @@ module _ {C : Type 0} where
       at true = refl
       at false = refl
 
-  module _ (p : C → Bool) where
+  module _ (p : Dir → C → Bool) where
     book-weight : (dir : Dir) (b : Book) (s : State C) → state_weight p (with_book dir b s) ≡ state_weight p s
     book-weight MasterToSlave b s = refl
     book-weight SlaveToMaster b s = refl
 
     write-keeps : (cells : Cells C) (side : Side) (bytes : List ℕ) (s : State C) → let t = write_sent cells side bytes s in
-        state_weight p (wrote cells side bytes s).state + weight_gone p t.gone ≡ state_weight p s + (count_by p (cells_taken cells side bytes s) + weight_made p t.gone)
+        state_weight p (wrote cells side bytes s).state + weight_gone p t.gone ≡ state_weight p s + (count_by (p (direction_from side)) (cells_taken cells side bytes s) + weight_made p t.gone)
     write-keeps cells side bytes s =
         let dir = direction_from side in
         let t = write_sent cells side bytes s in
         omega (arith, book-weight dir (with_written t.taken (book dir s)) t.state, cells_sent-keeps p side (cells_written cells dir (book dir s).written bytes) s)
 
     -- what a read leaves on the queue, and what goes by its rules
-    drawn-keeps : (dir : Dir) (read : ReadMode) (control : ControlMode) (n : ℕ) (q : Queue C) → weight p (read_queue read control n q).messages + weight_gone p (read_gone dir read control n q.messages) ≡ weight p q.messages + weight_made p (read_gone dir read control n q.messages)
+    drawn-keeps : (dir : Dir) (read : ReadMode) (control : ControlMode) (n : ℕ) (q : Queue C) → weight (p dir) (read_queue read control n q).messages + weight_gone p (read_gone dir read control n q.messages) ≡ weight (p dir) q.messages + weight_made p (read_gone dir read control n q.messages)
     drawn-keeps dir read control n q = at (takes_none control n q.messages)
       where
-        at : (none : Bool) → let d = head_draw read control n q.messages in weight p (cond none q (queue_drawn d q)).messages + weight_gone p (cond none [] (read_fates dir d)) ≡ weight p q.messages + weight_made p (cond none [] (read_fates dir d))
+        at : (none : Bool) → let d = head_draw read control n q.messages in weight (p dir) (cond none q (queue_drawn d q)).messages + weight_gone p (cond none [] (read_fates dir d)) ≡ weight (p dir) q.messages + weight_made p (cond none [] (read_fates dir d))
         at true = omega arith
         at false =
             let d = head_draw read control n q.messages in
-            omega (arith, head_draw-keeps p read control n q.messages, ap (λ (ms : List (Message C)). weight p ms) (left-drawn d q))
+            omega (arith, head_draw-keeps (p dir) read control n q.messages, ap (λ (ms : List (Message C)). weight (p dir) ms) (left-drawn d q))
 
     read-keeps : (cells : Cells C) (side : Side) (n : ℕ) (answer : Reply) (s : State C) → let h = (stream side s).head in
         let gone = read_gone (direction_of (head_of side)) h.read_mode h.control_mode (min n READ_MAX) h.queue.messages in
@@ -105,7 +106,7 @@ module _ {C : Type 0} where
 
     call-keeps : (cells : Cells C) (caller : Caller) (asked : Request) (answer : Reply) (s : State C) → NothingUnread s → AreIdle s → or_else (refused_at_once s caller asked) (refused_by_state s caller asked) ≡ None
         → let entry = Called caller asked answer in
-        state_weight p (called cells caller asked s).state + weight_gone p (gone cells s entry) ≡ state_weight p s + (count_by p (came cells s entry) + weight_made p (gone cells s entry))
+        state_weight p (called cells caller asked s).state + weight_gone p (gone cells s entry) ≡ state_weight p s + (count_came cells p s entry + weight_made p (gone cells s entry))
     call-keeps cells caller OpenMaster answer s unread idle allowed = refl
     call-keeps cells caller Unlock answer s unread idle allowed = refl
     call-keeps cells caller Shut answer s unread idle allowed = omega (arith, closed_at-keeps p caller.side s (idle-at caller.side s idle))
@@ -116,7 +117,7 @@ module _ {C : Type 0} where
     call-keeps cells caller OpenSlave answer s unread idle allowed =
         let by_state = or_else-none _ _ (or_else-none (unless (is_open s.master.opened) Enxio) _ allowed).1 in
         let closed = closed-of (is_open s.slave.opened) (unless-none (not (is_open s.slave.opened)) Einval by_state.0) in
-        let nothing = ap (λ (q : List (Message C)). weight p q) (unread.slave closed) in
+        let nothing = ap (λ (q : List (Message C)). weight (p (direction_at Up Slave)) q) (unread.slave closed) in
         omega (arith, nothing)
     call-keeps cells caller (Write bytes) answer s unread idle allowed = write-keeps cells caller.side bytes s
     call-keeps cells caller (Read n) answer s unread idle allowed = omega (arith, read-keeps cells caller.side n answer s)
@@ -131,7 +132,7 @@ module _ {C : Type 0} where
     -- what stands on the queues after a step, and what it took away, is what stood there before, what it brought, and what was
     -- made on the way
     pub step-keeps : (cells : Cells C) (old new : State C) (entry : PlainEntry) → MayTest cells p entry → NothingUnread old → AreIdle old → Step cells old entry new
-        → state_weight p new + weight_gone p (gone cells old entry) ≡ state_weight p old + (count_by p (came cells old entry) + weight_made p (gone cells old entry))
+        → state_weight p new + weight_gone p (gone cells old entry) ≡ state_weight p old + (count_came cells p old entry + weight_made p (gone cells old entry))
     step-keeps cells old new (Called caller asked answer) tests unread idle step =
         ap (λ (s : State C). state_weight p s + weight_gone p (gone cells old (Called caller asked answer))) (sym step.leads) ∙ call-keeps cells caller asked answer old unread idle step.allowed
     step-keeps cells old new (Turned name turn) tests unread idle step =

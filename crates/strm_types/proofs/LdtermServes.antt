@@ -4,6 +4,7 @@ use Rattle.std.specs.Prelude.{Option, unwrap_or}
 use Rattle.strm_types.specs.declared.names.Way.{Way}
 use Rattle.strm_types.specs.declared.names.Way.TheVariants.{Up, Down}
 use Rattle.strm_types.specs.declared.spots.Spot.{Spot}
+use Rattle.strm_types.specs.declared.names.Dir.{Dir}
 use Rattle.strm_types.specs.Cells.{AreCells, Cells, plain}
 use Rattle.strm_types.specs.Input.{to_treat, treats}
 use Rattle.strm_types.specs.LdtermOrigins.{map_ldterm, map_serving}
@@ -15,15 +16,15 @@ use Rattle.strm_types.proofs.LdtermServesForgets.{input-forgets, to_treat-forget
 use Rattle.strm_types.proofs.LdtermStages.{input-keeps, treats-keep}
 use Rattle.strm_types.proofs.OutputServes.{output-forgets, output-keeps}
 
-module _ {C : Type 0} (p : C → Bool) (cells : Cells C) (ignores : IgnoresMapping cells p) where
+module _ {C : Type 0} (p : Dir → C → Bool) (cells : Cells C) (ignores : IgnoresMapping cells p) where
   keeps-at : (way : Way) (here : Spot) (again : Bool) (made : ℕ) (stop : Option ℕ) (l : Ldterm C) → EchoStands l → MayServe way again stop l →
-      ActedKeeps p (ldterm_serves cells (record here { way = way }) made again stop l).acted (ldterm_weight p l)
+      ActedKeeps p here.side (ldterm_serves cells (record here { way = way }) made again stop l).acted (ldterm_weight p here.side l)
   keeps-at Down here again made stop l stands may = output-keeps p cells ignores (record here { way = Down }) stop made l
   keeps-at Up here false made stop l stands may = input-keeps p cells (record here { way = Up }) ignores made stop l stands may
   keeps-at Up here true made stop l stands may = treats-keep p cells (record here { way = Up }) ignores (unwrap_or stop (to_treat l)) made l stands may
 
   pub serves-keep : (here : Spot) (made : ℕ) (again : Bool) (stop : Option ℕ) (l : Ldterm C) → EchoStands l → MayServe here.way again stop l →
-      ActedKeeps p (ldterm_serves cells here made again stop l).acted (ldterm_weight p l)
+      ActedKeeps p here.side (ldterm_serves cells here made again stop l).acted (ldterm_weight p here.side l)
   serves-keep here made again stop l stands may = keeps-at here.way here again made stop l stands may
 
 module _ {C : Type 0} (cells : Cells C) (are : AreCells cells) where

@@ -9,8 +9,10 @@ use Rattle.strm_types.specs.declared.kinds.MsgKind.TheVariants as kinds
 use Rattle.strm_types.specs.declared.names.Way.TheVariants.{Up, Down}
 use Rattle.strm_types.specs.declared.rules.Rule.TheVariants.{Flushed, SignalKey, LineFull, LineOver}
 use Rattle.strm_types.specs.declared.spots.Spot.{Spot}
+use Rattle.strm_types.specs.declared.names.Dir.{Dir}
+use Rattle.strm_types.specs.Names.{direction_at}
 use Rattle.strm_types.specs.Cells.{Cells, cells_made}
-use Rattle.strm_types.specs.Deliver.{Acted, Parcel}
+use Rattle.strm_types.specs.Deliver.{Acted, Parcel, toward}
 use Rattle.strm_types.specs.Input.{back_on, begins_next, cells_left, finished, is_data, left_of, made_of, next_stage, stage_at, stages, stages_done, then_on, treats, input_begins, passes}
 use Rattle.strm_types.specs.Flushing.{flush_bytes, flush_message}
 use Rattle.strm_types.specs.Keys.{restarts}
@@ -18,13 +20,13 @@ use Rattle.strm_types.specs.LdtermWeights.{weight_in_work, weight_begun, weight_
 use Rattle.strm_types.specs.Ldterms.{Ldterm, Stage, Between, Begun, Answered, onward, sends}
 use Rattle.strm_types.specs.Lines.{ErasesByte, ErasesWord, Types, edited, has_room}
 use Rattle.strm_types.specs.Message.{Message, cells_of, data_message, weight_of}
-use Rattle.strm_types.specs.Places.{weight_sent}
+use Rattle.strm_types.specs.Places.{weight_sent, direction_to}
 use Rattle.strm_types.specs.Queue.{Queue, is_full, is_none_left, left_with, put, put_back, weight}
 use Rattle.strm_types.specs.Message.{rank_of}
 use Rattle.strm_types.specs.Termios.{icanon, imaxbel, noflsh}
 use Rattle.strm_types.specs.Typing.{added, bare, begins, both_ways, echo_dir, dropped, echoed, echo_grows, echo_lost, echo_stands, gathered_up, grown, is_blank_cell, is_lnext, lost, sigint, signals, sigquit, sigtstp, up_alone, stroke_at, strikes, struck}
 use Rattle.strm_types.proofs.DeliveryKeeps.{gone-append, made-append}
-use Rattle.strm_types.proofs.LdtermKeeps.{weight-bare, strikes-keep, echo-keeps, gathered-keeps}
+use Rattle.strm_types.proofs.LdtermKeeps.{weight-bare, strikes-keep, echo-keeps, gathered-keeps, onward-weighs}
 use Rattle.strm_types.proofs.Weights.{count-join, weight-put_back, weight-take, weight-whole}
 
 -- what holds of ldterm whether output is stopped or not, and with any line and any bytes gathered, holds behind a key
@@ -166,43 +168,46 @@ module _ {C : Type 0} (p : C → Bool) where
       at [] is = omega (arith, sym (weight-whole p m) ∙ ap (λ ys. count_by p ys) is)
       at (c ∷ rest) is = omega (arith, weight-put_back p m q.messages)
 
-module _ {C : Type 0} (p : C → Bool) (cells : Cells C) (here : Spot) (ignores : IgnoresMapping cells p) where
-  weight-left : (m : Message C) (c : C) (rest : List C) → cells_of m ≡ c ∷ rest → weight_of p m ≡ count_by p (c ∷ []) + weight_of p (left_of rest m)
-  unfolding weight_of cells_of
-  weight-left m c rest is = ap (λ xs. count_by p xs) is ∙ count-join p (c ∷ []) rest
+module _ {C : Type 0} (p : Dir → C → Bool) (cells : Cells C) (here : Spot) (ignores : IgnoresMapping cells p) where
+  abbrev up : C → Bool
+  up = p (direction_at Up here.side)
 
-  begins-keeps : (c : C) (l : Ldterm C) → ActedKeeps p (begins cells here c l) (weight_beside p l + count_by p (c ∷ []))
+  weight-left : (m : Message C) (c : C) (rest : List C) → cells_of m ≡ c ∷ rest → weight_of up m ≡ count_by up (c ∷ []) + weight_of up (left_of rest m)
+  unfolding weight_of cells_of
+  weight-left m c rest is = ap (λ xs. count_by up xs) is ∙ count-join up (c ∷ []) rest
+
+  begins-keeps : (c : C) (l : Ldterm C) → ActedKeeps p here.side (begins cells here c l) (weight_beside p here.side l + count_by up (c ∷ []))
   begins-keeps c l = at (l.stopped && restarts l.termios (stroke_at cells here c l))
     where
-      at : (starts : Bool) → ActedKeeps p (cond starts (sends (onward Down here (bare kinds.Start []) ∷ []) (record l { stopped = false; stage = Begun true c })) (sends [] (record l { stage = Begun false c }))) (weight_beside p l + count_by p (c ∷ []))
-      at true = omega (arith, weight-bare p kinds.Start [])
+      at : (starts : Bool) → ActedKeeps p here.side (cond starts (sends (onward Down here (bare kinds.Start []) ∷ []) (record l { stopped = false; stage = Begun true c })) (sends [] (record l { stage = Begun false c }))) (weight_beside p here.side l + count_by up (c ∷ []))
+      at true = omega (arith, weight-bare (p (direction_to (toward Down here))) kinds.Start [])
       at false = omega arith
 
-  between-keeps : (l : Ldterm C) → ActedKeeps p (begins_next cells here (cells_left l) (record l { stage = Between })) (weight_beside p l)
+  between-keeps : (l : Ldterm C) → ActedKeeps p here.side (begins_next cells here (cells_left l) (record l { stage = Between })) (weight_beside p here.side l)
   between-keeps l = work l.in_work
     where
-      left : (m : Message C) (xs : List C) → cells_of m ≡ xs → ActedKeeps p (begins_next cells here xs (record l { stage = Between; in_work = Some m })) (weight_beside p (record l { in_work = Some m }))
+      left : (m : Message C) (xs : List C) → cells_of m ≡ xs → ActedKeeps p here.side (begins_next cells here xs (record l { stage = Between; in_work = Some m })) (weight_beside p here.side (record l { in_work = Some m }))
       left m [] is = omega arith
       left m (c ∷ rest) is = omega (arith, begins-keeps c (record l { stage = Between; in_work = Some (left_of rest m) }), weight-left m c rest is)
 
-      work : (in_work : Option (Message C)) → ActedKeeps p (begins_next cells here (cells_left (record l { in_work = in_work })) (record l { stage = Between; in_work = in_work })) (weight_beside p (record l { in_work = in_work }))
+      work : (in_work : Option (Message C)) → ActedKeeps p here.side (begins_next cells here (cells_left (record l { in_work = in_work })) (record l { stage = Between; in_work = in_work })) (weight_beside p here.side (record l { in_work = in_work }))
       work None = omega arith
       work (Some m) = left m (cells_of m) refl
 
-  struck-keeps : (started : Bool) (c : C) (l : Ldterm C) → ActedKeeps p (struck cells here started c l) (weight_beside p l + count_by p (c ∷ []))
+  struck-keeps : (started : Bool) (c : C) (l : Ldterm C) → ActedKeeps p here.side (struck cells here started c l) (weight_beside p here.side l + count_by up (c ∷ []))
   struck-keeps started c l =
       let stroke = stroke_at cells here c l in
-      let same : count_by p (cells.mapped stroke.byte c ∷ []) ≡ count_by p (c ∷ []) = ap (λ b. 0 + cond b 1 0) (ignores stroke.byte c) in
+      let same : count_by up (cells.mapped stroke.byte c ∷ []) ≡ count_by up (c ∷ []) = ap (λ b. 0 + cond b 1 0) (ignores (direction_at Up here.side) stroke.byte c) in
       omega (arith, strikes-keep p cells here stroke.key (cells.mapped stroke.byte c) (record l { after_lnext = is_lnext stroke.key }))
 
-  echoed-keeps : (made : ℕ) (echo : List ℕ) (l : Ldterm C) → EchoStands l → ActedKeeps p (echoed cells here made echo l) (ldterm_weight p l)
+  echoed-keeps : (made : ℕ) (echo : List ℕ) (l : Ldterm C) → EchoStands l → ActedKeeps p here.side (echoed cells here made echo l) (ldterm_weight p here.side l)
   echoed-keeps made [] l stands = omega arith
   echoed-keeps made (b ∷ bytes) l stands = echo-keeps p cells here (cells_made cells (echo_dir cells here) made (b ∷ bytes)) l stands
 
-  pub next-keeps : (made : ℕ) (l : Ldterm C) → EchoStands l → ActedKeeps p (next_stage cells here made l) (ldterm_weight p l)
+  pub next-keeps : (made : ℕ) (l : Ldterm C) → EchoStands l → ActedKeeps p here.side (next_stage cells here made l) (ldterm_weight p here.side l)
   next-keeps made l stands = at l.stage
     where
-      at : (stage : Stage C) → ActedKeeps p (next_stage cells here made (record l { stage = stage })) (ldterm_weight p (record l { stage = stage }))
+      at : (stage : Stage C) → ActedKeeps p here.side (next_stage cells here made (record l { stage = stage })) (ldterm_weight p here.side (record l { stage = stage }))
       at Between = omega (arith, between-keeps l)
       at (Begun started c) = omega (arith, struck-keeps started c (record l { stage = Begun started c }))
       at (Answered echo) = echoed-keeps made echo (record l { stage = Between }) stands
@@ -211,57 +216,57 @@ module _ {C : Type 0} (p : C → Bool) (cells : Cells C) (here : Spot) (ignores 
   none-sent [] is = refl
   none-sent (q ∷ ps) is = absurd (false≢true is)
 
-  then-keeps : (made n : ℕ) (t : Acted C (Ldterm C)) (next : ℕ → Ldterm C → Acted C (Ldterm C)) → ActedKeeps p t n →
-      ActedKeeps p (next (made + made_of t.gone) t.state) (ldterm_weight p t.state) → ActedKeeps p (then_on made t next) n
+  then-keeps : (made n : ℕ) (t : Acted C (Ldterm C)) (next : ℕ → Ldterm C → Acted C (Ldterm C)) → ActedKeeps p here.side t n →
+      ActedKeeps p here.side (next (made + made_of t.gone) t.state) (ldterm_weight p here.side t.state) → ActedKeeps p here.side (then_on made t next) n
   then-keeps made n t next first second = at (is_none_left t.sent) refl
     where
       at : (none : Bool) → is_none_left t.sent ≡ none → (let u = next (made + made_of t.gone) t.state in
-          ActedKeeps p (cond none (record { state = u.state; notes = t.notes ++ u.notes; sent = u.sent; gone = t.gone ++ u.gone }) t) n)
+          ActedKeeps p here.side (cond none (record { state = u.state; notes = t.notes ++ u.notes; sent = u.sent; gone = t.gone ++ u.gone }) t) n)
       at true none =
           let u = next (made + made_of t.gone) t.state in
           omega (arith, none-sent t.sent none, gone-append p t.gone u.gone, made-append p t.gone u.gone)
       at false none = first
 
-  ended-between : (stage : Stage C) (k : ℕ) → 0 + stages_done stage ≡ 3 * k → weight_begun p stage ≡ 0
+  ended-between : (stage : Stage C) (k : ℕ) → 0 + stages_done stage ≡ 3 * k → weight_begun p here.side stage ≡ 0
   ended-between Between k is = refl
   ended-between (Begun started c) k is = absurd (omega arith)
   ended-between (Answered echo) k is = refl
 
-  finished-keeps : (l : Ldterm C) → Comes3 cells here 0 l → ActedKeeps p (finished cells here l) (ldterm_weight p l)
+  finished-keeps : (l : Ldterm C) → Comes3 cells here 0 l → ActedKeeps p here.side (finished cells here l) (ldterm_weight p here.side l)
   finished-keeps l ready =
-      let between : weight_begun p l.stage ≡ 0 = elim ready [ inl idle ↦ ap (λ s. weight_begun p s) idle.0 | inr comes ↦ ended-between l.stage comes.0 comes.1 ] in
-      omega (arith, gathered-keeps p cells here l.gathered, back-weighs p l.in_work l.read_queue)
+      let between : weight_begun p here.side l.stage ≡ 0 = elim ready [ inl idle ↦ ap (λ s. weight_begun p here.side s) idle.0 | inr comes ↦ ended-between l.stage comes.0 comes.1 ] in
+      omega (arith, gathered-keeps p cells here l.gathered, back-weighs up l.in_work l.read_queue)
 
-  pub stages-comes-keep : (n made : ℕ) (l : Ldterm C) → EchoStands l → Comes3 cells here n l → ActedKeeps p (stages cells here n made l) (ldterm_weight p l)
+  pub stages-comes-keep : (n made : ℕ) (l : Ldterm C) → EchoStands l → Comes3 cells here n l → ActedKeeps p here.side (stages cells here n made l) (ldterm_weight p here.side l)
   stages-comes-keep zero made l stands ready = finished-keeps l ready
   stages-comes-keep (suc more) made l stands ready =
       let t = next_stage cells here made l in
-      then-keeps made (ldterm_weight p l) t (stages cells here more) (next-keeps made l stands)
+      then-keeps made (ldterm_weight p here.side l) t (stages cells here more) (next-keeps made l stands)
       (stages-comes-keep more (made + made_of t.gone) t.state (next-echo cells here made l stands) (next-comes cells here more made l ready))
 
-  pub stages-keep : (n k made : ℕ) (l : Ldterm C) → EchoStands l → n + stages_done l.stage ≡ 3 * k → ActedKeeps p (stages cells here n made l) (ldterm_weight p l)
+  pub stages-keep : (n k made : ℕ) (l : Ldterm C) → EchoStands l → n + stages_done l.stage ≡ 3 * k → ActedKeeps p here.side (stages cells here n made l) (ldterm_weight p here.side l)
   stages-keep n k made l stands is = stages-comes-keep n made l stands (inr (k, is))
 
-  pub treats-keep : (bytes made : ℕ) (l : Ldterm C) → EchoStands l → stages_done l.stage ≤ 3 * bytes → ActedKeeps p (treats cells here bytes made l).acted (ldterm_weight p l)
+  pub treats-keep : (bytes made : ℕ) (l : Ldterm C) → EchoStands l → stages_done l.stage ≤ 3 * bytes → ActedKeeps p here.side (treats cells here bytes made l).acted (ldterm_weight p here.side l)
   treats-keep bytes made l stands low = stages-keep (3 * bytes - stages_done l.stage) bytes made l stands (omega arith)
 
-  pub input-keeps : (made : ℕ) (stop : Option ℕ) (l : Ldterm C) → EchoStands l → (l.in_work ≡ None) × (l.stage ≡ Between) → ActedKeeps p (input_begins cells here stop made l.read_queue.messages l).acted (ldterm_weight p l)
+  pub input-keeps : (made : ℕ) (stop : Option ℕ) (l : Ldterm C) → EchoStands l → (l.in_work ≡ None) × (l.stage ≡ Between) → ActedKeeps p here.side (input_begins cells here stop made l.read_queue.messages l).acted (ldterm_weight p here.side l)
   input-keeps made stop l stands may = at l.read_queue.messages
     where
-      nothing : weight_in_work p l.in_work ≡ 0
-      nothing = ap (λ w. weight_in_work p w) may.0
+      nothing : weight_in_work up l.in_work ≡ 0
+      nothing = ap (λ w. weight_in_work up w) may.0
 
       between : stages_done l.stage ≡ 0
       between = ap (λ s. stages_done s) may.1
 
-      at : (ms : List (Message C)) → (let held : Ldterm C = record l { read_queue = record l.read_queue { messages = ms } } in ActedKeeps p (input_begins cells here stop made ms held).acted (ldterm_weight p held))
+      at : (ms : List (Message C)) → (let held : Ldterm C = record l { read_queue = record l.read_queue { messages = ms } } in ActedKeeps p here.side (input_begins cells here stop made ms held).acted (ldterm_weight p here.side held))
       at [] = omega arith
       at (m ∷ rest) = by (is_data m.kind)
         where
           by : (treated : Bool) → (let held : Ldterm C = record l { read_queue = record l.read_queue { messages = m ∷ rest } } in
-              ActedKeeps p (cond treated (treats cells here (unwrap_or stop (length (cells_of m))) made (record held { read_queue = left_with rest held.read_queue; in_work = Some m })) (passes cells here Up m rest held)).acted (ldterm_weight p held))
+              ActedKeeps p here.side (cond treated (treats cells here (unwrap_or stop (length (cells_of m))) made (record held { read_queue = left_with rest held.read_queue; in_work = Some m })) (passes cells here Up m rest held)).acted (ldterm_weight p here.side held))
           by true =
               let held : Ldterm C = record l { read_queue = record l.read_queue { messages = m ∷ rest } } in
               let begun : Ldterm C = record held { read_queue = left_with rest held.read_queue; in_work = Some m } in
-              omega (arith, nothing, weight-take p m rest, treats-keep (unwrap_or stop (length (cells_of m))) made begun stands (omega (arith, between)))
-          by false = omega (arith, weight-take p m rest)
+              omega (arith, nothing, weight-take up m rest, treats-keep (unwrap_or stop (length (cells_of m))) made begun stands (omega (arith, between)))
+          by false = omega (arith, weight-take up m rest, onward-weighs p Up here m)

@@ -8,6 +8,7 @@ use Rattle.std.proofs.lemmas.List.Sums.{sum_by-cons}
 use Rattle.strm_types.specs.declared.names.Way.{Way}
 use Rattle.strm_types.specs.declared.names.Way.TheVariants.{Up, Down}
 use Rattle.strm_types.specs.declared.spots.Spot.{Spot}
+use Rattle.strm_types.specs.declared.names.Dir.{Dir}
 use Rattle.strm_types.specs.Cells.{Cells}
 use Rattle.strm_types.specs.Deliver.{Acted, Parcel}
 use Rattle.strm_types.specs.Input.{input_begins, is_data, passes, stages_done, treats}
@@ -178,18 +179,18 @@ module _ {C : Type 0} (cells : Cells C) (here : Spot) (made : ℕ) (again : Bool
   among-rests zero (l ∷ ls) one over = (module-rests l one.0 over, one.1)
   among-rests (suc i) (l ∷ ls) one over = (one.0, among-rests i ls one.1 over)
 
-  module _ (p : C → Bool) (ignores : IgnoresMapping cells p) where
-    module-keeps : (q : Module C) → Ready q → let t = acts q in module_weight p t.state + (weight_sent p t.sent + weight_gone p t.gone) ≡ module_weight p q + weight_made p t.gone
+  module _ (p : Dir → C → Bool) (ignores : IgnoresMapping cells p) where
+    module-keeps : (q : Module C) → Ready q → let t = acts q in module_weight p here.side t.state + (weight_sent p t.sent + weight_gone p t.gone) ≡ module_weight p here.side q + weight_made p t.gone
     module-keeps (OfLdterm l) ready = serves-keep p cells ignores here made again (Some left) l (orderly-echo l (ready-orderly again here.way left l ready)) (ready-may again here.way left l ready)
     module-keeps (OfPtem q) ready = refl
 
     pub among-keeps : (i : ℕ) (ps : List (Module C)) → OneIs Ready i ps → let t = act_among acts i ps in
-        modules_weight p t.state + (weight_sent p t.sent + weight_gone p t.gone) ≡ modules_weight p ps + weight_made p t.gone
+        modules_weight p here.side t.state + (weight_sent p t.sent + weight_gone p t.gone) ≡ modules_weight p here.side ps + weight_made p t.gone
     among-keeps i [] one = omega arith
     among-keeps zero (l ∷ ls) one =
         let t = acts l in
         let kept = module-keeps l one.0 in
-        omega (arith, kept, sum_by-cons (module_weight p) l ls, sum_by-cons (module_weight p) t.state ls)
+        omega (arith, kept, sum_by-cons (module_weight p here.side) l ls, sum_by-cons (module_weight p here.side) t.state ls)
     among-keeps (suc i) (l ∷ ls) one =
         let t = act_among acts i ls in
-        omega (arith, among-keeps i ls one.1, sum_by-cons (module_weight p) l ls, sum_by-cons (module_weight p) l t.state)
+        omega (arith, among-keeps i ls one.1, sum_by-cons (module_weight p here.side) l ls, sum_by-cons (module_weight p here.side) l t.state)

@@ -11,6 +11,8 @@ use Rattle.strm_types.specs.declared.names.Way.TheVariants.{Up, Down}
 use Rattle.strm_types.specs.declared.rules.Rule.TheVariants.{Flushed}
 use Rattle.strm_types.specs.declared.spots.Spot.{Spot}
 use Rattle.strm_types.specs.declared.termios.Termios.{Termios}
+use Rattle.strm_types.specs.declared.names.Dir.{Dir}
+use Rattle.strm_types.specs.Names.{direction_at}
 use Rattle.strm_types.specs.Commands.{is_acked}
 use Rattle.strm_types.specs.Deliver.{Acted, AreLower, Parcel, toward}
 use Rattle.strm_types.specs.Flushing.{asked_by, flush_message, read_flush}
@@ -33,7 +35,7 @@ use Rattle.strm_types.proofs.LdtermPuts.{acked-kind, puts-each}
 use Rattle.strm_types.proofs.Onward.{onward-lower}
 use Rattle.strm_types.proofs.PtemPuts.{puts-gone, puts-sent, puts-forget as ptem-forgets, puts-lower as ptem-lower}
 
-module _ {C : Type 0} (p : C → Bool) where
+module _ {C : Type 0} (p : Dir → C → Bool) where
   abbrev MakesNone : Acted C (Ldterm C) → Type 0
   MakesNone t = weight_made p t.gone ≡ 0
 
@@ -76,24 +78,24 @@ module _ {C : Type 0} (p : C → Bool) where
     taken = λ way is ioc t. taken-none here ioc.command t m l;
   })
 
-  puts-none : (here : Spot) (m : Message C) (q : Module C) → weight_made p (module_puts here m q).gone ≡ 0
+  pub puts-none : (here : Spot) (m : Message C) (q : Module C) → weight_made p (module_puts here m q).gone ≡ 0
   puts-none here m (OfLdterm l) = ldterm-none here m l
   puts-none here m (OfPtem q) = ap (λ gone. weight_made p gone) (puts-gone here m q)
 
-  module-keeps : (here : Spot) (m : Message C) (q : Module C) → let t = module_puts here m q in module_weight p t.state + (weight_sent p t.sent + weight_gone p t.gone) ≡ module_weight p q + weight_of p m
+  module-keeps : (here : Spot) (m : Message C) (q : Module C) → let t = module_puts here m q in module_weight p here.side t.state + (weight_sent p t.sent + weight_gone p t.gone) ≡ module_weight p here.side q + weight_of (p (direction_at here.way here.side)) m
   module-keeps here m (OfLdterm l) = puts-hold p here m l
   module-keeps here m (OfPtem q) = let sent = puts-sent p here m q in let gone = ap (λ gone. weight_gone p gone) (puts-gone here m q) in omega arith
 
   -- a put at one of several modules
   pub among-keeps : (i : ℕ) (here : Spot) (m : Message C) (ps : List (Module C)) → i < length ps → let t = put_among module_puts i here m ps in
-      modules_weight p t.state + (weight_sent p t.sent + weight_gone p t.gone) ≡ modules_weight p ps + weight_of p m + weight_made p t.gone
+      modules_weight p here.side t.state + (weight_sent p t.sent + weight_gone p t.gone) ≡ modules_weight p here.side ps + weight_of (p (direction_at here.way here.side)) m + weight_made p t.gone
   among-keeps i here m [] within = absurd (omega arith)
   among-keeps zero here m (l ∷ ls) within =
       let t = module_puts here m l in
-      omega (arith, module-keeps here m l, puts-none here m l, sum_by-cons (module_weight p) l ls, sum_by-cons (module_weight p) t.state ls)
+      omega (arith, module-keeps here m l, puts-none here m l, sum_by-cons (module_weight p here.side) l ls, sum_by-cons (module_weight p here.side) t.state ls)
   among-keeps (suc i) here m (l ∷ ls) within =
       let t = put_among module_puts i here m ls in
-      omega (arith, among-keeps i here m ls (omega arith), sum_by-cons (module_weight p) l ls, sum_by-cons (module_weight p) l t.state)
+      omega (arith, among-keeps i here m ls (omega arith), sum_by-cons (module_weight p here.side) l ls, sum_by-cons (module_weight p here.side) l t.state)
 
 module _ {C D : Type 0} (f : C → D) where
   abbrev image : Acted C (List (Module C)) → Acted D (List (Module D))

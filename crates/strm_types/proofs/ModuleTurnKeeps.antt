@@ -244,7 +244,7 @@ module _ {C : Type 0} where
       named (Some at) = there-rests cells (record { side = name.side; at = at; way = name.way }) name turn s idle
 
 -- no cell is lost, and none made that isn't told
-module _ {C : Type 0} (p : C → Bool) where
+module _ {C : Type 0} (p : Dir → C → Bool) where
   book-keeps : (dir : Dir) (b : Book) (s : State C) → state_weight p (with_book dir b s) ≡ state_weight p s
   book-keeps MasterToSlave b s = refl
   book-keeps SlaveToMaster b s = refl
@@ -258,14 +258,14 @@ module _ {C : Type 0} (p : C → Bool) where
 
   -- other modules stand on a side's stream
   with-keeps : (side : Side) (ps : List (Module C)) (names : List QueueName) (s : State C)
-      → state_weight p (record (with_stream side (record (stream side s) { modules = ps }) s) { enabled = names }) + modules_weight p (stream side s).modules ≡ state_weight p s + modules_weight p ps
+      → state_weight p (record (with_stream side (record (stream side s) { modules = ps }) s) { enabled = names }) + modules_weight p side (stream side s).modules ≡ state_weight p s + modules_weight p side ps
   with-keeps Master ps names s = omega arith
   with-keeps Slave ps names s = omega arith
 
   ended-keeps : (here : Spot) (took : Bool) (s : State C) → state_weight p (with_stream here.side (queue_ended here took (stream here.side s)) s) ≡ state_weight p s
   ended-keeps here took s =
       let ps = (stream here.side s).modules in
-      omega (arith, with-keeps here.side (queue_ended here took (stream here.side s)).modules s.enabled s, changes-keep (turn_ended took) p (ended-messages took) here.way (here.at - 1) ps)
+      omega (arith, with-keeps here.side (queue_ended here took (stream here.side s)).modules s.enabled s, changes-keep (turn_ended took) p here.side (ended-messages took) here.way (here.at - 1) ps)
 
   -- what goes to places next to a module's own is delivered
   carries : (at : ℕ) → at ≤ MODULES → (sent : List (Parcel C)) → AllByRecursion (λ (q : Parcel C). q.to.at ≤ suc at) sent → AllByRecursion (CarryKeeps p (state_weight p) (carried put_in HOPS)) sent

@@ -12,7 +12,7 @@ use Rattle.strm_types.specs.Flushing.{is_flush}
 use Rattle.strm_types.specs.Message.{Message}
 use Rattle.strm_types.specs.Modules.{put_among}
 use Rattle.strm_types.specs.Names.{is_open}
-use Rattle.strm_types.specs.Puts.{put_at_driver, put_at_head, put_at_module, put_behind, put_below, put_in}
+use Rattle.strm_types.specs.Puts.{is_bare_flush, put_at_driver, put_at_head, put_at_module, put_behind, put_below, put_in}
 use Rattle.strm_types.specs.Stacked.{Module, module_puts}
 use Rattle.strm_types.specs.State.{State}
 use Rattle.strm_types.proofs.DeliveryHolds.{PutHolds}
@@ -38,7 +38,7 @@ module _ {C : Type 0} (Good : Side → List (Module C) → Type 0) where
 
     behind-holds : (way : Way) (here : Spot) (m : Message C) (s : State C) → OnBoth s → OnBoth (put_behind way here m s).state
     behind-holds Down here m s good = driver-holds here.side here m s good
-    behind-holds Up here m s good = either-holds OnBoth (is_flush m.kind && here.at == suc MODULES) _ _ (λ _. driver-holds here.side here m s good) good
+    behind-holds Up here m s good = either-holds OnBoth (is_bare_flush m && here.at == suc MODULES) _ _ (λ _. driver-holds here.side here m s good) good
 
     below-holds : (way : Way) (here : Spot) (m : Message C) (s : State C) → OnBoth s → OnBoth (put_below way here m s).state
     below-holds way here m s good = either-holds OnBoth (nat_le here.at (modules_on here.side s)) _ _ (λ _. module-holds here.side here m s good) (behind-holds way here m s good)

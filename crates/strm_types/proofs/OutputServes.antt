@@ -6,6 +6,9 @@ use Rattle.std.proofs.lemmas.Bool.{false≢true}
 use Rattle.std.proofs.lemmas.List.{drop-map, length-map, take-append-drop, take-map}
 use Rattle.strm_types.specs.declared.names.Way.TheVariants.{Down}
 use Rattle.strm_types.specs.declared.spots.Spot.{Spot}
+use Rattle.strm_types.specs.declared.names.Dir.{Dir}
+use Rattle.strm_types.proofs.LdtermKeeps.{onward-weighs, way-down}
+use Rattle.strm_types.specs.Names.{direction_at}
 use Rattle.strm_types.specs.Cells.{Cells, AreCells, plain}
 use Rattle.strm_types.specs.Deliver.{Parcel}
 use Rattle.strm_types.specs.Input.{back_on, is_data, left_of, output_passes, passes}
@@ -79,41 +82,45 @@ module _ {C : Type 0} (cells : Cells C) (here : Spot) (stop : Option ℕ) where
   output-orderly made [] l is none = is
   output-orderly made (m ∷ rest) l is none = record { echo = λ e. absurd (false≢true (sym ((is.idle none).2) ∙ e)); idle = is.idle }
 
-module _ {C : Type 0} (p : C → Bool) (cells : Cells C) (ignores : IgnoresMapping cells p) (here : Spot) (stop : Option ℕ) where
+module _ {C : Type 0} (p : Dir → C → Bool) (cells : Cells C) (ignores : IgnoresMapping cells p) (here : Spot) (stop : Option ℕ) where
+  -- the test of what goes down
+  abbrev down : C → Bool
+  down = p (direction_at Down here.side)
+
   -- a message with what its bytes give has the cells that are given
-  given-weighs : (given : List C) (m : Message C) → weight_sent p (map (onward Down here) (with_given given m)) ≡ count_by p given
+  given-weighs : (given : List C) (m : Message C) → weight_sent p (map (onward Down here) (with_given given m)) ≡ count_by (p (direction_at Down here.side)) given
   unfolding weight_of cells_of
   given-weighs [] m = refl
-  given-weighs (c ∷ given) m = omega arith
+  given-weighs (c ∷ given) m = omega (arith, ap (λ way. count_by (p (direction_at way here.side)) (c ∷ given)) (way-down here.at))
 
-  left-weighs : (rest : List C) (m : Message C) → weight_of p (left_of rest m) ≡ count_by p rest
+  left-weighs : (rest : List C) (m : Message C) → weight_of (p (direction_at Down here.side)) (left_of rest m) ≡ count_by (p (direction_at Down here.side)) rest
   unfolding weight_of cells_of
   left-weighs rest m = refl
 
   abbrev Keeps : Message C → Outgoing C → Type 0
-  Keeps m t = weight_in_work p t.left + (weight_sent p (map (onward Down here) t.messages) + weight_gone p t.told) ≡ weight_of p m + weight_made p t.told
+  Keeps m t = weight_in_work down t.left + (weight_sent p (map (onward Down here) t.messages) + weight_gone p t.told) ≡ weight_of down m + weight_made p t.told
 
-  posted-keeps : (made : ℕ) (xs : List C) (m : Message C) (l : Ldterm C) → weight_of p m ≡ count_by p xs → Keeps m (posted cells here stop made xs m l)
-  posted-keeps made [] m l is = omega arith
+  posted-keeps : (made : ℕ) (xs : List C) (m : Message C) (l : Ldterm C) → weight_of down m ≡ count_by down xs → Keeps m (posted cells here stop made xs m l)
+  posted-keeps made [] m l is = omega (arith, onward-weighs p Down here m)
   posted-keeps made (c ∷ rest) m l is =
       let most = unwrap_or stop (length (c ∷ rest)) in
       let treated = take most (c ∷ rest) in
       let left = drop most (c ∷ rest) in
       let t = posts cells (output_dir cells here) made l.termios l.column treated in
-      let parts : count_by p (c ∷ rest) ≡ count_by p treated + count_by p left = ap (λ xs. count_by p xs) (sym (take-append-drop most (c ∷ rest))) ∙ count-join p treated left in
+      let parts : count_by down (c ∷ rest) ≡ count_by down treated + count_by down left = ap (λ xs. count_by down xs) (sym (take-append-drop most (c ∷ rest))) ∙ count-join down treated left in
       omega (arith, parts, left-weighs left m, given-weighs t.given m, posts-keep p cells ignores (output_dir cells here) made l.termios l.column treated)
 
   outgoing-keeps : (made : ℕ) (m : Message C) (l : Ldterm C) → Keeps m (outgoing cells here stop made m l)
-  outgoing-keeps made m l = either-way cells here stop (λ t. Keeps m t) made m l (omega arith) (posted-keeps made (cells_of m) m l (sym (weight-whole p m)))
+  outgoing-keeps made m l = either-way cells here stop (λ t. Keeps m t) made m l (omega (arith, onward-weighs p Down here m)) (posted-keeps made (cells_of m) m l (sym (weight-whole down m)))
 
-  pub output-keeps : (made : ℕ) (l : Ldterm C) → ActedKeeps p (output_serves cells here stop made l.write_queue.messages l).acted (ldterm_weight p l)
+  pub output-keeps : (made : ℕ) (l : Ldterm C) → ActedKeeps p here.side (output_serves cells here stop made l.write_queue.messages l).acted (ldterm_weight p here.side l)
   output-keeps made l = at l.write_queue.messages
     where
-      at : (ms : List (Message C)) → (let held : Ldterm C = record l { write_queue = record l.write_queue { messages = ms } } in ActedKeeps p (output_serves cells here stop made ms held).acted (ldterm_weight p held))
+      at : (ms : List (Message C)) → (let held : Ldterm C = record l { write_queue = record l.write_queue { messages = ms } } in ActedKeeps p here.side (output_serves cells here stop made ms held).acted (ldterm_weight p here.side held))
       at [] = omega arith
       at (m ∷ rest) =
           let held : Ldterm C = record l { write_queue = record l.write_queue { messages = m ∷ rest } } in
-          omega (arith, weight-take p m rest, outgoing-keeps made m held, back-weighs p (outgoing cells here stop made m held).left (left_with rest held.write_queue))
+          omega (arith, weight-take down m rest, outgoing-keeps made m held, back-weighs down (outgoing cells here stop made m held).left (left_with rest held.write_queue))
 
 -- origins are forgotten
 

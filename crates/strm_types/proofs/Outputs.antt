@@ -138,26 +138,26 @@ module _ {C : Type 0} (cells : Cells C) (dir : Dir) where
 
 -- cells are kept
 
-module _ {C : Type 0} (p : C → Bool) (cells : Cells C) (ignores : IgnoresMapping cells p) (dir : Dir) where
-  same : (b : ℕ) (c : C) → count_by p (cells.mapped b c ∷ []) ≡ count_by p (c ∷ [])
-  same b c = ap (λ x. 0 + cond x 1 0) (ignores b c)
+module _ {C : Type 0} (p : Dir → C → Bool) (cells : Cells C) (ignores : IgnoresMapping cells p) (dir : Dir) where
+  same : (b : ℕ) (c : C) → count_by (p dir) (cells.mapped b c ∷ []) ≡ count_by (p dir) (c ∷ [])
+  same b c = ap (λ x. 0 + cond x 1 0) (ignores dir b c)
 
   first-keeps : (given : Given) (made : ℕ) (c : C) →
-      count_by p (given_for cells dir given made c) + weight_gone p (told_for cells dir given made c) ≡ count_by p (c ∷ []) + weight_made p (told_for cells dir given made c)
+      count_by (p dir) (given_for cells dir given made c) + weight_gone p (told_for cells dir given made c) ≡ count_by (p dir) (c ∷ []) + weight_made p (told_for cells dir given made c)
   first-keeps (Byte b) made c = omega (arith, same b c)
-  first-keeps Ended made c = omega (arith, same newline c, count-join p (return_made cells dir made) (cells.mapped newline c ∷ []))
+  first-keeps Ended made c = omega (arith, same newline c, count-join (p dir) (return_made cells dir made) (cells.mapped newline c ∷ []))
   first-keeps (Spaces columns) made c = omega arith
   first-keeps Nothing made c = omega arith
 
   pub posts-keep : (made : ℕ) (t : Termios) (column : ℕ) (xs : List C) →
-      let u = posts cells dir made t column xs in count_by p u.given + weight_gone p u.told ≡ count_by p xs + weight_made p u.told
+      let u = posts cells dir made t column xs in count_by (p dir) u.given + weight_gone p u.told ≡ count_by (p dir) xs + weight_made p u.told
   posts-keep made t column [] = refl
   posts-keep made t column (c ∷ xs) =
       let q = post t column (cells.byte c) in
       let given = given_for cells dir q.given made c in
       let told = told_for cells dir q.given made c in
       let u = posts cells dir (made + made_for q.given) t q.column xs in
-      omega (arith, first-keeps q.given made c, posts-keep (made + made_for q.given) t q.column xs, count-join p given u.given, gone-append p told u.told, made-append p told u.told, count-join p (c ∷ []) xs)
+      omega (arith, first-keeps q.given made c, posts-keep (made + made_for q.given) t q.column xs, count-join (p dir) given u.given, gone-append p told u.told, made-append p told u.told, count-join (p dir) (c ∷ []) xs)
 
 -- origins are forgotten
 

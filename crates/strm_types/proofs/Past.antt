@@ -5,6 +5,7 @@ use Rattle.strm_types.specs.declared.names.Side.{Side}
 use Rattle.strm_types.specs.declared.names.Side.TheVariants.{Master, Slave}
 use Rattle.strm_types.specs.declared.names.Way.{Way}
 use Rattle.strm_types.specs.declared.names.Way.TheVariants.{Up, Down}
+use Rattle.strm_types.specs.declared.names.Dir.{Dir}
 use Rattle.strm_types.specs.Kept.{AreIdle, state_weight, stream_weight}
 use Rattle.strm_types.specs.ModuleQueues.{can_pass, full_at, place_past, room_at, waits, with_waiting}
 use Rattle.strm_types.specs.Modules.{change_among}
@@ -93,12 +94,12 @@ module _ {C : Type 0} where
   waits-idle Master way at band s idle = record { master = idle-on way band (place_past module_queue way at s.master.modules) s.master idle.master; slave = idle.slave }
   waits-idle Slave way at band s idle = record { master = idle.master; slave = idle-on way band (place_past module_queue way at s.slave.modules) s.slave idle.slave }
 
-  module _ (p : C → Bool) where
-    weight-on : (way : Way) (band : ℕ) (o : Option ℕ) (t : Stream C) → stream_weight p (waits_on way band o t) ≡ stream_weight p t
-    weight-on Up band None t = refl
-    weight-on Down band None t = refl
-    weight-on way band (Some place) t = let same = changes-keep (with_waiting band) p (λ q. refl) way (place - 1) t.modules in omega arith
+  module _ (p : Dir → C → Bool) where
+    weight-on : (side : Side) (way : Way) (band : ℕ) (o : Option ℕ) (t : Stream C) → stream_weight p side (waits_on way band o t) ≡ stream_weight p side t
+    weight-on side Up band None t = refl
+    weight-on side Down band None t = refl
+    weight-on side way band (Some place) t = let same = changes-keep (with_waiting band) p side (λ q. refl) way (place - 1) t.modules in omega arith
 
     pub waits-keeps : (side : Side) (way : Way) (at band : ℕ) (s : State C) → state_weight p (writer_waits side way at band s) ≡ state_weight p s
-    waits-keeps Master way at band s = let same = weight-on way band (place_past module_queue way at s.master.modules) s.master in omega arith
-    waits-keeps Slave way at band s = let same = weight-on way band (place_past module_queue way at s.slave.modules) s.slave in omega arith
+    waits-keeps Master way at band s = let same = weight-on Master way band (place_past module_queue way at s.master.modules) s.master in omega arith
+    waits-keeps Slave way at band s = let same = weight-on Slave way band (place_past module_queue way at s.slave.modules) s.slave in omega arith

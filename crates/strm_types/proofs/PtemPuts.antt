@@ -12,6 +12,9 @@ use Rattle.strm_types.specs.declared.names.Way.TheVariants.{Up, Down}
 use Rattle.strm_types.specs.declared.spots.Spot.{Spot}
 use Rattle.strm_types.specs.declared.termios.Termios.{Termios}
 use Rattle.strm_types.specs.declared.winsize.Winsize.{Winsize}
+use Rattle.strm_types.specs.declared.names.Dir.{Dir}
+use Rattle.strm_types.proofs.LdtermKeeps.{onward-weighs}
+use Rattle.strm_types.specs.Names.{direction_at}
 use Rattle.strm_types.specs.Acks.{ack_message, payload, telling_message}
 use Rattle.strm_types.specs.Commands.{is_asked, is_ioctl, sets_termios}
 use Rattle.strm_types.specs.Deliver.{Acted, AreLower, Parcel}
@@ -104,12 +107,12 @@ asked-ioctl m is = at m.kind (has_parts m) is
     at Ioctl parts is = refl
     at _ parts is = absurd (cc)
 
-module _ {C : Type 0} (p : C → Bool) where
+module _ {C : Type 0} (p : Dir → C → Bool) where
   -- its cells are sent on, where it has any
-  pub puts-sent : (here : Spot) (m : Message C) (l : Ptem) → weight_sent p (ptem_puts here m l).sent ≡ weight_of p m
+  pub puts-sent : (here : Spot) (m : Message C) (l : Ptem) → weight_sent p (ptem_puts here m l).sent ≡ weight_of (p (direction_at here.way here.side)) m
   unfolding weight_of cells_of
-  puts-sent here m l = puts-each here m l (λ t. weight_sent p t.sent ≡ weight_of p m) (omega arith) (λ is.
-      let none : weight_of p m ≡ 0 = (no-parts p m (asked-bare (is_ioctl m.kind) (has_parts m) is)) in
+  puts-sent here m l = puts-each here m l (λ t. weight_sent p t.sent ≡ weight_of (p (direction_at here.way here.side)) m) (omega (arith, onward-weighs p here.way here m)) (λ is.
+      let none : weight_of (p (direction_at here.way here.side)) m ≡ 0 = (no-parts (p (direction_at here.way here.side)) m (asked-bare (is_ioctl m.kind) (has_parts m) is)) in
       record {
         acked = λ way ioc given. sym none;
         refused_above = λ way ioc. sym none;

@@ -1,6 +1,6 @@
 -- Forgetting the origins of cells commutes with pushes and pops.
-use Rattle.std.proofs.Common.{◌≡◌, Bool, true, false, cond, List, [], ◌∷◌, ◌++◌, map, refl, sym, ap, ◌∙◌}
-use Rattle.std.specs.Prelude.{not, flat_map, Option, None, Some, option_map}
+use Rattle.std.proofs.Common.{ℕ, ◌≡◌, Bool, true, false, cond, List, [], ◌∷◌, ◌++◌, map, refl, sym, ap, ◌∙◌}
+use Rattle.std.specs.Prelude.{◌&&◌, ◌||◌, not, flat_map, Option, None, Some, option_map}
 use Rattle.std.proofs.lemmas.List.{map-append}
 use Rattle.strm_types.specs.declared.modes.ReadMode.{ReadMode}
 use Rattle.strm_types.specs.declared.names.ModuleName.{ModuleName}
@@ -12,31 +12,38 @@ use Rattle.strm_types.specs.declared.names.Side.{Side}
 use Rattle.strm_types.specs.declared.names.Side.TheVariants.{Master, Slave}
 use Rattle.strm_types.specs.declared.names.Way.{Way}
 use Rattle.strm_types.specs.declared.names.Way.TheVariants.{Up, Down}
+use Rattle.strm_types.specs.declared.refusals.Refusal.TheVariants.{Einval}
 use Rattle.strm_types.specs.declared.rules.Rule.{Rule}
 use Rattle.strm_types.specs.declared.rules.Rule.TheVariants.{ModulePopped}
+use Rattle.strm_types.specs.declared.slots.Slot.TheVariants.{Free, Waiting, Acked, Nacked}
 use Rattle.strm_types.specs.declared.spots.Note.TheVariants.{Room}
 use Rattle.strm_types.specs.Deliver.{Acted, Carried, Fate, Goes}
+use Rattle.strm_types.specs.Commands.{is_asked, is_ioctl}
+use Rattle.strm_types.specs.Dropped.{has_ioctl, has_number, is_ioctl_of, slot_dropped}
 use Rattle.strm_types.specs.Earlier.{before_at}
 use Rattle.strm_types.specs.Emptied.{of_all, cells_gone, queue_behind, writer_goes}
 use Rattle.strm_types.specs.LdtermOrigins.{map_ldterm}
 use Rattle.strm_types.specs.Ldterms as ldterms
-use Rattle.strm_types.specs.Message.{Message, map_message}
+use Rattle.strm_types.specs.Ioctls.{read_ioc}
+use Rattle.strm_types.specs.Message.{Message, has_parts, map_message}
 use Rattle.strm_types.specs.ModuleQueues.{has_queue, messages_at}
 use Rattle.strm_types.specs.Modules.{top_name, without_module}
 use Rattle.strm_types.specs.Names.{direction_at, enable_if, place_of}
 use Rattle.strm_types.specs.Options.{mode_message}
 use Rattle.strm_types.specs.Origins.{map_acted, map_carried, map_fate}
-use Rattle.strm_types.specs.Pushes.{all_taken, enable_waiting, head_above, is_there, let_come, messages_on, messages_there, mode_behind, mode_on_push, mode_put, modules_emptied, named_by, popped, pushed, pushed_named, top_on, top_taken, with_modules, without_top}
+use Rattle.strm_types.specs.Pushes.{all_taken, below_top, enable_waiting, head_above, ioctl_dropped, is_there, let_come, messages_on, messages_there, mode_behind, mode_on_push, mode_put, modules_emptied, named_by, popped, pushed, pushed_named, taken_off, top_on, top_taken, with_modules, without_top}
 use Rattle.strm_types.specs.Puts.{delivered, earlier_at, noted}
 use Rattle.strm_types.specs.Queue.{Queue, is_none_left, map_messages, map_queue}
+use Rattle.strm_types.specs.Slots.{PlainSlot}
 use Rattle.strm_types.specs.Service.{cleared, line_gone}
 use Rattle.strm_types.specs.Stacked.{Module, OfLdterm, OfPtem, done_by, map_module, module_line, module_name, module_queue, with_module_queue, without_module_line}
-use Rattle.strm_types.specs.State.{State, Stream, stream, map_state, map_stream}
+use Rattle.strm_types.specs.State.{State, Stream, stream, map_state, map_stream, with_ioctl}
 use Rattle.strm_types.proofs.Earlier.{before_at-forgets, name-forgets, queue-forgets}
 use Rattle.strm_types.proofs.EmptiedForgets.{gone-forgets, queue_behind-forgets, stream-forgets, writer_goes-forgets}
-use Rattle.strm_types.proofs.Forgetting.{none-forgets}
+use Rattle.strm_types.proofs.Forgetting.{kind-forgets, none-forgets}
 use Rattle.strm_types.proofs.LdtermPutForgets.{line_gone-forgets}
 use Rattle.strm_types.proofs.PutForgets.{mode-forgets}
+use Rattle.strm_types.proofs.PutForgets.{bytes-forget, parts-forget}
 use Rattle.strm_types.proofs.PutsForget.{delivered-forgets, notes-forget}
 
 -- what is left of a module whose queues and line have gone, so, with what let writers go
@@ -186,7 +193,7 @@ module _ {C D : Type 0} (f : C → D) where
       ∙ ap (λ (t : Carried D (State D)). record { state = let_come reads side t.state; gone = t.gone }) (mode_put-forgets side mode on)
       ∙ ap (λ (x : State D). record { state = x; gone = map (map_fate f) (mode_put side mode on).gone }) (let_come-forgets reads side (mode_put side mode on).state)
 
-  named_by-forgets : (name : Option ModuleName) → named_by name ≡ option_map (map_module f) (named_by name)
+  pub named_by-forgets : (name : Option ModuleName) → named_by name ≡ option_map (map_module f) (named_by name)
   named_by-forgets None = refl
   named_by-forgets (Some names.Ldterm) = refl
   named_by-forgets (Some names.Ptem) = refl
@@ -208,8 +215,8 @@ module _ {C D : Type 0} (f : C → D) where
   pub top-forgets : (side : Side) (s : State C) → top_on side (map_state f s) ≡ top_on side s
   top-forgets side s = ap (λ (t : Stream D). top_name module_name t.modules) (stream-forgets f side s) ∙ top_name-forgets (stream side s).modules
 
-  pub pop-forgets : (side : Side) (s : State C) → popped side (map_state f s) ≡ image (popped side s)
-  pop-forgets side s =
+  off-forgets : (side : Side) (s : State C) → taken_off side (map_state f s) ≡ image (taken_off side s)
+  off-forgets side s =
       let ps = (stream side s).modules in
       let t = top_taken ModulePopped side ps s in
       let mode = mode_behind (top_on side s) in
@@ -218,3 +225,38 @@ module _ {C D : Type 0} (f : C → D) where
       ∙ ap (λ (x : Carried D (State D)). let u = mode_put side mode x.state in record { state = u.state; gone = x.gone ++ u.gone }) (top_taken-forgets ModulePopped side ps s)
       ∙ ap (λ (u : Carried D (State D)). record { state = u.state; gone = map (map_fate f) t.gone ++ u.gone }) (mode_put-forgets side mode t.state)
       ∙ joined-forgets t (mode_put side mode t.state)
+
+  -- the ioctl whose M_IOCTL goes
+  below-forgets : (ps : List (Module C)) → below_top (images ps) ≡ map_messages f (below_top ps)
+  below-forgets [] = refl
+  below-forgets (OfLdterm l ∷ ps) = refl
+  below-forgets (OfPtem p ∷ ps) = refl
+
+  ioctl-forgets : (number : ℕ) (m : Message C) → is_ioctl_of number (map_message f m) ≡ is_ioctl_of number m
+  ioctl-forgets number m =
+      ap (λ kind. (is_ioctl kind && not (has_parts (map_message f m))) && has_number number (read_ioc (map_message f m).plain)) (kind-forgets f m)
+      ∙ ap (λ parts. (is_ioctl m.kind && not parts) && has_number number (read_ioc (map_message f m).plain)) (parts-forget f m)
+      ∙ ap (λ bytes. is_asked m && has_number number (read_ioc bytes)) (bytes-forget f m)
+
+  ioctls-forget : (number : ℕ) (ms : List (Message C)) → has_ioctl number (map_messages f ms) ≡ has_ioctl number ms
+  ioctls-forget number [] = refl
+  ioctls-forget number (m ∷ ms) = ap (λ b. b || has_ioctl number (map_messages f ms)) (ioctl-forgets number m) ∙ ap (λ b. is_ioctl_of number m || b) (ioctls-forget number ms)
+
+  slot-forgets : (ms : List (Message C)) (slot : PlainSlot) → slot_dropped (map_messages f ms) slot ≡ slot_dropped ms slot
+  slot-forgets ms Free = refl
+  slot-forgets ms (Waiting number command) = ap (λ b. cond b (Nacked number command Einval) (Waiting number command)) (ioctls-forget number ms)
+  slot-forgets ms (Acked number command body) = refl
+  slot-forgets ms (Nacked number command refusal) = refl
+
+  dropped-forgets : (side : Side) (ms : List (Message C)) (s : State C) → ioctl_dropped side (map_messages f ms) (map_state f s) ≡ map_state f (ioctl_dropped side ms s)
+  dropped-forgets Master ms s = ap (λ (slot : PlainSlot). with_ioctl Master slot (map_state f s)) (slot-forgets ms s.master.head.ioctl)
+  dropped-forgets Slave ms s = ap (λ (slot : PlainSlot). with_ioctl Slave slot (map_state f s)) (slot-forgets ms s.slave.head.ioctl)
+
+  pub pop-forgets : (side : Side) (s : State C) → popped side (map_state f s) ≡ image (popped side s)
+  pop-forgets side s =
+      let t = taken_off side s in
+      let ps = (stream side s).modules in
+      ap (λ (t : Carried D (State D)). record { state = ioctl_dropped side (below_top (stream side (map_state f s)).modules) t.state; gone = t.gone }) (off-forgets side s)
+      ∙ ap (λ (on : Stream D). record { state = ioctl_dropped side (below_top on.modules) (map_state f t.state); gone = map (map_fate f) t.gone }) (stream-forgets f side s)
+      ∙ ap (λ (ms : List (Message D)). record { state = ioctl_dropped side ms (map_state f t.state); gone = map (map_fate f) t.gone }) (below-forgets ps)
+      ∙ ap (λ (x : State D). record { state = x; gone = map (map_fate f) t.gone }) (dropped-forgets side (below_top ps) t.state)

@@ -13,19 +13,21 @@ use Rattle.strm_types.specs.ModuleQueues.{has_queue}
 use Rattle.strm_types.specs.Modules.{without_module}
 use Rattle.strm_types.specs.Names.{place_of}
 use Rattle.strm_types.specs.Options.{mode_message}
-use Rattle.strm_types.specs.Pushes.{all_taken, enable_waiting, head_above, let_come, mode_behind, mode_on_push, mode_put, modules_emptied, popped, pushed, pushed_named, top_on, top_taken, with_modules}
+use Rattle.strm_types.specs.Pushes.{all_taken, below_top, enable_waiting, head_above, ioctl_dropped, let_come, mode_behind, mode_on_push, mode_put, modules_emptied, popped, pushed, pushed_named, taken_off, top_on, top_taken, with_modules}
 use Rattle.strm_types.specs.Puts.{delivered, earlier_at, noted}
 use Rattle.strm_types.specs.Stacked.{Module, module_name, module_queue}
 use Rattle.strm_types.specs.State.{State, stream}
 use Rattle.strm_types.proofs.PushForgets.{clears}
 
--- It holds where other queues are enabled, where other modules of a kind stand on the side, and behind what comes to its head; and
+-- It holds where other queues are enabled, where other modules of a kind stand on the side, behind what comes to its head, and where an ioctl ends with
+-- what is let go; and
 -- those on the side are of that kind, and so are those below the one on top.
 pub record Survives {C : Type 0} (side : Side) (Holds : State C → Type 0) (Good : List (Module C) → Type 0) : Type 0 where
   pub named : (names : List QueueName) (s : State C) → Holds s → Holds (record s { enabled = names })
   pub apart : (ps : List (Module C)) (s : State C) → Good ps → Holds s → Holds (with_modules side ps s)
   pub given : (m : Message C) (s : State C) → Holds s → Holds (delivered (head_above side) m s).state
   pub good : (s : State C) → Holds s → Good (stream side s).modules
+  pub dropped : (ms : List (Message C)) (s : State C) → Holds s → Holds (ioctl_dropped side ms s)
   pub below : (p : Module C) (ps : List (Module C)) → Good (p ∷ ps) → Good ps
 
 module _ {C : Type 0} (side : Side) (Holds : State C → Type 0) (Good : List (Module C) → Type 0) (survives : Survives side Holds Good) where
@@ -67,4 +69,5 @@ module _ {C : Type 0} (side : Side) (Holds : State C → Type 0) (Good : List (M
   pub pop-holds : (s : State C) → Holds s → Holds (popped side s).state
   pop-holds s holds =
       let ps = (stream side s).modules in
-      mode_put-holds (mode_behind (top_on side s)) (top_taken ModulePopped side ps s).state (top_taken-holds ModulePopped ps s (survives.good s holds) holds)
+      survives.dropped (below_top ps) (taken_off side s).state
+      (mode_put-holds (mode_behind (top_on side s)) (top_taken ModulePopped side ps s).state (top_taken-holds ModulePopped ps s (survives.good s holds) holds))

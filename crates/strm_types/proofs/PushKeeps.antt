@@ -11,17 +11,19 @@ use Rattle.strm_types.specs.declared.names.Side.TheVariants.{Master, Slave}
 use Rattle.strm_types.specs.declared.names.Way.TheVariants.{Up, Down}
 use Rattle.strm_types.specs.declared.rules.Rule.{Rule}
 use Rattle.strm_types.specs.declared.rules.Rule.TheVariants.{ModulePopped}
+use Rattle.strm_types.specs.declared.names.Dir.{Dir}
 use Rattle.strm_types.specs.Deliver.{Carried, Fate, Goes}
 use Rattle.strm_types.specs.Emptied.{of_all, cells_gone}
 use Rattle.strm_types.specs.Kept.{state_weight}
 use Rattle.strm_types.specs.LdtermWeights.{ldterm_weight, weight_begun, weight_in_work}
 use Rattle.strm_types.specs.Ldterms.{IsIdle, Ldterm, new_ldterm}
+use Rattle.strm_types.specs.Message.{Message}
 use Rattle.strm_types.specs.ModuleQueues.{has_queue}
 use Rattle.strm_types.specs.Names.{direction_at}
 use Rattle.strm_types.specs.Options.{mode_message}
 use Rattle.strm_types.specs.Places.{weight_gone, weight_made}
 use Rattle.strm_types.specs.Ptems.{new_ptem}
-use Rattle.strm_types.specs.Pushes.{all_taken, head_above, let_come, mode_behind, mode_on_push, mode_put, modules_emptied, named_by, popped, pushed, pushed_named, top_on, top_taken, with_modules}
+use Rattle.strm_types.specs.Pushes.{all_taken, below_top, head_above, ioctl_dropped, let_come, mode_behind, mode_on_push, mode_put, modules_emptied, named_by, popped, pushed, pushed_named, taken_off, top_on, top_taken, with_modules}
 use Rattle.strm_types.specs.Queue.{Queue, weight}
 use Rattle.strm_types.specs.Service.{line_gone}
 use Rattle.strm_types.specs.Stacked.{Module, OfLdterm, OfPtem, IsAtRest, module_name, module_queue, module_weight, modules_weight}
@@ -33,41 +35,42 @@ use Rattle.strm_types.proofs.LdtermKeeps.{lost-gone, lost-made}
 use Rattle.strm_types.proofs.PushForgets.{clears}
 use Rattle.strm_types.proofs.PutWeights.{weight-mode}
 
-module _ {C : Type 0} (p : C → Bool) where
+module _ {C : Type 0} (p : Dir → C → Bool) where
   -- what a pair comes to that had so many cells
   abbrev Keeps : Carried C (State C) → ℕ → Type 0
   Keeps t n = state_weight p t.state + weight_gone p t.gone ≡ n + weight_made p t.gone
 
   -- a module of which nothing of a turn is under way lets go all that it has, and makes nothing
-  all-goes : (q : Queue C) → count_by p (cells_gone of_all q.messages) ≡ weight p q.messages
-  all-goes q = omega (arith, behind-keeps p of_all q, behind-all p q)
+  all-goes : (t : C → Bool) (q : Queue C) → count_by t (cells_gone of_all q.messages) ≡ weight t q.messages
+  all-goes t q = omega (arith, behind-keeps t of_all q, behind-all t q)
 
-  begun-none : (l : Ldterm C) → IsIdle l → ldterm_weight p l ≡ weight p l.read_queue.messages + (count_by p l.line + weight p l.write_queue.messages)
-  begun-none l idle =
-      let stage = ap (λ x. weight_begun p x) idle.3 in
-      let work = ap (λ x. weight_in_work p x) idle.0 in
-      let gathered = ap (λ xs. count_by p xs) idle.1 in
+  begun-none : (side : Side) (l : Ldterm C) → IsIdle l →
+      ldterm_weight p side l ≡ weight (p (direction_at Up side)) l.read_queue.messages + (count_by (p (direction_at Up side)) l.line + weight (p (direction_at Down side)) l.write_queue.messages)
+  begun-none side l idle =
+      let stage = ap (λ x. weight_begun p side x) idle.3 in
+      let work = ap (λ x. weight_in_work (p (direction_at Up side)) x) idle.0 in
+      let gathered = ap (λ xs. count_by (p (direction_at Up side)) xs) idle.1 in
       omega arith
 
   -- what its write queue had
   abbrev down_gone : Side → Rule → Ldterm C → List (Fate C)
   down_gone side rule l = Goes (direction_at Down side) rule (cells_gone of_all l.write_queue.messages) ∷ []
 
-  clears-keeps : (side : Side) (rule : Rule) (q : Module C) → IsAtRest q → weight_gone p (clears side rule q).gone ≡ module_weight p q
+  clears-keeps : (side : Side) (rule : Rule) (q : Module C) → IsAtRest q → weight_gone p (clears side rule q).gone ≡ module_weight p side q
   clears-keeps side rule (OfPtem q) idle = refl
   clears-keeps side rule (OfLdterm l) idle =
       let line = lost-gone p side rule l.line in
-      let up = all-goes l.read_queue in
-      let down = all-goes l.write_queue in
+      let up = all-goes (p (direction_at Up side)) l.read_queue in
+      let down = all-goes (p (direction_at Down side)) l.write_queue in
       let joined = gone-append p (line_gone side rule l.line) (down_gone side rule l) in
-      omega (arith, begun-none l idle, line, up, down, joined)
+      omega (arith, begun-none side l idle, line, up, down, joined)
 
-  clears-make-none : (side : Side) (rule : Rule) (q : Module C) → weight_made p (clears side rule q).gone ≡ 0
+  pub clears-make-none : (side : Side) (rule : Rule) (q : Module C) → weight_made p (clears side rule q).gone ≡ 0
   clears-make-none side rule (OfPtem q) = refl
   clears-make-none side rule (OfLdterm l) = omega (arith, lost-made p side rule l.line, made-append p (line_gone side rule l.line) (down_gone side rule l))
 
   -- a pair with other modules on a side
-  modules-weigh : (side : Side) (ps : List (Module C)) (s : State C) → state_weight p (with_modules side ps s) + modules_weight p (stream side s).modules ≡ state_weight p s + modules_weight p ps
+  modules-weigh : (side : Side) (ps : List (Module C)) (s : State C) → state_weight p (with_modules side ps s) + modules_weight p side (stream side s).modules ≡ state_weight p s + modules_weight p side ps
   modules-weigh Master ps s = omega arith
   modules-weigh Slave ps s = omega arith
 
@@ -79,8 +82,8 @@ module _ {C : Type 0} (p : C → Bool) where
   pub top_taken-keeps : (rule : Rule) (side : Side) (ps : List (Module C)) (s : State C) → (stream side s).modules ≡ ps → AllByRecursion (λ l. IsAtRest l) ps → Keeps (top_taken rule side ps s) (state_weight p s)
   top_taken-keeps rule side [] s are idle = refl
   top_taken-keeps rule side (l ∷ ls) s are idle =
-      let there = ap (λ ps. modules_weight p ps) are in
-      let cons = sum_by-cons (module_weight p) l ls in
+      let there = ap (λ ps. modules_weight p side ps) are in
+      let cons = sum_by-cons (module_weight p side) l ls in
       let goes = clears-keeps side rule l idle.0 in
       let makes = clears-make-none side rule l in
       let apart = modules-weigh side ls s in
@@ -107,35 +110,35 @@ module _ {C : Type 0} (p : C → Bool) where
   -- the head's read mode
   mode_put-keeps : (side : Side) (mode : Option ReadMode) (s : State C) → Keeps (mode_put side mode s) (state_weight p s)
   mode_put-keeps side None s = refl
-  mode_put-keeps side (Some mode) s = omega (arith, delivered-keeps p (head_above side) (mode_message mode) s (omega arith), weight-mode p mode)
+  mode_put-keeps side (Some mode) s = omega (arith, delivered-keeps p (head_above side) (mode_message mode) s (omega arith), weight-mode (p (direction_at Up side)) mode)
 
   -- a push
   come-keeps : (reads : Bool) (side : Side) (s : State C) → state_weight p (let_come reads side s) ≡ state_weight p s
   come-keeps false side s = refl
   come-keeps true side s = refl
 
-  pushed-keeps : (side : Side) (l : Module C) (s : State C) → Keeps (pushed side l s) (state_weight p s + module_weight p l)
+  pushed-keeps : (side : Side) (l : Module C) (s : State C) → Keeps (pushed side l s) (state_weight p s + module_weight p side l)
   pushed-keeps side l s =
       let on = with_modules side (l ∷ (stream side s).modules) s in
       let told = mode_put side (mode_on_push (module_name l)) on in
       let comes = come-keeps (has_queue module_queue Up l) side told.state in
       let first = mode_put-keeps side (mode_on_push (module_name l)) on in
-      let cons = sum_by-cons (module_weight p) l (stream side s).modules in
+      let cons = sum_by-cons (module_weight p side) l (stream side s).modules in
       let apart = modules-weigh side (l ∷ (stream side s).modules) s in
       omega arith
 
-  new-weight : module_weight p (OfLdterm (new_ldterm {C = C})) ≡ 0
-  new-weight = refl
+  new-weight : (side : Side) → module_weight p side (OfLdterm (new_ldterm {C = C})) ≡ 0
+  new-weight side = refl
 
   pub push-keeps : (side : Side) (name : Option ModuleName) (s : State C) → Keeps (pushed_named side (named_by name) s) (state_weight p s)
   push-keeps side None s = refl
-  push-keeps side (Some names.Ldterm) s = let made = new-weight in let all = pushed-keeps side (OfLdterm new_ldterm) s in omega arith
+  push-keeps side (Some names.Ldterm) s = let made = new-weight side in let all = pushed-keeps side (OfLdterm new_ldterm) s in omega arith
   push-keeps side (Some names.Ptem) s = let all = pushed-keeps side (OfPtem new_ptem) s in omega arith
   push-keeps side (Some names.Pckt) s = refl
 
   -- a pop
-  pub pop-keeps : (side : Side) (s : State C) → AllByRecursion (λ l. IsAtRest l) (stream side s).modules → Keeps (popped side s) (state_weight p s)
-  pop-keeps side s idle =
+  off-keeps : (side : Side) (s : State C) → AllByRecursion (λ l. IsAtRest l) (stream side s).modules → Keeps (taken_off side s) (state_weight p s)
+  off-keeps side s idle =
       let ps = (stream side s).modules in
       let t = top_taken ModulePopped side ps s in
       let u = mode_put side (mode_behind (top_on side s)) t.state in
@@ -144,3 +147,11 @@ module _ {C : Type 0} (p : C → Bool) where
       let gone = gone-append p t.gone u.gone in
       let made = made-append p t.gone u.gone in
       omega arith
+
+  -- no byte stands in the slot of an ioctl
+  dropped-keeps : (side : Side) (ms : List (Message C)) (s : State C) → state_weight p (ioctl_dropped side ms s) ≡ state_weight p s
+  dropped-keeps Master ms s = refl
+  dropped-keeps Slave ms s = refl
+
+  pub pop-keeps : (side : Side) (s : State C) → AllByRecursion (λ l. IsAtRest l) (stream side s).modules → Keeps (popped side s) (state_weight p s)
+  pop-keeps side s idle = omega (arith, off-keeps side s idle, dropped-keeps side (below_top (stream side s).modules) (taken_off side s).state)

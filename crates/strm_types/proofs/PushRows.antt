@@ -26,7 +26,12 @@ use Rattle.strm_types.specs.Refused.{none_waits_up, at_end}
 use Rattle.strm_types.specs.Past.{has_room_past, writer_waits}
 use Rattle.strm_types.specs.Stacked.{Module, OfLdterm, OfPtem, module_line, module_name}
 use Rattle.strm_types.specs.State.{State, Stream}
-use Rattle.strm_types.proofs.Samples.{flow, head_with, ordinary, proto, queue}
+use Rattle.strm_types.proofs.Samples.{flow, head_with, ordinary, proto, queue, header, without_parts}
+use Rattle.strm_types.specs.Slots.{PlainSlot}
+use Rattle.strm_types.specs.declared.ioctls.TheConstants.{TCSETSW}
+use Rattle.strm_types.specs.declared.kinds.MsgKind.TheVariants.{Ioctl, Iocack}
+use Rattle.strm_types.specs.declared.refusals.Refusal.TheVariants.{Einval, Eagain}
+use Rattle.strm_types.specs.declared.slots.Slot.TheVariants.{Free, Waiting, Acked, Nacked}
 
 -- a module with these messages on its read queue, whose bands are so, and on its write queue, and this unfinished line
 abbrev holding : List (Message ℕ) → List Flow → List (Message ℕ) → List ℕ → Module ℕ
@@ -149,6 +154,43 @@ pop-of-nothing = refl
 pub pop-lets-writers-go : (popped Slave (pair [] (holding (one 3) (flow 1 0 true ∷ []) (one 4) [] ∷ []) [])).state.enabled ≡ driver_of Master ∷ []
 unfolding carried cells_of size_of
 pop-lets-writers-go = refl
+
+-- The ioctl under way ends with its M_IOCTL, where that stands on the write queue of the module that is popped; not with one of another number,
+-- nor where it was answered, nor where none waits.
+abbrev asked : ℕ → Message ℕ
+asked number = without_parts Ioctl (header TCSETSW number 0)
+
+-- a pair whose slave waits in this slot, and whose ldterm has these messages on its write queue
+abbrev waiting : PlainSlot → List (Message ℕ) → State ℕ
+waiting slot ms =
+    let s = pair [] (holding [] [] ms [] ∷ []) [] in
+    record s { slave = record s.slave { head = record s.slave.head { ioctl = slot } } }
+
+abbrev slot_of : Carried ℕ (State ℕ) → PlainSlot
+slot_of t = t.state.slave.head.ioctl
+
+pub ioctl-goes-with-its-message : map (λ ms. slot_of (popped Slave (waiting (Waiting 7 TCSETSW) ms))) ((asked 7 ∷ []) ∷ (ordinary (1 ∷ []) ∷ asked 7 ∷ []) ∷ (asked 0 ∷ asked 7 ∷ asked 8 ∷ []) ∷ [])
+    ≡ Nacked 7 TCSETSW Einval ∷ Nacked 7 TCSETSW Einval ∷ Nacked 7 TCSETSW Einval ∷ []
+unfolding carried cells_of size_of
+ioctl-goes-with-its-message = refl
+
+pub ioctl-stays-without-it : map (λ ms. slot_of (popped Slave (waiting (Waiting 7 TCSETSW) ms))) ([] ∷ (asked 0 ∷ asked 8 ∷ []) ∷ (without_parts Iocack (header TCSETSW 7 0) ∷ []) ∷ (without_parts Ioctl [] ∷ []) ∷ (record (asked 7) { body = Some [] } ∷ []) ∷ [])
+    ≡ Waiting 7 TCSETSW ∷ Waiting 7 TCSETSW ∷ Waiting 7 TCSETSW ∷ Waiting 7 TCSETSW ∷ Waiting 7 TCSETSW ∷ []
+unfolding carried cells_of size_of
+ioctl-stays-without-it = refl
+
+pub other-slots-stay : map (λ slot. slot_of (popped Slave (waiting slot (asked 7 ∷ [])))) (Free ∷ Acked 7 TCSETSW (1 ∷ []) ∷ Nacked 7 TCSETSW Eagain ∷ []) ≡ Free ∷ Acked 7 TCSETSW (1 ∷ []) ∷ Nacked 7 TCSETSW Eagain ∷ []
+unfolding carried cells_of size_of
+other-slots-stay = refl
+
+-- what stands on the read queue, on a module below or on the other side is another matter
+pub only-below-the-top : map (λ ps. slot_of (popped Slave (let s = waiting (Waiting 7 TCSETSW) [] in record s { slave = record s.slave { modules = ps } }))) ((holding (asked 7 ∷ []) [] [] [] ∷ []) ∷ (OfPtem new_ptem ∷ holding [] [] (asked 7 ∷ []) [] ∷ []) ∷ [] ∷ []) ≡ Waiting 7 TCSETSW ∷ Waiting 7 TCSETSW ∷ Waiting 7 TCSETSW ∷ []
+unfolding carried cells_of size_of
+only-below-the-top = refl
+
+pub only-on-its-side : slot_of (popped Master (waiting (Waiting 7 TCSETSW) (asked 7 ∷ []))) ≡ Waiting 7 TCSETSW
+unfolding carried cells_of size_of
+only-on-its-side = refl
 
 pub look-names-the-top : map (λ ps. name_told (top_on Slave (pair [] ps []))) ([] ∷ (OfLdterm new_ldterm ∷ []) ∷ (OfPtem new_ptem ∷ OfLdterm new_ldterm ∷ []) ∷ []) ≡ Done ∷ Name names.Ldterm ∷ Name names.Ptem ∷ []
 look-names-the-top = refl

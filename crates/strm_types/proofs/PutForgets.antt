@@ -73,7 +73,7 @@ module _ {C D : Type 0} (f : C → D) where
   unfolding map_message
   parts-forget m = ap (λ b. b || is_part (option_map (map f) m.body)) (part-forgets m.control) ∙ ap (λ b. is_part m.control || b) (part-forgets m.body)
 
-  bytes-forget : (m : Message C) → (map_message f m).plain ≡ m.plain
+  pub bytes-forget : (m : Message C) → (map_message f m).plain ≡ m.plain
   unfolding map_message
   bytes-forget m = refl
 

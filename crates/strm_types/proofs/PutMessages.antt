@@ -37,22 +37,22 @@ module _ {C : Type 0} where
   abbrev booked : Dir → ℕ → Book → Carried C (State C) → Carried C (State C)
   booked dir n b t = record { state = with_book dir (with_written n b) t.state; gone = t.gone }
 
-  module _ (p : C → Bool) where
+  module _ (p : Dir → C → Bool) where
     book-weight : (dir : Dir) (b : Book) (s : State C) → state_weight p (with_book dir b s) ≡ state_weight p s
     book-weight MasterToSlave b s = refl
     book-weight SlaveToMaster b s = refl
 
-    nothing-put : (cells : Cells C) (side : Side) (prio : Prio) (s : State C) → count_by p (cells_of (message_put cells side prio None None s)) ≡ 0
+    nothing-put : (cells : Cells C) (side : Side) (prio : Prio) (s : State C) → count_by (p (direction_from side)) (cells_of (message_put cells side prio None None s)) ≡ 0
     unfolding cells_of
     nothing-put cells side prio s = refl
 
     sent-keeps : (side : Side) (dir : Dir) (n : ℕ) (b : Book) (m : Message C) (s : State C) → let t = booked dir n b (delivered (below side) m s) in
-        state_weight p t.state + weight_gone p t.gone ≡ state_weight p s + (count_by p (cells_of m) + weight_made p t.gone)
+        state_weight p t.state + weight_gone p t.gone ≡ state_weight p s + (count_by (p (direction_from side)) (cells_of m) + weight_made p t.gone)
     sent-keeps side dir n b m s =
-        omega (arith, book-weight dir (with_written n b) (delivered (below side) m s).state, delivered-keeps p (below side) m s (omega arith), weight-whole p m)
+        omega (arith, book-weight dir (with_written n b) (delivered (below side) m s).state, delivered-keeps p (below side) m s (omega arith), weight-whole (p (direction_from side)) m)
 
     pub put_at-keeps : (cells : Cells C) (side : Side) (prio : Prio) (control body : Option (List ℕ)) (s : State C) → let t = put_at cells side prio control body s in
-        state_weight p t.state + weight_gone p t.gone ≡ state_weight p s + (count_by p (cells_of (message_put cells side prio control body s)) + weight_made p t.gone)
+        state_weight p t.state + weight_gone p t.gone ≡ state_weight p s + (count_by (p (direction_from side)) (cells_of (message_put cells side prio control body s)) + weight_made p t.gone)
     put_at-keeps cells side prio None None s = omega (arith, nothing-put cells side prio s)
     put_at-keeps cells side prio None (Some xs) s = sent-keeps side (direction_from side) (0 + length xs) (book (direction_from side) s) (message_put cells side prio None (Some xs) s) s
     put_at-keeps cells side prio (Some xs) body s =

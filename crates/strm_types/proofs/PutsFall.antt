@@ -21,7 +21,7 @@ use Rattle.strm_types.specs.Ioctls.{nak_message, read_ioc}
 use Rattle.strm_types.specs.Heads.{head_put, is_doubled, nak_down, obeyed, turned_round, waits_for_readers}
 use Rattle.strm_types.specs.Message.{Message, has_parts}
 use Rattle.strm_types.specs.Names.{is_master, is_open, other}
-use Rattle.strm_types.specs.Puts.{across_of, far, far_at, is_turned, passed_up, put_at_driver, put_at_head, put_at_module, put_behind, put_below, put_in, turns_round}
+use Rattle.strm_types.specs.Puts.{across_of, far, far_at, is_bare_flush, is_turned, passed_up, put_at_driver, put_at_head, put_at_module, put_behind, put_below, put_in, turns_round}
 use Rattle.strm_types.specs.Queue.{Queue}
 use Rattle.strm_types.specs.State.{Head, State, stream}
 use Rattle.strm_types.proofs.ModulePuts.{among-lower}
@@ -188,8 +188,8 @@ module _ (C : Type 0) where
       let top = far_at Up (is_turned m) here.at in
       let up : Spot = record here { way = Up } in
       let few = few-stand (length (stream (other here.side) s).modules) in
-      either-known top (is_flush m.kind && here.at == suc MODULES) (put_at_driver here.side up m s) (passed_up up m s)
-      (λ is. came-up-lower top here.side (across_of here.side s) (record here { at = driver_place here.side s }) m (stream here.side s).driver.queue (up-some (is_turned m) (modules_on (other here.side) s) here.at few (across-place (is_flush m.kind) here.at is)))
+      either-known top (is_bare_flush m && here.at == suc MODULES) (put_at_driver here.side up m s) (passed_up up m s)
+      (λ is. came-up-lower top here.side (across_of here.side s) (record here { at = driver_place here.side s }) m (stream here.side s).driver.queue (up-some (is_turned m) (modules_on (other here.side) s) here.at few (across-place (is_bare_flush m) here.at is)))
       (λ is. (up-less (is_turned m) (modules_on here.side s) here.at past, tt))
 
   below-lower : (way : Way) (here : Spot) (m : Message C) (s : State C) → 0 < here.at → let to : Spot = record here { way = way } in Lower (far to m) (put_below way to m s).sent

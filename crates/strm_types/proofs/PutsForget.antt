@@ -1,6 +1,6 @@
 -- Forgetting the origins of cells commutes with puts in a pair, with deliveries there, and with flushes of a stream.
 use Rattle.std.proofs.Common.{ℕ, suc, ◌≡◌, ◌-◌, Bool, true, false, cond, List, [], ◌∷◌, map, refl, sym, ap, ◌∙◌}
-use Rattle.std.specs.Prelude.{◌==◌, ◌&&◌, nat_le, slice_index_or, Option, None, Some}
+use Rattle.std.specs.Prelude.{◌==◌, ◌&&◌, not, nat_le, slice_index_or, Option, None, Some}
 use Rattle.strm_types.specs.declared.events.FlushQueues.{FlushQueues}
 use Rattle.strm_types.specs.declared.kinds.Band.{Band}
 use Rattle.strm_types.specs.declared.limits.TheConstants.{MODULES, HOPS}
@@ -19,11 +19,11 @@ use Rattle.strm_types.specs.Drivers.{driver_put}
 use Rattle.strm_types.specs.Earlier.{driver_place, modules_on, places_of}
 use Rattle.strm_types.specs.Flushing.{is_flush, asked_of, flush_bytes, flush_message}
 use Rattle.strm_types.specs.Heads.{head_put}
-use Rattle.strm_types.specs.Message.{Message, cells_of, map_message}
+use Rattle.strm_types.specs.Message.{Message, cells_of, has_parts, map_message}
 use Rattle.strm_types.specs.Modules.{put_among}
 use Rattle.strm_types.specs.Names.{direction_at, is_closed, is_open, other}
 use Rattle.strm_types.specs.Origins.{PutsAgree, map_acted, map_carried, map_took}
-use Rattle.strm_types.specs.Puts.{delivered, earlier_at, flushed_on, noted, passed_up, put_at_driver, put_at_head, put_at_module, put_behind, put_below, put_in}
+use Rattle.strm_types.specs.Puts.{delivered, earlier_at, flushed_on, is_bare_flush, noted, passed_up, put_at_driver, put_at_head, put_at_module, put_behind, put_below, put_in}
 use Rattle.strm_types.specs.Queue.{Queue, map_queue}
 use Rattle.strm_types.specs.Stacked.{Module, map_module, module_puts}
 use Rattle.strm_types.specs.State.{Head, State, stream, with_stream, with_driver_queue, map_head, map_state}
@@ -32,7 +32,7 @@ use Rattle.strm_types.proofs.Earlier.{before_at-forgets, modules_on-forgets, pla
 use Rattle.strm_types.proofs.Forgetting.{cells-forget, kind-forgets}
 use Rattle.strm_types.proofs.ModulePuts.{among-forgets}
 use Rattle.strm_types.proofs.Noted.{noted-same}
-use Rattle.strm_types.proofs.PutForgets.{driver_put-forgets, flush-forgets, head_put-forgets}
+use Rattle.strm_types.proofs.PutForgets.{driver_put-forgets, flush-forgets, head_put-forgets, parts-forget}
 
 -- a pair whose head of a side, where that is open, or whose modules, or whose driver has had a message; with these queues enabled
 abbrev head_took : {E : Type 0} → Side → Bool → Acted E (Head E) → List E → List QueueName → State E → Took E (State E)
@@ -147,10 +147,14 @@ module _ {C D : Type 0} (f : C → D) where
   behind-forgets : (way : Way) (here : Spot) (m : Message C) (s : State C) → put_behind way here (map_message f m) (map_state f s) ≡ image (put_behind way here m s)
   behind-forgets Down here m s = driver-forgets here.side here m s
   behind-forgets Up here m s =
-      ap (λ kind. cond (is_flush kind && here.at == suc MODULES) (put_at_driver here.side here (map_message f m) (map_state f s)) (passed_up here (map_message f m) (map_state f s))) (kind-forgets f m)
-      ∙ either-agrees (is_flush m.kind && here.at == suc MODULES) (put_at_driver here.side here m s) (passed_up here m s)
+      ap (λ kind. at (is_flush kind && not (has_parts (map_message f m)))) (kind-forgets f m)
+      ∙ ap (λ parts. at (is_flush m.kind && not parts)) (parts-forget f m)
+      ∙ either-agrees (is_bare_flush m && here.at == suc MODULES) (put_at_driver here.side here m s) (passed_up here m s)
       (put_at_driver here.side here (map_message f m) (map_state f s)) (passed_up here (map_message f m) (map_state f s)) (driver-forgets here.side here m s)
       (ap (λ n. record { state = map_state f s; sent = record { to = record here { at = n }; message = map_message f m } ∷ []; gone = [] }) (modules_on-forgets f here.side s))
+    where
+      at : Bool → Took D (State D)
+      at bare = cond (bare && here.at == suc MODULES) (put_at_driver here.side here (map_message f m) (map_state f s)) (passed_up here (map_message f m) (map_state f s))
 
   below-forgets : (way : Way) (here : Spot) (m : Message C) (s : State C) → put_below way here (map_message f m) (map_state f s) ≡ image (put_below way here m s)
   below-forgets way here m s =

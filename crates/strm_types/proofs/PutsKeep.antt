@@ -1,6 +1,6 @@
 -- A put in a pair loses no cell, makes none that it doesn't tell, and leaves a side that isn't open nothing to be read.
-use Rattle.std.proofs.Common.{ℕ, suc, ◌≡◌, ◌<◌, ◌≤◌, ◌+◌, ◌-◌, Bool, true, false, cond, length, refl, arith}
-use Rattle.std.specs.Prelude.{◌==◌, ◌&&◌, min, nat_le}
+use Rattle.std.proofs.Common.{ℕ, zero, suc, ◌≡◌, ◌<◌, ◌≤◌, ◌+◌, ◌-◌, Bool, true, false, cond, length, refl, ap, arith}
+use Rattle.std.specs.Prelude.{◌==◌, ◌&&◌, not, min, nat_le}
 use Rattle.std.proofs.lemmas.Bool.Decides.{nat_tests}
 use Rattle.strm_types.specs.declared.limits.TheConstants.{MODULES}
 use Rattle.strm_types.specs.declared.names.Side.{Side}
@@ -8,18 +8,20 @@ use Rattle.strm_types.specs.declared.names.Side.TheVariants.{Master, Slave}
 use Rattle.strm_types.specs.declared.names.Way.{Way}
 use Rattle.strm_types.specs.declared.names.Way.TheVariants.{Up, Down}
 use Rattle.strm_types.specs.declared.spots.Spot.{Spot}
+use Rattle.strm_types.specs.declared.names.Dir.{Dir}
 use Rattle.strm_types.specs.Deliver.{Took}
 use Rattle.strm_types.specs.Earlier.{driver_place, modules_on}
 use Rattle.strm_types.specs.Flushing.{is_flush}
 use Rattle.strm_types.specs.Kept.{NothingUnread, state_weight}
-use Rattle.strm_types.specs.Message.{Message, weight_of}
-use Rattle.strm_types.specs.Names.{is_open}
-use Rattle.strm_types.specs.Places.{PutKeeps, weight_sent, weight_gone, weight_made}
-use Rattle.strm_types.specs.Puts.{SameEnds, across_of, put_at_driver, put_at_head, put_at_module, put_behind, put_below, put_in}
+use Rattle.strm_types.specs.Message.{Message, has_parts, weight_of}
+use Rattle.strm_types.specs.Names.{direction_at, is_open}
+use Rattle.strm_types.specs.Places.{PutKeeps, direction_to, way_to, weight_sent, weight_gone, weight_made}
+use Rattle.strm_types.specs.Puts.{SameEnds, across_of, is_bare_flush, put_at_driver, put_at_head, put_at_module, put_behind, put_below, put_in}
 use Rattle.strm_types.specs.State.{State, stream}
 use Rattle.strm_types.proofs.DeliveryHolds.{PutHolds}
 use Rattle.strm_types.proofs.ModulePuts.{among-keeps}
-use Rattle.strm_types.proofs.PutWeights.{driver_put-keeps, head_put-keeps}
+use Rattle.strm_types.proofs.LdtermKeeps.{way-up}
+use Rattle.strm_types.proofs.PutWeights.{driver_put-keeps, head_put-keeps, no-parts}
 use Rattle.strm_types.proofs.Weights.{weight-whole}
 
 -- a place below the head, and one at which a module stands
@@ -32,7 +34,7 @@ stands-among at count is = let among : at ≤ min MODULES count = grind (arith, 
 stands-within : (at count : ℕ) → 0 < at → nat_le at (min MODULES count) ≡ true → at - 1 < count
 stands-within at count some is = omega (arith, stands-among at count is, some)
 
-module _ {C : Type 0} (p : C → Bool) where
+module _ {C : Type 0} (p : Dir → C → Bool) where
   -- a put in a pair that had so many cells with those of the message
   abbrev Keeps : Took C (State C) → ℕ → Type 0
   Keeps t n = state_weight p t.state + (weight_sent p t.sent + weight_gone p t.gone) ≡ n + weight_made p t.gone
@@ -41,30 +43,71 @@ module _ {C : Type 0} (p : C → Bool) where
   either-keeps n true one another first second = first refl
   either-keeps n false one another first second = second refl
 
-  head-keeps : (side : Side) (here : Spot) (m : Message C) (s : State C) → Keeps (put_at_head side here m s) (state_weight p s + weight_of p m)
-  head-keeps Master here m s = either-keeps _ (is_open s.master.opened) _ _ (λ _. omega (arith, head_put-keeps p here m s.master.head)) (λ _. omega (arith, weight-whole p m))
-  head-keeps Slave here m s = either-keeps _ (is_open s.slave.opened) _ _ (λ _. omega (arith, head_put-keeps p here m s.slave.head)) (λ _. omega (arith, weight-whole p m))
+  -- a spot by its side
+  abbrev on : Side → Spot → Spot
+  on side here = record here { side = side }
 
-  driver-keeps : (side : Side) (here : Spot) (m : Message C) (s : State C) → Keeps (put_at_driver side here m s) (state_weight p s + weight_of p m)
+  -- how many cells a pair has with those of a message that goes in a direction
+  abbrev with_message : Way → Side → Message C → State C → ℕ
+  with_message way side m s = state_weight p s + weight_of (p (direction_at way side)) m
+
+  head-keeps : (side : Side) (here : Spot) (m : Message C) (s : State C) → Keeps (put_at_head side (on side here) m s) (with_message Up side m s)
+  head-keeps Master here m s = either-keeps _ (is_open s.master.opened) _ _ (λ _. omega (arith, head_put-keeps p (on Master here) m s.master.head)) (λ _. omega (arith, weight-whole (p (direction_at Up Master)) m))
+  head-keeps Slave here m s = either-keeps _ (is_open s.slave.opened) _ _ (λ _. omega (arith, head_put-keeps p (on Slave here) m s.slave.head)) (λ _. omega (arith, weight-whole (p (direction_at Up Slave)) m))
+
+  driver-keeps : (side : Side) (here : Spot) (m : Message C) (s : State C) → Keeps (put_at_driver side here m s) (with_message Down side m s)
   driver-keeps Master here m s = omega (arith, driver_put-keeps p Master (across_of Master s) (record here { at = driver_place Master s }) m s.master.driver.queue)
   driver-keeps Slave here m s = omega (arith, driver_put-keeps p Slave (across_of Slave s) (record here { at = driver_place Slave s }) m s.slave.driver.queue)
 
-  module-keeps : (side : Side) (here : Spot) (m : Message C) (s : State C) → here.at - 1 < length (stream side s).modules → Keeps (put_at_module side here m s) (state_weight p s + weight_of p m)
-  module-keeps Master here m s within = omega (arith, among-keeps p (here.at - 1) here m s.master.modules within)
-  module-keeps Slave here m s within = omega (arith, among-keeps p (here.at - 1) here m s.slave.modules within)
+  module-keeps : (side : Side) (here : Spot) (m : Message C) (s : State C) → here.at - 1 < length (stream side s).modules → Keeps (put_at_module side (on side here) m s) (with_message here.way side m s)
+  module-keeps Master here m s within = omega (arith, among-keeps p (here.at - 1) (on Master here) m s.master.modules within)
+  module-keeps Slave here m s within = omega (arith, among-keeps p (here.at - 1) (on Slave here) m s.slave.modules within)
 
-  behind-keeps : (way : Way) (here : Spot) (m : Message C) (s : State C) → Keeps (put_behind way here m s) (state_weight p s + weight_of p m)
-  behind-keeps Down here m s = driver-keeps here.side here m s
-  behind-keeps Up here m s = either-keeps _ (is_flush m.kind && here.at == suc MODULES) _ _ (λ _. driver-keeps here.side here m s) (λ _. omega arith)
+  -- an M_FLUSH that was sent across has no cells, in whichever direction
+  bare-weighs : (t : C → Bool) (b : Bool) (m : Message C) → (is_bare_flush m && b) ≡ true → weight_of t m ≡ 0
+  bare-weighs t b m is = no-parts t m (no-part (is_flush m.kind) (has_parts m) b is)
+    where
+      no-part : (flush parts b : Bool) → ((flush && not parts) && b) ≡ true → parts ≡ false
+      no-part true false b is = refl
+      no-part true true b is = absurd (cc)
+      no-part false parts b is = absurd (cc)
 
-  below-keeps : (way : Way) (here : Spot) (m : Message C) (s : State C) → 0 < here.at → Keeps (put_below way here m s) (state_weight p s + weight_of p m)
+  passed-weighs : (side : Side) (m : Message C) (at : ℕ) → weight_of (p (direction_to (record { side = side; at = at; way = Up }))) m ≡ weight_of (p (direction_at Up side)) m
+  passed-weighs side m at = ap (λ way. weight_of (p (direction_at way side)) m) (way-up at)
+
+  behind-keeps : (way : Way) (here : Spot) (m : Message C) (s : State C) → let to : Spot = record here { way = way } in Keeps (put_behind way to m s) (with_message way here.side m s)
+  behind-keeps Down here m s = driver-keeps here.side (record here { way = Down }) m s
+  behind-keeps Up here m s =
+      let up : Spot = record here { way = Up } in
+      either-keeps _ (is_bare_flush m && here.at == suc MODULES) _ _
+      (λ is. omega (arith, driver-keeps here.side up m s, bare-weighs (p (direction_at Up here.side)) (here.at == suc MODULES) m is, bare-weighs (p (direction_at Down here.side)) (here.at == suc MODULES) m is))
+      (λ _. omega (arith, passed-weighs here.side m (modules_on here.side s)))
+
+  below-keeps : (way : Way) (here : Spot) (m : Message C) (s : State C) → 0 < here.at → let to : Spot = record here { way = way } in Keeps (put_below way to m s) (with_message way here.side m s)
   below-keeps way here m s some =
       either-keeps _ (nat_le here.at (modules_on here.side s)) _ _
-      (λ is. module-keeps here.side here m s (stands-within here.at (length (stream here.side s).modules) some is))
+      (λ is. module-keeps here.side (record here { way = way }) m s (stands-within here.at (length (stream here.side s).modules) some is))
       (λ _. behind-keeps way here m s)
 
-  in-keeps : (to : Spot) (m : Message C) (s : State C) → Keeps (put_in to m s) (state_weight p s + weight_of p m)
-  in-keeps to m s = either-keeps _ (to.at == 0) _ _ (λ _. head-keeps to.side to m s) (λ is. below-keeps to.way to m s (not-head to.at is))
+  -- the direction of what is put below a head is that of its way
+  below-weighs : (to : Spot) (m : Message C) → 0 < to.at → weight_of (p (direction_to to)) m ≡ weight_of (p (direction_at to.way to.side)) m
+  below-weighs to m some = at to.at some
+    where
+      at : (n : ℕ) → 0 < n → weight_of (p (direction_at (way_to n to.way) to.side)) m ≡ weight_of (p (direction_at to.way to.side)) m
+      at zero some = absurd (omega arith)
+      at (suc n) some = refl
+
+  top-weighs : (to : Spot) (m : Message C) → (to.at == 0) ≡ true → weight_of (p (direction_to to)) m ≡ weight_of (p (direction_at Up to.side)) m
+  top-weighs to m is = at to.at is
+    where
+      at : (n : ℕ) → (n == 0) ≡ true → weight_of (p (direction_at (way_to n to.way) to.side)) m ≡ weight_of (p (direction_at Up to.side)) m
+      at zero is = refl
+      at (suc n) is = absurd (let none : suc n ≡ 0 = grind (arith, nat_tests) in omega (arith, none))
+
+  in-keeps : (to : Spot) (m : Message C) (s : State C) → Keeps (put_in to m s) (state_weight p s + weight_of (p (direction_to to)) m)
+  in-keeps to m s = either-keeps _ (to.at == 0) _ _
+      (λ is. omega (arith, top-weighs to m is, head-keeps to.side to m s))
+      (λ is. let some = not-head to.at is in omega (arith, below-weighs to m some, below-keeps to.way to m s some))
 
   pub puts-keep : PutKeeps p (state_weight p) put_in
   puts-keep to m s = let all = in-keeps to m s in omega arith
@@ -88,7 +131,7 @@ module _ {C : Type 0} where
 
   behind-unread : (way : Way) (here : Spot) (m : Message C) (s : State C) → NothingUnread s → NothingUnread (put_behind way here m s).state
   behind-unread Down here m s unread = driver-unread here.side here m s unread
-  behind-unread Up here m s unread = either-holds NothingUnread (is_flush m.kind && here.at == suc MODULES) _ _ (λ _. driver-unread here.side here m s unread) unread
+  behind-unread Up here m s unread = either-holds NothingUnread (is_bare_flush m && here.at == suc MODULES) _ _ (λ _. driver-unread here.side here m s unread) unread
 
   below-unread : (way : Way) (here : Spot) (m : Message C) (s : State C) → NothingUnread s → NothingUnread (put_below way here m s).state
   below-unread way here m s unread = either-holds NothingUnread (nat_le here.at (modules_on here.side s)) _ _ (λ _. module-unread here.side here m s unread) (behind-unread way here m s unread)
@@ -112,7 +155,7 @@ module _ {C : Type 0} where
 
     behind-same : (way : Way) (here : Spot) (m : Message C) (t : State C) → SameEnds s t → SameEnds s (put_behind way here m t).state
     behind-same Down here m t same = driver-same here.side here m t same
-    behind-same Up here m t same = either-holds (SameEnds s) (is_flush m.kind && here.at == suc MODULES) _ _ (λ _. driver-same here.side here m t same) same
+    behind-same Up here m t same = either-holds (SameEnds s) (is_bare_flush m && here.at == suc MODULES) _ _ (λ _. driver-same here.side here m t same) same
 
     below-same : (way : Way) (here : Spot) (m : Message C) (t : State C) → SameEnds s t → SameEnds s (put_below way here m t).state
     below-same way here m t same = either-holds (SameEnds s) (nat_le here.at (modules_on here.side t)) _ _ (λ _. module-same here.side here m t same) (behind-same way here m t same)

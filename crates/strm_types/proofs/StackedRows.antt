@@ -3,7 +3,7 @@ use Rattle.std.proofs.Common.{ℕ, ◌≡◌, true, false, List, [], ◌∷◌, 
 use Rattle.std.specs.Prelude.{◌==◌, None, Some}
 use Rattle.strm_types.specs.declared.names.ModuleName.TheVariants.{Ldterm, Ptem}
 use Rattle.strm_types.specs.declared.names.Openness.TheVariants.{Open}
-use Rattle.strm_types.specs.declared.names.Side.TheVariants.{Slave}
+use Rattle.strm_types.specs.declared.names.Side.TheVariants.{Slave, Master}
 use Rattle.strm_types.specs.declared.names.Way.TheVariants.{Up, Down}
 use Rattle.strm_types.specs.declared.spots.Asks.TheVariants.{Empty}
 use Rattle.strm_types.specs.declared.spots.Note.TheVariants.{Enable}
@@ -54,7 +54,7 @@ pub messages-on-modules-count : messages_in pair ≡ 6
 messages-on-modules-count = refl
 
 -- so do their cells, and those of an unfinished line
-pub cells-of-modules-weigh : stream_weight (λ c. c == 7) stacked ≡ 6
+pub cells-of-modules-weigh : stream_weight (λ direction c. c == 7) Master stacked ≡ 6
 unfolding cells_of weight_of
 cells-of-modules-weigh = refl
 
@@ -89,7 +89,7 @@ ptem-has-no-line = refl
 pub ptem-loses-no-line : without_module_line ptem ≡ ptem
 ptem-loses-no-line = refl
 
-pub ptem-weighs-nothing : module_weight (λ (c : ℕ). true) ptem ≡ 0
+pub ptem-weighs-nothing : module_weight (λ direction (c : ℕ). true) Master ptem ≡ 0
 ptem-weighs-nothing = refl
 
 pub ptem-asks-nothing : map (λ way. module_asks way ptem) (Up ∷ Down ∷ []) ≡ Empty ∷ Empty ∷ []

@@ -9,6 +9,7 @@ use Rattle.strm_types.specs.declared.events.Event.TheVariants.{OpenMaster, Unloc
 use Rattle.strm_types.specs.declared.names.Dir.TheVariants.{MasterToSlave, SlaveToMaster}
 use Rattle.strm_types.specs.declared.names.Side.{Side}
 use Rattle.strm_types.specs.declared.names.Side.TheVariants.{Master}
+use Rattle.strm_types.specs.declared.names.Dir.{Dir}
 use Rattle.strm_types.specs.Cells.{Cells, Made, Base, plain, tagged}
 use Rattle.strm_types.specs.Message.{data_message, rank_of, band_of, size_of, cells_of, is_high_priority}
 use Rattle.strm_types.specs.Names.{driver_of}
@@ -62,8 +63,8 @@ pub illegal-entry-behind-a-legal-one : IsLegal plain opening (Called (caller Mas
 illegal-entry-behind-a-legal-one = λ legal. let second = legal.1.0 in let allowed = second.allowed in (cc)
 
 -- whatever a test says of a byte, it is one of calls, and of a turn of a driver
-pub any-test-of-a-call : {C : Type 0} (cells : Cells C) (p : C → Bool) (c : Caller) (asked : Request) (answer : Reply) → MayTest cells p (Called c asked answer)
+pub any-test-of-a-call : {C : Type 0} (cells : Cells C) (p : Dir → C → Bool) (c : Caller) (asked : Request) (answer : Reply) → MayTest cells p (Called c asked answer)
 any-test-of-a-call cells p c asked answer = tt
 
-pub any-test-of-a-driver : {C : Type 0} (cells : Cells C) (p : C → Bool) (side : Side) (turn : Turn) → MayTest cells p (Turned (driver_of side) turn)
+pub any-test-of-a-driver : {C : Type 0} (cells : Cells C) (p : Dir → C → Bool) (side : Side) (turn : Turn) → MayTest cells p (Turned (driver_of side) turn)
 any-test-of-a-driver cells p side turn = tt

@@ -29,9 +29,10 @@ use Rattle.strm_types.specs.Ioctls.{asking, ioctl_message}
 use Rattle.strm_types.specs.Journal.{PlainEntry}
 use Rattle.strm_types.specs.Kept.{AreIdle}
 use Rattle.strm_types.specs.Ldterms.{new_ldterm}
+use Rattle.strm_types.specs.Message.{Message}
 use Rattle.strm_types.specs.Names.{is_open, direction_from}
 use Rattle.strm_types.specs.Ptems.{new_ptem}
-use Rattle.strm_types.specs.Pushes.{head_above, named_by, popped, pushed_named, with_modules}
+use Rattle.strm_types.specs.Pushes.{head_above, ioctl_dropped, named_by, popped, pushed_named, with_modules}
 use Rattle.strm_types.specs.Queue.{Queue}
 use Rattle.strm_types.specs.Stacked.{Module, OfLdterm, OfPtem}
 use Rattle.strm_types.specs.State.{Head, State, opening, stream, with_book, with_stream, book}
@@ -67,12 +68,17 @@ module _ {C : Type 0} where
   survives : (side : Side) → Survives {C = C} side AreIdle AllIdle
   survives side = record {
     named = λ names s idle. record { master = idle.master; slave = idle.slave };
+    dropped = dropped side;
     apart = apart side;
     given = λ m s idle. delivered-idle (head_above side) m s idle;
     good = good side;
     below = λ l ls idle. idle.1;
   }
     where
+      dropped : (side : Side) (ms : List (Message C)) (s : State C) → AreIdle s → AreIdle (ioctl_dropped side ms s)
+      dropped Master ms s idle = record { master = idle.master; slave = idle.slave }
+      dropped Slave ms s idle = record { master = idle.master; slave = idle.slave }
+
       apart : (side : Side) (ps : List (Module C)) (s : State C) → AllIdle ps → AreIdle s → AreIdle (with_modules side ps s)
       apart Master ps s good idle = record { master = good; slave = idle.slave }
       apart Slave ps s good idle = record { master = idle.master; slave = good }

@@ -7,12 +7,14 @@ use Rattle.strm_types.specs.declared.names.Side.TheVariants.{Master, Slave}
 use Rattle.strm_types.specs.declared.names.Place.{Place}
 use Rattle.strm_types.specs.declared.names.Place.TheVariants.{Head, Ldterm, Driver}
 use Rattle.strm_types.specs.declared.names.QueueName.{QueueName}
+use Rattle.strm_types.specs.declared.names.Dir.{Dir}
+use Rattle.strm_types.proofs.LdtermKeeps.{way-up}
 use Rattle.strm_types.specs.Cells.{Cells}
 use Rattle.strm_types.specs.Kept.{AreIdle, NothingUnread, state_weight, tests_at}
-use Rattle.strm_types.specs.Message.{Message, size_of, band_of}
+use Rattle.strm_types.specs.Message.{Message, size_of, band_of, weight_of}
 use Rattle.strm_types.specs.ModuleTurns.{SameButMade}
-use Rattle.strm_types.specs.Names.{is_open, other, without}
-use Rattle.strm_types.specs.Places.{weight_gone, weight_made}
+use Rattle.strm_types.specs.Names.{is_open, other, without, direction_at, direction_from}
+use Rattle.strm_types.specs.Places.{weight_gone, weight_made, direction_to}
 use Rattle.strm_types.specs.Puts.{delivered}
 use Rattle.strm_types.specs.Queue.{Queue, left_with, relieved, weight}
 use Rattle.strm_types.specs.State.{State, stream}
@@ -24,9 +26,9 @@ use Rattle.strm_types.proofs.ModuleTurnEnds.{same-stays, unread-stays}
 use Rattle.strm_types.proofs.ModuleTurnKeeps.{module_turned-keeps}
 use Rattle.strm_types.proofs.PutsFall.{few-stand}
 use Rattle.strm_types.proofs.Weights.{weight-take}
-use Rattle.strm_types.specs.Earlier.{driver_place}
+use Rattle.strm_types.specs.Earlier.{driver_place, modules_on}
 use Rattle.strm_types.proofs.Past.{waits-keeps}
-use Rattle.strm_types.specs.declared.names.Way.TheVariants.{Up}
+use Rattle.strm_types.specs.declared.names.Way.TheVariants.{Up, Down}
 
 module _ {C : Type 0} where
   -- the end of a turn leaves all messages on its queue
@@ -51,26 +53,31 @@ module _ {C : Type 0} (s : State C) where
       turn-holds (SameButMade s) (turns-stay (SameButMade s) with-same (same-stays s)) cells name turn s
       (record { master = refl; slave = refl; locked = refl; next_ioctl = refl; from_master = refl; from_slave = refl })
 
-module _ {C : Type 0} (p : C → Bool) where
+module _ {C : Type 0} (p : Dir → C → Bool) where
   -- a turn in a pair that had so many cells
   abbrev Keeps : TurnOutcome C → ℕ → Type 0
   Keeps t n = state_weight p t.state + weight_gone p t.gone ≡ n + weight_made p t.gone
 
-  same-weight : (xs ys : List (Message C)) → xs ≡ ys → weight p xs ≡ weight p ys
-  same-weight xs ys is = ap (λ (q : List (Message C)). weight p q) is
+  same-weight : (t : C → Bool) (xs ys : List (Message C)) → xs ≡ ys → weight t xs ≡ weight t ys
+  same-weight t xs ys is = ap (λ (q : List (Message C)). weight t q) is
 
   ended-keeps : (side : Side) (size : ℕ) (s : State C) → state_weight p (turn_ended side size s) ≡ state_weight p s
-  ended-keeps Master size s = omega (arith, same-weight _ _ (left-there (not (size == 0)) (turned_queue s.master.driver.queue)))
-  ended-keeps Slave size s = omega (arith, same-weight _ _ (left-there (not (size == 0)) (turned_queue s.slave.driver.queue)))
+  ended-keeps Master size s = omega (arith, same-weight (p (direction_at Down Master)) _ _ (left-there (not (size == 0)) (turned_queue s.master.driver.queue)))
+  ended-keeps Slave size s = omega (arith, same-weight (p (direction_at Down Slave)) _ _ (left-there (not (size == 0)) (turned_queue s.slave.driver.queue)))
 
-  taken-keeps : (side : Side) (m : Message C) (rest : List (Message C)) (s : State C) → (stream side s).driver.queue.messages ≡ m ∷ rest → state_weight p (with_driver side (left_with rest (stream side s).driver.queue) s) + weight p (m ∷ []) ≡ state_weight p s
-  taken-keeps Master m rest s is = omega (arith, same-weight _ _ is, weight-take p m rest, weight-take p m [])
-  taken-keeps Slave m rest s is = omega (arith, same-weight _ _ is, weight-take p m rest, weight-take p m [])
+  taken-keeps : (side : Side) (m : Message C) (rest : List (Message C)) (s : State C) → (stream side s).driver.queue.messages ≡ m ∷ rest → state_weight p (with_driver side (left_with rest (stream side s).driver.queue) s) + weight_of (p (direction_from side)) m ≡ state_weight p s
+  taken-keeps Master m rest s is = omega (arith, same-weight (p (direction_at Down Master)) _ _ is, weight-take (p (direction_at Down Master)) m rest)
+  taken-keeps Slave m rest s is = omega (arith, same-weight (p (direction_at Down Slave)) _ _ is, weight-take (p (direction_at Down Slave)) m rest)
+
+  -- it goes on in its direction
+  across-weighs : (side : Side) (m : Message C) (at : ℕ) → weight_of (p (direction_to (record { side = other side; at = at; way = Up }))) m ≡ weight_of (p (direction_from side)) m
+  across-weighs Master m at = ap (λ way. weight_of (p (direction_at way Slave)) m) (way-up at)
+  across-weighs Slave m at = ap (λ way. weight_of (p (direction_at way Master)) m) (way-up at)
 
   moved-keeps : (side : Side) (m : Message C) (rest : List (Message C)) (s : State C) → (stream side s).driver.queue.messages ≡ m ∷ rest → Keeps (moved_across side m rest s) (state_weight p s)
   moved-keeps side m rest s is =
       let from = with_driver side (left_with rest (stream side s).driver.queue) s in
-      omega (arith, ended-keeps side (size_of m) (delivered (up_across side from) m from).state, delivered-keeps p (up_across side from) m from (omega (arith, few-stand (length (stream (other side) from).modules))), taken-keeps side m rest s is, weight-take p m [])
+      omega (arith, ended-keeps side (size_of m) (delivered (up_across side from) m from).state, delivered-keeps p (up_across side from) m from (omega (arith, few-stand (length (stream (other side) from).modules))), taken-keeps side m rest s is, across-weighs side m (modules_on (other side) from))
 
   blocked-keeps : (side : Side) (m : Message C) (s : State C) → state_weight p (blocked_across side m s) ≡ state_weight p s
   blocked-keeps side m s = waits-keeps p (other side) Up (driver_place (other side) s) (band_of m) s

@@ -21,7 +21,7 @@ use Rattle.strm_types.specs.Heads.{flush_up, head_flushed, head_put, is_doubled,
 use Rattle.strm_types.specs.Ioctls.{read_ioc}
 use Rattle.strm_types.specs.Message.{Message, has_parts}
 use Rattle.strm_types.specs.Names.{is_open}
-use Rattle.strm_types.specs.Puts.{delivered, passed_up, put_at_driver, put_at_head, put_at_module, put_behind, put_below, put_in}
+use Rattle.strm_types.specs.Puts.{delivered, is_bare_flush, passed_up, put_at_driver, put_at_head, put_at_module, put_behind, put_below, put_in}
 use Rattle.strm_types.specs.Slots.{PlainSlot, ack_body, answer_bytes, slot_behind, slot_told, with_answer}
 use Rattle.strm_types.specs.State.{Head, State, stream, with_stream}
 use Rattle.strm_types.specs.Within.{AreWithin, IsWithin}
@@ -102,7 +102,7 @@ module _ {C : Type 0} where
 
   behind-within : (way : Way) (here : Spot) (m : Message C) (s : State C) → AreWithin s → AreWithin (put_behind way here m s).state
   behind-within Down here m s within = driver-within here.side here m s within
-  behind-within Up here m s within = either-are (is_flush m.kind && here.at == suc MODULES) (put_at_driver here.side here m s) (passed_up here m s) (driver-within here.side here m s within) within
+  behind-within Up here m s within = either-are (is_bare_flush m && here.at == suc MODULES) (put_at_driver here.side here m s) (passed_up here m s) (driver-within here.side here m s within) within
 
   below-within : (way : Way) (here : Spot) (m : Message C) (s : State C) → AreWithin s → AreWithin (put_below way here m s).state
   below-within way here m s within = either-are (nat_le here.at (modules_on here.side s)) (put_at_module here.side here m s) (put_behind way here m s) (module-within here.side here m s within) (behind-within way here m s within)

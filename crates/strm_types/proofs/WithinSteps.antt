@@ -1,5 +1,5 @@
 -- What a head keeps for its caller stays bounded behind each step of a pair, and is so in a new one.
-use Rattle.std.proofs.Common.{ℕ, Bool, true, false, cond, List, [], subst, arith}
+use Rattle.std.proofs.Common.{ℕ, Bool, true, false, cond, List, [], subst, arith, length, ◌≤◌}
 use Rattle.std.specs.Prelude.{Option, None, Some}
 use Rattle.strm_types.specs.declared.answers.Turn.{Turn}
 use Rattle.strm_types.specs.declared.books.Book.{Book}
@@ -26,21 +26,26 @@ use Rattle.strm_types.specs.Emptied.{of_all}
 use Rattle.strm_types.specs.Flushing.{asked_of, flush_bytes, flush_message}
 use Rattle.strm_types.specs.Ioctls.{asking, ioctl_message}
 use Rattle.strm_types.specs.Journal.{PlainEntry}
+use Rattle.strm_types.specs.Message.{Message}
 use Rattle.strm_types.specs.Names.{is_open, direction_from}
-use Rattle.strm_types.specs.Pushes.{head_above, named_by, popped, pushed_named, with_modules}
+use Rattle.strm_types.specs.Pushes.{head_above, ioctl_dropped, named_by, popped, pushed_named, with_modules}
 use Rattle.strm_types.specs.Queue.{Queue}
-use Rattle.strm_types.specs.Slots.{slot_behind}
+use Rattle.strm_types.specs.Slots.{PlainSlot, answer_bytes, slot_behind}
 use Rattle.strm_types.specs.Stacked.{Module}
 use Rattle.strm_types.specs.State.{State, new_head, opening, stream, with_book, book}
 use Rattle.strm_types.specs.Step.{Step}
 use Rattle.strm_types.specs.Turns.{turned, with_driver}
 use Rattle.strm_types.specs.declared.modes.Wanted.{Wanted}
 use Rattle.strm_types.specs.Within.{AreWithin, IsWithin}
+use Rattle.strm_types.specs.Dropped.{has_ioctl, slot_dropped}
+use Rattle.strm_types.specs.declared.slots.Slot.TheVariants.{Free, Waiting, Acked, Nacked}
+use Rattle.strm_types.specs.declared.refusals.Refusal.TheVariants.{Einval}
 use Rattle.strm_types.proofs.TurnHolds.{turn-holds, turns-stay}
 use Rattle.strm_types.proofs.PushHolds.{Survives, modules_emptied-holds, pop-holds, push-holds}
 use Rattle.strm_types.proofs.WriteSteps.{cells_sent-holds}
 use Rattle.strm_types.proofs.WithinHeads.{behind-fits, begun-within, delivered-within, puts-within, side-within, with-head-within}
 use Rattle.strm_types.proofs.ModuleTurnEnds.{Stays, waiting}
+use Rattle.strm_types.specs.declared.limits.TheConstants.{IOCTL_MAX}
 
 -- the place below a side's head
 abbrev below : Side → Spot
@@ -93,12 +98,27 @@ module _ {C : Type 0} where
   survives : (side : Side) → Survives side AreWithin AnyModules
   survives side = record {
     named = λ names s within. record { master = within.master; slave = within.slave };
+    dropped = dropped side;
     apart = apart side;
     given = λ m s within. delivered-within (head_above side) m s within;
     good = λ s within. tt;
     below = λ l ls good. tt;
   }
     where
+      slot-short : (ms : List (Message C)) (slot : PlainSlot) → length (answer_bytes slot) ≤ IOCTL_MAX → length (answer_bytes (slot_dropped ms slot)) ≤ IOCTL_MAX
+      slot-short ms Free short = short
+      slot-short ms (Waiting number command) short = at (has_ioctl number ms)
+        where
+          at : (goes : Bool) → length (answer_bytes (cond goes (Nacked number command Einval) (Waiting number command))) ≤ IOCTL_MAX
+          at true = omega arith
+          at false = omega arith
+      slot-short ms (Acked number command body) short = short
+      slot-short ms (Nacked number command refusal) short = short
+
+      dropped : (side : Side) (ms : List (Message C)) (s : State C) → AreWithin s → AreWithin (ioctl_dropped side ms s)
+      dropped Master ms s within = record { master = record { signals = within.master.signals; answer = slot-short ms s.master.head.ioctl within.master.answer }; slave = within.slave }
+      dropped Slave ms s within = record { master = within.master; slave = record { signals = within.slave.signals; answer = slot-short ms s.slave.head.ioctl within.slave.answer } }
+
       apart : (side : Side) (ps : List (Module C)) (s : State C) → AnyModules ps → AreWithin s → AreWithin (with_modules side ps s)
       apart Master ps s good within = record { master = within.master; slave = within.slave }
       apart Slave ps s good within = record { master = within.master; slave = within.slave }

@@ -5,6 +5,8 @@ use Rattle.std.specs.Prelude.{count_by, not}
 use Rattle.std.proofs.lemmas.List.{drop-map, length-map, take-map}
 use Rattle.strm_types.specs.declared.names.Side.{Side}
 use Rattle.strm_types.specs.declared.spots.Spot.{Spot}
+use Rattle.strm_types.specs.declared.names.Dir.{Dir}
+use Rattle.strm_types.specs.Names.{direction_from}
 use Rattle.strm_types.specs.Deliver.{Carried}
 use Rattle.strm_types.specs.Kept.{state_weight}
 use Rattle.strm_types.specs.Message.{Message, data_message}
@@ -47,27 +49,31 @@ module _ {C : Type 0} where
     pub cells_sent-holds : (side : Side) (cells : List C) (s : State C) → Holds s → Holds (cells_sent side cells s).state
     cells_sent-holds side cells s = chunks-hold side (chunks_of (chunk_count (length cells)) cells) s
 
-  module _ (p : C → Bool) where
+  module _ (p : Dir → C → Bool) (side : Side) where
+    -- the test of what is written
+    abbrev down : C → Bool
+    down = p (direction_from side)
+
     -- a write of cells on a state: those that it took are there, but for what went on the way
     abbrev WroteKeeps : Wrote C → List C → State C → Type 0
-    WroteKeeps t cells s = state_weight p t.state + weight_gone p t.gone ≡ state_weight p s + (count_by p (take t.taken cells) + weight_made p t.gone)
+    WroteKeeps t cells s = state_weight p t.state + weight_gone p t.gone ≡ state_weight p s + (count_by down (take t.taken cells) + weight_made p t.gone)
 
     went-keeps : (full : Bool) (cells : List C) (s : State C) (t : Carried C (State C)) (more : Wrote C) →
-        state_weight p t.state + weight_gone p t.gone ≡ state_weight p s + (count_by p (take 256 cells) + weight_made p t.gone) → WroteKeeps more (drop 256 cells) t.state →
+        state_weight p t.state + weight_gone p t.gone ≡ state_weight p s + (count_by down (take 256 cells) + weight_made p t.gone) → WroteKeeps more (drop 256 cells) t.state →
         WroteKeeps (went full (length (take 256 cells)) s t more) cells s
     went-keeps true cells s t more one two = omega arith
-    went-keeps false cells s t more one two = omega (arith, first-cells p cells more.taken, gone-append p t.gone more.gone, made-append p t.gone more.gone)
+    went-keeps false cells s t more one two = omega (arith, first-cells down cells more.taken, gone-append p t.gone more.gone, made-append p t.gone more.gone)
 
-    chunks-keep : (side : Side) (count : ℕ) (cells : List C) (s : State C) → WroteKeeps (chunks_sent side (chunks_of count cells) s) cells s
-    chunks-keep side zero cells s = omega arith
-    chunks-keep side (suc count) cells s =
+    chunks-keep : (count : ℕ) (cells : List C) (s : State C) → WroteKeeps (chunks_sent side (chunks_of count cells) s) cells s
+    chunks-keep zero cells s = omega arith
+    chunks-keep (suc count) cells s =
         let t = chunk_goes side (take 256 cells) s in
         went-keeps (is_full_below 0 side s) cells s t (chunks_sent side (chunks_of count (drop 256 cells)) t.state)
-        (let here = delivered-keeps p (below_head side) (data_message (take 256 cells)) s (omega arith) in omega (arith, weight-data p (take 256 cells)))
-        (chunks-keep side count (drop 256 cells) t.state)
+        (let here = delivered-keeps p (below_head side) (data_message (take 256 cells)) s (omega arith) in omega (arith, weight-data down (take 256 cells)))
+        (chunks-keep count (drop 256 cells) t.state)
 
-    pub cells_sent-keeps : (side : Side) (cells : List C) (s : State C) → WroteKeeps (cells_sent side cells s) cells s
-    cells_sent-keeps side cells s = chunks-keep side (chunk_count (length cells)) cells s
+    pub cells_sent-keeps : (cells : List C) (s : State C) → WroteKeeps (cells_sent side cells s) cells s
+    cells_sent-keeps cells s = chunks-keep (chunk_count (length cells)) cells s
 
 module _ {C D : Type 0} (f : C → D) where
   went-forgets : (full : Bool) (size : ℕ) (s : State C) (t : Carried C (State C)) (more : Wrote C) →

@@ -9,9 +9,8 @@ use Rattle.strm_types.specs.declared.limits.TheConstants.{MODULES}
 use Rattle.strm_types.specs.declared.names.Way.{Way}
 use Rattle.strm_types.specs.declared.names.Way.TheVariants.{Up, Down}
 use Rattle.strm_types.specs.declared.spots.Spot.{Spot}
-use Rattle.strm_types.specs.Flushing.{is_flush}
 use Rattle.strm_types.specs.Message.{Message, has_parts}
-use Rattle.strm_types.specs.Puts.{is_turned}
+use Rattle.strm_types.specs.Puts.{is_bare_flush, is_turned}
 
 -- with all that a message gives rise to, behind the head: what comes up may be turned round at the head, and then reaches a
 -- driver on its way down; an M_FLUSH may have been sent across, to the driver
@@ -39,11 +38,11 @@ abbrev pub asking_cost : Spot → Bool → MsgKind → ℕ
 asking_cost here parts kind = if here.at == 0 || parts then 0 else asking_at here.way kind here.at
 
 abbrev pub cost : {C : Type 0} → Spot → Message C → ℕ
-cost here m = cost_at here (has_parts m) (is_flush m.kind) (is_turned m) + asking_cost here (has_parts m) m.kind
+cost here m = cost_at here (has_parts m) (is_bare_flush m) (is_turned m) + asking_cost here (has_parts m) m.kind
 
 -- whether a message on its way up was sent across
 abbrev pub is_across : {C : Type 0} → Spot → Message C → Bool
-is_across here m = across_at (is_flush m.kind) here.at
+is_across here m = across_at (is_bare_flush m) here.at
 
 -- what a put takes itself, behind the head, at it, and anywhere
 abbrev pub below_takes : Way → Bool → Bool → ℕ

@@ -1,11 +1,14 @@
 -- That no byte is lost, and none made but what is told: what stands on a pair's queues, what a step brings there and what it
 -- takes away.
-use Rattle.std.specs.Prelude.{◌≡◌, ℕ, ◌+◌, min, Bool, false, List, [], ◌∷◌, take}
+use Rattle.std.specs.Prelude.{◌≡◌, ℕ, ◌+◌, min, Bool, false, List, [], ◌∷◌, count_by, take}
 use Rattle.std.specs.List.{AllByRecursion}
 use Rattle.strm_types.specs.declared.limits.TheConstants.{READ_MAX}
 use Rattle.strm_types.specs.declared.names.Place.{Place}
 use Rattle.strm_types.specs.declared.names.Place.TheVariants.{Head, Ldterm, Driver}
+use Rattle.strm_types.specs.declared.names.Dir.{Dir}
 use Rattle.strm_types.specs.declared.names.Side.{Side}
+use Rattle.strm_types.specs.declared.names.Side.TheVariants.{Master, Slave}
+use Rattle.strm_types.specs.declared.names.Way.TheVariants.{Up, Down}
 use Rattle.strm_types.specs.declared.events.Event.TheVariants.{Shut, Push, Pop, Flush, Write, Read, Put, Get, Ioctl}
 use Rattle.strm_types.specs.declared.entries.Entry.TheVariants.{Called, Turned}
 use Rattle.strm_types.specs.Calls.{message_put, put_at, ioctl_sent, write_sent}
@@ -13,7 +16,7 @@ use Rattle.strm_types.specs.Cells.{Cells, cells_written}
 use Rattle.strm_types.specs.GetQueues.{get_gone}
 use Rattle.strm_types.specs.LdtermWeights.{IgnoresMapping}
 use Rattle.strm_types.specs.Message.{cells_of}
-use Rattle.strm_types.specs.Names.{direction_from, direction_of, head_of, is_open}
+use Rattle.strm_types.specs.Names.{direction_at, direction_from, direction_of, head_of, is_open}
 use Rattle.strm_types.specs.Queue.{weight}
 use Rattle.strm_types.specs.Stacked.{IsAtRest, modules_weight}
 use Rattle.strm_types.specs.State.{State, Stream, stream, book}
@@ -30,21 +33,23 @@ use Rattle.strm_types.specs.Journal.{PlainEntry}
 module _ {C : Type 0} where
   -- A turn of a module's queue may map a byte to another one, as ICRNL does, so a test has to say the same of the two. All else leaves each
   -- byte as it is.
-  abbrev pub tests_at : Cells C → (C → Bool) → Place → Type 0
+  abbrev pub tests_at : Cells C → (Dir → C → Bool) → Place → Type 0
   tests_at cells p Head = Unit {0}
   tests_at cells p Driver = Unit {0}
   tests_at cells p Ldterm = IgnoresMapping cells p
 
-  abbrev pub MayTest : Cells C → (C → Bool) → PlainEntry → Type 0
+  abbrev pub MayTest : Cells C → (Dir → C → Bool) → PlainEntry → Type 0
   MayTest cells p (Called caller asked answer) = Unit {0}
   MayTest cells p (Turned name turn) = tests_at cells p name.place
 
-  -- how many cells of a stream pass a test, on its queues and in what else its modules hold, and how many of a pair
-  abbrev pub stream_weight : (C → Bool) → Stream C → ℕ
-  stream_weight p t = weight p t.head.queue.messages + (modules_weight p t.modules + weight p t.driver.queue.messages)
+  -- how many cells of a side's stream pass the test of their direction, on its queues and in what else its modules hold, and how many
+  -- of a pair
+  abbrev pub stream_weight : (Dir → C → Bool) → Side → Stream C → ℕ
+  stream_weight p side t =
+      weight (p (direction_at Up side)) t.head.queue.messages + (modules_weight p side t.modules + weight (p (direction_at Down side)) t.driver.queue.messages)
 
-  abbrev pub state_weight : (C → Bool) → State C → ℕ
-  state_weight p s = stream_weight p s.master + stream_weight p s.slave
+  abbrev pub state_weight : (Dir → C → Bool) → State C → ℕ
+  state_weight p s = stream_weight p Master s.master + stream_weight p Slave s.slave
 
   -- A side that isn't open has nothing for its readers. A head that is opened is as new, so else it could lose bytes.
   pub record NothingUnread (s : State C) : Type 0 where
@@ -68,6 +73,11 @@ module _ {C : Type 0} where
   came cells s (Called caller (Put prio control body) answer) = cells_of (message_put cells caller.side prio control body s)
   came cells s (Called caller asked answer) = []
   came cells s (Turned name turn) = []
+
+  -- how many of them pass the test of their direction
+  abbrev pub count_came : Cells C → (Dir → C → Bool) → State C → PlainEntry → ℕ
+  count_came cells p s (Called caller asked answer) = count_by (p (direction_from caller.side)) (came cells s (Called caller asked answer))
+  count_came cells p s (Turned name turn) = 0
 
   -- what an entry takes away, by its rules: what a read or a get gives, what a flush or a close takes, and what goes on its way;
   -- and what is made on the way

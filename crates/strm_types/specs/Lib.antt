@@ -29,6 +29,7 @@ pub mod Flushing
 pub mod Ioctls
 pub mod Termios
 pub mod Drivers
+pub mod Dropped
 pub mod Heads
 pub mod Puts
 pub mod Costs
@@ -72,3 +73,4 @@ pub mod Ptems
 pub mod Output
 pub mod OutputTurns
 pub mod LdtermServes
+pub mod Ledgers

@@ -10,11 +10,12 @@ use Rattle.strm_types.specs.declared.names.Place.TheVariants.{Head, Ldterm, Driv
 use Rattle.strm_types.specs.declared.names.QueueName.{QueueName}
 use Rattle.strm_types.specs.declared.names.Side.{Side}
 use Rattle.strm_types.specs.declared.names.Way.{Way}
-use Rattle.strm_types.specs.declared.names.Way.TheVariants.{Up}
+use Rattle.strm_types.specs.declared.names.Way.TheVariants.{Up, Down}
 use Rattle.strm_types.specs.declared.rules.Rule.{Rule}
 use Rattle.strm_types.specs.declared.rules.Rule.TheVariants.{ModulePopped}
 use Rattle.strm_types.specs.declared.spots.Spot.{Spot}
 use Rattle.strm_types.specs.Deliver.{Acted, Carried}
+use Rattle.strm_types.specs.Dropped.{slot_dropped}
 use Rattle.strm_types.specs.Earlier.{before_at}
 use Rattle.strm_types.specs.Ldterms.{new_ldterm}
 use Rattle.strm_types.specs.Message.{Message}
@@ -27,7 +28,7 @@ use Rattle.strm_types.specs.Puts.{delivered, earlier_at, noted}
 use Rattle.strm_types.specs.Queue.{is_none_left}
 use Rattle.strm_types.specs.Service.{cleared}
 use Rattle.strm_types.specs.Stacked.{Module, OfLdterm, OfPtem, module_line, module_name, module_queue, with_module_queue, without_module_line}
-use Rattle.strm_types.specs.State.{State, Stream, stream, with_stream}
+use Rattle.strm_types.specs.State.{State, Stream, stream, with_ioctl, with_stream}
 
 -- the read mode that a head is given where a module is pushed below it, and where one is taken off: ldterm makes lines
 abbrev pub mode_on_push : ModuleName → Option ReadMode
@@ -135,9 +136,24 @@ module _ {C : Type 0} where
   abbrev pub top_on : Side → State C → Option ModuleName
   top_on side s = top_name module_name (stream side s).modules
 
-  -- The module on top is popped: its bytes go, and the head is told its read mode.
-  abbrev pub popped : Side → State C → Carried C (State C)
-  popped side s =
+  -- what stands on the write queue of the module on top
+  abbrev pub below_top : List (Module C) → List (Message C)
+  below_top [] = []
+  below_top (p ∷ ps) = messages_at module_queue Down p
+
+  -- a side's head, once these messages have gone
+  abbrev pub ioctl_dropped : Side → List (Message C) → State C → State C
+  ioctl_dropped side ms s = with_ioctl side (slot_dropped ms (stream side s).head.ioctl) s
+
+  -- The module on top is taken off: its bytes go, and the head is told its read mode.
+  abbrev pub taken_off : Side → State C → Carried C (State C)
+  taken_off side s =
       let t = top_taken ModulePopped side (stream side s).modules s in
       let u = mode_put side (mode_behind (top_on side s)) t.state in
       record { state = u.state; gone = t.gone ++ u.gone }
+
+  -- A pop: the ioctl under way ends with its M_IOCTL, where that stood in the module.
+  abbrev pub popped : Side → State C → Carried C (State C)
+  popped side s =
+      let t = taken_off side s in
+      record { state = ioctl_dropped side (below_top (stream side s).modules) t.state; gone = t.gone }

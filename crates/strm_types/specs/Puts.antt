@@ -1,6 +1,6 @@
 -- What a message does that is put at a spot of a pair, and with all that it gives rise to (STREAMS Programming Guide, "Put
 -- Procedures"): at a head, at a module, at a driver, or at a place where nothing stands.
-use Rattle.std.specs.Prelude.{ℕ, suc, ◌≡◌, ◌+◌, ◌-◌, Bool, true, false, ◌&&◌, ◌==◌, nat_le, if◌then◌else◌, List, [], ◌∷◌, slice_index_or, Option, None, Some}
+use Rattle.std.specs.Prelude.{ℕ, suc, ◌≡◌, ◌+◌, ◌-◌, Bool, true, false, not, ◌&&◌, ◌==◌, nat_le, if◌then◌else◌, List, [], ◌∷◌, slice_index_or, Option, None, Some}
 use Rattle.strm_types.specs.declared.events.FlushQueues.{FlushQueues}
 use Rattle.strm_types.specs.declared.kinds.Band.{Band}
 use Rattle.strm_types.specs.declared.kinds.MsgKind.{MsgKind}
@@ -21,7 +21,7 @@ use Rattle.strm_types.specs.Deliver.{Carried, Took, carried, Goes}
 use Rattle.strm_types.specs.Drivers.{driver_put}
 use Rattle.strm_types.specs.Flushing.{is_flush, asked_by, asked_of, flush_bytes, flush_message}
 use Rattle.strm_types.specs.Heads.{head_put}
-use Rattle.strm_types.specs.Message.{Message, cells_of}
+use Rattle.strm_types.specs.Message.{Message, cells_of, has_parts}
 use Rattle.strm_types.specs.Earlier.{before_at, driver_place, modules_on, places_of, queue_named}
 use Rattle.strm_types.specs.Modules.{put_among}
 use Rattle.strm_types.specs.Names.{other, is_open, is_closed, direction_at, enable_found}
@@ -104,10 +104,14 @@ module _ {C : Type 0} where
   abbrev pub passed_up : Spot → Message C → State C → Took C (State C)
   passed_up here m s = record { state = s; sent = record { to = record here { at = modules_on here.side s }; message = m } ∷ []; gone = [] }
 
-  -- below the modules: on the way up the driver's place takes what was sent across
+  -- an M_FLUSH, as it always is: without parts
+  abbrev pub is_bare_flush : Message C → Bool
+  is_bare_flush m = is_flush m.kind && not (has_parts m)
+
+  -- below the modules: on the way up the driver's place takes an M_FLUSH that was sent across
   abbrev pub put_behind : Way → Spot → Message C → State C → Took C (State C)
   put_behind Down here m s = put_at_driver here.side here m s
-  put_behind Up here m s = if is_flush m.kind && here.at == suc MODULES then put_at_driver here.side here m s else passed_up here m s
+  put_behind Up here m s = if is_bare_flush m && here.at == suc MODULES then put_at_driver here.side here m s else passed_up here m s
 
   -- below the head
   abbrev pub put_below : Way → Spot → Message C → State C → Took C (State C)

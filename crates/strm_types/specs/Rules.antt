@@ -49,3 +49,8 @@ told_more SlaveToMaster rule bytes fates = record fates { from_slave = counted_m
 abbrev pub made_more : Dir → ℕ → Fates → Fates
 made_more MasterToSlave bytes fates = record fates { made_from_master = (fates.made_from_master + bytes) % 2 ^ 64 }
 made_more SlaveToMaster bytes fates = record fates { made_from_slave = (fates.made_from_slave + bytes) % 2 ^ 64 }
+
+-- what has gone of a direction, by the numbers of the rules
+abbrev pub fates_of : Dir → Fates → List ℕ
+fates_of MasterToSlave fates = fates.from_master
+fates_of SlaveToMaster fates = fates.from_slave

@@ -3,6 +3,8 @@
 use Rattle.std.specs.Prelude.{ℕ, Bool, true, false, List, [], ◌∷◌, sum_by, flat_map, Option, None, Some}
 use Rattle.strm_types.specs.declared.names.ModuleName.{ModuleName}
 use Rattle.strm_types.specs.declared.names.ModuleName.TheVariants as names
+use Rattle.strm_types.specs.declared.names.Dir.{Dir}
+use Rattle.strm_types.specs.declared.names.Side.{Side}
 use Rattle.strm_types.specs.declared.names.Way.{Way}
 use Rattle.strm_types.specs.declared.spots.Asks.{Asks}
 use Rattle.strm_types.specs.declared.spots.Asks.TheVariants.{Empty}
@@ -70,10 +72,10 @@ module _ {C : Type 0} where
   without_module_line (OfLdterm l) = OfLdterm (without_line l)
   without_module_line (OfPtem p) = OfPtem p
 
-  -- how many cells that it holds pass a test
-  abbrev pub module_weight : (C → Bool) → Module C → ℕ
-  module_weight p (OfLdterm l) = ldterm_weight p l
-  module_weight p (OfPtem q) = 0
+  -- how many cells that it holds on a side's stream pass the test of their direction
+  abbrev pub module_weight : (Dir → C → Bool) → Side → Module C → ℕ
+  module_weight p side (OfLdterm l) = ldterm_weight p side l
+  module_weight p side (OfPtem q) = 0
 
   -- a message that is put at it
   abbrev pub module_puts : Spot → Message C → Module C → Acted C (Module C)
@@ -100,9 +102,9 @@ module _ {C : Type 0} where
   module_serves cells here made again stop (OfLdterm l) = served_by OfLdterm (ldterm_serves cells here made again stop l)
   module_serves cells here made again stop (OfPtem p) = unserved (OfPtem p)
 
-  -- the same of all modules of a stream: their queues, and how many cells that they hold pass a test
+  -- the same of all modules of a stream: their queues, and how many cells that they hold pass the test of their direction
   abbrev pub queues_of_modules : List (Module C) → List (Queue C)
   queues_of_modules ps = flat_map module_queues ps
 
-  abbrev pub modules_weight : (C → Bool) → List (Module C) → ℕ
-  modules_weight p ps = sum_by (module_weight p) ps
+  abbrev pub modules_weight : (Dir → C → Bool) → Side → List (Module C) → ℕ
+  modules_weight p side ps = sum_by (module_weight p side) ps

@@ -3,6 +3,7 @@
 
 ghost use Rattle.std.specs.Prelude.{◌≡◌, ℕ, ◌+◌, ◌≤◌, ◌<◌, ◌==◌, List, [], ◌∷◌, ◌++◌, length, Some, if◌then◌else◌, count_by, Bool};
 ghost use Rattle.std.specs.List.{AllByRecursion};
+ghost use Rattle.strm_types.specs.declared.names.Dir.{Dir};
 ghost use Rattle.strm_types.specs.Within.{AreWithin};
 ghost use Rattle.strm_types.specs.Message.{Message, rank_of, weight_of, map_message};
 ghost use Rattle.strm_types.specs.Queue.{lane, lanes_down, IsOrdered, put, put_back, put_all, take_first, count_of, bytes_of, weight, map_messages};
@@ -13,7 +14,7 @@ ghost use Rattle.strm_types.specs.declared.events.Caller.{Caller};
 ghost use Rattle.strm_types.specs.declared.limits.TheConstants.{CONTENT_MAX};
 ghost use Rattle.strm_types.specs.declared.names.QueueName.{QueueName};
 ghost use Rattle.strm_types.specs.State.{State, map_state, opening};
-ghost use Rattle.strm_types.specs.Kept.{AreIdle, MayTest, NothingUnread, state_weight, came, gone};
+ghost use Rattle.strm_types.specs.Kept.{AreIdle, MayTest, NothingUnread, state_weight, came, gone, count_came};
 ghost use Rattle.strm_types.specs.Cells.{Cells, AreCells, plain};
 ghost use Rattle.strm_types.specs.Calls.{Request, Reply, called, map_outcome, map_event, map_answer, payload_of, content_of};
 ghost use Rattle.strm_types.specs.ModuleTurns.{SameButMade};
@@ -128,10 +129,10 @@ pub fn steps_forget_origins<C>()
 /// one, as ldterm's does under ICRNL, so there the test says the same of the two. On a queue a put adds what the message has, and a take takes
 /// it away.
 pub fn bytes_are_kept<C>()
-    ensures step { (cells : Cells C) (p : C → Bool) (old new : State C) (entry : PlainEntry) → MayTest cells p entry →
+    ensures step { (cells : Cells C) (p : Dir → C → Bool) (old new : State C) (entry : PlainEntry) → MayTest cells p entry →
         NothingUnread old → AreIdle old → Step cells old entry new →
         state_weight p new + weight_gone p (gone cells old entry)
-        ≡ state_weight p old + (count_by p (came cells old entry) + weight_made p (gone cells old entry)) }
+        ≡ state_weight p old + (count_came cells p old entry + weight_made p (gone cells old entry)) }
     ensures unread { (cells : Cells C) (old new : State C) (entry : PlainEntry) → NothingUnread old →
         Step cells old entry new → NothingUnread new }
     ensures idle { (cells : Cells C) (old new : State C) (entry : PlainEntry) → AreIdle old → Step cells old entry new → AreIdle new }
@@ -153,7 +154,7 @@ pub fn turns_leave_the_ends<C>()
 /// delivery does: of any cells, those are held or have gone by a rule that were held before, came with the message, or were made
 /// on the way.
 pub fn delivery_keeps_cells<C, S>()
-    ensures { (p : C → Bool) (weigh : S → ℕ) (height : Spot → Message C → ℕ) (put : Spot → Message C → S → Took C S) →
+    ensures { (p : Dir → C → Bool) (weigh : S → ℕ) (height : Spot → Message C → ℕ) (put : Spot → Message C → S → Took C S) →
         PutKeeps p weigh put → Falls height put → (hops : ℕ) (q : Parcel C) → height q.to q.message < hops →
         CarryKeeps p weigh (carried put hops) q }
 {}

@@ -15,6 +15,8 @@ mod ioctls;
 mod keys;
 mod kinds;
 pub mod laws;
+mod ledger;
+pub mod ledger_laws;
 mod limits;
 pub mod line_laws;
 mod modes;
@@ -40,6 +42,7 @@ pub use flushing::FlushAsked;
 pub use ioctls::{Ioc, TCGETS, TCSETS, TCSETSF, TCSETSW, TIOCGWINSZ, TIOCSIGNAL, TIOCSWINSZ};
 pub use keys::{Key, LINE_MAX, Stroke};
 pub use kinds::{Band, MsgKind};
+pub use ledger::Ledger;
 pub use limits::{
     BANDS, BLOCK_SIZE, CHANGE_BLOCKS, CLOSE_BLOCKS, CONTENT_MAX, CONTROL_MAX, Config, DATA_MAX,
     HIGH_PRIORITY_RANK, HOPS, IOCTL_BLOCKS, IOCTL_END, IOCTL_MAX, LISTS, MODULES, READ_MAX,

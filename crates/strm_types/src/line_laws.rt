@@ -3,6 +3,8 @@
 
 ghost use Rattle.std.specs.Prelude.{◌≡◌, ℕ, ◌+◌, ◌*◌, ◌++◌, Bool, List, Option, length, drop};
 ghost use Rattle.strm_types.specs.declared.spots.Spot.{Spot};
+ghost use Rattle.strm_types.specs.declared.names.Dir.{Dir};
+ghost use Rattle.strm_types.specs.Names.{direction_at};
 ghost use Rattle.strm_types.specs.Cells.{AreCells, Cells, plain};
 ghost use Rattle.strm_types.specs.Input.{next_stage, stages, stages_done};
 ghost use Rattle.strm_types.specs.LdtermWeights.{ActedKeeps, EchoStands, IgnoresMapping, MayServe, ldterm_weight};
@@ -36,15 +38,15 @@ pub fn edits_leave_a_prefix<C>()
 /// with the end of the turn, which comes between two bytes; `serves` is a call of the service procedure. The turn's echo is there to grow,
 /// and stays there.
 pub fn ldterm_keeps_cells<C>()
-    ensures put { (p : C → Bool) (here : Spot) (m : Message C) (l : Ldterm C) → let t = ldterm_puts here m l in
-        ldterm_weight p t.state + (weight_sent p t.sent + weight_gone p t.gone) ≡ ldterm_weight p l + weight_of p m }
-    ensures stage { (p : C → Bool) (cells : Cells C) (here : Spot) (made : ℕ) (l : Ldterm C) → IgnoresMapping cells p → EchoStands l →
-        ActedKeeps p (next_stage cells here made l) (ldterm_weight p l) }
+    ensures put { (p : Dir → C → Bool) (here : Spot) (m : Message C) (l : Ldterm C) → let t = ldterm_puts here m l in
+        ldterm_weight p here.side t.state + (weight_sent p t.sent + weight_gone p t.gone) ≡ ldterm_weight p here.side l + weight_of (p (direction_at here.way here.side)) m }
+    ensures stage { (p : Dir → C → Bool) (cells : Cells C) (here : Spot) (made : ℕ) (l : Ldterm C) → IgnoresMapping cells p → EchoStands l →
+        ActedKeeps p here.side (next_stage cells here made l) (ldterm_weight p here.side l) }
     ensures echo { (cells : Cells C) (here : Spot) (made : ℕ) (l : Ldterm C) → EchoStands l → EchoStands (next_stage cells here made l).state }
-    ensures stages { (p : C → Bool) (cells : Cells C) (here : Spot) (n bytes made : ℕ) (l : Ldterm C) → IgnoresMapping cells p → EchoStands l →
-        n + stages_done l.stage ≡ 3 * bytes → ActedKeeps p (stages cells here n made l) (ldterm_weight p l) }
-    ensures serves { (p : C → Bool) (cells : Cells C) (here : Spot) (made : ℕ) (again : Bool) (stop : Option ℕ) (l : Ldterm C) → IgnoresMapping cells p →
-        EchoStands l → MayServe here.way again stop l → ActedKeeps p (ldterm_serves cells here made again stop l).acted (ldterm_weight p l) }
+    ensures stages { (p : Dir → C → Bool) (cells : Cells C) (here : Spot) (n bytes made : ℕ) (l : Ldterm C) → IgnoresMapping cells p → EchoStands l →
+        n + stages_done l.stage ≡ 3 * bytes → ActedKeeps p here.side (stages cells here n made l) (ldterm_weight p here.side l) }
+    ensures serves { (p : Dir → C → Bool) (cells : Cells C) (here : Spot) (made : ℕ) (again : Bool) (stop : Option ℕ) (l : Ldterm C) → IgnoresMapping cells p →
+        EchoStands l → MayServe here.way again stop l → ActedKeeps p here.side (ldterm_serves cells here made again stop l).acted (ldterm_weight p here.side l) }
 {}
 
 /// Forgetting the origins of bytes commutes with what ldterm does: with a put, whatever cells are mapped to, and with a call of its

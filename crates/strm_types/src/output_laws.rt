@@ -39,10 +39,10 @@ pub fn output_is_bytewise<C>()
 /// Output loses no cell, and makes none but those that it tells: of any cells, those that are given and that go by a rule are those
 /// that go out, with those that are told as made. A byte may stand for another one, so the test says the same of the two.
 pub fn output_keeps_cells<C>()
-    ensures posts { (p : C → Bool) (cells : Cells C) (dir : Dir) (made : ℕ) (t : Termios) (column : ℕ) (xs : List C) → IgnoresMapping cells p →
-        let u = posts cells dir made t column xs in count_by p u.given + weight_gone p u.told ≡ count_by p xs + weight_made p u.told }
-    ensures serves { (p : C → Bool) (cells : Cells C) (here : Spot) (stop : Option ℕ) (made : ℕ) (l : Ldterm C) → IgnoresMapping cells p →
-        ActedKeeps p (output_serves cells here stop made l.write_queue.messages l).acted (ldterm_weight p l) }
+    ensures posts { (p : Dir → C → Bool) (cells : Cells C) (dir : Dir) (made : ℕ) (t : Termios) (column : ℕ) (xs : List C) → IgnoresMapping cells p →
+        let u = posts cells dir made t column xs in count_by (p dir) u.given + weight_gone p u.told ≡ count_by (p dir) xs + weight_made p u.told }
+    ensures serves { (p : Dir → C → Bool) (cells : Cells C) (here : Spot) (stop : Option ℕ) (made : ℕ) (l : Ldterm C) → IgnoresMapping cells p →
+        ActedKeeps p here.side (output_serves cells here stop made l.write_queue.messages l).acted (ldterm_weight p here.side l) }
 {}
 
 /// No column passes the greatest one, and a byte gives 8 at most, and has as many made.

@@ -4,6 +4,8 @@
 ghost use Rattle.std.specs.Prelude.{◌≡◌, ◌<◌, ◌≤◌, Bool, []};
 ghost use Rattle.strm_types.specs.declared.limits.TheConstants.{MODULES};
 ghost use Rattle.strm_types.specs.declared.spots.Spot.{Spot};
+ghost use Rattle.strm_types.specs.declared.names.Dir.{Dir};
+ghost use Rattle.strm_types.specs.Names.{direction_at};
 ghost use Rattle.strm_types.specs.Deliver.{AreLower};
 ghost use Rattle.strm_types.specs.Message.{Message, map_message, weight_of};
 ghost use Rattle.strm_types.specs.Origins.{map_acted};
@@ -14,7 +16,7 @@ ghost use Rattle.strm_types.specs.Puts.{far};
 /// ptem holds no cell, and loses none: of any cells, those of a message that is put at it are sent on. None goes by a rule and none is
 /// made, and no queue's place on the enabled list changes.
 pub fn ptem_keeps_cells<C>()
-    ensures sent { (p : C → Bool) (here : Spot) (m : Message C) (l : Ptem) → weight_sent p (ptem_puts here m l).sent ≡ weight_of p m }
+    ensures sent { (p : Dir → C → Bool) (here : Spot) (m : Message C) (l : Ptem) → weight_sent p (ptem_puts here m l).sent ≡ weight_of (p (direction_at here.way here.side)) m }
     ensures gone { (here : Spot) (m : Message C) (l : Ptem) → (ptem_puts here m l).gone ≡ [] }
     ensures notes { (here : Spot) (m : Message C) (l : Ptem) → (ptem_puts here m l).notes ≡ [] }
 {}

@@ -8,6 +8,7 @@ ghost use Rattle.strm_types.specs.declared.names.Side.{Side};
 ghost use Rattle.strm_types.specs.declared.names.Way.TheVariants.{Down};
 ghost use Rattle.strm_types.specs.declared.spots.Across.{Across};
 ghost use Rattle.strm_types.specs.declared.spots.Spot.{Spot};
+ghost use Rattle.strm_types.specs.declared.names.Dir.{Dir};
 ghost use Rattle.strm_types.specs.Cells.{Cells};
 ghost use Rattle.strm_types.specs.CutOff.{IsCutOff};
 ghost use Rattle.strm_types.specs.Deliver.{Falls};
@@ -17,7 +18,7 @@ ghost use Rattle.strm_types.specs.Heads.{head_put};
 ghost use Rattle.strm_types.specs.Journal.{PlainEntry};
 ghost use Rattle.strm_types.specs.Kept.{NothingUnread, state_weight};
 ghost use Rattle.strm_types.specs.Message.{Message, has_parts};
-ghost use Rattle.strm_types.specs.Names.{is_closed};
+ghost use Rattle.strm_types.specs.Names.{is_closed, direction_from};
 ghost use Rattle.strm_types.specs.Origins.{PutsAgree};
 ghost use Rattle.strm_types.specs.Places.{PutKeeps, weight_gone, weight_made};
 ghost use Rattle.strm_types.specs.PutEffect.{put_effect, write_effect};
@@ -38,13 +39,13 @@ pub fn puts_fall<C>()
 /// No put loses a cell, or makes one that it doesn't tell: of any cells, those stand on the queues, are sent on, or have gone by a
 /// rule that stood there before, came with the message, or were made.
 pub fn puts_keep_cells<C>()
-    ensures { (p : C → Bool) → PutKeeps p (state_weight p) put_in }
+    ensures { (p : Dir → C → Bool) → PutKeeps p (state_weight p) put_in }
 {}
 
 /// Neither a head nor a driver makes a cell: only modules do.
 pub fn ends_make_nothing<C>()
-    ensures head { (p : C → Bool) (here : Spot) (m : Message C) (h : Head C) → weight_made p (head_put here m h).gone ≡ 0 }
-    ensures driver { (p : C → Bool) (side : Side) (across : Across) (here : Spot) (m : Message C) (q : Queue C) →
+    ensures head { (p : Dir → C → Bool) (here : Spot) (m : Message C) (h : Head C) → weight_made p (head_put here m h).gone ≡ 0 }
+    ensures driver { (p : Dir → C → Bool) (side : Side) (across : Across) (here : Spot) (m : Message C) (q : Queue C) →
         weight_made p (driver_put side across here m q).gone ≡ 0 }
 {}
 
@@ -71,9 +72,9 @@ pub fn puts_stand_at_the_driver<C>()
 /// Chunks of a write that are delivered one after the other lose no cell, and make none but what is told: of any cells, those stand
 /// on the queues or have gone by a rule that stood there before, were taken, or were made.
 pub fn writes_keep_cells<C>()
-    ensures { (p : C → Bool) (side : Side) (cells : List C) (s : State C) → let t = cells_sent side cells s in
+    ensures { (p : Dir → C → Bool) (side : Side) (cells : List C) (s : State C) → let t = cells_sent side cells s in
         state_weight p t.state + weight_gone p t.gone ≡
-        state_weight p s + (count_by p (take t.taken cells) + weight_made p t.gone) }
+        state_weight p s + (count_by (p (direction_from side)) (take t.taken cells) + weight_made p t.gone) }
 {}
 
 /// They do the same to cells and to what these are mapped to.

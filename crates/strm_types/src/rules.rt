@@ -1,7 +1,7 @@
 //! The rules by which bytes of a pair go, and the counts of what has gone and of what was made.
 
 ghost use Rattle.std.specs.Prelude.{◌≡◌, ◌<◌};
-ghost use Rattle.strm_types.specs.Rules.{number_of, no_fates, told_more, made_more};
+ghost use Rattle.strm_types.specs.Rules.{fates_of, number_of, no_fates, told_more, made_more};
 
 use crate::names::Dir;
 
@@ -86,6 +86,16 @@ impl Fates {
             from_slave: [0; 21],
             made_from_master: 0,
             made_from_slave: 0,
+        }
+    }
+
+    /// How many bytes of a direction have gone by each rule.
+    pub fn of(&self, direction: Dir) -> &[u64; 21]
+        ensures { result.now ≡ fates_of direction self.now }
+    {
+        match direction {
+            Dir::MasterToSlave => &self.from_master,
+            Dir::SlaveToMaster => &self.from_slave,
         }
     }
 

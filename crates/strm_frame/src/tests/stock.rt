@@ -6,7 +6,7 @@ ghost use Rattle.std.specs.Prelude.{if◌then◌else◌, [], ◌∷◌};
 ghost use Rattle.strm_frame.specs.Toys.{stays};
 
 use crate::tests::turner::onward;
-use crate::{Acts, Module, Outbox, Sent, Served, TurnEnd, clear_queue, end_queue_turn};
+use crate::{Acts, LetGo, Module, Outbox, Sent, Served, TurnEnd, clear_queue, end_queue_turn};
 use arrayvec::ArrayVec;
 use strm_blocks::Blocks;
 use strm_msg::message_size;
@@ -154,6 +154,10 @@ impl<B: Blocks> Module<B> for Stock {
         true
     }
 
+    fn line_len(&self) -> usize {
+        0
+    }
+
     fn let_wait(&mut self, way: Way, band: Band) {
         match way {
             Way::Up => {}
@@ -221,10 +225,15 @@ impl<B: Blocks> Module<B> for Stock {
         store: &mut B,
         side: Side,
         rule: Rule,
+        seeking: Option<u32>,
         told: &mut Fates,
-    ) -> ArrayVec<Note, 4> {
-        let room = clear_queue(store, &mut self.queue, side.direction(), rule, told);
-        note_if(room, Note::Room(Way::Down))
+    ) -> LetGo {
+        let direction = side.direction();
+        let gone = clear_queue(store, &mut self.queue, seeking, direction, rule, told);
+        LetGo {
+            notes: note_if(gone.room, Note::Room(Way::Down)),
+            met: gone.met,
+        }
     }
 
     ghost frame = { λ s t x same held. stock-frame s t x.name x.queue (λ _. 0) same held };

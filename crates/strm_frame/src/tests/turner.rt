@@ -3,10 +3,10 @@
 ghost use Rattle.std.specs.Prelude.{◌≡◌};
 ghost use Rattle.strm_frame.specs.Toys.{is_flush, onward};
 
-use crate::{Acts, Module, Outbox, Sent, Served, TurnEnd};
+use crate::{Acts, LetGo, Module, Outbox, Sent, Served, TurnEnd};
 use arrayvec::ArrayVec;
 use strm_blocks::Blocks;
-use strm_types::{Asks, Band, Fates, ModuleName, MsgKind, Note, Rule, Side, Spot, Way};
+use strm_types::{Asks, Band, Fates, ModuleName, MsgKind, Rule, Side, Spot, Way};
 
 #[derive(Drop)]
 pub struct Turner {
@@ -123,6 +123,10 @@ impl<B: Blocks> Module<B> for Turner {
         true
     }
 
+    fn line_len(&self) -> usize {
+        0
+    }
+
     fn let_wait(&mut self, _way: Way, _band: Band) {}
 
     fn asks(&self, _store: &B, _way: Way) -> Asks {
@@ -159,9 +163,10 @@ impl<B: Blocks> Module<B> for Turner {
         _store: &mut B,
         _side: Side,
         _rule: Rule,
+        _seeking: Option<u32>,
         _told: &mut Fates,
-    ) -> ArrayVec<Note, 4> {
-        ArrayVec::new()
+    ) -> LetGo {
+        LetGo::nothing()
     }
 
     ghost frame = { λ s t x same held. (refl, held) };

@@ -30,11 +30,12 @@ fn line_goes<B: Blocks>(rt: &impl Abort, store: &mut B, side: Side, told: &mut F
     ldterm.line = typed(rt);
     Module::<B>::let_wait(&mut ldterm, Way::Up, Band(0));
     Module::<B>::let_wait(&mut ldterm, Way::Down, Band(0));
-    let notes = clear(&mut ldterm, store, side, Rule::ModulePopped, told);
-    assert!(rt; notes.is_empty());
+    let popped = clear(&mut ldterm, store, side, Rule::ModulePopped, Some(1), told);
+    assert!(rt; popped.notes.is_empty());
+    assert!(rt; !popped.met);
     assert_eq!(rt; ldterm.line.len(), 0);
-    let notes = clear(&mut ldterm, store, side, Rule::EndClosed, told);
-    assert!(rt; notes.is_empty());
+    let closed = clear(&mut ldterm, store, side, Rule::EndClosed, None, told);
+    assert!(rt; closed.notes.is_empty());
 }
 
 #[test]

@@ -198,3 +198,125 @@ signals s
 "#,
     ),
 ];
+
+/// What becomes of an ioctl under way where a module is popped.
+pub const POPPED: [Scene; 4] = [
+    (
+        "An ioctl ends as refused with the module on which its M_IOCTL waits, and the next one is answered",
+        WELL,
+        r#"open
+  ok
+unlock
+  ok
+slave
+  ok
+push s ptem
+  ok
+push s ldterm
+  ok
+write s "hi\n"
+  ok 3
+ioctl s TCSETSW "\x00\x00%\x00\x00\x00\x00\x05\x00\x00\x00\x00\x00\x00\x8a;\x03\x1c\x7f\x15\x04\x00\x00\x00\x11\x13\x1a\x00\x12\x00\x17\x16\x00\x00\x00"
+  pending 1
+poll s 1
+  err EAGAIN
+pop s
+  ok
+poll s 1
+  nak EINVAL
+poll s 1
+  err EINVAL
+ioctl s TIOCGWINSZ
+  data 8 "\x00\x00\x00\x00\x00\x00\x00\x00"
+"#,
+    ),
+    (
+        "An ioctl waits on behind a pop of the module above",
+        WELL,
+        r#"open
+  ok
+unlock
+  ok
+slave
+  ok
+push s ldterm
+  ok
+write s "hi\n"
+  ok 3
+ioctl s TCSETSW "\x00\x00%\x00\x00\x00\x00\x05\x00\x00\x00\x00\x00\x00\x8a;\x03\x1c\x7f\x15\x04\x00\x00\x00\x11\x13\x1a\x00\x12\x00\x17\x16\x00\x00\x00"
+  pending 1
+push s ptem
+  ok
+pop s
+  ok
+poll s 1
+  err EAGAIN
+pop s
+  ok
+poll s 1
+  nak EINVAL
+"#,
+    ),
+    (
+        "An ioctl waits on where its M_IOCTL went down before its module was popped",
+        WELL,
+        r#"open
+  ok
+unlock
+  ok
+slave
+  ok
+push m ldterm
+  ok
+write m "hi\n"
+  ok 3
+ioctl m TCSETSW "\x00\x00%\x00\x00\x00\x00\x05\x00\x00\x00\x00\x00\x00\x8a;\x03\x1c\x7f\x15\x04\x00\x00\x00\x11\x13\x1a\x00\x12\x00\x17\x16\x00\x00\x00"
+  pending 1
+run 3
+  ran 3
+show m
+  show m head.r 0 0 ldterm.r 0 0 ldterm.w 0 0 drv.w 1 51
+pop m
+  ok
+poll m 1
+  err EAGAIN
+run 10
+  ran 2
+poll m 1
+  nak EINVAL
+"#,
+    ),
+    (
+        "An ioctl waits on where the M_IOCTL that goes with a module is that of number 0, with which ptem told of a change",
+        WELL,
+        r#"open
+  ok
+unlock
+  ok
+slave
+  ok
+push m ldterm
+  ok
+push m ptem
+  ok
+write m "hi\n"
+  ok 3
+ioctl m TCSETSW "\x00\x00%\x00\x00\x00\x00\x05\x00\x00\x00\x00\x00\x00\x8a;\x03\x1c\x7f\x15\x04\x00\x00\x00\x11\x13\x1a\x00\x12\x00\x17\x16\x00\x00\x00"
+  ok
+pop m
+  ok
+ioctl m TIOCGWINSZ
+  pending 2
+show m
+  show m head.r 0 0 ldterm.r 0 0 ldterm.w 2 54 drv.w 1 16
+pop m
+  ok
+poll m 2
+  err EAGAIN
+run 10
+  ran 2
+poll m 2
+  nak EINVAL
+"#,
+    ),
+];

@@ -1,11 +1,14 @@
 -- One module lets go what it has, and the others stand for the same.
-use Rattle.std.proofs.Common.{get_or, map, refl, sym, ap, ◌∙◌}
+use Rattle.std.proofs.Common.{[], get_or, map, refl, sym, ap, ◌∙◌}
 use Rattle.std.proofs.Math.ListN.{set}
+use Rattle.strm_types.specs.declared.names.Way.TheVariants.{Down}
 use Rattle.strm_types.specs.Deliver.{tallied}
+use Rattle.strm_types.specs.Dropped.{is_met}
+use Rattle.strm_types.specs.ModuleQueues.{messages_at}
 use Rattle.strm_types.specs.Service.{cleared}
 use Rattle.strm_frame.specs.Hands.{SamePool}
 use Rattle.strm_frame.specs.Stacks.{all_of}
-use Rattle.strm_frame.proofs.Beside.{act-state, act-notes, act-gone, row-plain, row-held, rest-part, rest-hands, rest-in, rest-set, own-all}
+use Rattle.strm_frame.proofs.Beside.{act-state, act-notes, act-gone, row-plain, row-held, rest-part, rest-hands, rest-in, rest-set, own-all, said-of}
 use Rattle.strm_frame.proofs.popping.clear_among.Goals as goal
 
 pub returns-clause-state : goal.returns-clause-state
@@ -34,6 +37,14 @@ returns-clause-notes g c =
     let d = c.index-modules-at.result in
     let xs = c.args.modules.now in
     c.clear.ensures.notes ∙ sym (act-notes (cleared w.queue_of w.with_queue w.line_of w.without_line c.args.side c.args.rule) (w.plain s) xs c.args.at (get_or xs c.args.at d) d c.requires.within refl)
+
+pub returns-clause-met : goal.returns-clause-met
+returns-clause-met g c =
+    let s = g.B.Blocks.value c.args.store.now in
+    let w = g.M.Module in
+    let d = c.index-modules-at.result in
+    let xs = c.args.modules.now in
+    c.clear.ensures.met ∙ ap (is_met c.args.seeking) (sym (said-of (w.plain s) (messages_at w.queue_of Down) xs c.args.at (get_or xs c.args.at d) d [] c.requires.within refl))
 
 pub returns-clause-told : goal.returns-clause-told
 returns-clause-told g c =

@@ -4,7 +4,7 @@ use Rattle.strm_types.specs.Rules.{told_more}
 use Rattle.std.specs.Prelude.{length}
 use Rattle.strm_types.specs.Emptied.{of_all, cells_gone}
 use Rattle.strm_queue.specs.Stored.{messages_on}
-use Rattle.strm_ldterm.proofs.Cleared.{cleared-own, cleared-state, cleared-notes, cleared-told}
+use Rattle.strm_ldterm.proofs.Cleared.{cleared-own, cleared-state, cleared-notes, cleared-met, cleared-told}
 use Rattle.strm_ldterm.proofs.clearing.clear.Goals as goal
 
 pub returns-clause-state : goal.returns-clause-state
@@ -26,7 +26,18 @@ returns-clause-notes g c =
     let u = g.B.Blocks.value b.new.store in
     c.rooms.ensures
     ∙ cleared-notes g.B.Blocks.name s t u c.args.ldterm.now c.clear_line.new.line a.new.queue b.new.queue c.requires.held a.ensures.changes b.ensures.changes c.args.side c.args.rule c.requires.rests
-    a.result b.result a.ensures.room b.ensures.room
+    a.result.room b.result.room a.ensures.room b.ensures.room
+
+pub returns-clause-met : goal.returns-clause-met
+returns-clause-met g c =
+    let s = g.B.Blocks.value c.args.store.now in
+    let a = c.clear_queue-above in
+    let b = c.clear_queue-below in
+    let t = g.B.Blocks.value a.new.store in
+    let u = g.B.Blocks.value b.new.store in
+    b.ensures.met
+    ∙ cleared-met g.B.Blocks.name s t u c.args.ldterm.now c.clear_line.new.line a.new.queue b.new.queue c.requires.held a.ensures.changes b.ensures.changes c.args.side c.args.rule c.requires.rests
+    c.args.seeking
 
 pub returns-clause-told : goal.returns-clause-told
 returns-clause-told g c =

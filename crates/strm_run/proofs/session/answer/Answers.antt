@@ -8,7 +8,7 @@ use Rattle.strm_run.specs.Plain.{plain}
 use Rattle.strm_run.specs.Outcomes.{LeadsTo}
 use Rattle.strm_run.specs.declared.session.Answered.{Answered}
 use Rattle.strm_run.specs.declared.commands.Command.{Command}
-use Rattle.strm_run.specs.declared.commands.Command.TheVariants.{Open, Call, Flush, Put, Get, Turn, Run, Show}
+use Rattle.strm_run.specs.declared.commands.Command.TheVariants.{Open, Call, Flush, Put, Get, Turn, Run, Show, Ledger}
 use Rattle.strm_run.proofs.Events.{leads_unanswered, leads_same}
 use Rattle.strm_run.proofs.session.answer.Goals as goal
 
@@ -24,6 +24,7 @@ closed (Get side wanted cmax dmax) h account = refl
 closed (Turn name) h account = refl
 closed (Run turns) h account = refl
 closed (Show side) h account = refl
+closed (Ledger direction) h account = refl
 
 pub returns-in_default-command : goal.returns-in_default-command
 returns-in_default-command c = record {

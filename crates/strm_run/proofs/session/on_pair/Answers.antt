@@ -10,7 +10,7 @@ use Rattle.strm_types.specs.declared.names.Side.{Side}
 use Rattle.strm_types.specs.Calls.{Request}
 use Rattle.strm_run.specs.Script.{Call, Put}
 use Rattle.strm_run.specs.declared.commands.NamedPrio.{NamedPrio}
-use Rattle.strm_run.specs.ScriptRun.{PlainPair, answered, by_call, by_put, by_show, queues_down, size_at}
+use Rattle.strm_run.specs.ScriptRun.{PlainPair, answered, by_call, by_put, by_show, by_ledger, queues_down, size_at}
 use Rattle.strm_types.specs.declared.refusals.Refusal.TheVariants.{Einval}
 use Rattle.strm_run.specs.Commands.{command_of}
 use Rattle.strm_run.specs.Plain.{plain}
@@ -80,6 +80,12 @@ returns-in-Show c = known _ _ _ _ _ _ c.in-Show.is
     (leads_looked _ _ _ _ (λ account.
     ap (λ line. record { line = line; pair = Some (plain c.args.pair.now); account = account; is_short = false }) (sym (shown c.in-Show.side c.args.pair.now.state))
     ∙ ap (λ (x : Answered). record { line = line_of c.args.out.now.items x.line; pair = Some (plain c.args.pair.now); account = account; is_short = x.short }) (sym c.show.ensures)))
+
+pub returns-in-Ledger : goal.returns-in-Ledger
+unfolding answered by_ledger
+returns-in-Ledger c = known _ _ _ _ _ _ c.in-Ledger.is
+    (leads_looked _ _ _ _ (λ account.
+    ap (λ (x : Answered). record { line = line_of c.args.out.now.items x.line; pair = Some (plain c.args.pair.now); account = account; is_short = x.short }) (sym c.ledger.ensures)))
 
 -- a put, whose parts are lent
 puts : (bytes : List ℕ) (side : Side) (prio : NamedPrio) (control body asked_control asked_body : Option (List ℕ)) (found : Answered) (old : PlainPair) (new : Option PlainPair)

@@ -1,6 +1,9 @@
 -- The modules are taken as a slice, and written back whole.
-use Rattle.std.proofs.Common.{◌∙◌, ap, sym, subst, length, map}
+use Rattle.std.proofs.Common.{◌∙◌, ap, sym, subst, [], length, map}
+use Rattle.strm_types.specs.declared.names.Way.TheVariants.{Down}
 use Rattle.strm_types.specs.Deliver.{tallied}
+use Rattle.strm_types.specs.Dropped.{is_met}
+use Rattle.strm_types.specs.ModuleQueues.{at_place, messages_at}
 use Rattle.strm_types.specs.Modules.{act_among}
 use Rattle.strm_types.specs.Service.{cleared}
 use Rattle.strm_frame.specs.Hands.{OnlyOwn}
@@ -24,6 +27,13 @@ returns-clause-notes g c =
     let s = g.B.Blocks.value c.args.store.now in
     c.clear_among.ensures.notes
     ∙ ap (λ xs. (act_among (cleared w.queue_of w.with_queue w.line_of w.without_line c.args.side c.args.rule) 0 (map (w.plain s) xs)).notes) c.as_mut_slice.ensures.value
+
+pub returns-clause-met : goal.returns-clause-met
+returns-clause-met g c =
+    let w = g.M.Module in
+    let s = g.B.Blocks.value c.args.store.now in
+    c.clear_among.ensures.met
+    ∙ ap (λ xs. is_met c.args.seeking (at_place (messages_at w.queue_of Down) [] 1 (map (w.plain s) xs))) c.as_mut_slice.ensures.value
 
 pub returns-clause-told : goal.returns-clause-told
 returns-clause-told g c =

@@ -1,22 +1,34 @@
 -- A call that isn't refused is a step, and the journal gains it with its answer.
-use Rattle.std.proofs.Common.{◌≡◌, ◌+◌, ◌∙◌, ◌++◌, ◌∷◌, [], length, ap, sym, refl, subst, rules, arith}
-use Rattle.std.specs.Prelude.{None}
+use Rattle.std.proofs.Common.{ℕ, Bool, true, false, ◌≡◌, ◌≤◌, ◌+◌, ◌∙◌, ◌++◌, ◌∷◌, [], length, ap, sym, refl, subst, rules, arith}
+use Rattle.std.specs.Prelude.{◌&&◌, nat_le, None}
+use Rattle.std.proofs.lemmas.Bool.Decides.{nat_tests}
 use Rattle.strm_types.specs.declared.entries.Entry.TheVariants.{Called}
 use Rattle.strm_types.specs.Cells.{plain}
 use Rattle.strm_types.specs.Calls.{payload_of, request}
 use Rattle.strm_types.specs.Journal.{PlainEntry, content_max, reply_in}
 use Rattle.strm_types.specs.CutOff.{IsCutOff}
 use Rattle.strm_types.specs.State.{opening}
+use Rattle.strm_types.specs.Ledgers.{FewBooked}
 use Rattle.strm_types.specs.Step.{IsCall, after}
 use Rattle.strm_types.specs.Refused.{enough, blocks_asked, refused_at_once, refused_by_state}
 use Rattle.strm_types.specs.Pair.{PairState, AddsEntry, call_refused}
+use Rattle.strm_types.proofs.Balances.{call-few, written-by-blocks}
 use Rattle.strm_types.proofs.CutOff.{journal-cut, opening-cut}
 use Rattle.strm_types.proofs.Replay.{call-allowed, or_else-none}
+use Rattle.strm_blocks.specs.Blocks.{StoreValue, free_d, free_m}
+use Rattle.strm_blocks.proofs.Laws.{free_m-is}
 use Rattle.strm_pair.specs.Pairs.{state_in, journal_of, free_in}
 use Rattle.strm_pair.specs.PairViews.{pair_of}
 use Rattle.strm_pair.proofs.JournalLemmas.{room-less}
 use Rattle.strm_pair.proofs.Steps.{kept-step, led-idle, step-shown}
 use Rattle.strm_pair.proofs.pair.Pair.call.Goals as goal
+
+first-true : (a b : Bool) → (a && b) ≡ true → a ≡ true
+first-true true b is = refl
+first-true false b is = absurd (cc)
+
+asked-free : (need : ℕ) (s : StoreValue) → enough need (free_in s) ≡ true → need ≤ free_m s
+asked-free need s is = let t = first-true (nat_le need (free_m s)) (nat_le need (free_d s)) is in grind (arith, nat_tests)
 
 pub invariant_of-self : goal.invariant_of-self
 invariant_of-self g c =
@@ -29,13 +41,18 @@ invariant_of-self g c =
     let entry : PlainEntry = Called c.args.caller asked (reply_in c.carry_out-answer.result out) in
     let allowed : call_refused (pair_of g.B.Stacks.view s p.streams p.journal p.limits p.fates) c.args.caller asked ≡ None = ap (λ (v : PairState). call_refused v c.args.caller asked) c.self.view_is ∙ sym c.refusal.ensures ∙ c.in_default.is in
     let added : journal_of c.add_call.new.self ≡ journal_of p.journal ++ entry ∷ [] = c.add_call.ensures.added ∙ ap (λ b. journal_of p.journal ++ Called c.args.caller asked (reply_in c.carry_out-answer.result b) ∷ []) c.as_slice.ensures.value in
+    let may = (call-allowed old (journal_of p.journal) p.limits (enough (blocks_asked asked) (free_in s)) c.args.caller asked allowed).0 in
+    let blocks : blocks_asked asked ≤ free_m s = asked-free (blocks_asked asked) s (call-allowed old (journal_of p.journal) p.limits (enough (blocks_asked asked) (free_in s)) c.args.caller asked allowed).2 in
+    let store = c.audit.ensures in
+    let less : blocks_asked asked ≤ 65536 = omega (arith, blocks, store.few_mblks, free_m-is s) in
+    let few = call-few plain c.args.caller asked old may (written-by-blocks asked 65536 (omega arith) less) c.self.invariant.few in
     kept-step g.B.Stacks.view s new p.streams c.carry_out-answer.new.self p.journal c.add_call.new.self p.limits p.fates c.carry_out-answer.new.told entry c.self.invariant
     (record {
       allowed = (call-allowed old (journal_of p.journal) p.limits (enough (blocks_asked asked) (free_in s)) c.args.caller asked allowed).0;
       answered = sym c.carry_out-answer.ensures.answer;
       leads = refl;
     })
-    c.carry_out-answer.ensures.state c.carry_out-answer.ensures.held c.carry_out-answer.ensures.pool (c.carry_out-answer.ensures.told (reply_in c.carry_out-answer.result out)) added c.add_call.ensures.most_entries c.add_call.ensures.most_bytes
+    c.carry_out-answer.ensures.state c.carry_out-answer.ensures.held c.carry_out-answer.ensures.pool (subst FewBooked (sym c.carry_out-answer.ensures.state) few) (c.carry_out-answer.ensures.told (reply_in c.carry_out-answer.result out)) added c.add_call.ensures.most_entries c.add_call.ensures.most_bytes
 
 pub returns-clause-adds : goal.returns-clause-adds
 returns-clause-adds g c =
@@ -103,7 +120,7 @@ pub as_slice-requires : goal.as_slice-requires
 as_slice-requires g c = search rules steps 30000
 
 pub add_call-requires-clause-filled : goal.add_call-requires-clause-filled
-add_call-requires-clause-filled g c = search rules steps 300000
+add_call-requires-clause-filled g c = c.carry_out-answer.ensures.filled ∙ ap length (sym c.as_slice.ensures.value)
 
 pub add_call-requires-clause-room : goal.add_call-requires-clause-room
 add_call-requires-clause-room g c =

@@ -29,7 +29,7 @@ invariant_of-self g c =
       answered = sym c.turn-turn.ensures.turn;
       leads = refl;
     })
-    c.turn-turn.ensures.state c.turn-turn.ensures.held c.turn-turn.ensures.pool c.turn-turn.ensures.told c.add_turn.ensures.added c.add_turn.ensures.most_entries c.add_turn.ensures.most_bytes
+    c.turn-turn.ensures.state c.turn-turn.ensures.held c.turn-turn.ensures.pool c.turn-turn.ensures.few c.turn-turn.ensures.told c.add_turn.ensures.added c.add_turn.ensures.most_entries c.add_turn.ensures.most_bytes
 
 pub returns-clause-adds : goal.returns-clause-adds
 returns-clause-adds g c =

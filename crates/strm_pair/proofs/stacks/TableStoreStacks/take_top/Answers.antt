@@ -4,14 +4,14 @@ use Rattle.std.specs.Prelude.{None}
 use Rattle.strm_pair.proofs.ModuleTaken.{none-top, took-top}
 use Rattle.strm_pair.proofs.stacks.TableStoreStacks.take_top.Goals as goal
 
-pub returns-in_err-name : goal.returns-in_err-name
-returns-in_err-name c =
+pub returns-in_err-name-clause-took : goal.returns-in_err-name-clause-took
+returns-in_err-name-clause-took c =
     let gone : c.from_residual.result ≡ None = grind arith in
     let bare = none-top _ c.args.store.now c.args.stack.now.modules.items (sym (c.look.ensures c.args.store.now) ∙ c.in_err-name.was) in
     rw gone (record { none = bare; store = refl; stack = refl; tells = refl })
 
-pub returns : goal.returns
-returns c =
-    let e = c.clear_top-notes.ensures in
-    took-top _ c.args.store.now c.clear_top-notes.new.store c.args.side c.args.rule c.args.told.now c.clear_top-notes.new.told _ c.args.stack.now c.clear_top-notes.new.self c.pop.new.self c.pop.result
+pub returns-clause-took : goal.returns-clause-took
+returns-clause-took c =
+    let e = c.clear_top-gone.ensures in
+    took-top _ c.args.store.now c.clear_top-gone.new.store c.args.side c.args.rule c.args.told.now c.clear_top-gone.new.told _ c.args.stack.now c.clear_top-gone.new.self c.pop.new.self c.pop.result
     (sym (c.look.ensures c.args.store.now) ∙ c.in_ok-name.was) e.state e.notes e.told e.held e.rests e.own e.hand e.frees c.pop.ensures

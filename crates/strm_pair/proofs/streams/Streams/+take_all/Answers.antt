@@ -25,16 +25,16 @@ take_all-requires g t c κs within =
     let u = state_in g.B.Stacks.view.modules (g.B.Blocks.value c.take_top.new.store) c.take_top.new.self in
     let many : suc (c.args.count - 1) ≡ length (stream c.args.side s).modules = omega (arith, c.requires.count, c.if-count-eq0.false) in
     let some = c.if-count-eq0.false in
-    let left : c.args.count - 1 ≡ length (stream c.args.side u).modules = sym (one-less c.args.rule c.args.side s u c.take_top.ensures.state (c.args.count - 1) many) in
-    let idle = subst AreIdle (sym c.take_top.ensures.state) (top-idle c.args.rule c.args.side s c.requires.idle) in
-    (omega arith, (within.0, (within.1.0, (within.1.1, (c.take_top.ensures.held, (idle, left))))))
+    let left : c.args.count - 1 ≡ length (stream c.args.side u).modules = sym (one-less c.args.rule c.args.side s u c.take_top.ensures.taken.state (c.args.count - 1) many) in
+    let idle = subst AreIdle (sym c.take_top.ensures.taken.state) (top-idle c.args.rule c.args.side s c.requires.idle) in
+    (omega arith, (within.0, (within.1.0, (within.1.1, (c.take_top.ensures.taken.held, (idle, left))))))
 
 pub returns-clause-state : goal.returns-clause-state
 returns-clause-state g t c =
     let s = state_in g.B.Stacks.view.modules (g.B.Blocks.value c.args.store.now) c.args.self.now in
     let u = state_in g.B.Stacks.view.modules (g.B.Blocks.value c.take_top.new.store) c.take_top.new.self in
     let many : suc (c.args.count - 1) ≡ length (stream c.args.side s).modules = omega (arith, c.requires.count, c.if-count-eq0.false) in
-    c.take_all.ensures.state ∙ sym (ap (λ (o : Carried ℕ (State ℕ)). o.state) (all-by-one c.args.rule c.args.side s u c.take_top.ensures.state (c.args.count - 1) many))
+    c.take_all.ensures.state ∙ sym (ap (λ (o : Carried ℕ (State ℕ)). o.state) (all-by-one c.args.rule c.args.side s u c.take_top.ensures.taken.state (c.args.count - 1) many))
 
 pub returns-clause-told : goal.returns-clause-told
 returns-clause-told g t c =
@@ -43,14 +43,14 @@ returns-clause-told g t c =
     let many : suc (c.args.count - 1) ≡ length (stream c.args.side s).modules = omega (arith, c.requires.count, c.if-count-eq0.false) in
     let first = (top_taken c.args.rule c.args.side (stream c.args.side s).modules s).gone in
     let rest = (all_taken c.args.rule c.args.side (stream c.args.side u).modules u).gone in
-    c.take_all.ensures.told ∙ ap (λ f. tallied rest f) c.take_top.ensures.tells ∙ sym (tallied-both first rest c.args.told.now)
-    ∙ sym (ap (λ (o : Carried ℕ (State ℕ)). tallied o.gone c.args.told.now) (all-by-one c.args.rule c.args.side s u c.take_top.ensures.state (c.args.count - 1) many))
+    c.take_all.ensures.told ∙ ap (λ f. tallied rest f) c.take_top.ensures.taken.tells ∙ sym (tallied-both first rest c.args.told.now)
+    ∙ sym (ap (λ (o : Carried ℕ (State ℕ)). tallied o.gone c.args.told.now) (all-by-one c.args.rule c.args.side s u c.take_top.ensures.taken.state (c.args.count - 1) many))
 
 pub returns-clause-held : goal.returns-clause-held
 returns-clause-held g t c = c.take_all.ensures.held
 
 pub returns-clause-pool : goal.returns-clause-pool
 returns-clause-pool g t c = record {
-  mblks = c.take_all.ensures.pool.mblks ∙ c.take_top.ensures.pool.mblks;
-  dblks = c.take_all.ensures.pool.dblks ∙ c.take_top.ensures.pool.dblks;
+  mblks = c.take_all.ensures.pool.mblks ∙ c.take_top.ensures.taken.pool.mblks;
+  dblks = c.take_all.ensures.pool.dblks ∙ c.take_top.ensures.taken.pool.dblks;
 }

@@ -14,15 +14,15 @@ returns-clause-held g c =
     let p = c.args.self.now in
     elim c.match-side.branch [
       | in-Master w ↦
-          (let e = w.clear_queue-lets_go.ensures.changes in
-          let t = g.B.Blocks.value w.clear_queue-lets_go.new.store in
-          let q = w.clear_queue-lets_go.new.queue in
+          (let e = w.clear_queue-gone.ensures.changes in
+          let t = g.B.Blocks.value w.clear_queue-gone.new.store in
+          let q = w.clear_queue-gone.new.queue in
           let h = driver-held g.B.Stacks.view s t p Master q c.requires (only-changed s t p.master.driver q e) e.hand e.mblks e.dblks in
           rw (w.store-is, c.let_go.ensures s, w.self-is) (record { hand = h.hand; beside = h.beside }))
       | in-Slave w ↦
-          (let e = w.clear_queue-lets_go-in-Slave.ensures.changes in
-          let t = g.B.Blocks.value w.clear_queue-lets_go-in-Slave.new.store in
-          let q = w.clear_queue-lets_go-in-Slave.new.queue in
+          (let e = w.clear_queue-gone-in-Slave.ensures.changes in
+          let t = g.B.Blocks.value w.clear_queue-gone-in-Slave.new.store in
+          let q = w.clear_queue-gone-in-Slave.new.queue in
           let h = driver-held g.B.Stacks.view s t p Slave q c.requires (only-changed s t p.slave.driver q e) e.hand e.mblks e.dblks in
           rw (w.store-is, c.let_go.ensures s, w.self-is) (record { hand = h.hand; beside = h.beside }))
     ]

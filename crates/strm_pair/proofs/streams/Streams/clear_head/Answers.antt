@@ -14,18 +14,18 @@ returns-clause-held g c =
     let p = c.args.self.now in
     elim c.match-side.branch [
       | in-Master w ↦
-          (let e = w.clear_queue-lets_go.ensures in
-          let t = g.B.Blocks.value w.clear_queue-lets_go.new.store in
-          let q = w.clear_queue-lets_go.new.queue in
+          (let e = w.clear_queue-gone.ensures in
+          let t = g.B.Blocks.value w.clear_queue-gone.new.store in
+          let q = w.clear_queue-gone.new.queue in
           rw (w.store-is, c.let_go.ensures s, w.self-is)
           (record {
             hand = e.changes.hand ∙ c.requires.hand;
             beside = head-changed g.B.Stacks.view s t p c.requires.beside (still s t (kept_by g.B.Stacks.view p) e.changes.hand e.changes.mblks e.changes.dblks) Master (record p.master.head { queue = q }) (only-changed s t p.master.head.queue q e.changes) (readable-cleared t q (queue_in s p.master.head.queue) e.queue);
           }))
       | in-Slave w ↦
-          (let e = w.clear_queue-lets_go-in-Slave.ensures in
-          let t = g.B.Blocks.value w.clear_queue-lets_go-in-Slave.new.store in
-          let q = w.clear_queue-lets_go-in-Slave.new.queue in
+          (let e = w.clear_queue-gone-in-Slave.ensures in
+          let t = g.B.Blocks.value w.clear_queue-gone-in-Slave.new.store in
+          let q = w.clear_queue-gone-in-Slave.new.queue in
           rw (w.store-is, c.let_go.ensures s, w.self-is)
           (record {
             hand = e.changes.hand ∙ c.requires.hand;

@@ -1,13 +1,18 @@
 -- What was sent across is for the driver, and all else goes on.
-use Rattle.std.proofs.Common.{ℕ, ◌≡◌, Bool, true, false, cond, refl, sym, ap, subst, ◌∙◌, arith}
+use Rattle.std.proofs.Common.{ℕ, ◌≡◌, Bool, true, false, cond, List, refl, sym, ap, subst, ◌∙◌, arith}
 use Rattle.std.proofs.lemmas.Bool.Decides.{nat_tests}
-use Rattle.std.specs.Prelude.{◌&&◌, ◌==◌}
+use Rattle.std.specs.Prelude.{◌&&◌, ◌==◌, not}
+use Rattle.strm_types.specs.declared.kinds.MsgKind.{MsgKind}
+use Rattle.strm_types.specs.declared.kinds.MsgKind.TheVariants.{Flush, Data, Proto, Pcproto}
 use Rattle.strm_types.specs.declared.names.Way.TheVariants.{Up}
+use Rattle.strm_types.specs.Flush.{is_data_kind}
 use Rattle.strm_types.specs.Flushing.{is_flush}
 use Rattle.strm_types.specs.Message.{has_parts}
-use Rattle.strm_types.specs.Puts.{passed_up, put_at_driver}
-use Rattle.strm_blocks.specs.Blocks.{in_hand}
+use Rattle.strm_types.specs.Puts.{is_bare_flush, passed_up, put_at_driver}
+use Rattle.strm_blocks.specs.Blocks.{Block, block_at, in_hand}
+use Rattle.strm_msg.specs.Messages.{IsChain, message_of}
 use Rattle.strm_msg.proofs.Chains.{kind-is}
+use Rattle.strm_msg.proofs.MadePlain.{parts-same}
 use Rattle.strm_frame.specs.Hands.{HasRoom}
 use Rattle.strm_frame.specs.Outboxes.{message_in, sent_of}
 use Rattle.strm_frame.proofs.Handing.{can-in_hand}
@@ -16,6 +21,21 @@ use Rattle.strm_pair.specs.Pairs.{kept_by, state_in}
 use Rattle.strm_pair.specs.PutBy.{PutBy}
 use Rattle.strm_pair.proofs.streams.Streams.put_up.Goals as goal
 use Rattle.strm_pair.proofs.streams.Streams.put_up.Goals.{else-to-via-then-to+else-is_flush, else-to-via-else-to}
+
+-- an M_FLUSH has no parts
+bare-kind : (kind : MsgKind) → (is_flush kind && not (is_data_kind kind)) ≡ is_flush kind
+unfolding is_data_kind
+bare-kind Flush = refl
+bare-kind Data = refl
+bare-kind Proto = refl
+bare-kind Pcproto = refl
+bare-kind kind = refl
+
+bare-is : (chain : List Block) → IsChain chain → is_bare_flush (message_of chain) ≡ is_flush (block_at 0 chain).kind
+bare-is chain one =
+    ap (λ kind. is_flush kind && not (has_parts (message_of chain))) (kind-is chain)
+    ∙ ap (λ parts. is_flush (block_at 0 chain).kind && not parts) (parts-same chain one)
+    ∙ bare-kind (block_at 0 chain).kind
 
 and-false : (b : Bool) → (b && false) ≡ false
 and-false true = refl
@@ -34,7 +54,7 @@ pub put_driver-requires-clause-room : goal.put_driver-requires-clause-room
 put_driver-requires-clause-room g c =
     let s = g.B.Blocks.value c.args.store.now in
     let i = g.B.Blocks.name c.args.message in
-    let flush : is_flush (message_in s i).kind ≡ true = ap is_flush (kind-is (in_hand s i) ∙ sym c.kind.ensures) ∙ sym c.is_flush.ensures ∙ c.if-is_flush.true in
+    let flush : is_bare_flush (message_in s i) ≡ true = bare-is (in_hand s i) c.requires.chain ∙ ap is_flush (sym c.kind.ensures) ∙ sym c.is_flush.ensures ∙ c.if-is_flush.true in
     let across : is_across c.args.to (message_in s i) ≡ true = ap (λ b. b && (c.args.to.at == 4)) flush ∙ at-place c.args.to.at c.if-to.true in
     let parts = has_parts (message_in s i) in
     subst (λ w. HasRoom s (below_takes w parts true)) (sym c.requires.up) (subst (λ b. HasRoom s (below_takes Up parts b)) across c.requires.room)
@@ -48,7 +68,7 @@ returns-then-is_flush g c =
     let p = c.args.self.now in
     let to = c.args.to in
     let m = message_in s i in
-    let flush : is_flush m.kind ≡ true = ap is_flush (kind-is (in_hand s i) ∙ sym c.kind.ensures) ∙ sym c.is_flush.ensures ∙ c.if-is_flush.true in
+    let flush : is_bare_flush m ≡ true = bare-is (in_hand s i) c.requires.chain ∙ ap is_flush (sym c.kind.ensures) ∙ sym c.is_flush.ensures ∙ c.if-is_flush.true in
     let across : is_across to m ≡ true = ap (λ b. b && (to.at == 4)) flush ∙ at-place c.args.to.at c.if-to.true in
     let sent = sent_of c.put_driver.result in
     subst (λ b. PutBy name g.B.Stacks.view s t p c.put_driver.new.self i (cond b 1 0) sent c.args.told.now c.put_driver.new.told (cond b (put_at_driver to.side to m (state_in g.B.Stacks.view.modules s p)) (passed_up to m (state_in g.B.Stacks.view.modules s p)))) (sym across)
@@ -66,8 +86,8 @@ returns g c =
     let f = c.args.told.now in
     let passes : is_across to m ≡ false = elim c.else-to.branch [
       | else-to-via-then-to+else-is_flush w ↦
-          (let flush : is_flush m.kind ≡ false = ap is_flush (kind-is (in_hand s i) ∙ sym w.kind.ensures) ∙ sym w.is_flush.ensures ∙ w.if-is_flush.false in
+          (let flush : is_bare_flush m ≡ false = bare-is (in_hand s i) c.requires.chain ∙ ap is_flush (sym w.kind.ensures) ∙ sym w.is_flush.ensures ∙ w.if-is_flush.false in
           ap (λ b. b && (to.at == 4)) flush)
-      | else-to-via-else-to w ↦ ap (λ b. is_flush m.kind && b) (at-other to.at w.if-to.false) ∙ and-false (is_flush m.kind)
+      | else-to-via-else-to w ↦ ap (λ b. is_bare_flush m && b) (at-other to.at w.if-to.false) ∙ and-false (is_bare_flush m)
     ] in
     subst (λ b. PutBy name g.B.Stacks.view s s p p i (cond b 1 0) sent f f (cond b (put_at_driver to.side to m (state_in g.B.Stacks.view.modules s p)) (passed_up to m (state_in g.B.Stacks.view.modules s p)))) (sym passes) (c.pass_up.ensures f)

@@ -1,30 +1,22 @@
 -- The module on top is taken off its stack, its queues are no longer enabled, and those before it are.
-use Rattle.std.proofs.Common.{◌≡◌, ap, ◌∙◌, arith}
-use Rattle.std.specs.Prelude.{None}
+use Rattle.std.proofs.Common.{ap, ◌∙◌}
 use Rattle.strm_types.proofs.Noted.{noted-same}
 use Rattle.strm_types.specs.Modules.{without_module}
 use Rattle.strm_types.specs.Puts.{earlier_at, noted}
 use Rattle.strm_types.specs.Names.{place_of}
 use Rattle.strm_pair.specs.Nearest.{earlier_of}
 use Rattle.strm_pair.specs.Pairs.{state_in}
-use Rattle.strm_pair.proofs.Takings.{enabled-stays, none-went, top-went}
+use Rattle.strm_pair.proofs.Takings.{enabled-stays, top-went}
 use Rattle.strm_pair.proofs.streams.Streams.take_top.Goals as goal
 
-pub returns-in_err-taken : goal.returns-in_err-taken
-returns-in_err-taken g c =
-    let gone : c.from_residual.result ≡ None = grind arith in
-    let e = c.take_off.ensures in
-    let took = rw c.in_err-taken.was at e.took in
-    rw gone (none-went g.B.Stacks.view c.args.side c.args.rule (g.B.Blocks.value c.args.store.now) c.args.self.now c.requires.held c.args.told.now (g.B.Blocks.value c.take_off.new.store) c.take_off.new.self c.take_off.new.told e.streams took)
-
-pub returns : goal.returns
-returns g c =
+pub returns-clause-taken : goal.returns-clause-taken
+returns-clause-taken g c =
     let s = g.B.Blocks.value c.args.store.now in
     let p = c.args.self.now in
     let st = state_in g.B.Stacks.view.modules s p in
     let e = c.take_off.ensures in
-    let taken = c.in_ok-taken.taken in
-    let took = rw c.in_ok-taken.was at e.took in
+    let taken = c.in-Some.taken in
+    let took = rw c.in-Some.is at e.took in
     top-went g.B.Stacks.view c.args.side c.args.rule s p c.requires.held c.args.told.now (g.B.Blocks.value c.take_off.new.store) c.take_off.new.self c.take_off.new.told taken c.forget.new.self e.streams took
     (c.forget.ensures ∙ ap (without_module c.args.side taken.name)
     (c.note.ensures

@@ -1,11 +1,18 @@
 -- Where the module may serve, its calls are those of the turn's definition.
-use Rattle.std.proofs.Common.{ℕ, sym, ap, subst, ◌∙◌, arith}
+use Rattle.std.proofs.Common.{ℕ, ◌≡◌, [], false, sym, ap, subst, ◌∙◌, arith}
+use Rattle.std.specs.Prelude.{not, ◌==◌}
 use Rattle.strm_types.specs.declared.answers.Turn.TheVariants.{Moved}
 use Rattle.strm_types.specs.Cells.{plain}
 use Rattle.strm_types.specs.Deliver.{tallied}
 use Rattle.strm_types.specs.Kept.{AreIdle}
-use Rattle.strm_types.specs.ModuleTurns.{module_turn_ended}
+use Rattle.strm_types.specs.ModuleTurns.{module_turn_ended, module_turned}
+use Rattle.strm_types.specs.Ledgers.{FewBooked}
+use Rattle.strm_types.specs.State.{State, book}
+use Rattle.strm_types.specs.TurnCalls.{bytes_left, ldterm_of, module_at}
 use Rattle.strm_types.specs.TurnOutcomes.{TurnOutcome}
+use Rattle.strm_types.proofs.Balances.{range-low, turn-few}
+use Rattle.strm_types.proofs.InOrder.{BooksMade}
+use Rattle.strm_types.proofs.StepBooks.{books-are, ended-books, module-books}
 use Rattle.strm_types.proofs.ModuleTurnKeeps.{module_turned-rests}
 use Rattle.strm_frame.proofs.Handing.{no-hand}
 use Rattle.strm_pair.specs.Framing.{rests}
@@ -70,3 +77,37 @@ returns-in-Serves-clause-held g c =
       hand = no-hand t.hand (λ i. on.ensures.hand i ∙ sym (c.end_module_turn.ensures.keeps i) ∙ rests view t q c.end_module_turn.ensures.beside idle i);
       beside = c.end_module_turn.ensures.beside;
     }
+
+-- no book goes round
+pub returns-in-Over-clause-few : goal.returns-in-Over-clause-few
+returns-in-Over-clause-few g c =
+    let view = g.B.Stacks.view.modules in
+    let s = g.B.Blocks.value c.args.store.now in
+    let old = state_in view s c.args.self.now in
+    let is = c.in-Over.ensures.begins c.in-Over.turn in
+    let books = subst (λ (t : TurnOutcome ℕ). BooksMade plain old t.gone t.state) is (module-books plain c.args.name c.in-Over.turn old) in
+    turn-few plain old (state_in view s c.begin_module_turn.new.self) [] c.requires.range books (λ dir. let low = range-low dir old c.requires.range in let same = books.made dir in omega (arith, low.1, same))
+
+pub returns-in-Serves-clause-few : goal.returns-in-Serves-clause-few
+returns-in-Serves-clause-few g c =
+    let view = g.B.Stacks.view.modules in
+    let s = g.B.Blocks.value c.args.store.now in
+    let on = c.call_on-bytes in
+    let old = state_in view s c.args.self.now in
+    let begun = state_in view s c.begin_module_turn.new.self in
+    let st = state_in view (g.B.Blocks.value on.new.store) on.new.self in
+    let new = state_in view (g.B.Blocks.value on.new.store) c.end_module_turn.new.self in
+    let is = turned-by c.args.name c.in-Serves.here on.result old begun st c.args.told.now on.new.told c.in-Serves.ensures.begins on.ensures.treats in
+    let shows : new ≡ (module_turned plain c.args.name (Moved on.result) old).state =
+    c.end_module_turn.ensures.state ∙ ap (λ took. module_turn_ended c.args.name c.in-Serves.here took st) (some-taken on.result) ∙ sym (ap (λ (t : TurnOutcome ℕ). t.state) is) in
+    let ended = ended-books plain c.in-Serves.here c.args.name (not (on.result == 0)) st in
+    let made = on.ensures.treats.made in
+    let within = on.ensures.treats.within in
+    let few = c.in-Serves.ensures.begins.few in
+    subst FewBooked (sym shows)
+    (turn-few plain old (module_turned plain c.args.name (Moved on.result) old).state (module_turned plain c.args.name (Moved on.result) old).gone c.requires.range (module-books plain c.args.name (Moved on.result) old) (λ dir.
+    let low = range-low dir old c.requires.range in
+    let stays = ap (λ (v : State ℕ). (book dir v).made) c.in-Serves.ensures.begins.stays in
+    let behind = ap (λ (t : TurnOutcome ℕ). (book dir t.state).made) is ∙ ap (λ b. b.made) (books-are st (module_turn_ended c.args.name c.in-Serves.here (not (on.result == 0)) st) ended dir) in
+    let left = ap (λ v. bytes_left c.in-Serves.here.way false (ldterm_of (module_at c.in-Serves.here v))) c.in-Serves.ensures.begins.stays in
+    omega (arith, low.1, made dir, within, few, stays, behind, left)))

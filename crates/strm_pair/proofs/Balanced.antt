@@ -1,0 +1,28 @@
+-- The numbers of a pair's ledger agree.
+use Rattle.std.proofs.Common.{ℕ, ◌≡◌, ◌<◌, ◌+◌, ◌^◌, sym, subst}
+use Rattle.strm_types.specs.declared.names.Dir.{Dir}
+use Rattle.strm_types.specs.declared.rules.Fates.{Fates}
+use Rattle.strm_types.specs.declared.limits.Config.{Config}
+use Rattle.strm_types.specs.Cells.{plain}
+use Rattle.strm_types.specs.Kept.{told_by}
+use Rattle.strm_types.specs.Ledgers.{FewBooked, inline, queued}
+use Rattle.strm_types.specs.Rules.{fates_of, no_fates}
+use Rattle.strm_types.specs.State.{State, book, opening}
+use Rattle.strm_types.proofs.LedgerSums.{agrees, sum_of}
+use Rattle.strm_blocks.specs.Blocks.{StoreValue}
+use Rattle.strm_pair.specs.declared.journal.Journal.{Journal}
+use Rattle.strm_pair.specs.declared.streams.Streams.{Streams}
+use Rattle.strm_pair.specs.Pairs.{state_in, journal_of}
+use Rattle.strm_pair.specs.PairViews.{IsKept, led_to}
+use Rattle.strm_pair.specs.Streams.{View}
+
+-- what was written and made is what stands there and has gone
+abbrev Agree : Dir → State ℕ → Fates → Type 0
+Agree dir st fates = (book dir st).written + (book dir st).made ≡ queued dir st + (inline dir st + sum_of (fates_of dir fates))
+
+pub balance : {S : Type 0} (view : View S) (s : StoreValue) (p : Streams S) (j : Journal) (limits : Config) (fates : Fates) → IsKept view s p j limits fates → (dir : Dir) → Agree dir (state_in view.modules s p) fates
+balance view s p j limits fates kept dir =
+    let st = state_in view.modules s p in
+    let low : FewBooked (led_to j) = subst FewBooked kept.replayed kept.few in
+    let there : Agree dir (led_to j) (told_by plain opening (journal_of j) no_fates) = agrees dir (journal_of j) kept.legal (low dir) in
+    subst (λ (t : State ℕ). Agree dir t fates) (sym kept.replayed) (subst (λ f. Agree dir (led_to j) f) (sym kept.told) there)

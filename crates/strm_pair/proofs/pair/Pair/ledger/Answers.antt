@@ -1,0 +1,109 @@
+-- What stands on the queues is what the balance leaves, and the journal is a legal one.
+use Rattle.std.proofs.Common.{ℕ, ◌≡◌, ◌≤◌, ◌<◌, ◌+◌, ◌-◌, ◌^◌, if◌then◌else◌, List, sum_by, sym, ap, subst, ◌∙◌, arith}
+use Rattle.strm_types.specs.declared.books.Book.{Book}
+use Rattle.strm_types.specs.declared.ledger.Ledger.{Ledger}
+use Rattle.strm_types.specs.Cells.{Origin, tagged}
+use Rattle.strm_types.specs.Journal.{PlainEntry}
+use Rattle.strm_types.specs.Ledgers.{inline, is_booked, ledger_of, own_places_of, places_of, queued}
+use Rattle.strm_types.specs.Pair.{PairState}
+use Rattle.strm_types.specs.Rules.{fates_of}
+use Rattle.strm_types.specs.State.{State, book, opening}
+use Rattle.strm_types.specs.Step.{replay}
+use Rattle.strm_types.proofs.JournalPlaces.{one-place, own-place}
+use Rattle.strm_types.proofs.LedgerSums.{sum_of}
+use Rattle.strm_types.proofs.PlainCells.{tagged-cells}
+use Rattle.strm_types.proofs.RefusedForgets.{legal-with-origins}
+use Rattle.strm_pair.specs.Pairs.{state_in, journal_of}
+use Rattle.strm_pair.specs.PairViews.{pair_of}
+use Rattle.strm_pair.proofs.Balanced.{balance}
+use Rattle.strm_pair.proofs.pair.Pair.ledger.Goals as goal
+
+pub sum-requires : goal.sum-requires
+sum-requires g c =
+    let p = c.self.inside in
+    let s = g.B.Blocks.value p.store in
+    let dir = c.args.direction in
+    let kept = c.self.invariant in
+    let all = balance g.B.Stacks.view s p.streams p.journal p.limits p.fates kept dir in
+    let few = kept.few dir in
+    let gone = ap (λ counts. sum_of counts) c.of-fates.ensures in
+    omega (arith, all, few, gone)
+
+pub overflow_add-elsewhere : goal.overflow_add-elsewhere
+overflow_add-elsewhere g c =
+    let p = c.self.inside in
+    let s = g.B.Blocks.value p.store in
+    let dir = c.args.direction in
+    let kept = c.self.invariant in
+    let all = balance g.B.Stacks.view s p.streams p.journal p.limits p.fates kept dir in
+    let few = kept.few dir in
+    let gone = c.sum.ensures ∙ ap (λ counts. sum_of counts) c.of-fates.ensures in
+    omega (arith, all, few, gone, c.line_lens-inline.ensures s)
+
+pub overflow_add-result : goal.overflow_add-result
+overflow_add-result g c =
+    let p = c.self.inside in
+    let s = g.B.Blocks.value p.store in
+    let few = c.self.invariant.few c.args.direction in
+    let is = c.book-book.ensures g.B.Stacks.view.modules s in
+    omega (arith, few, ap (λ (b : Book). b.written) is, ap (λ (b : Book). b.made) is)
+
+pub overflow_sub-result : goal.overflow_sub-result
+overflow_sub-result g c =
+    let p = c.self.inside in
+    let s = g.B.Blocks.value p.store in
+    let dir = c.args.direction in
+    let all = balance g.B.Stacks.view s p.streams p.journal p.limits p.fates c.self.invariant dir in
+    let gone = c.sum.ensures ∙ ap (λ counts. sum_of counts) c.of-fates.ensures in
+    let is = c.book-book.ensures g.B.Stacks.view.modules s in
+    omega (arith, all, gone, c.line_lens-inline.ensures s, ap (λ (b : Book). b.written) is, ap (λ (b : Book). b.made) is)
+
+pub returns-clause-ledger : goal.returns-clause-ledger
+returns-clause-ledger g c =
+    let p = c.self.inside in
+    let s = g.B.Blocks.value p.store in
+    let dir = c.args.direction in
+    let st = state_in g.B.Stacks.view.modules s p.streams in
+    let all = balance g.B.Stacks.view s p.streams p.journal p.limits p.fates c.self.invariant dir in
+    let gone = c.sum.ensures ∙ ap (λ counts. sum_of counts) c.of-fates.ensures in
+    let is = c.book-book.ensures g.B.Stacks.view.modules s in
+    let written = ap (λ (b : Book). b.written) is in
+    let made = ap (λ (b : Book). b.made) is in
+    let inl = c.line_lens-inline.ensures s in
+    let stands : c.book-book.result.written + c.book-book.result.made - (c.line_lens-inline.result + c.sum.result) ≡ queued dir st = omega (arith, all, gone, inl, written, made) in
+    let ledger : ℕ → ℕ → ℕ → ℕ → List ℕ → Ledger = λ w m q i f. record { written = w; made = m; queued = q; inline = i; fates = f } in
+    let w = c.book-book.result.written in
+    let m = c.book-book.result.made in
+    let q = c.book-book.result.written + c.book-book.result.made - (c.line_lens-inline.result + c.sum.result) in
+    let i = c.line_lens-inline.result in
+    let f = c.of-fates.result.now in
+    ap (λ x. ledger x m q i f) written
+    ∙ ap (λ x. ledger (book dir st).written x q i f) made
+    ∙ ap (λ x. ledger (book dir st).written (book dir st).made x i f) stands
+    ∙ ap (λ x. ledger (book dir st).written (book dir st).made (queued dir st) x f) inl
+    ∙ ap (λ x. ledger (book dir st).written (book dir st).made (queued dir st) (inline dir st) x) c.of-fates.ensures
+    ∙ ap (λ (v : PairState). ledger_of dir v.state v.fates) c.self.view_is
+
+pub returns-clause-balance : goal.returns-clause-balance
+returns-clause-balance g c =
+    let p = c.self.inside in
+    let s = g.B.Blocks.value p.store in
+    let dir = c.args.direction in
+    let all = balance g.B.Stacks.view s p.streams p.journal p.limits p.fates c.self.invariant dir in
+    let is = c.book-book.ensures g.B.Stacks.view.modules s in
+    let gone = ap (λ counts. sum_of counts) c.of-fates.ensures in
+    omega (arith, all, gone, c.sum.ensures, c.line_lens-inline.ensures s, ap (λ (b : Book). b.written) is, ap (λ (b : Book). b.made) is)
+
+pub returns-clause-once : goal.returns-clause-once
+returns-clause-once g c = λ o.
+    let p = c.self.inside in
+    let js = journal_of p.journal in
+    subst (λ (v : PairState). places_of o v.journal ≡ (if is_booked o (replay tagged opening v.journal) then 1 else 0)) c.self.view_is
+    (one-place o js (legal-with-origins tagged tagged-cells js c.self.invariant.legal))
+
+pub returns-clause-own : goal.returns-clause-own
+returns-clause-own g c = λ o.
+    let p = c.self.inside in
+    let js = journal_of p.journal in
+    subst (λ (v : PairState). own_places_of o v.journal ≡ (if is_booked o (replay tagged opening v.journal) then 1 else 0)) c.self.view_is
+    (own-place o js (legal-with-origins tagged tagged-cells js c.self.invariant.legal))

@@ -1,0 +1,46 @@
+//! The numbers of a ledger: the book of a direction, what stands in its lines, and the sum of what has gone.
+
+ghost use Rattle.std.specs.Prelude.{ℕ, ◌≡◌, ◌<◌, ◌≤◌, ◌^◌, sum_by};
+ghost use Rattle.strm_types.specs.Ledgers.{inline};
+ghost use Rattle.strm_types.specs.State.{book};
+
+use crate::stacks::Stacks;
+use crate::streams::Streams;
+use strm_types::{Book, Dir, Side};
+
+/// The sum of counts.
+pub(crate) fn sum(counts: &[u64]) -> u64
+    requires { sum_by (λ n. n) counts.now < 2 ^ 64 }
+    ensures { result ≡ sum_by (λ n. n) counts.now }
+{
+    let Some((first, rest)) = counts.split_first() else {
+        return 0;
+    };
+    *first + sum(rest)
+}
+
+impl<S: Drop> Streams<S> {
+    ghost use Rattle.strm_blocks.specs.Blocks.{StoreValue};
+    ghost use Rattle.strm_pair.specs.Pairs.{state_in};
+    ghost use Rattle.strm_pair.specs.Streams.{Modules};
+
+    /// What was booked of a direction.
+    pub(crate) fn book(&self, direction: Dir) -> Book
+        ensures { (modules : Modules S) (s : StoreValue) → result ≡ book direction (state_in modules s self.now) }
+    {
+        match direction {
+            Dir::MasterToSlave => self.from_master,
+            Dir::SlaveToMaster => self.from_slave,
+        }
+    }
+
+    /// How many bytes stand in the unfinished lines of a direction, which are its reader's.
+    pub(crate) fn line_lens<B: Stacks<Stack = S>>(&self, direction: Dir) -> usize
+        ensures { (s : StoreValue) → result ≡ inline direction (state_in B.view.modules s self.now) }
+    {
+        match direction {
+            Dir::MasterToSlave => B::line_lens(&self.end(Side::Slave).stack),
+            Dir::SlaveToMaster => B::line_lens(&self.end(Side::Master).stack),
+        }
+    }
+}
