@@ -1,5 +1,5 @@
 -- The numbers of a pair's ledger agree.
-use Rattle.std.proofs.Common.{ℕ, ◌≡◌, ◌<◌, ◌+◌, ◌^◌, sym, subst}
+use Rattle.std.proofs.Common.{ℕ, ◌≡◌, ◌<◌, ◌+◌, ◌^◌, sym, subst, arith}
 use Rattle.strm_types.specs.declared.names.Dir.{Dir}
 use Rattle.strm_types.specs.declared.rules.Fates.{Fates}
 use Rattle.strm_types.specs.declared.limits.Config.{Config}
@@ -26,3 +26,8 @@ balance view s p j limits fates kept dir =
     let low : FewBooked (led_to j) = subst FewBooked kept.replayed kept.few in
     let there : Agree dir (led_to j) (told_by plain opening (journal_of j) no_fates) = agrees dir (journal_of j) kept.legal (low dir) in
     subst (λ (t : State ℕ). Agree dir t fates) (sym kept.replayed) (subst (λ f. Agree dir (led_to j) f) (sym kept.told) there)
+
+-- so what doesn't stand on queues is below 2^64
+pub elsewhere-few : {S : Type 0} (view : View S) (s : StoreValue) (p : Streams S) (j : Journal) (limits : Config) (fates : Fates) → IsKept view s p j limits fates → (dir : Dir)
+    → inline dir (state_in view.modules s p) + sum_of (fates_of dir fates) < 2 ^ 64
+elsewhere-few view s p j limits fates kept dir = let all = balance view s p j limits fates kept dir in let few = kept.few dir in omega (arith, all, few)

@@ -1,6 +1,7 @@
 //! Calls and turns on a pair, with answers worked out by hand.
 
 mod ioctls;
+mod ledgers;
 mod messages;
 mod recount;
 mod walk;

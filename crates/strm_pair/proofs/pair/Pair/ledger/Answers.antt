@@ -15,30 +15,21 @@ use Rattle.strm_types.proofs.PlainCells.{tagged-cells}
 use Rattle.strm_types.proofs.RefusedForgets.{legal-with-origins}
 use Rattle.strm_pair.specs.Pairs.{state_in, journal_of}
 use Rattle.strm_pair.specs.PairViews.{pair_of}
-use Rattle.strm_pair.proofs.Balanced.{balance}
+use Rattle.strm_pair.proofs.Balanced.{balance, elsewhere-few}
 use Rattle.strm_pair.proofs.pair.Pair.ledger.Goals as goal
 
 pub sum-requires : goal.sum-requires
 sum-requires g c =
     let p = c.self.inside in
-    let s = g.B.Blocks.value p.store in
-    let dir = c.args.direction in
-    let kept = c.self.invariant in
-    let all = balance g.B.Stacks.view s p.streams p.journal p.limits p.fates kept dir in
-    let few = kept.few dir in
-    let gone = ap (λ counts. sum_of counts) c.of-fates.ensures in
-    omega (arith, all, few, gone)
+    let low = elsewhere-few g.B.Stacks.view (g.B.Blocks.value p.store) p.streams p.journal p.limits p.fates c.self.invariant c.args.direction in
+    omega (arith, low, ap (λ counts. sum_of counts) c.of-fates.ensures)
 
 pub overflow_add-elsewhere : goal.overflow_add-elsewhere
 overflow_add-elsewhere g c =
     let p = c.self.inside in
     let s = g.B.Blocks.value p.store in
-    let dir = c.args.direction in
-    let kept = c.self.invariant in
-    let all = balance g.B.Stacks.view s p.streams p.journal p.limits p.fates kept dir in
-    let few = kept.few dir in
-    let gone = c.sum.ensures ∙ ap (λ counts. sum_of counts) c.of-fates.ensures in
-    omega (arith, all, few, gone, c.line_lens-inline.ensures s)
+    let low = elsewhere-few g.B.Stacks.view s p.streams p.journal p.limits p.fates c.self.invariant c.args.direction in
+    omega (arith, low, c.sum.ensures, ap (λ counts. sum_of counts) c.of-fates.ensures, c.line_lens-inline.ensures s)
 
 pub overflow_add-result : goal.overflow_add-result
 overflow_add-result g c =
