@@ -133,15 +133,21 @@ impl<B: Stacks + Drop> Walk<B> {
 
     // Counts what a call brought and was given.
     fn note(&mut self, side: Side, event: &Event<&[u8]>, answer: Answer<usize>) {
-        match (event, answer) {
-            (Event::Write { .. }, Answer::Count(bytes)) => self.recount(side).wrote(bytes),
-            (Event::Put { control, body, .. }, Answer::Done) => {
-                let brought = self.recount(side);
-                brought.wrote(control.map_or(0, |part| part.len()));
-                brought.wrote(body.map_or(0, |part| part.len()));
+        match answer {
+            Answer::Count(bytes) if matches!(event, Event::Write { .. }) => {
+                self.recount(side).wrote(bytes);
             }
-            (Event::Read { .. }, Answer::Bytes(bytes)) => self.recount(side.other()).gave(bytes),
-            (_, Answer::Msg { control, body, .. }) => {
+            Answer::Done => {
+                if let Event::Put { control, body, .. } = event {
+                    let brought = self.recount(side);
+                    brought.wrote(control.map_or(0, |part| part.len()));
+                    brought.wrote(body.map_or(0, |part| part.len()));
+                }
+            }
+            Answer::Bytes(bytes) if matches!(event, Event::Read { .. }) => {
+                self.recount(side.other()).gave(bytes);
+            }
+            Answer::Msg { control, body, .. } => {
                 let given = self.recount(side.other());
                 given.gave(control.unwrap_or(0));
                 given.gave(body.unwrap_or(0));
