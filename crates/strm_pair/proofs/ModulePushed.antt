@@ -2,7 +2,7 @@
 use Rattle.std.proofs.Common.{ℕ, zero, suc, ◌≡◌, ◌≤◌, ◌<◌, ◌+◌, Bool, true, false, List, [], ◌∷◌, map, refl, sym, ap, subst, ◌∙◌, arith}
 use Rattle.std.proofs.lemmas.List.Sums.{sum_by-cons}
 use Rattle.std.specs.List.{AllByRecursion}
-use Rattle.std.specs.Prelude.{Option, Some, IfSome, Result, Ok, Err, MatchResult, ◌&&◌, ◌||◌, not, nat_lt, length}
+use Rattle.std.specs.Prelude.{Some, IfSome, Result, Ok, Err, MatchResult, ◌&&◌, ◌||◌, not, nat_lt, length}
 use Rattle.strm_types.specs.declared.limits.TheConstants.{MODULES}
 use Rattle.strm_types.specs.declared.names.ModuleName.{ModuleName}
 use Rattle.strm_types.specs.declared.names.ModuleName.TheVariants as names

@@ -10,7 +10,6 @@ use Rattle.strm_types.specs.declared.names.Way.TheVariants.{Up}
 use Rattle.strm_types.specs.Costs.{asking_at, cost}
 use Rattle.strm_types.specs.Earlier.{driver_place}
 use Rattle.strm_types.specs.Kept.{AreIdle}
-use Rattle.strm_types.specs.Flushing.{is_flush}
 use Rattle.strm_types.specs.Message.{Message, band_of, has_parts, is_held}
 use Rattle.strm_types.specs.Names.{other, is_open}
 use Rattle.strm_types.specs.Past.{has_room_past, writer_waits}

@@ -1,5 +1,5 @@
 -- The modules that may stand on a stream, beside a store: each is what one of its kind is by itself.
-use Rattle.std.specs.Prelude.{ℕ, ◌≡◌, ◌≤◌, ◌<◌, ◌+◌, Bool, false, List, [], Option, Some}
+use Rattle.std.specs.Prelude.{ℕ, ◌≡◌, ◌≤◌, ◌<◌, ◌+◌, Bool, false, [], Option, Some}
 use Rattle.std.proofs.Common.{refl, ap}
 use Rattle.strm_types.specs.declared.names.ModuleName.{ModuleName}
 use Rattle.strm_types.specs.declared.names.Way.{Way}

@@ -1,20 +1,17 @@
 -- What stands on the queues is what the balance leaves, and the journal is a legal one.
-use Rattle.std.proofs.Common.{ℕ, ◌≡◌, ◌≤◌, ◌<◌, ◌+◌, ◌-◌, ◌^◌, if◌then◌else◌, List, sum_by, sym, ap, subst, ◌∙◌, arith}
+use Rattle.std.proofs.Common.{ℕ, ◌≡◌, ◌+◌, ◌-◌, if◌then◌else◌, List, ap, subst, ◌∙◌, arith}
 use Rattle.strm_types.specs.declared.books.Book.{Book}
 use Rattle.strm_types.specs.declared.ledger.Ledger.{Ledger}
-use Rattle.strm_types.specs.Cells.{Origin, tagged}
-use Rattle.strm_types.specs.Journal.{PlainEntry}
+use Rattle.strm_types.specs.Cells.{tagged}
 use Rattle.strm_types.specs.Ledgers.{inline, is_booked, ledger_of, own_places_of, places_of, queued}
 use Rattle.strm_types.specs.Pair.{PairState}
-use Rattle.strm_types.specs.Rules.{fates_of}
-use Rattle.strm_types.specs.State.{State, book, opening}
+use Rattle.strm_types.specs.State.{book, opening}
 use Rattle.strm_types.specs.Step.{replay}
 use Rattle.strm_types.proofs.JournalPlaces.{one-place, own-place}
 use Rattle.strm_types.proofs.LedgerSums.{sum_of}
 use Rattle.strm_types.proofs.PlainCells.{tagged-cells}
 use Rattle.strm_types.proofs.RefusedForgets.{legal-with-origins}
 use Rattle.strm_pair.specs.Pairs.{state_in, journal_of}
-use Rattle.strm_pair.specs.PairViews.{pair_of}
 use Rattle.strm_pair.proofs.Balanced.{balance, elsewhere-few}
 use Rattle.strm_pair.proofs.pair.Pair.ledger.Goals as goal
 

@@ -10,8 +10,6 @@ use Rattle.strm_types.specs.Message.{size_of}
 use Rattle.strm_types.specs.Names.{other}
 use Rattle.strm_types.specs.Puts.{delivered}
 use Rattle.strm_types.specs.Earlier.{modules_on}
-use Rattle.strm_types.specs.Flushing.{is_flush}
-use Rattle.strm_types.specs.Message.{has_parts}
 use Rattle.strm_types.specs.Puts.{is_turned}
 use Rattle.strm_types.specs.Turns.{turn_ended}
 use Rattle.strm_msg.specs.Messages.{message_of}

@@ -1,5 +1,5 @@
 -- A driver's turn books nothing.
-use Rattle.std.proofs.Common.{ℕ, sym, subst}
+use Rattle.std.proofs.Common.{sym, subst}
 use Rattle.strm_types.specs.Cells.{plain}
 use Rattle.strm_types.specs.Ledgers.{FewBooked}
 use Rattle.strm_types.specs.Turns.{driver_turned}
