@@ -11,8 +11,9 @@ use Rattle.strm_types.specs.declared.spots.Spot.{Spot}
 use Rattle.strm_frame.specs.declared.parcels.Sent.{Sent}
 use Rattle.strm_types.specs.Deliver.{Parcel, AreLower}
 use Rattle.strm_msg.specs.Messages.{IsChain}
-use Rattle.strm_frame.specs.Hands.{once, AreIn, CanPut, Handles, Hands, SameFor, HasRoom, Spends}
-use Rattle.strm_frame.specs.Outboxes.{times_sent, parcels_in, parcel_in, AreChains, cost_of}
+use Rattle.strm_frame.specs.Hands.{once, AreIn, CanPut, Handles, Hands, SameFor, HasRoom, MayTake, Spends, Takes}
+use Rattle.strm_types.specs.Costs.{cost_of}
+use Rattle.strm_frame.specs.Outboxes.{times_sent, parcels_in, parcel_in, AreChains}
 
 same-name : (i : ℕ) → eqb i i ≡ true
 same-name i = grind (arith, nat_tests)
@@ -134,9 +135,13 @@ module _ {M : Type 0} (name : M → ℕ) where
     pub next-low : (height : Spot → Message ℕ → ℕ) (top : ℕ) → AreLower height top (parcels_in name s all) → height x.to (parcel_in name s x).message < top
     next-low height top lower = (next-lowers height top lower).0
 
-    -- what x takes is free
-    pub next-room : (cost : Spot → Message ℕ → ℕ) (most : ℕ) → HasRoom s0 most → Spends s0 s most (cost_of cost (parcels_in name s all)) → HasRoom s (cost x.to (parcel_in name s x).message)
-    next-room cost most room spends = let e = cost-split cost in record { mblks = omega arith; dblks = omega arith }
+    -- what x takes is there
+    pub next-room : (cost : Spot → Message ℕ → ℕ) (most was is : ℕ) → MayTake s0 was most → Takes s0 s was is most (cost_of cost (parcels_in name s all)) → MayTake s is (cost x.to (parcel_in name s x).message)
+    next-room cost most was is may takes =
+        let e = cost-split cost in
+        let room = may.room in
+        let spends = takes.blocks in
+        record { room = record { mblks = omega arith; dblks = omega arith }; spare = (let a = may.spare in let b = takes.spare in omega arith) }
 
     module _ (carried : Hands s t (name x.message) keeps keeps' (λ _. 0)) where
       -- and then the rest is as if it alone had been sent
@@ -162,13 +167,21 @@ module _ {M : Type 0} (name : M → ℕ) where
       pub next-lower : (height : Spot → Message ℕ → ℕ) (top : ℕ) → AreLower height top (parcels_in name s all) → AreLower height top (parcels_in name t more)
       next-lower height top lower = subst (AreLower height top) (sym next-same) (next-lowers height top lower).1
 
-      module _ (cost : Spot → Message ℕ → ℕ) (most : ℕ) (room : HasRoom s0 most) (spends : Spends s0 s most (cost_of cost (parcels_in name s all))) where
-        pub next-spends : Spends s t (cost x.to (parcel_in name s x).message) 0 → Spends s0 t most (cost_of cost (parcels_in name t more))
-        next-spends then = let e = cost-split cost in let f = ap (cost_of cost) next-same in record { mblks = omega arith; dblks = omega arith }
+      pub next-takes : (cost : Spot → Message ℕ → ℕ) (most was is left : ℕ) → Takes s0 s was is most (cost_of cost (parcels_in name s all))
+          → Takes s t is left (cost x.to (parcel_in name s x).message) 0 → Takes s0 t was left most (cost_of cost (parcels_in name t more))
+      next-takes cost most was is left takes then =
+          let e = cost-split cost in
+          let f = ap (cost_of cost) next-same in
+          let spends = takes.blocks in
+          let behind = then.blocks in
+          record { blocks = record { mblks = omega arith; dblks = omega arith }; spare = (let a = takes.spare in let b = then.spare in omega arith) }
 
-  pub no-cost : (s0 s : StoreValue) (cost : Spot → Message ℕ → ℕ) (most : ℕ) (all : List (Sent M)) → all ≡ [] → Spends s0 s most (cost_of cost (parcels_in name s all)) → Spends s0 s most 0
+  pub no-cost : (s0 s : StoreValue) (cost : Spot → Message ℕ → ℕ) (most was is : ℕ) (all : List (Sent M)) → all ≡ [] → Takes s0 s was is most (cost_of cost (parcels_in name s all)) → Takes s0 s was is most 0
   unfolding cost_of parcels_in
-  no-cost s0 s cost most all none spends = let e = ap (λ xs. cost_of cost (parcels_in name s xs)) none in record { mblks = omega arith; dblks = omega arith }
+  no-cost s0 s cost most was is all none takes =
+      let e = ap (λ xs. cost_of cost (parcels_in name s xs)) none in
+      let spends = takes.blocks in
+      record { blocks = record { mblks = omega arith; dblks = omega arith }; spare = (let a = takes.spare in omega arith) }
 
   -- nothing is left that was sent
   pub no-more : (s0 s : StoreValue) (gone kept keeps : ℕ → ℕ) (all : List (Sent M)) → all ≡ [] → Handles s0 s gone kept keeps (λ i. times_sent name i all) → Handles s0 s gone kept keeps (λ _. 0)
@@ -250,8 +263,18 @@ hands-on s0 s t gone sent kept keeps keeps' st put then = record {
 pub sent-in : (s0 s : StoreValue) (gone sent kept keeps : ℕ → ℕ) → AreIn s0 gone kept → Handles s0 s gone kept keeps sent → AreIn s sent keeps
 sent-in s0 s gone sent kept keeps are put = record { apart = λ i. let a = are.apart i in let c = put.counts i in omega arith }
 
-pub spends-on : (s0 s t : StoreValue) (most sent : ℕ) → Spends s0 s most sent → Spends s t sent 0 → Spends s0 t most 0
-spends-on s0 s t most sent first then = record { mblks = let a = first.mblks in let b = then.mblks in omega arith; dblks = let a = first.dblks in let b = then.dblks in omega arith }
+pub takes-on : (s0 s t : StoreValue) (was is left most sent : ℕ) → Takes s0 s was is most sent → Takes s t is left sent 0 → Takes s0 t was left most 0
+takes-on s0 s t was is left most sent first then = record {
+  blocks = record { mblks = (let a = first.blocks.mblks in let b = then.blocks.mblks in omega arith); dblks = (let a = first.blocks.dblks in let b = then.blocks.dblks in omega arith) };
+  spare = (let a = first.spare in let b = then.spare in omega arith);
+}
+
+-- what is left of a spare that is another one
+pub may-on : (s0 s : StoreValue) (was is most sent : ℕ) → MayTake s0 was most → Takes s0 s was is most sent → MayTake s is sent
+may-on s0 s was is most sent may takes = record {
+  room = record { mblks = (let a = may.room.mblks in let b = takes.blocks.mblks in omega arith); dblks = (let a = may.room.dblks in let b = takes.blocks.dblks in omega arith) };
+  spare = (let a = may.spare in let b = takes.spare in omega arith);
+}
 
 pub room-on : (s0 s : StoreValue) (most sent : ℕ) → HasRoom s0 most → Spends s0 s most sent → HasRoom s sent
 room-on s0 s most sent room spends = record { mblks = let a = room.mblks in let b = spends.mblks in omega arith; dblks = let a = room.dblks in let b = spends.dblks in omega arith }

@@ -5,7 +5,7 @@ use Rattle.strm_types.specs.declared.kinds.MsgKind.{MsgKind}
 use Rattle.strm_types.specs.declared.names.Way.{Way}
 use Rattle.strm_types.specs.declared.names.Way.TheVariants.{Up, Down}
 use Rattle.strm_types.specs.declared.spots.Spot.{Spot}
-use Rattle.strm_types.specs.Deliver.{toward}
+use Rattle.strm_types.specs.Deliver.{Parcel, toward}
 use Rattle.std.proofs.lemmas.Bool.Decides.{nat_tests}
 use Rattle.strm_types.specs.Message.{Message}
 use Rattle.strm_types.specs.declared.kinds.MsgKind.TheVariants as kinds
@@ -19,9 +19,10 @@ use Rattle.strm_msg.proofs.Hands.{stays-chain}
 use Rattle.std.proofs.lemmas.List.Sums.{sum_by-cons}
 use Rattle.strm_types.specs.Queue.{is_none_left}
 use Rattle.strm_frame.specs.declared.parcels.Sent.{Sent}
-use Rattle.strm_frame.specs.Outboxes.{message_in, times_sent, parcels_in, cost_of}
+use Rattle.strm_types.specs.Costs.{cost_of}
+use Rattle.strm_frame.specs.Outboxes.{message_in, times_sent, parcels_in}
 use Rattle.strm_frame.specs.Serves.{later_cost}
-use Rattle.strm_frame.specs.Hands.{once, OnlyOwn, CanPut, Handles, Hands, HasRoom, Spends}
+use Rattle.strm_frame.specs.Hands.{once, OnlyOwn, CanPut, Handles, Hands, HasRoom, Spends, Takes}
 use Rattle.strm_frame.proofs.Handing.{alone-can, once-apart}
 use Rattle.strm_frame.proofs.Shifting.{shifts-joined}
 use Rattle.strm_frame.specs.Toys.{Stock, is_flush, onward, far_at, counts, nothing, stays, stocked, stocks, turns, idle, stock_sends, serves_of, stock_serves}
@@ -136,3 +137,12 @@ unfolding cost_of parcels_in
 one-room name s next x all one =
     let e = ap (λ xs. cost_of (nothing {C = ℕ}) (parcels_in name s xs)) one in
     record { mblks = omega arith; dblks = omega arith }
+
+-- what costs nothing
+pub nothing-free : (ps : List (Parcel ℕ)) → cost_of nothing ps ≡ 0
+unfolding cost_of
+nothing-free [] = refl
+nothing-free (p ∷ ps) = let rest = nothing-free ps in omega arith
+
+pub free-takes : (s t : StoreValue) (ps : List (Parcel ℕ)) → Spends s t 0 (cost_of nothing ps) → Takes s t 0 0 0 (cost_of nothing ps)
+free-takes s t ps spends = let none = nothing-free ps in record { blocks = spends; spare = omega arith }

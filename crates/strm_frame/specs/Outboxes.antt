@@ -35,8 +35,3 @@ parcels_in name s (sent ∷ more) = parcel_in name s sent ∷ parcels_in name s 
 unfoldable pub AreChains : {M : Type 0} → (M → ℕ) → StoreValue → List (Sent M) → Type 0
 AreChains name s [] = Unit {0}
 AreChains name s (sent ∷ more) = IsChain (in_hand s (name sent.message)) × AreChains name s more
-
--- how many blocks of each kind these take at most
-unfoldable pub cost_of : {C : Type 0} → (Spot → Message C → ℕ) → List (Parcel C) → ℕ
-cost_of cost [] = 0
-cost_of cost (p ∷ ps) = cost p.to p.message + cost_of cost ps

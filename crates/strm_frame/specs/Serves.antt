@@ -8,7 +8,7 @@ use Rattle.strm_blocks.specs.Blocks.{StoreValue, free_m, free_d}
 use Rattle.strm_types.specs.declared.spots.Asks.{Asks}
 use Rattle.strm_types.specs.declared.spots.Asks.TheVariants.{Room}
 use Rattle.strm_frame.specs.declared.service.Served.{Served}
-use Rattle.strm_frame.specs.Outboxes.{cost_of}
+use Rattle.strm_types.specs.Costs.{cost_of}
 
 -- a band that is asked for is one that queues have
 abbrev pub IsBand : Asks → Type 0

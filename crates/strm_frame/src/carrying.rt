@@ -5,8 +5,9 @@ ghost use Rattle.std.specs.Prelude.{ℕ, ◌≡◌, ◌<◌, ◌≤◌};
 ghost use Rattle.strm_types.specs.Deliver.{AreLower, carried, in_turn, tallied};
 ghost use Rattle.strm_blocks.specs.Blocks.{in_hand};
 ghost use Rattle.strm_msg.specs.Messages.{IsChain};
-ghost use Rattle.strm_frame.specs.Outboxes.{AreChains, cost_of, message_in, parcels_in, sent_of, times_sent};
-ghost use Rattle.strm_frame.specs.Hands.{AreIn, CanPut, Handles, Hands, SamePool, HasRoom, Spends};
+ghost use Rattle.strm_types.specs.Costs.{cost_of};
+ghost use Rattle.strm_frame.specs.Outboxes.{AreChains, message_in, parcels_in, sent_of, times_sent};
+ghost use Rattle.strm_frame.specs.Hands.{AreIn, CanPut, Handles, Hands, SamePool, MayTake, Takes};
 
 use crate::parcels::Outbox;
 use crate::places::Stations;
@@ -30,7 +31,8 @@ pub fn deliver<B: Blocks, S: Stations<B>>(
     requires can_put { CanPut (B.value store.old) (B.name message) (S.keeps stations.old) }
     requires chain { IsChain (in_hand (B.value store.old) (B.name message)) }
     requires low { S.height to (message_in (B.value store.old) (B.name message)) < hops }
-    requires room { HasRoom (B.value store.old) (S.cost to (message_in (B.value store.old) (B.name message))) }
+    requires room { let s = B.value store.old in let p = S.plain s stations.old in
+        MayTake s (S.spare p) (S.cost p to (message_in s (B.name message))) }
     ensures state { let s = B.value store.old in
         S.plain (B.value store.new) stations.new ≡ (carried S.puts hops
         (record { to = to; message = message_in s (B.name message) }) (S.plain s stations.old)).state }
@@ -40,8 +42,8 @@ pub fn deliver<B: Blocks, S: Stations<B>>(
     ensures held { S.IsHeld (B.value store.new) stations.new }
     ensures hands { Hands (B.value store.old) (B.value store.new) (B.name message) (S.keeps stations.old)
         (S.keeps stations.new) (λ _. 0) }
-    ensures spends { Spends (B.value store.old) (B.value store.new) (S.cost to
-        (message_in (B.value store.old) (B.name message))) 0 }
+    ensures takes { let s = B.value store.old in let t = B.value store.new in let p = S.plain s stations.old in
+        Takes s t (S.spare p) (S.spare (S.plain t stations.new)) (S.cost p to (message_in s (B.name message))) 0 }
     ensures pool { SamePool (B.value store.old) (B.value store.new) }
 {
     let sent = stations.put_at(store, to, message, told);
@@ -63,7 +65,8 @@ pub fn deliver_all<B: Blocks, S: Stations<B>>(
     requires are_in { AreIn (B.value store.old) (λ i. times_sent B.name i (sent_of sent)) (S.keeps stations.old) }
     requires chains { AreChains B.name (B.value store.old) (sent_of sent) }
     requires low { AreLower S.height hops (parcels_in B.name (B.value store.old) (sent_of sent)) }
-    requires room { HasRoom (B.value store.old) (cost_of S.cost (parcels_in B.name (B.value store.old) (sent_of sent))) }
+    requires room { let s = B.value store.old in let p = S.plain s stations.old in
+        MayTake s (S.spare p) (cost_of (S.cost p) (parcels_in B.name s (sent_of sent))) }
     ensures state { let s = B.value store.old in
         S.plain (B.value store.new) stations.new ≡ (in_turn (carried S.puts hops) (parcels_in B.name s (sent_of sent))
         (S.plain s stations.old)).state }
@@ -73,8 +76,8 @@ pub fn deliver_all<B: Blocks, S: Stations<B>>(
     ensures held { S.IsHeld (B.value store.new) stations.new }
     ensures hands { Handles (B.value store.old) (B.value store.new) (λ i. times_sent B.name i (sent_of sent))
         (S.keeps stations.old) (S.keeps stations.new) (λ _. 0) }
-    ensures spends { Spends (B.value store.old) (B.value store.new)
-        (cost_of S.cost (parcels_in B.name (B.value store.old) (sent_of sent))) 0 }
+    ensures takes { let s = B.value store.old in let t = B.value store.new in let p = S.plain s stations.old in
+        Takes s t (S.spare p) (S.spare (S.plain t stations.new)) (cost_of (S.cost p) (parcels_in B.name s (sent_of sent))) 0 }
     ensures pool { SamePool (B.value store.old) (B.value store.new) }
 {
     let mut left = sent;

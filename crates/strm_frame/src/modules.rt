@@ -22,7 +22,7 @@ ghost use Rattle.strm_types.specs.ModuleQueues.{has_queue, messages_at, full_at,
 ghost use Rattle.strm_types.specs.Service.{Serving, turn_ended, end_relieves, has_more, cleared};
 ghost use Rattle.strm_blocks.specs.Blocks.{StoreValue, in_hand};
 ghost use Rattle.strm_msg.specs.Messages.{IsChain};
-ghost use Rattle.strm_frame.specs.Outboxes.{message_in, sent_of, times_sent, parcels_in, AreChains, cost_of};
+ghost use Rattle.strm_frame.specs.Outboxes.{message_in, sent_of, times_sent, parcels_in, AreChains};
 ghost use Rattle.strm_queue.specs.Stored.{FreesBlocks};
 ghost use Rattle.strm_frame.specs.Serves.{IsBand, SameHand, least_free, stop_of, later_cost};
 ghost use Rattle.strm_frame.specs.Hands.{AreIn, CanPut, Handles, Hands, SamePool, SameOwn, OnlyOwn, HasRoom, Spends};
@@ -114,7 +114,12 @@ pub trait Module<B: Blocks>: Drop {
     /// How often a message can be handed on at most that is put here, with all that it gives rise to.
     ghost height: { Spot → Message ℕ → ℕ };
 
-    /// How many blocks of each kind a message takes at most that is put here, with all that it gives rise to.
+    /// How many blocks of each kind have to be free where a message is put here, and how many are left free then.
+    ghost takes: { Spot → Message ℕ → Plain → ℕ };
+
+    ghost leaves: { Spot → Message ℕ → Plain → ℕ };
+
+    /// How many blocks of each kind a message takes at most that its service procedure sends, with all that it gives rise to.
     ghost cost: { Spot → Message ℕ → ℕ };
 
     /// How often a message can be handed on, less one, that its service procedure sends.
@@ -133,7 +138,7 @@ pub trait Module<B: Blocks>: Drop {
         requires held { IsHeld (B.value store.old) self.old }
         requires can_put { CanPut (B.value store.old) (B.name message) (keeps self.old) }
         requires chain { IsChain (in_hand (B.value store.old) (B.name message)) }
-        requires room { HasRoom (B.value store.old) (cost here (message_in (B.value store.old) (B.name message))) }
+        requires room { let s = B.value store.old in HasRoom s (takes here (message_in s (B.name message)) (plain s self.old)) }
         requires inside { 0 < here.at }
         requires small { here.at ≤ MODULES }
         ensures state { let s = B.value store.old in
@@ -152,9 +157,8 @@ pub trait Module<B: Blocks>: Drop {
             (parcels_in B.name (B.value store.new) (sent_of result.sent)) }
         ensures hands { Hands (B.value store.old) (B.value store.new) (B.name message) (keeps self.old)
             (keeps self.new) (λ i. times_sent B.name i (sent_of result.sent)) }
-        ensures spends { Spends (B.value store.old) (B.value store.new)
-            (cost here (message_in (B.value store.old) (B.name message)))
-            (cost_of cost (parcels_in B.name (B.value store.new) (sent_of result.sent))) }
+        ensures spends { let s = B.value store.old in let m = message_in s (B.name message) in
+            Spends s (B.value store.new) (takes here m (plain s self.old)) (leaves here m (plain s self.old)) }
         ensures pool { SamePool (B.value store.old) (B.value store.new) };
 
     /// Whether it has a queue of a way, with a service procedure.

@@ -6,8 +6,9 @@ ghost use Rattle.strm_types.specs.Message.{Message};
 ghost use Rattle.strm_types.specs.Deliver.{Took, AreLower, tallied};
 ghost use Rattle.strm_blocks.specs.Blocks.{StoreValue, in_hand};
 ghost use Rattle.strm_msg.specs.Messages.{IsChain};
-ghost use Rattle.strm_frame.specs.Outboxes.{message_in, sent_of, times_sent, parcels_in, AreChains, cost_of};
-ghost use Rattle.strm_frame.specs.Hands.{CanPut, Hands, SamePool, SameFor, HasRoom, Spends};
+ghost use Rattle.strm_types.specs.Costs.{cost_of};
+ghost use Rattle.strm_frame.specs.Outboxes.{message_in, sent_of, times_sent, parcels_in, AreChains};
+ghost use Rattle.strm_frame.specs.Hands.{CanPut, Hands, SamePool, SameFor, MayTake, Takes};
 
 use crate::parcels::Outbox;
 use strm_blocks::Blocks;
@@ -33,15 +34,21 @@ pub trait Stations<B: Blocks> {
     /// How often a message can be handed on at most that is put at a spot, with all that it gives rise to.
     ghost height: { Spot → Message ℕ → ℕ };
 
-    /// How many blocks of each kind a message takes at most that is put at a spot, with all that it gives rise to.
-    ghost cost: { Spot → Message ℕ → ℕ };
+    /// How many blocks of each kind a message takes at most that is put at a spot, with all that it gives rise to. It depends on what no put
+    /// changes.
+    ghost cost: { Plain → Spot → Message ℕ → ℕ };
+
+    /// How much of what else the stations count, as bytes that they make, may come to what is there: in units of which a message takes as
+    /// many as blocks.
+    ghost spare: { Plain → ℕ };
 
     /// Puts a message in hand at a spot, and gives what is sent on, in order.
     fn put_at(&mut self, store: &mut B, to: Spot, message: B::Mp, told: &mut Fates) -> Outbox<B::Mp>
         requires held { IsHeld (B.value store.old) self.old }
         requires can_put { CanPut (B.value store.old) (B.name message) (keeps self.old) }
         requires chain { IsChain (in_hand (B.value store.old) (B.name message)) }
-        requires room { HasRoom (B.value store.old) (cost to (message_in (B.value store.old) (B.name message))) }
+        requires room { let s = B.value store.old in
+            MayTake s (spare (plain s self.old)) (cost (plain s self.old) to (message_in s (B.name message))) }
         ensures state { let s = B.value store.old in
             plain (B.value store.new) self.new ≡ (puts to (message_in s (B.name message)) (plain s self.old)).state }
         ensures sent { let s = B.value store.old in
@@ -55,12 +62,15 @@ pub trait Stations<B: Blocks> {
             (parcels_in B.name (B.value store.new) (sent_of result)) }
         ensures hands { Hands (B.value store.old) (B.value store.new) (B.name message) (keeps self.old)
             (keeps self.new) (λ i. times_sent B.name i (sent_of result)) }
-        ensures spends { Spends (B.value store.old) (B.value store.new)
-            (cost to (message_in (B.value store.old) (B.name message)))
-            (cost_of cost (parcels_in B.name (B.value store.new) (sent_of result))) }
+        ensures takes { let s = B.value store.old in let t = B.value store.new in
+            Takes s t (spare (plain s self.old)) (spare (plain t self.new)) (cost (plain s self.old) to (message_in s (B.name message)))
+            (cost_of (cost (plain s self.old)) (parcels_in B.name t (sent_of result))) }
         ensures pool { SamePool (B.value store.old) (B.value store.new) };
 
     /// The stations stand for the same, and fit, wherever the lists are the same and what they keep in hand is.
     ghost frame: { (s t : StoreValue) (x : Self) → SameFor s t (keeps x) → IsHeld s x → (plain t x ≡ plain s x) ×
         IsHeld t x };
+
+    /// No put changes what messages cost.
+    ghost cost_stays: { (to : Spot) (m : Message ℕ) (p : Plain) → cost (puts to m p).state ≡ cost p };
 }

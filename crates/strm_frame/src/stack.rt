@@ -1,6 +1,6 @@
 //! The modules of a stream.
 
-ghost use Rattle.std.specs.Prelude.{ℕ, ◌≡◌, ◌<◌, ◌≤◌, ◌-◌, ◌*◌, [], ◌∷◌, length, map, sum_by, true, false, MatchOption, MatchResult};
+ghost use Rattle.std.specs.Prelude.{ℕ, ◌≡◌, ◌<◌, ◌≤◌, ◌-◌, ◌*◌, [], ◌∷◌, length, map, slice_index_or, sum_by, true, false, MatchOption, MatchResult};
 ghost use Rattle.strm_types.specs.declared.keys.TheConstants.{LINE_MAX};
 ghost use Rattle.strm_types.specs.declared.limits.TheConstants.{MODULES};
 ghost use Rattle.strm_types.specs.Deliver.{AreLower, tallied};
@@ -8,7 +8,8 @@ ghost use Rattle.strm_types.specs.Modules.{put_among, may_push, stands, top_name
 ghost use Rattle.strm_blocks.specs.Blocks.{StoreValue, in_hand};
 ghost use Rattle.strm_msg.specs.Messages.{IsChain};
 ghost use Rattle.strm_frame.specs.Stacks.{all_of, AreHeld};
-ghost use Rattle.strm_frame.specs.Outboxes.{message_in, sent_of, times_sent, parcels_in, AreChains, cost_of};
+ghost use Rattle.strm_types.specs.ModuleQueues.{at_place};
+ghost use Rattle.strm_frame.specs.Outboxes.{message_in, sent_of, times_sent, parcels_in, AreChains};
 ghost use Rattle.strm_frame.specs.Hands.{CanPut, Hands, OnlyOwn, SamePool, HasRoom, Spends};
 
 use crate::modules::{Acts, Module};
@@ -57,7 +58,8 @@ fn put_among<B: Blocks, M: Module<B>>(
     requires held { AreHeld M.IsHeld M.owns (B.value store.old) modules.old }
     requires can_put { CanPut (B.value store.old) (B.name message) (all_of M.keeps modules.old) }
     requires chain { IsChain (in_hand (B.value store.old) (B.name message)) }
-    requires room { HasRoom (B.value store.old) (M.cost to (message_in (B.value store.old) (B.name message))) }
+    requires room { let s = B.value store.old in
+        HasRoom s (slice_index_or (map (M.takes to (message_in s (B.name message))) (map (M.plain s) modules.old)) at 0) }
     requires inside { 0 < to.at }
     requires small { to.at ≤ MODULES }
     ensures length { length modules.new ≡ length modules.old }
@@ -80,9 +82,9 @@ fn put_among<B: Blocks, M: Module<B>>(
         (parcels_in B.name (B.value store.new) (sent_of result.sent)) }
     ensures hands { Hands (B.value store.old) (B.value store.new) (B.name message) (all_of M.keeps modules.old)
         (all_of M.keeps modules.new) (λ i. times_sent B.name i (sent_of result.sent)) }
-    ensures spends { Spends (B.value store.old) (B.value store.new) (M.cost to
-        (message_in (B.value store.old) (B.name message))) (cost_of M.cost
-        (parcels_in B.name (B.value store.new) (sent_of result.sent))) }
+    ensures spends { let s = B.value store.old in let m = message_in s (B.name message) in
+        Spends s (B.value store.new) (slice_index_or (map (M.takes to m) (map (M.plain s) modules.old)) at 0)
+        (slice_index_or (map (M.leaves to m) (map (M.plain s) modules.old)) at 0) }
     ensures pool { SamePool (B.value store.old) (B.value store.new) }
 {
     store.audit();
@@ -169,7 +171,8 @@ impl<M: Default + Drop> Stream<M> {
         requires held { AreHeld M.IsHeld M.owns (B.value store.old) self.old.modules.items }
         requires can_put { CanPut (B.value store.old) (B.name message) (all_of M.keeps self.old.modules.items) }
         requires chain { IsChain (in_hand (B.value store.old) (B.name message)) }
-        requires room { HasRoom (B.value store.old) (M.cost to (message_in (B.value store.old) (B.name message))) }
+        requires room { let s = B.value store.old in
+            HasRoom s (at_place (M.takes to (message_in s (B.name message))) 0 to.at (map (M.plain s) self.old.modules.items)) }
         ensures length { length self.new.modules.items ≡ length self.old.modules.items }
         ensures state { let s = B.value store.old in
             map (M.plain (B.value store.new)) self.new.modules.items ≡
@@ -194,9 +197,9 @@ impl<M: Default + Drop> Stream<M> {
         ensures hands { Hands (B.value store.old) (B.value store.new) (B.name message)
             (all_of M.keeps self.old.modules.items) (all_of M.keeps self.new.modules.items)
             (λ i. times_sent B.name i (sent_of result.sent)) }
-        ensures spends { Spends (B.value store.old) (B.value store.new)
-            (M.cost to (message_in (B.value store.old) (B.name message)))
-            (cost_of M.cost (parcels_in B.name (B.value store.new) (sent_of result.sent))) }
+        ensures spends { let s = B.value store.old in let m = message_in s (B.name message) in
+            Spends s (B.value store.new) (at_place (M.takes to m) 0 to.at (map (M.plain s) self.old.modules.items))
+            (at_place (M.leaves to m) 0 to.at (map (M.plain s) self.old.modules.items)) }
         ensures pool { SamePool (B.value store.old) (B.value store.new) }
     {
         put_among(

@@ -55,7 +55,7 @@ left-few Between = omega arith
 left-few (Begun started c) = omega arith
 left-few (Answered echo) = omega arith
 
-pub leaves-one : (stage : ldterms.Stage ℕ) → stages_left stage ≡ 1 → leaves stage ≤ 25
+pub leaves-one : (stage : ldterms.Stage ℕ) → stages_left stage ≡ 1 → leaves stage ≤ 26
 leaves-one Between e = omega arith
 leaves-one (Begun started c) e = absurd (omega arith)
 leaves-one (Answered echo) e = omega arith
@@ -63,6 +63,9 @@ leaves-one (Answered echo) e = omega arith
 -- a test of numbers
 pub lower : (a b : ℕ) → nat_lt a b ≡ true → a < b
 lower a b is = grind (arith, nat_tests)
+
+pub are-many : (s : StoreValue) → nat_lt (least_free s) STOP_BLOCKS ≡ false → HasRoom s STOP_BLOCKS
+are-many s is = record { mblks = grind (arith, nat_tests); dblks = grind (arith, nat_tests) }
 
 pub kept-some : {M : Type 0} (name : M → ℕ) (s : StoreValue) (o : Option M) → is_some (kept_in name s o) ≡ is_some o
 kept-some name s None = refl
@@ -161,10 +164,12 @@ module _ {M : Type 0} (name : M → ℕ) where
   pub record Ran (s0 s : StoreValue) (here : Spot) (x0 x : Ldterm M) (bytes left : ℕ) (notes : List Note) (t0 t : Fates) : Type 0 where
     pub fewer : left ≤ bytes
     pub does : Proceeds name s0 s x0 x (all_free s0) notes [] t0 t (ahead here (3 * (bytes - left)) (ldterm_in name s0 x0))
+    pub room : HasRoom s 1
 
   -- none was treated yet
-  pub ran-none : (s0 : StoreValue) (here : Spot) (x0 : Ldterm M) (bytes : ℕ) (t0 : Fates) → Proceeds name s0 s0 x0 x0 0 [] [] t0 t0 (ldterms.sends [] (ldterm_in name s0 x0)) → Ran s0 s0 here x0 x0 bytes bytes [] t0 t0
-  ran-none s0 here x0 bytes t0 still = record {
+  pub ran-none : (s0 : StoreValue) (here : Spot) (x0 : Ldterm M) (bytes : ℕ) (t0 : Fates) → Proceeds name s0 s0 x0 x0 0 [] [] t0 t0 (ldterms.sends [] (ldterm_in name s0 x0)) → HasRoom s0 1 → Ran s0 s0 here x0 x0 bytes bytes [] t0 t0
+  ran-none s0 here x0 bytes t0 still room = record {
+    room = room;
     fewer = omega arith;
     does = (let zero : 0 ≡ 3 * (bytes - bytes) = omega arith in takes-any s0 s0 x0 x0 0 [] [] t0 t0 (ahead here (3 * (bytes - bytes)) (ldterm_in name s0 x0)) (subst (λ n. Proceeds name s0 s0 x0 x0 0 [] [] t0 t0 (ahead here n (ldterm_in name s0 x0))) zero still));
   }
@@ -208,6 +213,9 @@ module _ {M : Type 0} (name : M → ℕ) where
       pub notes-fit : length notes + length notes' ≤ 4
       notes-fit = let a = short in let c = ahead-short here (3 * j) p more in let e = ap length b.noted in omega arith
 
+      room-behind : HasRoom s STOP_BLOCKS → k < STOP_BLOCKS → HasRoom s' 1
+      room-behind many less = record { mblks = (let m = many.mblks in let b' = b.mblks in omega (arith, m, b', less)); dblks = (let m = many.dblks in let b' = b.dblks in omega (arith, m, b', less)) }
+
       module _ (st : IsStore s) where
         joined : Proceeds name s0 s' x0 x' (all_free s0) (notes ++ notes') sent' t0 t' (ahead here (3 * n + 3 * j) p0)
         joined =
@@ -215,8 +223,9 @@ module _ {M : Type 0} (name : M → ℕ) where
             (subst (Proceeds name s0 s' x0 x' (all_free s0 + k) (notes ++ notes') sent' t0 t') (sym (ahead-more here (3 * n) (3 * j) p0))
             (proceeds-joined name s0 s x0 x (all_free s0) notes t0 t (ahead here (3 * n) p0) st r.does s' x' k notes' sent' t' (ahead here (3 * j)) b))
 
-        pub ran-next : sent' ≡ [] → Ran s0 s' here x0 x' bytes (left - j) (notes ++ notes') t0 t'
-        ran-next quiet = record {
+        pub ran-next : sent' ≡ [] → HasRoom s STOP_BLOCKS → k < STOP_BLOCKS → Ran s0 s' here x0 x' bytes (left - j) (notes ++ notes') t0 t'
+        ran-next quiet many less = record {
+          room = room-behind many less;
           fewer = (let f = r.fewer in omega arith);
           does =
               (let f = r.fewer in let e : 3 * n + 3 * j ≡ 3 * (bytes - (left - j)) = omega arith in
@@ -226,9 +235,9 @@ module _ {M : Type 0} (name : M → ℕ) where
 
     -- a run of so many, and all that is noted
     pub ran-run : (s' : StoreValue) (x' : Ldterm M) (j : ℕ) (notes' all : List Note) (t' : Fates) → IsStore s → j ≤ length (cells_left p) → all ≡ notes ++ notes' → Proceeds name s s' x x' 2 notes' [] t t' (ahead here (3 * j) p)
-        → Ran s0 s' here x0 x' bytes (left - j) all t0 t'
-    ran-run s' x' j notes' all t' st within joined b =
-        subst (λ ns. Ran s0 s' here x0 x' bytes (left - j) ns t0 t') (sym joined) (ran-next s' x' 2 j notes' [] t' (let l = ran-left in omega arith) b st refl)
+        → HasRoom s STOP_BLOCKS → Ran s0 s' here x0 x' bytes (left - j) all t0 t'
+    ran-run s' x' j notes' all t' st within joined b many =
+        subst (λ ns. Ran s0 s' here x0 x' bytes (left - j) ns t0 t') (sym joined) (ran-next s' x' 2 j notes' [] t' (let l = ran-left in omega arith) b st refl many (omega arith))
 
     -- or one that has sent something
     pub runs-into : (s' : StoreValue) (x' : Ldterm M) (notes' : List Note) (sent' : List (Sent M)) (t' : Fates) → 0 < left → Proceeds name s s' x x' 27 notes' sent' t t' (ahead here 3 p) → IsStore s
@@ -322,14 +331,15 @@ module _ {M : Type 0} (name : M → ℕ) (s s' : StoreValue) (here : Spot) (x x'
       let stop : unwrap_or (stop_at (nat_lt 0 left) (bytes - left)) (to_treat from) ≡ bytes - left = at (nat_lt 0 left) refl (r.fewer, (let z = none-done from.stage between in let a = all-left from between in omega arith)) in
       let all = takes-any name s s' x x' (all_free s + 0) (notes.items ++ []) (sent_of sent) t t' _ (proceeds-joined name s s1 x x1 (all_free s) notes.items t t1 (ahead here n from) st r.does s' x' 0 [] (sent_of sent) t' (finished plain here) e) in
       let over : to_treat (ldterm_in name s' x') ≡ 0 = ap to_treat e.state in
-      let stage : leaves (stage_in x'.stage) ≡ 0 = ap (λ (q : ldterms.Ldterm ℕ). leaves q.stage) e.state in
+      let stage : leaves (stage_in x'.stage) ≡ 1 = ap (λ (q : ldterms.Ldterm ℕ). leaves q.stage) e.state in
       let after = (between-after here from (bytes - left) between (omega arith) none).1 in
       let same = ap (λ (q : ldterms.Ldterm ℕ). length (cells_left q)) r.does.state in
       let few : 0 < left → least_free s' < STOP_BLOCKS = λ some. stays-few s1 s' STOP_BLOCKS (frees (omega arith)) (r.stops some) in
       treats-as (record { acts = record { notes = notes; sent = sent }; bytes = bytes - left; stopped = nat_lt 0 left; again = false }) _
       (ap (λ k. treats plain here k 0 from) stop ∙ treats-ended here from n (bytes - left) (omega arith) none)
       (subst (λ ns. Proceeds name s s' x x' (all_free s) ns (sent_of sent) t t' (one_after (ahead here n from) (finished plain here))) (append-nil notes.items) all)
-      refl refl (λ v. (few (lower 0 left v), refl)) (λ v. record { treat = omega arith; done = omega arith }) (omega arith) (record { mblks = omega arith; dblks = omega arith })
+      refl refl (λ v. (few (lower 0 left v), refl)) (λ v. record { treat = omega arith; done = omega arith }) (omega arith)
+      (record { mblks = (let r' = r.room.mblks in let e' = e.mblks in omega (arith, stage, r', e')); dblks = (let r' = r.room.dblks in let e' = e.dblks in omega (arith, stage, r', e')) })
     where
       at : (v : Bool) → nat_lt 0 left ≡ v → left ≤ bytes × (to_treat from ≡ bytes) → unwrap_or (stop_at v (bytes - left)) (to_treat from) ≡ bytes - left
       at true is both = refl
@@ -380,7 +390,7 @@ module _ {M : Type 0} (name : M → ℕ) (s s' : StoreValue) (here : Spot) (x x'
 
   -- from within a byte on, which has sent something
   pub resumed-sends : (acts : frame.Acts M) → 0 < stages_left (stage_in x.stage) → is_some from.in_work ≡ true → is_none_left (sent_of acts.sent) ≡ false
-      → Proceeds name s s' x x' 26 acts.notes.items (sent_of acts.sent) t t' (ahead here (stages_left from.stage) from) → HasRoom s' 25 × (stages_left (stage_in x'.stage) ≡ 1)
+      → Proceeds name s s' x x' 26 acts.notes.items (sent_of acts.sent) t t' (ahead here (stages_left from.stage) from) → HasRoom s' 26 × (stages_left (stage_in x'.stage) ≡ 1)
       → TreatsAs name s s' here x x' (record { acts = acts; bytes = 0; stopped = false; again = true }) t t'
   resumed-sends acts under work sent a behind =
       let n = stages_left from.stage in
@@ -398,7 +408,7 @@ module _ {M : Type 0} (name : M → ℕ) (s s' : StoreValue) (here : Spot) (x x'
       let few = left-few from.stage in
       let same : to_treat q ≡ to_treat from = omega arith in
       let there = ap to_treat a.state in
-      let low : leaves (stage_in x'.stage) ≤ 25 = leaves-one (stage_in x'.stage) behind.1 in
+      let low : leaves (stage_in x'.stage) ≤ 26 = leaves-one (stage_in x'.stage) behind.1 in
       let rm = behind.0.mblks in
       let rd = behind.0.dblks in
       treats-as (record { acts = acts; bytes = 0; stopped = false; again = true }) _

@@ -42,7 +42,7 @@ use Rattle.strm_ldterm.proofs.Calls.{lower, none-done, takes-any}
 use Rattle.strm_ldterm.proofs.Freeing.{stays-few}
 use Rattle.strm_ldterm.proofs.Joining.{proceeds-joined}
 use Rattle.strm_ldterm.proofs.Pouring.{pours-left}
-use Rattle.strm_ldterm.proofs.Turned.{cells-within, down-serves}
+use Rattle.strm_ldterm.proofs.Turned.{cells-within, down≢up, down-serves}
 
 module _ (here : Spot) (stop : Option ℕ) where
   -- bytes that go out, so many at most
@@ -161,6 +161,7 @@ module _ {M : Type 0} (name : M → ℕ) (s s1 s2 s3 : StoreValue) (here : Spot)
             let none = none-done (stage_in x.stage) between in
             record { treat = omega (arith, most, size, few, cells-within b.message); done = omega arith };
         room = λ e. absurd (false≢true e);
+        over = λ up. absurd (down≢up (sym way ∙ up));
         whole = λ e.
             let out : goes_out p.termios b.message ≡ true = ap (λ (m : Message ℕ). is_data m.kind && (opost p.termios && not (is_none_left cells))) b.is ∙ ap (λ v. v && not (is_none_left cells)) b.output ∙ ap not (some-left cells some-there) in
             let goes : passes_whole Down again p ≡ false = ap (λ ms. passes_whole Down again (record p { write_queue = record p.write_queue { messages = ms } })) b.first ∙ ap not out in

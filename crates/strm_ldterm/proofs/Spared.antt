@@ -1,17 +1,19 @@
 -- What is free behind a call of ldterm's service procedure: enough for what it has sent, and for the rest of a byte where it is called again.
-use Rattle.std.proofs.Common.{ℕ, ◌≡◌, ◌≤◌, ◌+◌, ◌-◌, ◌*◌, Bool, true, false, cond, List, [], ◌∷◌, map, refl, sym, ap, subst, ◌∙◌, arith}
+use Rattle.std.proofs.Common.{ℕ, ◌≡◌, ◌≤◌, ◌<◌, ◌+◌, ◌-◌, ◌*◌, Bool, true, false, cond, List, [], ◌∷◌, map, refl, sym, ap, subst, ◌∙◌, arith}
 use Rattle.std.proofs.lemmas.Bool.{false≢true}
 use Rattle.std.proofs.lemmas.Bool.Decides.{nat_tests}
 use Rattle.std.specs.Prelude.{◌==◌, ◌&&◌, not, length, take, Option, None, Some, is_some, unwrap_or, ◌||◌}
+use Rattle.strm_types.specs.declared.kinds.MsgKind.{MsgKind}
+use Rattle.strm_types.specs.declared.kinds.MsgKind.TheVariants as kinds
 use Rattle.strm_types.specs.declared.names.Way.{Way}
 use Rattle.strm_types.specs.declared.names.Way.TheVariants.{Up, Down}
 use Rattle.strm_types.specs.declared.spots.Spot.{Spot}
 use Rattle.strm_types.specs.Cells.{plain}
-use Rattle.strm_types.specs.Costs.{asking_at, cost}
+use Rattle.strm_types.specs.Costs.{asking_at, cost_of}
 use Rattle.strm_types.specs.Deliver.{Parcel, toward}
 use Rattle.strm_types.specs.Input.{input_begins, is_data, passes, stages_done, to_treat, treats}
 use Rattle.strm_types.specs.LdtermServes.{ldterm_serves}
-use Rattle.strm_types.specs.Ldterms.{Ldterm, onward}
+use Rattle.strm_types.specs.Ldterms.{Answered, Begun, Between, Ldterm, Stage, onward}
 use Rattle.strm_types.specs.Message.{Message, cells_of}
 use Rattle.strm_types.specs.Output.{posts}
 use Rattle.strm_types.specs.OutputTurns.{output_dir, output_serves, posted, unchanged, with_given}
@@ -19,46 +21,58 @@ use Rattle.strm_types.specs.Queue.{is_none_left, left_with}
 use Rattle.strm_types.specs.Service.{Serving}
 use Rattle.strm_types.specs.Termios.{opost}
 use Rattle.strm_types.specs.Puts.{is_turned}
-use Rattle.strm_types.proofs.CostsBounded.{cost-few}
+use Rattle.strm_types.specs.StackCosts.{most_cost, most_down}
+use Rattle.strm_types.proofs.CostSums.{none-few, one-few}
+use Rattle.strm_types.proofs.StackBounds.{most-few}
 use Rattle.strm_blocks.specs.Blocks.{StoreValue}
 use Rattle.strm_queue.specs.Stored.{FreesBlocks}
 use Rattle.strm_frame.specs.Hands.{HasRoom}
-use Rattle.strm_frame.specs.Outboxes.{cost_of}
 use Rattle.strm_frame.specs.Serves.{later_cost}
 use Rattle.strm_ldterm.specs.Bounds.{goes_out, passes_whole, turn_cost}
 use Rattle.strm_ldterm.specs.Turns.{leaves, needs}
 use Rattle.strm_ldterm.proofs.OutWhole.{goes-whole}
-use Rattle.strm_ldterm.proofs.Spending.{Leaves, none-cost, one-cost, stages-spare}
+use Rattle.strm_ldterm.proofs.Spending.{Leaves, stages-spare}
 use Rattle.strm_ldterm.proofs.Turned.{again-serves, down-serves, first-serves}
 
-module _ (here : Spot) where
+-- what goes up at the end of a turn may become a packet
+abbrev at_end : Way → ℕ
+at_end Up = 1
+at_end Down = 0
+
+module _ (here : Spot) (inside : 0 < here.at) where
   -- a call that treats bytes
   pub record Treats (v : Serving ℕ (Ldterm ℕ)) : Type 0 where
     pub up : v.again ≡ true → here.way ≡ Up
     pub more : v.again ≡ true → Leaves here v.acted
-    pub over : v.again ≡ false → cost_of cost v.acted.sent ≡ 0
+    pub over : v.again ≡ false → cost_of most_cost v.acted.sent ≤ at_end here.way
 
   -- a call in which a message passes whole, or none
   pub record Passes (v : Serving ℕ (Ldterm ℕ)) : Type 0 where
     pub over : v.again ≡ false
-    pub few : cost_of cost v.acted.sent ≤ 25
+    pub few : cost_of most_cost v.acted.sent ≤ 25
 
   treats-spare : here.way ≡ Up → (bytes : ℕ) (p : Ldterm ℕ) → is_some p.in_work ≡ true → Treats (treats plain here bytes 0 p)
-  treats-spare up bytes p work = let spares = stages-spare here (3 * bytes - stages_done p.stage) 0 p work in record { up = λ again. up; more = spares.more; over = spares.over }
+  treats-spare up bytes p work = let spares = stages-spare here (3 * bytes - stages_done p.stage) 0 p work in record { up = λ again. up; more = spares.more; over = λ ends. (let one = spares.over ends in let same = ap at_end up in omega (arith, one, same)) }
 
   passes-few : (way : Way) (m : Message ℕ) (rest : List (Message ℕ)) (p : Ldterm ℕ) → Passes (passes plain here way m rest p)
-  passes-few way m rest p = record { over = refl; few = (let one = one-cost (toward way here) m in let few = cost-few (toward way here) m in omega (arith, one, few)) }
+  passes-few way m rest p = record { over = refl; few = one-few {C = ℕ} most_cost 25 (toward way here) m (most-few way here m inside) }
 
-  nothing-few : cost_of (cost {C = ℕ}) [] ≤ 25
-  nothing-few = let none = none-cost ℕ in omega (arith, none)
+  nothing-few : cost_of (most_cost {C = ℕ}) [] ≤ 25
+  nothing-few = none-few {C = ℕ} most_cost 25
 
   -- what is given to go down takes none
-  given-free : (given : List ℕ) (m : Message ℕ) → cost_of cost (map (onward Down here) (with_given given m)) ≡ 0
-  given-free [] m = none-cost ℕ
-  given-free (c ∷ given) m =
+  data-down : (at : ℕ) (kind : MsgKind) → is_data kind ≡ true → most_down at kind ≡ 0
+  data-down at kinds.Data is = refl
+  data-down at _ is = absurd (cc)
+
+  given-free : (given : List ℕ) (m : Message ℕ) → is_data m.kind ≡ true → cost_of most_cost (map (onward Down here) (with_given given m)) ≤ 0
+  given-free [] m is = none-few {C = ℕ} most_cost 0
+  given-free (c ∷ given) m is =
       let n : Message ℕ = record m { control = None; body = Some (c ∷ given) } in
       let below : (here.at + 1 == 0) ≡ false = grind (arith, nat_tests) in
-      one-cost (toward Down here) n ∙ ap (λ top. cond {A = ℕ} top (cond {A = ℕ} (is_turned n) 4 0) 0 + cond {A = ℕ} (top || true) 0 (asking_at Down n.kind (here.at + 1))) below
+      let base = ap (λ top. cond {A = ℕ} top (cond {A = ℕ} (is_turned n) 4 0) 0 + cond {A = ℕ} (top || true) 0 (asking_at Down n.kind (here.at + 1))) below in
+      let packs = data-down (here.at + 1) m.kind is in
+      one-few {C = ℕ} most_cost 0 (toward Down here) n (omega (arith, base, packs))
 
   module _ (again : Bool) (stop : Option ℕ) (p : Ldterm ℕ) where
     abbrev call : Serving ℕ (Ldterm ℕ)
@@ -108,13 +122,17 @@ module _ (here : Spot) where
 
     output-treats : (ms : List (Message ℕ)) → passes_whole Down again (down ms) ≡ false → Treats (output_serves plain here stop 0 ms p)
     output-treats [] whole = absurd (false≢true (sym whole))
-    output-treats (m ∷ rest) whole = record { up = λ more. absurd (false≢true more); more = λ more. absurd (false≢true more); over = λ ends. at (is_data m.kind) (opost p.termios) (cells_of m) whole }
+    output-treats (m ∷ rest) whole = record { up = λ more. absurd (false≢true more); more = λ more. absurd (false≢true more); over = λ ends. ends-free }
       where
-        at : (treated output : Bool) (xs : List ℕ) → not (treated && (output && not (is_none_left xs))) ≡ false → cost_of cost (map (onward Down here) (cond (treated && output) (posted plain here stop 0 xs m p) (unchanged m p)).messages) ≡ 0
-        at false output xs e = absurd (false≢true (sym e))
-        at true false xs e = absurd (false≢true (sym e))
-        at true true [] e = absurd (false≢true (sym e))
-        at true true (x ∷ xs) e = given-free (posts plain (output_dir plain here) 0 p.termios p.column (take (unwrap_or stop (length (x ∷ xs))) (x ∷ xs))).given m
+        at : (treated output : Bool) (xs : List ℕ) → is_data m.kind ≡ treated → not (treated && (output && not (is_none_left xs))) ≡ false
+            → cost_of most_cost (map (onward Down here) (cond (treated && output) (posted plain here stop 0 xs m p) (unchanged m p)).messages) ≤ 0
+        at false output xs is e = absurd (false≢true (sym e))
+        at true false xs is e = absurd (false≢true (sym e))
+        at true true [] is e = absurd (false≢true (sym e))
+        at true true (x ∷ xs) is e = given-free (posts plain (output_dir plain here) 0 p.termios p.column (take (unwrap_or stop (length (x ∷ xs))) (x ∷ xs))).given m is
+
+        ends-free : cost_of most_cost (output_serves plain here stop 0 (m ∷ rest) p).acted.sent ≤ at_end here.way
+        ends-free = let free = at (is_data m.kind) (opost p.termios) (cells_of m) refl whole in omega (arith, free)
 
     serves-treat : (way : Way) (more : Bool) → here.way ≡ way → again ≡ more → (way ≡ Up → more ≡ true → is_some p.in_work ≡ true) → passes_whole way more p ≡ false → Treats call
     serves-treat Down more is same work whole = subst Treats (sym (down-serves here again stop p is)) (output-treats p.write_queue.messages whole)
@@ -125,6 +143,27 @@ module _ (here : Spot) where
     serves-pass Down more is same whole = subst Passes (sym (down-serves here again stop p is)) (output-passes p.write_queue.messages whole)
     serves-pass Up false is same whole = subst Passes (sym (first-serves here again stop p is same)) (input-passes p.read_queue.messages whole)
     serves-pass Up true is same whole = absurd (false≢true whole)
+
+    -- what it sends takes little
+    leaves-few : (stage : Stage ℕ) → leaves stage ≤ 31
+    leaves-few Between = omega arith
+    leaves-few (Begun started c) = omega arith
+    leaves-few (Answered echo) = omega arith
+
+    ends-few : (way : Way) → at_end way ≤ 1
+    ends-few Up = omega arith
+    ends-few Down = omega arith
+
+    pub call-few : (here.way ≡ Up → again ≡ true → is_some p.in_work ≡ true) → cost_of most_cost call.acted.sent ≤ 31
+    call-few work = at (passes_whole here.way again p) refl
+      where
+        treated : Treats call → (more : Bool) → call.again ≡ more → cost_of most_cost call.acted.sent ≤ 31
+        treated is true goes = omega (arith, is.more goes, leaves-few call.acted.state.stage)
+        treated is false goes = omega (arith, is.over goes, ends-few here.way)
+
+        at : (whole : Bool) → passes_whole here.way again p ≡ whole → cost_of most_cost call.acted.sent ≤ 31
+        at true whole = omega (arith, (serves-pass here.way again refl refl whole).few)
+        at false whole = treated (serves-treat here.way again refl refl work whole) call.again refl
 
     -- what it may count on
     whole-counts : (way : Way) (more : Bool) → passes_whole way more p ≡ true → turn_cost (record here { way = way }) more p ≡ 25
@@ -137,29 +176,33 @@ module _ (here : Spot) where
     bytes-count Up q up = refl
 
     module _ (old new : StoreValue) (q : Ldterm ℕ) (more : Bool) (sent : List (Parcel ℕ)) (state : q ≡ call.acted.state) (parcels : sent ≡ call.acted.sent) (calls : more ≡ call.again) where
-      same-cost : cost_of cost sent ≡ cost_of cost call.acted.sent
-      same-cost = ap (cost_of cost) parcels
+      same-cost : cost_of most_cost sent ≡ cost_of most_cost call.acted.sent
+      same-cost = ap (cost_of most_cost) parcels
 
-      passed-room : (whole : passes_whole here.way again p ≡ true) → HasRoom old (turn_cost here again p) → FreesBlocks old new → HasRoom new (later_cost cost more (turn_cost here true q) sent)
+      passed-room : (whole : passes_whole here.way again p ≡ true) → HasRoom old (turn_cost here again p) → FreesBlocks old new → HasRoom new (later_cost most_cost more (turn_cost here true q) sent)
       passed-room whole room frees =
           let passes = serves-pass here.way again refl refl whole in
           let counts = whole-counts here.way again whole in
           let ends : more ≡ false = calls ∙ passes.over in
           let few = passes.few in
           let same = same-cost in
-          let takes : later_cost cost more (turn_cost here true q) sent ≡ cost_of cost sent + 0 = ap (λ v. cost_of cost sent + cond {A = ℕ} v (turn_cost here true q) 0) ends in
+          let takes : later_cost most_cost more (turn_cost here true q) sent ≡ cost_of most_cost sent + 0 = ap (λ v. cost_of most_cost sent + cond {A = ℕ} v (turn_cost here true q) 0) ends in
           record {
             mblks = (let r = room.mblks in let f = frees.mblks in omega (arith, counts, few, same, takes, r, f));
             dblks = (let r = room.dblks in let f = frees.dblks in omega (arith, counts, few, same, takes, r, f));
           }
 
-      treated-room : (whole : passes_whole here.way again p ≡ false) → (here.way ≡ Up → again ≡ true → is_some p.in_work ≡ true) → (more ≡ true → HasRoom new (leaves q.stage)) → HasRoom new (later_cost cost more (turn_cost here true q) sent)
-      treated-room whole work behind = at more refl
+      treated-room : (whole : passes_whole here.way again p ≡ false) → (here.way ≡ Up → again ≡ true → is_some p.in_work ≡ true) → (more ≡ true → HasRoom new (leaves q.stage)) → (here.way ≡ Up → HasRoom new 1) → HasRoom new (later_cost most_cost more (turn_cost here true q) sent)
+      treated-room whole work behind at_last = at more refl
         where
           treats : Treats call
           treats = serves-treat here.way again refl refl work whole
 
-          at : (v : Bool) → more ≡ v → HasRoom new (cost_of cost sent + cond {A = ℕ} v (turn_cost here true q) 0)
+          last-room : (way : Way) → here.way ≡ way → HasRoom new (at_end way)
+          last-room Up is = at_last is
+          last-room Down is = record { mblks = omega arith; dblks = omega arith }
+
+          at : (v : Bool) → more ≡ v → HasRoom new (cost_of most_cost sent + cond {A = ℕ} v (turn_cost here true q) 0)
           at true goes =
               let room = behind goes in
               let left = treats.more (sym calls ∙ goes) in
@@ -172,14 +215,15 @@ module _ (here : Spot) where
                 dblks = (let r = room.dblks in omega (arith, left, counts, rest, all, same, r));
               }
           at false ends =
-              let none = treats.over (sym calls ∙ ends) in
+              let most = treats.over (sym calls ∙ ends) in
               let same = same-cost in
-              record { mblks = omega (arith, none, same); dblks = omega (arith, none, same) }
+              let room = last-room here.way refl in
+              record { mblks = (let r = room.mblks in omega (arith, most, same, r)); dblks = (let r = room.dblks in omega (arith, most, same, r)) }
 
       pub call-room : (here.way ≡ Up → again ≡ true → is_some p.in_work ≡ true) → HasRoom old (turn_cost here again p) → (passes_whole here.way again p ≡ true → FreesBlocks old new)
-          → (more ≡ true → HasRoom new (leaves q.stage)) → HasRoom new (later_cost cost more (turn_cost here true q) sent)
-      call-room work room frees behind = at (passes_whole here.way again p) refl
+          → (more ≡ true → HasRoom new (leaves q.stage)) → (here.way ≡ Up → HasRoom new 1) → HasRoom new (later_cost most_cost more (turn_cost here true q) sent)
+      call-room work room frees behind at_last = at (passes_whole here.way again p) refl
         where
-          at : (whole : Bool) → passes_whole here.way again p ≡ whole → HasRoom new (later_cost cost more (turn_cost here true q) sent)
+          at : (whole : Bool) → passes_whole here.way again p ≡ whole → HasRoom new (later_cost most_cost more (turn_cost here true q) sent)
           at true whole = passed-room whole room (frees whole)
-          at false whole = treated-room whole work behind
+          at false whole = treated-room whole work behind at_last

@@ -9,17 +9,19 @@ use Rattle.strm_types.specs.declared.names.Way.{Way}
 use Rattle.strm_types.specs.declared.names.Way.TheVariants.{Up, Down}
 use Rattle.strm_types.specs.declared.spots.Spot.{Spot}
 use Rattle.strm_types.specs.Cells.{cells_made, plain}
-use Rattle.strm_types.specs.Costs.{asking_at, cost}
+use Rattle.strm_types.specs.Costs.{asking_at, cost, cost_of}
 use Rattle.strm_types.specs.Deliver.{Acted, Parcel, toward}
 use Rattle.strm_types.specs.Input.{begins_next, cells_left, left_of, made_of, next_stage, stage_at, stages, with_left}
 use Rattle.strm_types.specs.Keys.{restarts}
 use Rattle.strm_types.specs.Ldterms.{Ldterm, Stage, Between, Begun, Answered, flush_passes, onward, sends}
 use Rattle.strm_types.specs.Message.{Message, data_message}
+use Rattle.strm_types.specs.StackCosts.{most_cost}
 use Rattle.strm_types.specs.Queue.{is_full, is_none_left}
 use Rattle.strm_types.specs.Typing.{bare, echo_dir, echoed, echo_grows, echo_lost, echo_stands, gathered_up, is_lnext, stroke_at, struck}
-use Rattle.strm_types.proofs.CostsBounded.{cost-low, is_quiet, next-cost}
+use Rattle.strm_types.proofs.CostsBounded.{is_quiet, next-cost}
+use Rattle.strm_types.proofs.CostSums.{more-few, none-few, one-few}
+use Rattle.strm_types.proofs.StackBounds.{most-low}
 use Rattle.strm_types.proofs.LdtermStages.{strikes-stay}
-use Rattle.strm_frame.specs.Outboxes.{cost_of}
 use Rattle.strm_ldterm.specs.Turns.{leaves, needs}
 use Rattle.strm_ldterm.proofs.Onward.{flush-sent, struck-sends}
 
@@ -27,17 +29,10 @@ pub none-cost : (C : Type 0) → cost_of (cost {C = C}) [] ≡ 0
 unfolding cost_of
 none-cost C = refl
 
-none-few : (C : Type 0) (n : ℕ) → cost_of (cost {C = C}) [] ≤ 4 * n
-none-few C n = let e = none-cost C in omega arith
-
 module _ {C : Type 0} where
   pub one-cost : (to : Spot) (m : Message C) → cost_of cost (record { to = to; message = m } ∷ []) ≡ cost to m
   unfolding cost_of
   one-cost to m = omega arith
-
-  more-cost : (way : Way) (here : Spot) (m : Message C) (n : ℕ) (ps : List (Parcel C)) → is_quiet m.kind ≡ true → cost_of cost ps ≤ 4 * n → cost_of cost (onward way here m ∷ ps) ≤ 4 * suc n
-  unfolding cost_of
-  more-cost way here m n ps quiet few = let one = cost-low (toward way here) m quiet in omega arith
 
   -- a message that goes on costs no more, and so does an M_FLUSH that passes
   pub goes-cost : (here : Spot) (m : Message C) → 0 < here.at → here.at ≤ MODULES → cost_of cost (onward here.way here m ∷ []) ≤ cost here m
@@ -51,10 +46,21 @@ module _ (here : Spot) where
   Acts = Acted ℕ (Ldterm ℕ)
 
   abbrev Costs : ℕ → List (Parcel ℕ) → Type 0
-  Costs n ps = cost_of cost ps ≤ 4 * n
+  Costs n ps = cost_of most_cost ps ≤ 8 * n
+
+  few-none : (n : ℕ) → Costs n []
+  few-none n = none-few {C = ℕ} most_cost (8 * n)
 
   few-more : (way : Way) (m : Message ℕ) (n : ℕ) (ps : List (Parcel ℕ)) → is_quiet m.kind ≡ true → Costs n ps → Costs (suc n) (onward way here m ∷ ps)
-  few-more way m n ps quiet few = more-cost way here m n ps quiet few
+  few-more way m n ps quiet few = more-few {C = ℕ} most_cost (8 * suc n) (toward way here) m ps (let low = most-low (toward way here) m quiet in omega (arith, low, few))
+
+  -- output that is started: an M_START goes down
+  start-cost : cost_of most_cost (onward {C = ℕ} Down here (bare kinds.Start []) ∷ []) ≤ 3
+  start-cost = one-few {C = ℕ} most_cost 3 (toward Down here) (bare kinds.Start []) (at (here.at + 1 == 0))
+    where
+      at : (top : Bool) → (cond top (cond false 4 0) 3 + cond (top || false) 0 0) + 0 ≤ 3
+      at true = omega arith
+      at false = omega arith
 
   -- the message in work stays one
   next-works : (made : ℕ) (p : Ldterm ℕ) → is_some (next_stage plain here made p).state.in_work ≡ is_some p.in_work
@@ -98,7 +104,7 @@ module _ (here : Spot) where
 
   -- a stage that has sent something leaves enough for the rest of its byte, beside what is sent
   abbrev pub Leaves : Acts → Type 0
-  Leaves t = cost_of cost t.sent + needs t.state.stage ≤ leaves t.state.stage
+  Leaves t = cost_of most_cost t.sent + needs t.state.stage ≤ leaves t.state.stage
 
   next-leaves : (made : ℕ) (p : Ldterm ℕ) → is_none_left (next_stage plain here made p).sent ≡ false → Leaves (next_stage plain here made p)
   next-leaves made p = at p.stage
@@ -106,7 +112,7 @@ module _ (here : Spot) where
       starts : (c : ℕ) (q : Ldterm ℕ) (begins : Bool) →
           (let t = cond {A = Acts} begins (sends (onward Down here (bare kinds.Start []) ∷ []) (record q { stopped = false; stage = Begun true c })) (sends [] (record q { stage = Begun false c })) in
           is_none_left t.sent ≡ false → Leaves t)
-      starts c q true sent = let few = few-more Down (bare kinds.Start []) 0 [] refl (none-few ℕ 0) in omega (arith, few)
+      starts c q true sent = let few = start-cost in omega (arith, few)
       starts c q false sent = absurd (false≢true (sym sent))
 
       left : (cs : List ℕ) → is_none_left (begins_next plain here cs p).sent ≡ false → Leaves (begins_next plain here cs p)
@@ -130,23 +136,23 @@ module _ (here : Spot) where
 
       at : (stage : Stage ℕ) → is_none_left (stage_at plain here stage made p).sent ≡ false → Leaves (stage_at plain here stage made p)
       at Between sent = left (cells_left p) sent
-      at (Begun started c) sent = let few : Costs 3 (struck plain here started c p).sent = struck-sends plain here Costs (none-few ℕ) few-more started c p in omega (arith, few)
+      at (Begun started c) sent = let few : Costs 3 (struck plain here started c p).sent = struck-sends plain here Costs few-none few-more started c p in omega (arith, few)
       at (Answered bytes) sent = echo bytes sent
 
-  -- What a call sends that is called again leaves enough for the rest of the byte. At the end of a turn it takes nothing: it is M_DATA on
-  -- its way up.
+  -- What a call sends that is called again leaves enough for the rest of the byte. At the end of a turn it takes one at most: it is M_DATA on
+  -- its way up, which may become a packet.
   pub record Spares (t : Acts) : Type 0 where
     pub more : is_some t.state.in_work ≡ true → Leaves t
-    pub over : is_some t.state.in_work ≡ false → cost_of cost t.sent ≡ 0
+    pub over : is_some t.state.in_work ≡ false → cost_of most_cost t.sent ≤ 1
 
-  gathered-free : (gathered : List ℕ) → cost_of cost (gathered_up plain here gathered) ≡ 0
+  gathered-few : (gathered : List ℕ) → cost_of most_cost (gathered_up plain here gathered) ≤ 1
   unfolding data_message
-  gathered-free [] = none-cost ℕ
-  gathered-free (c ∷ rest) = one-cost (toward Up here) (data_message (c ∷ rest)) ∙ at (here.at - 1 == 0)
+  gathered-few [] = none-few {C = ℕ} most_cost 1
+  gathered-few (c ∷ rest) = one-few {C = ℕ} most_cost 1 (toward Up here) (data_message (c ∷ rest)) (at (here.at - 1 == 0))
     where
-      at : (top : Bool) → cond {A = ℕ} top 0 0 + cond (top || true) 0 (asking_at Up kinds.Data (here.at - 1)) ≡ 0
-      at true = refl
-      at false = refl
+      at : (top : Bool) → (cond {A = ℕ} top 0 0 + cond (top || true) 0 (asking_at Up kinds.Data (here.at - 1))) + 1 ≤ 1
+      at true = omega arith
+      at false = omega arith
 
   step-spares : (n made : ℕ) (p : Ldterm ℕ) → (let t = next_stage plain here made p in
       is_some t.state.in_work ≡ true → Spares (stages plain here n (made + made_of t.gone) t.state) → Spares (stages plain here (suc n) made p))
@@ -163,7 +169,7 @@ module _ (here : Spot) where
       by false sent = record { more = λ e. next-leaves made p sent; over = λ e. absurd (false≢true (sym e ∙ still)) }
 
   pub stages-spare : (n made : ℕ) (p : Ldterm ℕ) → is_some p.in_work ≡ true → Spares (stages plain here n made p)
-  stages-spare zero made p work = record { more = λ e. absurd (false≢true e); over = λ e. gathered-free p.gathered }
+  stages-spare zero made p work = record { more = λ e. absurd (false≢true e); over = λ e. gathered-few p.gathered }
   stages-spare (suc n) made p work =
       let t = next_stage plain here made p in
       let still = next-works made p ∙ work in

@@ -12,7 +12,7 @@ use Rattle.strm_types.specs.declared.names.Way.TheVariants.{Up}
 use Rattle.strm_types.specs.declared.spots.Spot.{Spot}
 use Rattle.strm_types.specs.declared.termios.Termios.{Termios}
 use Rattle.strm_types.specs.Commands.{is_acked}
-use Rattle.strm_types.specs.Costs.{across_at, asking_at, below_cost, cost}
+use Rattle.strm_types.specs.Costs.{across_at, asking_at, below_cost, cost, cost_of}
 use Rattle.strm_types.specs.Deliver.{Acted, Parcel, toward}
 use Rattle.strm_types.specs.Flushing.{flush_message, is_flush, read_flush}
 use Rattle.strm_types.specs.Ldterms.{Ldterm, both, onward, read_flushed, sends}
@@ -22,7 +22,6 @@ use Rattle.strm_types.specs.Puts.{turns_round}
 use Rattle.strm_types.specs.TakenUp.{ends_lines, line_up, read_mode_of, taken_up, termios_taken}
 use Rattle.strm_types.specs.Typing.{up_alone}
 use Rattle.strm_types.proofs.LdtermPuts.{acked-bare, acked-kind}
-use Rattle.strm_frame.specs.Outboxes.{cost_of}
 use Rattle.strm_ldterm.proofs.Passing.{read-sends}
 use Rattle.strm_ldterm.proofs.Spending.{one-cost}
 

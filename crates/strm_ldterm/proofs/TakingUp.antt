@@ -9,7 +9,7 @@ use Rattle.strm_types.specs.declared.rules.Fates.{Fates}
 use Rattle.strm_types.specs.declared.spots.Note.{Note}
 use Rattle.strm_types.specs.declared.spots.Spot.{Spot}
 use Rattle.strm_types.specs.declared.termios.Termios.{Termios}
-use Rattle.strm_types.specs.Costs.{cost}
+use Rattle.strm_types.specs.Costs.{cost, cost_of}
 use Rattle.strm_types.specs.Deliver.{Acted, Parcel, toward}
 use Rattle.strm_types.specs.Flush.{is_data_kind}
 use Rattle.strm_types.specs.Flushing.{flush_message, read_flush}
@@ -24,7 +24,7 @@ use Rattle.strm_msg.specs.Messages.{message_of, IsChain}
 use Rattle.strm_frame.specs.declared.modules.Acts.{Acts}
 use Rattle.strm_frame.specs.declared.parcels.Sent.{Sent}
 use Rattle.strm_frame.specs.Hands.{AreIn, CanPut, HasRoom}
-use Rattle.strm_frame.specs.Outboxes.{cost_of, message_in, sent_of, times_sent, parcels_in, AreChains}
+use Rattle.strm_frame.specs.Outboxes.{message_in, sent_of, times_sent, parcels_in, AreChains}
 use Rattle.strm_frame.proofs.Handing.{once-self, one-chains, one-parts}
 use Rattle.strm_ldterm.specs.declared.ldterm.Ldterm.{Ldterm}
 use Rattle.strm_ldterm.specs.Stands.{ldterm_in, keeps, IsHeld}

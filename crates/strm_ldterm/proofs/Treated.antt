@@ -31,7 +31,7 @@ few-leaves Between = omega arith
 few-leaves (Begun started c) = omega arith
 few-leaves (Answered echo) = omega arith
 
-pub few-needs : (stage : ldterms.Stage ℕ) → needs stage ≤ 27
+pub few-needs : (stage : ldterms.Stage ℕ) → needs stage ≤ 28
 few-needs Between = omega arith
 few-needs (Begun started c) = omega arith
 few-needs (Answered echo) = omega arith

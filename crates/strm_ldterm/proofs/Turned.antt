@@ -10,6 +10,7 @@ use Rattle.strm_types.specs.Cells.{plain}
 use Rattle.strm_types.specs.Input.{cells_left, input_begins, is_data, to_treat, treats}
 use Rattle.strm_types.specs.LdtermServes.{ldterm_serves}
 use Rattle.strm_types.specs.Ldterms as ldterms
+use Rattle.strm_types.specs.Ldterms.{Between, Begun, Answered}
 use Rattle.strm_types.specs.Message.{Message, cells_of, size_of}
 use Rattle.strm_types.specs.OutputTurns.{output_serves}
 use Rattle.strm_types.specs.Service.{Serving}
@@ -19,6 +20,7 @@ use Rattle.strm_blocks.specs.Blocks.{StoreValue, IsStore}
 use Rattle.strm_frame.specs.declared.parcels.Outbox.{Outbox}
 use Rattle.strm_frame.specs.declared.service.Served.{Served}
 use Rattle.strm_frame.specs.Outboxes.{sent_of}
+use Rattle.strm_frame.specs.Hands.{HasRoom}
 use Rattle.strm_frame.specs.Serves.{stop_at, stop_of}
 use Rattle.strm_ldterm.specs.declared.ldterm.Ldterm.{Ldterm}
 use Rattle.strm_ldterm.specs.Began.{BeganWork}
@@ -28,7 +30,7 @@ use Rattle.strm_ldterm.specs.Does.{Proceeds}
 use Rattle.strm_ldterm.specs.Resting.{ldterm-rests}
 use Rattle.strm_ldterm.specs.Served.{IsServed}
 use Rattle.strm_ldterm.specs.Stands.{keeps, ldterm_in, stage_in, IsHeld}
-use Rattle.strm_ldterm.specs.Turns.{stages_left}
+use Rattle.strm_ldterm.specs.Turns.{leaves, needs, stages_left}
 use Rattle.strm_ldterm.proofs.Calls.{all-left, kept-some, takes-any, none-done}
 use Rattle.strm_ldterm.proofs.Joining.{proceeds-joined}
 use Rattle.strm_ldterm.specs.ServedLaws.{again-works, down-idle, first-idle, serves-served}
@@ -60,11 +62,27 @@ module _ (here : Spot) (again : Bool) (stop : Option ℕ) (p : ldterms.Ldterm �
       ∙ ap (λ w. ldterm_serves plain (at_way w) 0 false stop p) is
       ∙ sym (ap (λ w. input_begins plain (at_way w) stop 0 p.read_queue.messages p) is)
 
+pub down≢up : Down ≡ Up → ⊥
+down≢up same = absurd (cc)
+
+pub between-needs : (stage : ldterms.Stage ℕ) → stages_left stage ≡ 0 → needs stage ≤ 1
+between-needs Between is = omega arith
+between-needs (Begun started c) is = absurd (omega (arith, is))
+between-needs (Answered echo) is = absurd (omega (arith, is))
+
+leaves-some : (stage : ldterms.Stage ℕ) → 1 ≤ leaves stage
+leaves-some Between = omega arith
+leaves-some (Begun started c) = omega arith
+leaves-some (Answered echo) = omega arith
+
+some-left-room : (s : StoreValue) (stage : ldterms.Stage ℕ) → HasRoom s (leaves stage) → HasRoom s 1
+some-left-room s stage room = let some = leaves-some stage in record { mblks = (let r = room.mblks in omega (arith, r, some)); dblks = (let r = room.dblks in omega (arith, r, some)) }
+
 module _ {M : Type 0} (name : M → ℕ) (s s' : StoreValue) (here : Spot) (x x' : Ldterm M) (again : Bool) (t : Fates) where
   -- a message passed whole, or none
   pub whole-serves : (served : Served M) (sent : Outbox M) (bytes : ℕ) (v : Serving ℕ (ldterms.Ldterm ℕ)) → served.acts.notes.items ≡ [] → served.acts.sent ≡ sent → served.bytes ≡ bytes → served.stopped ≡ false → served.again ≡ false
-      → ldterm_serves plain here 0 again None (ldterm_in name s x) ≡ v → Proceeds name s s' x x' 0 [] (sent_of sent) t t v.acted → bytes ≡ v.bytes → v.again ≡ false → ServesAs name s s' here x x' again served t t
-  whole-serves served sent bytes v no-notes same-sent same-bytes goes-on ends is a size over =
+      → ldterm_serves plain here 0 again None (ldterm_in name s x) ≡ v → Proceeds name s s' x x' 0 [] (sent_of sent) t t v.acted → bytes ≡ v.bytes → v.again ≡ false → (here.way ≡ Up → HasRoom s 1) → ServesAs name s s' here x x' again served t t
+  whole-serves served sent bytes v no-notes same-sent same-bytes goes-on ends is a size over room =
       let p = ldterm_in name s x in
       let whole : ldterm_serves plain here 0 again (stop_of served) p ≡ v = ap (λ b. ldterm_serves plain here 0 again (stop_at b served.bytes) p) goes-on ∙ is in
       record {
@@ -77,6 +95,7 @@ module _ {M : Type 0} (name : M → ℕ) (s s' : StoreValue) (here : Spot) (x x'
         stops = λ e. absurd (false≢true (sym goes-on ∙ e));
         ends = λ e. absurd (false≢true (sym goes-on ∙ e));
         room = λ e. absurd (false≢true (sym ends ∙ e));
+        over = λ up. record { mblks = (let r = (room up).mblks in let f = a.mblks in omega (arith, r, f)); dblks = (let r = (room up).dblks in let f = a.dblks in omega (arith, r, f)) };
         whole = λ e. record { mblks = (let f = a.mblks in omega arith); dblks = (let f = a.dblks in omega arith) };
       }
 
@@ -95,6 +114,7 @@ module _ {M : Type 0} (name : M → ℕ) (s s' : StoreValue) (here : Spot) (x x'
             let at = b.ends e in
             record { treat = let few = at.treat in omega (arith, left); done = at.done };
         room = λ e. b.room;
+        over = λ up. some-left-room s' (stage_in x'.stage) b.room;
         whole = λ e. absurd (false≢true (sym (ap (λ w. passes_whole w again (ldterm_in name s x)) way ∙ ap (λ v. passes_whole Up v (ldterm_in name s x)) more) ∙ e));
       }
 
@@ -123,6 +143,7 @@ module _ {M : Type 0} (name : M → ℕ) (s s' : StoreValue) (here : Spot) (x x'
             let none = none-done (stage_in x.stage) between in
             record { treat = omega (arith, left, cells-within w.message); done = omega arith };
         room = λ e. b.room;
+        over = λ up. some-left-room s' (stage_in x'.stage) b.room;
         whole = λ e.
             let begun : passes_whole Up false p ≡ false =
             ap (λ ms. passes_whole Up false (record p { read_queue = record p.read_queue { messages = ms } })) w.first ∙ ap (λ k. not (is_data k)) w.kind in

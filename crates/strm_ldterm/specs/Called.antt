@@ -1,6 +1,7 @@
 -- What a call of the service procedure of the read queue did.
 use Rattle.std.specs.Prelude.{ℕ, ◌≡◌, ◌<◌, ◌≤◌, ◌+◌, ◌-◌, ◌*◌, Bool, true, false, [], List, Option, unwrap_or}
 use Rattle.strm_types.specs.declared.limits.TheConstants.{STOP_BLOCKS}
+use Rattle.strm_types.specs.declared.names.Way.TheVariants.{Up}
 use Rattle.strm_types.specs.declared.rules.Fates.{Fates}
 use Rattle.strm_types.specs.declared.spots.Note.{Note}
 use Rattle.strm_types.specs.declared.spots.Spot.{Spot}
@@ -36,6 +37,7 @@ module _ {M : Type 0} (name : M → ℕ) (old new : StoreValue) (here : Spot) (x
     pub fewer : left ≤ bytes
     pub does : Proceeds name old new x x' (all_free old) notes [] t t' (ahead here (3 * (bytes - left)) (ldterm_in name old x))
     pub stops : 0 < left → least_free new < STOP_BLOCKS
+    pub room : HasRoom new 1
 
   -- and then one has sent something, which counts as left
   pub record RunsInto (bytes left : ℕ) (notes : List Note) (sent : List (Sent M)) (t t' : Fates) : Type 0 where
@@ -76,7 +78,8 @@ module _ {M : Type 0} (name : M → ℕ) (old new : StoreValue) (here : Spot) (x
   served_by again stop = ldterm_serves plain here 0 again stop (ldterm_in name old x)
 
   -- A call of the service procedure of a queue did what the definition says. Behind one that stopped fewer blocks of some kind are free than a
-  -- byte may take, and it isn't called again. One that is called again leaves blocks enough for the rest of the byte, and for what it has sent.
+  -- byte may take, and it isn't called again. One that is called again leaves blocks enough for the rest of the byte, and for what it has sent, and any one on the way up one for
+  -- what it sends at its end.
   -- A message that passes whole takes none.
   pub record ServesAs (again : Bool) (served : Served M) (t t' : Fates) : Type 0 where
     pub does : Proceeds name old new x x' (all_free old) served.acts.notes.items (sent_of served.acts.sent) t t' (served_by again (stop_of served)).acted
@@ -85,4 +88,5 @@ module _ {M : Type 0} (name : M → ℕ) (old new : StoreValue) (here : Spot) (x
     pub stops : served.stopped ≡ true → (least_free new < STOP_BLOCKS) × (served.again ≡ false)
     pub ends : served.stopped ≡ true → Ends here.way again (ldterm_in name old x) served.bytes
     pub room : served.again ≡ true → HasRoom new (leaves (stage_in x'.stage))
+    pub over : here.way ≡ Up → HasRoom new 1
     pub whole : passes_whole here.way again (ldterm_in name old x) ≡ true → FreesBlocks old new

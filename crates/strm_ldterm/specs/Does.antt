@@ -2,7 +2,7 @@
 use Rattle.std.specs.Prelude.{ℕ, ◌≡◌, ◌≤◌, ◌+◌, List}
 use Rattle.strm_types.specs.declared.rules.Fates.{Fates}
 use Rattle.strm_types.specs.declared.spots.Note.{Note}
-use Rattle.strm_types.specs.Costs.{cost}
+use Rattle.strm_types.specs.Costs.{cost, cost_of}
 use Rattle.strm_types.specs.Deliver.{Acted, tallied}
 use Rattle.strm_types.specs.Ldterms as plain
 use Rattle.strm_blocks.specs.Blocks.{StoreValue, free_m, free_d}
@@ -10,7 +10,7 @@ use Rattle.strm_queue.specs.Stored.{FreesBlocks}
 use Rattle.strm_frame.specs.declared.modules.Acts.{Acts}
 use Rattle.strm_frame.specs.declared.parcels.Sent.{Sent}
 use Rattle.strm_frame.specs.Hands.{Handles, Hands, OnlyOwn, SamePool, Spends}
-use Rattle.strm_frame.specs.Outboxes.{cost_of, sent_of, times_sent, parcels_in, AreChains}
+use Rattle.strm_frame.specs.Outboxes.{sent_of, times_sent, parcels_in, AreChains}
 use Rattle.strm_ldterm.specs.declared.ldterm.Ldterm.{Ldterm}
 use Rattle.strm_ldterm.specs.Stands.{ldterm_in, owns, keeps, IsHeld}
 

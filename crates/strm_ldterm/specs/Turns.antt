@@ -19,17 +19,17 @@ abbrev pub ahead : Spot → ℕ → Ldterm ℕ → Acted ℕ (Ldterm ℕ)
 ahead here zero p = sends [] p
 ahead here (suc n) p = one_after (next_stage plain here 0 p) (ahead here n)
 
--- How many blocks of each kind the rest of a byte takes at most, and how many are free at least behind a call that leaves the byte
--- there, for it and for the delivery of what the call sent.
+-- How many blocks of each kind the rest of a byte takes at most, beside one in which the bytes that are gathered may become a packet, and how
+-- many are free at least behind a call that leaves the byte there, for it and for the delivery of what the call sent.
 abbrev pub needs : Stage ℕ → ℕ
-needs Between = 0
-needs (Begun started c) = 27
-needs (Answered echo) = 1
+needs Between = 1
+needs (Begun started c) = 28
+needs (Answered echo) = 2
 
 abbrev pub leaves : Stage ℕ → ℕ
-leaves Between = 0
+leaves Between = 1
 leaves (Begun started c) = 31
-leaves (Answered echo) = 25
+leaves (Answered echo) = 26
 
 -- how many notes a call may tell of at most, from where it is: of output that was started, and of the echo that begins
 abbrev pub notes_left : Ldterm ℕ → ℕ

@@ -17,6 +17,7 @@ impl<B: Blocks> Module<B> for Ldterm<B::Mp> {
     ghost use Rattle.strm_types.specs.LdtermPuts.{ldterm_puts};
     ghost use Rattle.strm_types.specs.Ldterms as plain;
     ghost use Rattle.strm_types.specs.Puts.{far};
+    ghost use Rattle.strm_types.specs.StackCosts.{most_cost};
     ghost use Rattle.strm_types.specs.TurnCalls.{Ends};
     ghost use Rattle.strm_ldterm.specs.Bounds as bounds;
     ghost use Rattle.strm_ldterm.specs.Calls as calls;
@@ -59,7 +60,11 @@ impl<B: Blocks> Module<B> for Ldterm<B::Mp> {
 
     ghost height = { far };
 
-    ghost cost = { costs.cost };
+    ghost takes = { λ here m p. costs.cost here m };
+
+    ghost leaves = { λ here m p. costs.cost_of costs.cost (ldterm_puts here m p).sent };
+
+    ghost cost = { most_cost };
 
     ghost turn_height = { bounds.turn_height };
 

@@ -72,6 +72,7 @@ fn treat_bytes<B: Blocks>(
     requires kept { AreIn (B.value store.old) (λ _. 0) (keeps B.name ldterm.old) }
     requires inside { 0 < here.at }
     requires small { here.at ≤ MODULES }
+    requires room { HasRoom (B.value store.old) 1 }
     requires stage { stages_left (stage_in ldterm.old.stage) ≡ 0 }
     requires bytes { bytes ≡ length (cells_left (ldterm_in B.name (B.value store.old) ldterm.old)) }
     ensures { RunAs B.name (B.value store.old) (B.value store.new) here ldterm.old ldterm.new bytes told.old told.new result }
@@ -114,6 +115,7 @@ fn treat_on<B: Blocks>(
     requires kept { AreIn (B.value store.old) (λ _. 0) (keeps B.name ldterm.old) }
     requires inside { 0 < here.at }
     requires small { here.at ≤ MODULES }
+    requires room { HasRoom (B.value store.old) 1 }
     requires stage { stages_left (stage_in ldterm.old.stage) ≡ 0 }
     requires work { is_some ldterm.old.in_work ≡ true }
     ensures does { TreatsAs B.name (B.value store.old) (B.value store.new) here ldterm.old ldterm.new result told.old told.new }
@@ -220,6 +222,7 @@ fn serve_input<B: Blocks>(
     requires kept { AreIn (B.value store.old) (λ _. 0) (keeps B.name ldterm.old) }
     requires inside { 0 < here.at }
     requires small { here.at ≤ MODULES }
+    requires room { HasRoom (B.value store.old) 1 }
     requires way { here.way ≡ Up }
     requires rests { (i : ℕ) → keeps B.name ldterm.old i ≡ 0 }
     requires stage { stages_left (stage_in ldterm.old.stage) ≡ 0 }

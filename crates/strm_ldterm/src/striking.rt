@@ -180,12 +180,13 @@ fn strike<B: Blocks>(
     requires kept { AreIn (B.value store.old) (λ _. 0) (keeps B.name ldterm.old) }
     requires inside { 0 < here.at }
     requires small { here.at ≤ MODULES }
-    requires room { HasRoom (B.value store.old) 27 }
+    requires room { HasRoom (B.value store.old) 28 }
     ensures does { let s = B.value store.old in
         Proceeds B.name s (B.value store.new) ldterm.old ldterm.new 26 result.notes.items (sent_of result.sent) told.old told.new
         (one_after (struck plain here started byte (ldterm_in B.name s ldterm.old)) (next_stage plain here 0)) }
     ensures leaves { is_none_left (sent_of result.sent) ≡ false →
-        HasRoom (B.value store.new) 25 × (stages_left (stage_in ldterm.new.stage) ≡ 1) }
+        HasRoom (B.value store.new) 26 × (stages_left (stage_in ldterm.new.stage) ≡ 1) }
+    ensures rest { HasRoom (B.value store.new) 1 }
 {
     let stroke = stroke_of(&ldterm.termios, ldterm.after_lnext, byte);
     if is_quiet(stroke.key) {
@@ -231,7 +232,8 @@ pub(crate) fn resume<B: Blocks>(
         Proceeds B.name s (B.value store.new) ldterm.old ldterm.new 26 result.notes.items (sent_of result.sent) told.old told.new
         (ahead here (stages_left p.stage) p) }
     ensures leaves { is_none_left (sent_of result.sent) ≡ false →
-        HasRoom (B.value store.new) 25 × (stages_left (stage_in ldterm.new.stage) ≡ 1) }
+        HasRoom (B.value store.new) 26 × (stages_left (stage_in ldterm.new.stage) ≡ 1) }
+    ensures rest { HasRoom (B.value store.new) 1 }
 {
     match begun_byte(&ldterm.stage) {
         Some((started, byte)) => strike(ldterm, store, here, started, byte, told),

@@ -17,6 +17,7 @@ use Rattle.strm_types.specs.Kinds.{is_control_kind, is_body_kind}
 use Rattle.strm_msg.specs.Bytes.{bytes_of, control_blocks, data_blocks, data_bytes}
 use Rattle.strm_msg.specs.Messages.{message_of, part_of, AreData, IsParted, IsChain}
 use Rattle.strm_msg.specs.Taken.{without_data}
+use Rattle.strm_msg.proofs.AdjustingBytes.{bytes-append}
 use Rattle.strm_msg.proofs.Parts.{control-blocks-cons}
 use Rattle.strm_msg.proofs.Taking.{data-without, length-without}
 
@@ -158,6 +159,34 @@ size-at chain true is one = elim (data-or-control (block_at 0 chain).kind is) [
 -- The message that a chain stands for has all bytes of its blocks.
 pub size-shown : (chain : List Block) → IsChain chain → size_of (message_of chain) ≡ sum_by (λ b. length b.bytes) chain
 size-shown chain one = ap size_of (message-is chain) ∙ size-at chain (is_data_kind (block_at 0 chain).kind) refl one
+
+-- The cells of a message with parts are all bytes of its blocks.
+cells-parts : (chain : List Block) → cells_of (parts_in chain) ≡ bytes_of (control_blocks chain) ++ bytes_of (data_blocks chain)
+unfolding cells_of
+cells-parts chain = ap (λ xs. xs ++ part (part_of (data_blocks chain))) (part-bytes (control_blocks chain)) ∙ ap (λ xs. bytes_of (control_blocks chain) ++ xs) (part-bytes (data_blocks chain))
+  where
+    part-bytes : (xs : List Block) → part (part_of xs) ≡ bytes_of xs
+    part-bytes [] = refl
+    part-bytes (b ∷ xs) = refl
+
+cells-data : (chain : List Block) → AreData chain → cells_of (parts_in chain) ≡ bytes_of chain
+cells-data chain all =
+    cells-parts chain ∙ ap (λ xs. bytes_of xs ++ bytes_of (data_blocks chain)) (control-none chain all) ∙ ap (λ xs. bytes_of xs) (data-all chain all)
+
+cells-parted : (k : MsgKind) (chain : List Block) → is_control_kind k ≡ true → IsParted k chain → cells_of (parts_in chain) ≡ bytes_of chain
+cells-parted k chain is p =
+    let control : control_blocks chain ≡ p.front = ap control_blocks p.joined ∙ control-front k p.front p.behind is p.of_kind p.of_data in
+    let body : data_blocks chain ≡ p.behind = ap data_blocks p.joined ∙ data-behind k p.front p.behind is p.of_kind p.of_data in
+    cells-parts chain ∙ ap (λ xs. bytes_of xs ++ bytes_of (data_blocks chain)) control ∙ ap (λ xs. bytes_of p.front ++ bytes_of xs) body
+    ∙ sym (bytes-append p.front p.behind) ∙ ap (λ xs. bytes_of xs) (sym p.joined)
+
+pub cells-shown : (chain : List Block) → IsChain chain → is_data_kind (block_at 0 chain).kind ≡ true → cells_of (message_of chain) ≡ bytes_of chain
+cells-shown chain one is =
+    ap cells_of (message-is chain ∙ ap (λ v. either v chain) is)
+    ∙ elim (data-or-control (block_at 0 chain).kind is) [
+      | inl is_data ↦ cells-data chain (one.all_data is_data)
+      | inr control ↦ cells-parted (block_at 0 chain).kind chain control (one.parted control)
+    ]
 
 -- an M_DATA message of any band
 abbrev pub data_in : ℕ → List ℕ → Message ℕ

@@ -25,21 +25,19 @@ use Rattle.strm_types.specs.Deliver.{Acted, Fate, Parcel, carried, in_turn, tall
 use Rattle.strm_types.specs.Input.{made_of, stages_done, to_treat}
 use Rattle.strm_types.specs.Kept.{AreIdle}
 use Rattle.strm_types.specs.Ldterms.{Ldterm, Stage, Between, Begun, Answered}
-use Rattle.strm_types.specs.ModuleTurns.{module_acted, module_turn_ended, module_turned, moved_on}
-use Rattle.strm_types.specs.Puts.{SameEnds, put_in}
+use Rattle.strm_types.specs.ModuleTurns.{module_turn_ended, module_turned, moved_on}
 use Rattle.strm_types.specs.Refused.{in_range}
-use Rattle.strm_types.specs.Stacked.{IsAtRest, Module, OfLdterm, OfPtem, module_serves}
+use Rattle.strm_types.specs.Spares.{spare}
+use Rattle.strm_types.specs.Stacked.{IsAtRest, Module, OfLdterm, OfPtem, OfPckt, module_serves}
 use Rattle.strm_types.specs.State.{State, Stream, book, stream, with_stream}
 use Rattle.strm_types.specs.TurnCalls.{Begins, Ends, Stopped, asks_on, bytes_left, called, echo_most, ldterm_of, led, module_at, most_made, treated}
 use Rattle.strm_types.specs.TurnOutcomes.{TurnOutcome}
-use Rattle.strm_types.proofs.Booked.{book-made, made-within, made_in}
-use Rattle.strm_types.proofs.DeliveryHolds.{carried-holds, in_turn-holds}
 use Rattle.strm_types.proofs.ModuleTurnCalls.{Reached, UnderWay, index-map, led-at, led-length, moves-within, none_there, reached-last, reached-next, under_way}
-use Rattle.strm_types.proofs.PutsKeep.{puts-same}
+use Rattle.strm_types.proofs.StackSpares.{range-spare}
 use Rattle.strm_frame.specs.Serves.{stop_at}
 use Rattle.strm_pair.specs.AnyModules.{turn_cost}
 use Rattle.strm_pair.specs.declared.calling.Call.{Call}
-use Rattle.strm_pair.specs.ModuleServed.{MayBook, TellsAs, TreatsAs, call_cost, stop_in}
+use Rattle.strm_pair.specs.ModuleServed.{MayBook, TellsAs, TreatsAs, call_cost, call_units, stop_in}
 use Rattle.strm_pair.specs.ModuleTurned.{MayMove}
 use Rattle.strm_pair.proofs.ServeSteps.{module-goes}
 use Rattle.strm_pair.proofs.Takings.{tallied-both}
@@ -51,7 +49,7 @@ pub record GoOn (here : Spot) (bytes : ℕ) (s0 st : State ℕ) (f f' : Fates) :
   pub tells : f' ≡ tallied gone f
   pub count : ℕ
   pub few : count ≤ 3 * bytes + stages_done (ldterm_of (module_at here st)).stage
-  pub books : (d : Dir) → (book d st).made ≤ (book d s0).made + echo_most * (3 * bytes + 2 * count)
+  pub left : spare s0 ≤ spare st + (3 * bytes + 33 * count)
 
 -- They go on, or the turn is at its end.
 abbrev pub Along : Bool → Spot → ℕ → State ℕ → State ℕ → Fates → Fates → Type 0
@@ -73,43 +71,7 @@ begun-few Between l = omega arith
 begun-few (Begun started c) l = omega arith
 begun-few (Answered echo) l = omega arith
 
--- the books stay in deliveries
-sent-books : (d : Dir) (sent : List (Parcel ℕ)) (s : State ℕ) → book d (in_turn (carried put_in HOPS) sent s).state ≡ book d s
-sent-books d sent s = of d
-  where
-    ends : SameEnds s (in_turn (carried put_in HOPS) sent s).state
-    ends = in_turn-holds (SameEnds s) (carried put_in HOPS) (carried-holds (SameEnds s) put_in (puts-same s) HOPS) sent s (record { master = refl; slave = refl; locked = refl; next_ioctl = refl; from_master = refl; from_slave = refl })
-
-    of : (d : Dir) → book d (in_turn (carried put_in HOPS) sent s).state ≡ book d s
-    of MasterToSlave = ends.from_master
-    of SlaveToMaster = ends.from_slave
-
-book-stays : (d : Dir) (side : Side) (t : Stream ℕ) (names : List QueueName) (s : State ℕ) → (book d (record (with_stream side t s) { enabled = names })).made ≡ (book d s).made
-book-stays MasterToSlave Master t names s = refl
-book-stays MasterToSlave Slave t names s = refl
-book-stays SlaveToMaster Master t names s = refl
-book-stays SlaveToMaster Slave t names s = refl
-
 module _ (here : Spot) where
-  -- what was made by a module is booked
-  acted-books : (d : Dir) (t : Acted ℕ (List (Module ℕ))) (s : State ℕ) → (book d (module_acted here t s).state).made ≡ (book d s).made + made_in d t.gone
-  acted-books d t s =
-      let was = book-stays d here.side (record (stream here.side s) { modules = t.state }) _ s in
-      book-made d t.gone _ ∙ ap (λ n. n + made_in d t.gone) was
-
-  made-few : (d : Dir) (told : List (Fate ℕ)) → made_in d told ≤ made_of told
-  made-few MasterToSlave told = omega (arith, made-within told)
-  made-few SlaveToMaster told = omega (arith, made-within told)
-
-  -- a call makes no more than it says
-  module _ (again : Bool) (call : Call) (s st : State ℕ) (tells : TellsAs here again call s) (state : st ≡ (led here again (stop_in call) s).state) where
-    called-books : (d : Dir) → (book d st).made ≤ (book d s).made + most_made call.bytes
-    called-books d =
-        let t = called here again (stop_in call) (stream here.side s).modules in
-        let w = module_acted here t s in
-        let is = ap (λ (v : State ℕ). (book d v).made) state ∙ ap (λ (b : Book). b.made) (sent-books d w.sent w.state) ∙ acted-books d t s in
-        omega (arith, is, made-few d t.gone, tells.made)
-
   none-in : (call : Call) → call.stopped ≡ false → stop_in call ≡ None
   none-in call goes = ap (λ b. stop_at b call.bytes) goes
 
@@ -148,7 +110,7 @@ module _ (here : Spot) where
   stopped-at false again bytes s is ends = tt
 
   module _ (s0 : State ℕ) (again : Bool) (bytes : ℕ) (gone : List (Fate ℕ)) (s st : State ℕ) (r : Reached here s0 again bytes gone s) (call : Call) (tells : TellsAs here again call s)
-      (state : st ≡ (led here again (stop_in call) s).state) (f f' f'' : Fates) (was : f' ≡ tallied gone f) (told : f'' ≡ tallied (led here again (stop_in call) s).gone f') where
+      (state : st ≡ (led here again (stop_in call) s).state) (f f' f'' : Fates) (was : f' ≡ tallied gone f) (told : f'' ≡ tallied (led here again (stop_in call) s).gone f') (falls : spare s ≤ spare st + call_units call.bytes) where
     any_name : QueueName
     any_name = record { side = here.side; place = Driver; way = here.way }
 
@@ -156,7 +118,7 @@ module _ (here : Spot) where
     told-on = told ∙ ap (tallied (led here again (stop_in call) s).gone) was ∙ sym (tallied-both gone (led here again (stop_in call) s).gone f)
 
     -- the turn goes on
-    goes-on : (count : ℕ) → count ≤ 3 * bytes + stages_done (ldterm_of (module_at here s)).stage → ((d : Dir) → (book d s).made ≤ (book d s0).made + echo_most * (3 * bytes + 2 * count))
+    goes-on : (count : ℕ) → count ≤ 3 * bytes + stages_done (ldterm_of (module_at here s)).stage → spare s0 ≤ spare s + (3 * bytes + 33 * count)
         → call.again ≡ true → GoOn here (bytes + call.bytes) s0 st f f''
     goes-on count few held works =
         let on = further again call s st tells state r.inside r.begins works in
@@ -174,11 +136,11 @@ module _ (here : Spot) where
           tells = told-on;
           count = suc count;
           few = omega (arith, few, on.done);
-          books = λ d. omega (arith, held d, called-books again call s st tells state d);
+          left = omega (arith, held, falls);
         }
 
     -- or it is at its end
-    ends-there : (count : ℕ) → count ≤ 3 * bytes + stages_done (ldterm_of (module_at here s)).stage → ((d : Dir) → (book d s).made ≤ (book d s0).made + echo_most * (3 * bytes + 2 * count))
+    ends-there : (count : ℕ) → count ≤ 3 * bytes + stages_done (ldterm_of (module_at here s)).stage → spare s0 ≤ spare s + (3 * bytes + 33 * count)
         → call.again ≡ false → TreatsAs here (bytes + call.bytes) s0 st f f''
     ends-there count few held over =
         let ps = (stream here.side s).modules in
@@ -193,10 +155,10 @@ module _ (here : Spot) where
           stands = subst (λ v. here.at - 1 < length (stream here.side v).modules) (sym state) (omega (arith, r.inside, led-length here again stop s));
           moves = λ name. ap (λ n. moved_on plain here name n s0) (sym same) ∙ (last name).1 ∙ ap (λ n. to name n (led here again stop s).state) same ∙ ap (to name (bytes + call.bytes)) (sym state);
           tells = told-on;
-          made = λ d. omega (arith, held d, called-books again call s st tells state d, few, done-few (ldterm_of (module_at here s)).stage);
+          left = omega (arith, held, falls, few, done-few (ldterm_of (module_at here s)).stage);
         }
 
-    pub along : (count : ℕ) → count ≤ 3 * bytes + stages_done (ldterm_of (module_at here s)).stage → ((d : Dir) → (book d s).made ≤ (book d s0).made + echo_most * (3 * bytes + 2 * count))
+    pub along : (count : ℕ) → count ≤ 3 * bytes + stages_done (ldterm_of (module_at here s)).stage → spare s0 ≤ spare s + (3 * bytes + 33 * count)
         → (more : Bool) → call.again ≡ more → Along more here (bytes + call.bytes) s0 st f f''
     along count few held true is = goes-on count few held is
     along count few held false is = ends-there count few held is
@@ -223,6 +185,8 @@ module _ (here : Spot) where
   begins-rested Down (OfLdterm l) rest = rest
   begins-rested Up (OfPtem p) rest = (refl, refl, refl, refl)
   begins-rested Down (OfPtem p) rest = (refl, refl, refl, refl)
+  begins-rested Up (OfPckt p) rest = (refl, refl, refl, refl)
+  begins-rested Down (OfPckt p) rest = (refl, refl, refl, refl)
 
   pub first-begins : (s : State ℕ) → AreIdle s → here.at - 1 < length (stream here.side s).modules → Begins here.way false (ldterm_of (module_at here s))
   first-begins s idle low = begins-rested here.way (module_at here s) (rest-at (here.at - 1) (stream here.side s).modules (rest-on here.side s idle) low)
@@ -240,23 +204,11 @@ module _ (here : Spot) where
   first-cost s = first-among (here.at - 1) (stream here.side s).modules
 
   -- the books have room for what a turn makes of one message
-  both-true : (a b : Bool) → (a && b) ≡ true → (a ≡ true) × (b ≡ true)
-  both-true true true h = (refl, refl)
-  both-true true false h = absurd (false≢true h)
-  both-true false b h = absurd (false≢true h)
-
-  made-low : (b : Book) → books.has_room b ≡ true → b.made < BOOK_MAX
-  made-low b room = let lt = (both-true (nat_lt b.written BOOK_MAX) (nat_lt b.made BOOK_MAX) room).1 in grind (arith, nat_tests)
-
-  pub book-low : (d : Dir) (s : State ℕ) → in_range s ≡ true → (book d s).made < BOOK_MAX
-  book-low MasterToSlave s room = made-low s.from_master (both-true (books.has_room s.from_master) (books.has_room s.from_slave) room).0
-  book-low SlaveToMaster s room = made-low s.from_slave (both-true (books.has_room s.from_master) (books.has_room s.from_slave) room).1
-
   pub first-books : (s : State ℕ) → in_range s ≡ true → bytes_left here.way false (ldterm_of (module_at here s)) ≤ 16777216 → MayBook here false s
-  first-books s room few d = omega (arith, book-low d s room, few)
+  first-books s room few = omega (arith, range-spare s room, few)
 
   pub next-books : (bytes : ℕ) (s0 s : State ℕ) (f f' : Fates) → in_range s0 ≡ true → bytes_left here.way false (ldterm_of (module_at here s0)) ≤ 16777216 → GoOn here bytes s0 s f f' → MayBook here true s
-  next-books bytes s0 s f f' room few on d = omega (arith, book-low d s0 room, few, on.reached.within, on.few, on.books d, done-few (ldterm_of (module_at here s)).stage)
+  next-books bytes s0 s f f' room few on = omega (arith, range-spare s0 room, few, on.reached.within, on.few, on.left, done-few (ldterm_of (module_at here s)).stage)
 
 -- a turn whose calls treated so many bytes
 pub turned-by : (name : QueueName) (here : Spot) (bytes : ℕ) (old s0 st : State ℕ) (f f' : Fates) → MayMove old s0 name here → (treats : TreatsAs here bytes s0 st f f')

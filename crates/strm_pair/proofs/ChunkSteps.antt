@@ -2,17 +2,18 @@
 use Rattle.std.proofs.Common.{ℕ, zero, suc, ◌≡◌, Bool, true, false, List, [], length, take, drop, refl, sym, ap, ◌∙◌}
 use Rattle.strm_types.specs.declared.names.Side.{Side}
 use Rattle.strm_types.specs.declared.rules.Fates.{Fates}
-use Rattle.strm_types.specs.Costs.{cost}
+use Rattle.strm_types.specs.Cells.{plain}
 use Rattle.strm_types.specs.Deliver.{tallied}
 use Rattle.strm_types.specs.Message.{data_message}
+use Rattle.strm_types.specs.StackCosts.{most_cost}
 use Rattle.strm_types.specs.State.{State}
 use Rattle.strm_types.specs.Write.{chunks_of}
 use Rattle.strm_types.specs.Writes.{Wrote, below_head, chunks_sent, is_full_below}
 use Rattle.strm_types.proofs.WriteSteps.{chunk_goes, went}
 use Rattle.strm_ldterm.proofs.Flushed.{tallied-append}
 
--- a chunk on its way down takes no block but its own
-pub chunk-free : (side : Side) (chunk : List ℕ) → cost (below_head side) (data_message chunk) ≡ 0
+-- a chunk on its way down takes no block but its own, and no packet comes of it
+pub chunk-free : (side : Side) (chunk : List ℕ) → most_cost (below_head side) (data_message chunk) ≡ 0
 unfolding data_message
 chunk-free side chunk = refl
 
@@ -23,32 +24,32 @@ none-went s = record { taken = 0; state = s; gone = [] }
 module _ (side : Side) (s : State ℕ) where
   -- a chunk, and then the others
   abbrev pub chunk-then : List ℕ → Wrote ℕ → Wrote ℕ
-  chunk-then chunk more = went false (length chunk) s (chunk_goes side chunk s) more
+  chunk-then chunk more = went false (length chunk) s (chunk_goes plain side chunk s) more
 
-  pub chunks-none : (chunks : ℕ) (bytes : List ℕ) → chunks ≡ 0 → chunks_sent side (chunks_of chunks bytes) s ≡ none-went s
-  chunks-none chunks bytes none = ap (λ k. chunks_sent side (chunks_of k bytes) s) none
+  pub chunks-none : (chunks : ℕ) (bytes : List ℕ) → chunks ≡ 0 → chunks_sent plain side (chunks_of chunks bytes) s ≡ none-went s
+  chunks-none chunks bytes none = ap (λ k. chunks_sent plain side (chunks_of k bytes) s) none
 
-  pub chunks-full : (chunks : ℕ) (bytes : List ℕ) → is_full_below 0 side s ≡ true → chunks_sent side (chunks_of chunks bytes) s ≡ none-went s
+  pub chunks-full : (chunks : ℕ) (bytes : List ℕ) → is_full_below 0 side s ≡ true → chunks_sent plain side (chunks_of chunks bytes) s ≡ none-went s
   chunks-full zero bytes full = refl
   chunks-full (suc more) bytes full =
-      let t = chunk_goes side (take 256 bytes) s in
-      ap (λ (b : Bool). went b (length (take 256 bytes)) s t (chunks_sent side (chunks_of more (drop 256 bytes)) t.state)) full
+      let t = chunk_goes plain side (take 256 bytes) s in
+      ap (λ (b : Bool). went b (length (take 256 bytes)) s t (chunks_sent plain side (chunks_of more (drop 256 bytes)) t.state)) full
 
   chunks-first : (more : ℕ) (bytes : List ℕ) → is_full_below 0 side s ≡ false
-      → chunks_sent side (chunks_of (suc more) bytes) s ≡ chunk-then (take 256 bytes) (chunks_sent side (chunks_of more (drop 256 bytes)) (chunk_goes side (take 256 bytes) s).state)
+      → chunks_sent plain side (chunks_of (suc more) bytes) s ≡ chunk-then (take 256 bytes) (chunks_sent plain side (chunks_of more (drop 256 bytes)) (chunk_goes plain side (take 256 bytes) s).state)
   chunks-first more bytes below =
-      let t = chunk_goes side (take 256 bytes) s in
-      ap (λ (b : Bool). went b (length (take 256 bytes)) s t (chunks_sent side (chunks_of more (drop 256 bytes)) t.state)) below
+      let t = chunk_goes plain side (take 256 bytes) s in
+      ap (λ (b : Bool). went b (length (take 256 bytes)) s t (chunks_sent plain side (chunks_of more (drop 256 bytes)) t.state)) below
 
-  pub chunks-more : (chunks more : ℕ) (bytes chunk rest : List ℕ) (t : State ℕ) → chunks ≡ suc more → is_full_below 0 side s ≡ false → chunk ≡ take 256 bytes → rest ≡ drop 256 bytes → t ≡ (chunk_goes side chunk s).state
-      → chunks_sent side (chunks_of chunks bytes) s ≡ chunk-then chunk (chunks_sent side (chunks_of more rest) t)
+  pub chunks-more : (chunks more : ℕ) (bytes chunk rest : List ℕ) (t : State ℕ) → chunks ≡ suc more → is_full_below 0 side s ≡ false → chunk ≡ take 256 bytes → rest ≡ drop 256 bytes → t ≡ (chunk_goes plain side chunk s).state
+      → chunks_sent plain side (chunks_of chunks bytes) s ≡ chunk-then chunk (chunks_sent plain side (chunks_of more rest) t)
   chunks-more chunks more bytes chunk rest t count below first others next =
-      ap (λ k. chunks_sent side (chunks_of k bytes) s) count ∙ chunks-first more bytes below
-      ∙ ap (λ c. chunk-then c (chunks_sent side (chunks_of more (drop 256 bytes)) (chunk_goes side c s).state)) (sym first)
-      ∙ ap (λ r. chunk-then chunk (chunks_sent side (chunks_of more r) (chunk_goes side chunk s).state)) (sym others)
-      ∙ ap (λ v. chunk-then chunk (chunks_sent side (chunks_of more rest) v)) (sym next)
+      ap (λ k. chunks_sent plain side (chunks_of k bytes) s) count ∙ chunks-first more bytes below
+      ∙ ap (λ c. chunk-then c (chunks_sent plain side (chunks_of more (drop 256 bytes)) (chunk_goes plain side c s).state)) (sym first)
+      ∙ ap (λ r. chunk-then chunk (chunks_sent plain side (chunks_of more r) (chunk_goes plain side chunk s).state)) (sym others)
+      ∙ ap (λ v. chunk-then chunk (chunks_sent plain side (chunks_of more rest) v)) (sym next)
 
   -- what goes is told chunk by chunk
-  pub chunks-told : (chunk : List ℕ) (more : Wrote ℕ) (old mid new : Fates) → mid ≡ tallied (chunk_goes side chunk s).gone old → new ≡ tallied more.gone mid → new ≡ tallied (chunk-then chunk more).gone old
+  pub chunks-told : (chunk : List ℕ) (more : Wrote ℕ) (old mid new : Fates) → mid ≡ tallied (chunk_goes plain side chunk s).gone old → new ≡ tallied more.gone mid → new ≡ tallied (chunk-then chunk more).gone old
   chunks-told chunk more old mid new one two =
-      two ∙ ap (λ (f : Fates). tallied more.gone f) one ∙ sym (tallied-append (chunk_goes side chunk s).gone more.gone old)
+      two ∙ ap (λ (f : Fates). tallied more.gone f) one ∙ sym (tallied-append (chunk_goes plain side chunk s).gone more.gone old)

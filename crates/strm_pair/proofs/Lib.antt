@@ -10,6 +10,8 @@ pub mod Puttings
 pub mod ModulePushed
 pub mod Modes
 pub mod PutsCost
+pub mod ModuleCosts
+pub mod PlaceCosts
 pub mod PutSteps
 pub mod ModuleSteps
 pub mod ServeSteps

@@ -10,7 +10,8 @@ use Rattle.strm_types.specs.declared.names.Side.{Side}
 use Rattle.strm_types.specs.declared.names.Side.TheVariants.{Master, Slave}
 use Rattle.strm_types.specs.declared.names.Way.TheVariants.{Up}
 use Rattle.strm_types.specs.declared.rules.Rule.TheVariants.{EndClosed}
-use Rattle.strm_types.specs.Deliver.{Carried, Fate, Goes}
+use Rattle.strm_types.specs.Cells.{plain}
+use Rattle.strm_types.specs.Deliver.{Carried, Fate, Goes, Took}
 use Rattle.strm_types.specs.Earlier.{before_among, before_by, places_of}
 use Rattle.strm_types.specs.Heads.{with_options}
 use Rattle.strm_types.specs.Ldterms.{new_ldterm}
@@ -19,12 +20,14 @@ use Rattle.strm_types.specs.ModuleQueues.{first_place}
 use Rattle.strm_types.specs.Modules.{stands}
 use Rattle.strm_types.specs.Names.{direction_at, driver_of, enable_if, is_open, other, place_of}
 use Rattle.strm_types.specs.Options.{options_in}
+use Rattle.strm_types.specs.Pckts.{new_pckt}
 use Rattle.strm_types.specs.Ptems.{new_ptem}
 use Rattle.strm_types.specs.Options.{mode_message, mode_number}
 use Rattle.strm_types.specs.Pushes.{enable_waiting, head_above, let_come, may_stand, mode_on_push, mode_put, named_by, pushed_named, with_modules}
+use Rattle.strm_types.specs.Puts.{delivered}
 use Rattle.strm_types.specs.Queue.{is_none_left}
 use Rattle.strm_types.specs.Refused.{is_known}
-use Rattle.strm_types.specs.Stacked.{Module, OfLdterm, OfPtem, module_name, module_queue}
+use Rattle.strm_types.specs.Stacked.{Module, OfLdterm, OfPtem, OfPckt, module_name, module_queue}
 use Rattle.strm_types.specs.State.{State, stream, with_stream}
 use Rattle.strm_types.proofs.FlushDelivered.{carries, went_on}
 
@@ -36,20 +39,40 @@ told_mode true side mode s =
 told_mode false side mode s = record { state = s; gone = Goes (direction_at Up side) EndClosed (cells_of {C = ℕ} (mode_message mode)) ∷ [] }
 
 puts-mode : (side : Side) (mode : ReadMode) (s : State ℕ) → mode_put side (Some mode) s ≡ told_mode (is_open (stream side s).opened) side mode s
-puts-mode Master mode s = carries 15 (record { to = head_above Master; message = mode_message mode }) s ∙ by (is_open s.master.opened)
+puts-mode Master mode s = by (is_open s.master.opened)
   where
-    by : (opened : Bool) → went_on 15 (cond opened
+    by : (opened : Bool) → (let t : Took ℕ (State ℕ) = cond opened
+        (record { state = with_stream Master (record s.master { head = with_options (options_in (mode_number mode ∷ [])) s.master.head }) s; sent = []; gone = [] })
+        (record { state = s; sent = []; gone = Goes (direction_at Up Master) EndClosed (cells_of {C = ℕ} (mode_message mode)) ∷ [] }) in record { state = t.state; gone = t.gone }) ≡ told_mode opened Master mode s
+    by true = refl
+    by false = refl
+puts-mode Slave mode s = by (is_open s.slave.opened)
+  where
+    by : (opened : Bool) → (let t : Took ℕ (State ℕ) = cond opened
+        (record { state = with_stream Slave (record s.slave { head = with_options (options_in (mode_number mode ∷ [])) s.slave.head }) s; sent = []; gone = [] })
+        (record { state = s; sent = []; gone = Goes (direction_at Up Slave) EndClosed (cells_of {C = ℕ} (mode_message mode)) ∷ [] }) in record { state = t.state; gone = t.gone }) ≡ told_mode opened Slave mode s
+    by true = refl
+    by false = refl
+
+-- nothing is sent there, so that a delivery does the same
+delivers-mode : (side : Side) (mode : ReadMode) (s : State ℕ) → delivered plain (head_above side) (mode_message mode) s ≡ told_mode (is_open (stream side s).opened) side mode s
+delivers-mode Master mode s = carries plain 15 (record { to = head_above Master; message = mode_message mode }) s ∙ by (is_open s.master.opened)
+  where
+    by : (opened : Bool) → went_on plain 15 (cond opened
         (record { state = with_stream Master (record s.master { head = with_options (options_in (mode_number mode ∷ [])) s.master.head }) s; sent = []; gone = [] })
         (record { state = s; sent = []; gone = Goes (direction_at Up Master) EndClosed (cells_of {C = ℕ} (mode_message mode)) ∷ [] })) ≡ told_mode opened Master mode s
     by true = refl
     by false = refl
-puts-mode Slave mode s = carries 15 (record { to = head_above Slave; message = mode_message mode }) s ∙ by (is_open s.slave.opened)
+delivers-mode Slave mode s = carries plain 15 (record { to = head_above Slave; message = mode_message mode }) s ∙ by (is_open s.slave.opened)
   where
-    by : (opened : Bool) → went_on 15 (cond opened
+    by : (opened : Bool) → went_on plain 15 (cond opened
         (record { state = with_stream Slave (record s.slave { head = with_options (options_in (mode_number mode ∷ [])) s.slave.head }) s; sent = []; gone = [] })
         (record { state = s; sent = []; gone = Goes (direction_at Up Slave) EndClosed (cells_of {C = ℕ} (mode_message mode)) ∷ [] })) ≡ told_mode opened Slave mode s
     by true = refl
     by false = refl
+
+pub mode-delivered : (side : Side) (mode : ReadMode) (s : State ℕ) → delivered plain (head_above side) (mode_message mode) s ≡ mode_put side (Some mode) s
+mode-delivered side mode s = delivers-mode side mode s ∙ sym (puts-mode side mode s)
 
 -- The modules stay, and it is the same with others.
 told-stays : (opened : Bool) (side : Side) (mode : ReadMode) (s : State ℕ) → (stream side (told_mode opened side mode s).state).modules ≡ (stream side s).modules
@@ -107,6 +130,7 @@ none-below : (ms : List (Module ℕ)) (place : ℕ) → stands module_name names
 none-below [] place none = refl
 none-below (OfLdterm l ∷ ms) place none = absurd (cc)
 none-below (OfPtem p ∷ ms) place none = none-below ms (suc place) none
+none-below (OfPckt p ∷ ms) place none = none-below ms (suc place) none
 
 not-there : (a b : Bool) → (a && not b) ≡ true → b ≡ false
 not-there true true may = absurd (cc)
@@ -139,7 +163,8 @@ stays-there Slave p s = refl
 pub pushed-is : (side : Side) (name : ModuleName) (p : Module ℕ) (s : State ℕ) → named_by (Some name) ≡ Some p → may_stand (named_by (Some name)) (stream side s).modules ≡ true
     → let t = mode_put side (mode_on_push name) s in
     pushed_named side (named_by (Some name)) s ≡ record { state = driver_comes (is_some (place_of name)) side (with_modules side (p ∷ (stream side t.state).modules) t.state); gone = t.gone }
-pushed-is side names.Pckt p s is may = absurd (cc)
+pushed-is side names.Pckt p s is may =
+    ap (led []) (stays-there side (OfPckt new_pckt) s) ∙ ap (λ q. led [] (driver_comes false side (with_modules side (q ∷ (stream side s).modules) s))) (ap or_new is)
 pushed-is side names.Ptem p s is may =
     ap (led []) (stays-there side (OfPtem new_ptem) s) ∙ ap (λ q. led [] (driver_comes false side (with_modules side (q ∷ (stream side s).modules) s))) (ap or_new is)
 pushed-is side names.Ldterm p s is may =

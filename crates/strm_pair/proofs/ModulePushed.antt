@@ -8,9 +8,10 @@ use Rattle.strm_types.specs.declared.names.ModuleName.{ModuleName}
 use Rattle.strm_types.specs.declared.names.ModuleName.TheVariants as names
 use Rattle.strm_types.specs.Ldterms.{new_ldterm}
 use Rattle.strm_types.specs.Modules.{may_push, stands}
+use Rattle.strm_types.specs.Pckts.{new_pckt}
 use Rattle.strm_types.specs.Ptems.{new_ptem}
 use Rattle.strm_types.specs.Pushes.{may_stand, named_by}
-use Rattle.strm_types.specs.Stacked.{Module, OfLdterm, OfPtem, module_name}
+use Rattle.strm_types.specs.Stacked.{Module, OfLdterm, OfPtem, OfPckt, module_name}
 use Rattle.strm_blocks.specs.Blocks.{StoreValue, list_at}
 use Rattle.strm_frame.specs.Stacks.{all_of, AreHeld}
 use Rattle.strm_frame.specs.declared.stack.Stream.{Stream}
@@ -22,7 +23,7 @@ use Rattle.strm_pair.specs.AnyModules.{IsHeld, IsMade, keeps, module_in, owns}
 pub made-named : (kind : ModuleName) (ms : List (Module ℕ)) → may_stand (named_by (Some kind)) ms ≡ true → (p : Module ℕ) × (named_by (Some kind) ≡ Some p)
 made-named names.Ldterm ms may = (OfLdterm new_ldterm, refl)
 made-named names.Ptem ms may = (OfPtem new_ptem, refl)
-made-named names.Pckt ms may = absurd (cc)
+made-named names.Pckt ms may = (OfPckt new_pckt, refl)
 
 -- of two tests that both hold the second does, and where neither of two does the second doesn't
 second-holds : (a b : Bool) → (a && b) ≡ true → b ≡ true
@@ -41,7 +42,7 @@ other-has false b is = is
 pub may-named : (kind : ModuleName) (p : Module ℕ) (ms : List (Module ℕ)) → module_name p ≡ kind → may_stand (named_by (Some kind)) ms ≡ true → may_push module_name p ms ≡ true
 may-named names.Ldterm p ms is may = ap (λ kind. nat_lt (length ms) MODULES && not (stands module_name kind ms)) is ∙ may
 may-named names.Ptem p ms is may = ap (λ kind. nat_lt (length ms) MODULES && not (stands module_name kind ms)) is ∙ may
-may-named names.Pckt p ms is may = absurd (cc)
+may-named names.Pckt p ms is may = ap (λ kind. nat_lt (length ms) MODULES && not (stands module_name kind ms)) is ∙ may
 
 module _ {M : Type 0} (name : M → ℕ) (s : StoreValue) where
   -- modules among which no ldterm stands own no list
@@ -49,6 +50,7 @@ module _ {M : Type 0} (name : M → ℕ) (s : StoreValue) where
   no-ldterm [] none k = refl
   no-ldterm (kinds.Ldterm x ∷ xs) none k = absurd (cc)
   no-ldterm (kinds.Ptem x ∷ xs) none k = omega (arith, sum_by-cons (λ y. owns y k) (kinds.Ptem x) xs, no-ldterm xs none k)
+  no-ldterm (kinds.Pckt x ∷ xs) none k = omega (arith, sum_by-cons (λ y. owns y k) (kinds.Pckt x) xs, no-ldterm xs none k)
 
   -- where a module may stand, the others own none of its lists
   not-owned : (x : AnyModule M) (xs : List (AnyModule M)) → may_push module_name (module_in name s x) (map (module_in name s) xs) ≡ true → (k : ℕ) → 0 < owns x k → all_of owns xs k ≡ 0
@@ -56,6 +58,7 @@ module _ {M : Type 0} (name : M → ℕ) (s : StoreValue) where
       let ms = map (module_in name s) xs in
       no-ldterm xs (none-has (stands module_name names.Ldterm ms) (second-holds (nat_lt (length ms) MODULES) (not (stands module_name names.Ldterm ms)) may)) k
   not-owned (kinds.Ptem x) xs may k some = absurd (omega (arith, some))
+  not-owned (kinds.Pckt x) xs may k some = absurd (omega (arith, some))
 
   module _ (first : ℕ) (kind : ModuleName) (a b : Stream (AnyModule M)) (x : AnyModule M)
       (may : may_stand (named_by (Some kind)) (map (module_in name s) a.modules.items) ≡ true)

@@ -1,34 +1,52 @@
--- Puts at modules: a side's stack changes with the lists that it owns and the messages that it keeps, and all else stays.
-use Rattle.std.proofs.Common.{ℕ, zero, suc, ◌≡◌, ◌≤◌, ◌<◌, ◌+◌, ◌-◌, List, refl, sym, ap, subst, ◌∙◌, arith}
-use Rattle.std.specs.Prelude.{slice_index_or, Option, None}
+-- What modules do: a side's stack changes with the lists that it owns and the messages that it keeps, and all else stays.
+use Rattle.std.proofs.Common.{ℕ, zero, suc, ◌≡◌, ◌≤◌, ◌<◌, ◌+◌, ◌-◌, List, length, map, refl, sym, ap, subst, ◌∙◌, arith}
+use Rattle.std.specs.Prelude.{◌*◌, ◌^◌, slice_index_or, Option, None}
+use Rattle.strm_types.specs.declared.books.Book.{Book}
+use Rattle.strm_types.specs.declared.names.Dir.{Dir}
+use Rattle.strm_types.specs.declared.names.Dir.TheVariants.{MasterToSlave, SlaveToMaster}
 use Rattle.strm_types.specs.declared.names.Place.{Place}
 use Rattle.strm_types.specs.declared.names.QueueName.{QueueName}
 use Rattle.strm_types.specs.declared.names.Side.{Side}
 use Rattle.strm_types.specs.declared.names.Side.TheVariants.{Master, Slave}
 use Rattle.strm_types.specs.declared.names.Way.{Way}
 use Rattle.strm_types.specs.declared.rules.Fates.{Fates}
+use Rattle.strm_types.specs.declared.spots.Note.{Note}
 use Rattle.strm_types.specs.declared.spots.Spot.{Spot}
-use Rattle.strm_types.specs.Costs.{cost}
-use Rattle.strm_types.specs.Deliver.{Acted, Took, tallied}
+use Rattle.strm_types.specs.Cells.{plain}
+use Rattle.strm_types.specs.Books.{with_made}
+use Rattle.strm_types.specs.Deliver.{Acted, Fate, Took, tallied}
 use Rattle.strm_types.specs.Earlier.{places_of}
-use Rattle.strm_types.specs.Modules.{put_among}
+use Rattle.strm_types.specs.Input.{made_of}
+use Rattle.strm_types.specs.Message.{Message}
+use Rattle.strm_types.specs.ModuleQueues.{at_place}
 use Rattle.strm_types.specs.Names.{other}
-use Rattle.strm_types.specs.Puts.{earlier_at, noted, put_at_module}
-use Rattle.strm_types.specs.Stacked.{Module, module_puts}
-use Rattle.strm_types.specs.State.{State, stream, with_stream}
+use Rattle.strm_types.specs.Puts.{earlier_at, made_above, module_acted, noted, put_at_module}
+use Rattle.strm_types.specs.Spares.{module_packs, packet_most, spare, spare_behind}
+use Rattle.strm_types.specs.StackCosts.{EachOnce, module_leaves, module_takes}
+use Rattle.strm_types.specs.Stacked.{Module, module_name}
+use Rattle.strm_types.specs.State.{State, Stream, book, stream, with_stream}
+use Rattle.strm_types.proofs.Booked.{between-counts, booked-on, made-within, made_in, master-told, slave-told}
 use Rattle.strm_types.proofs.Noted.{noted-same}
+use Rattle.strm_types.proofs.PlainPuts.{among-same}
+use Rattle.strm_types.proofs.StackSpares.{among-makes, among-one, spare-fits}
+use Rattle.strm_types.proofs.StackStays.{keep-names}
 use Rattle.strm_blocks.specs.Blocks.{IsStore, StoreValue, list_at}
 use Rattle.strm_queue.specs.Stored.{queue_in, HoldsReadable}
 use Rattle.strm_queue.proofs.Placed.{ready-same}
 use Rattle.strm_frame.specs.declared.modules.Acts.{Acts}
 use Rattle.strm_frame.specs.Hands.{AreIn, CanPut, Handles, Hands, OnlyOwn, SamePool, Spends, once}
-use Rattle.strm_frame.specs.Outboxes.{AreChains, cost_of, message_in, parcels_in, sent_of, times_sent}
+use Rattle.strm_frame.specs.Outboxes.{AreChains, message_in, parcels_in, sent_of, times_sent}
 use Rattle.strm_pair.specs.declared.ends.End.{End}
 use Rattle.strm_pair.specs.declared.streams.Streams.{Streams}
 use Rattle.strm_pair.specs.Pairs.{state_in, end_at, with_end, AreBeside, Stays, kept_by}
-use Rattle.strm_pair.specs.PutBy.{PutAs}
+use Rattle.strm_pair.specs.ModuleServed.{BookTakes, between}
+use Rattle.strm_pair.specs.PutBy.{PutAs, StackTakes, taken_at}
 use Rattle.strm_pair.specs.Streams.{View, stream_in, IsSide}
 use Rattle.strm_pair.proofs.Sides.{both, queue-same, side-stays, stream-stays}
+
+-- modules of the same names
+abbrev pub SameNames : (ps qs : List (Module ℕ)) → Type 0
+SameNames ps qs = map module_name ps ≡ map module_name qs
 
 -- what isn't above nothing is nothing
 none : (n : ℕ) → (0 < n → ⊥) → n ≡ 0
@@ -46,13 +64,14 @@ module _ {S : Type 0} (view : View S) (s t : StoreValue) (first : ℕ) (e : End 
   driver-apart : list_at t e.driver.list ≡ list_at s e.driver.list
   driver-apart = apart e.driver.list (λ low high. let l = is.driver_list in absurd (omega (arith, l, low)))
 
-  stack-side : view.IsHeld t x → IsSide view t first (record e { stack = x })
-  stack-side held = record {
+  stack-side : view.IsHeld t x → SameNames (view.modules t x) (view.modules s e.stack) → IsSide view t first (record e { stack = x })
+  stack-side held names = record {
     head_list = is.head_list;
     driver_list = is.driver_list;
     head = record { ready = ready-same s t e.head.queue head-apart is.head.ready; readable = subst HoldsReadable (sym head-apart) is.head.readable };
     driver = ready-same s t e.driver driver-apart is.driver;
     stack = held;
+    once = subst EachOnce (sym names) is.once;
     owned = λ k some. is.owned k (omega (arith, some, own.owns_same k));
     spare = λ k low high none. let was : view.owns e.stack k ≡ 0 = sym (own.owns_same k) ∙ none in own.lists k was ∙ is.spare k low high was;
   }
@@ -99,9 +118,9 @@ module _ {S : Type 0} (view : View S) (s t : StoreValue) (p : Streams S) (x : S)
 
   -- the stack of a side changed
   pub stack-changed : (side : Side) → OnlyOwn s t (view.owns (end_at side p).stack) (view.owns x) → Stays s t (view.keeps (end_at (other side) p).stack) → view.IsHeld t x
-      → AreBeside view t (with_end side (record (end_at side p) { stack = x }) p)
-  stack-changed Master own stays held = record { master = stack-side view s t 0 p.master x beside.master own held; slave = side-stays view s t 4 p.slave beside.slave stays (slave-apart own) }
-  stack-changed Slave own stays held = record { master = side-stays view s t 0 p.master beside.master stays (master-apart own); slave = stack-side view s t 4 p.slave x beside.slave own held }
+      → SameNames (view.modules t x) (view.modules s (end_at side p).stack) → AreBeside view t (with_end side (record (end_at side p) { stack = x }) p)
+  stack-changed Master own stays held names = record { master = stack-side view s t 0 p.master x beside.master own held names; slave = side-stays view s t 4 p.slave beside.slave stays (slave-apart own) }
+  stack-changed Slave own stays held names = record { master = side-stays view s t 0 p.master beside.master stays (master-apart own); slave = stack-side view s t 4 p.slave x beside.slave own held names }
 
   pub stack-state : (side : Side) → OnlyOwn s t (view.owns (end_at side p).stack) (view.owns x) → Stays s t (view.keeps (end_at (other side) p).stack) → (ms : List (Module ℕ)) → view.modules t x ≡ ms
       → state_in view.modules t (with_end side (record (end_at side p) { stack = x }) p) ≡ with_stream side (record (stream side (state_in view.modules s p)) { modules = ms }) (state_in view.modules s p)
@@ -117,49 +136,139 @@ pub modules-are : {S : Type 0} (view : View S) (s : StoreValue) (p : Streams S) 
 modules-are view s p Master = refl
 modules-are view s p Slave = refl
 
--- a put at a module, by what the modules do, and the queues that are enabled behind it
-abbrev at_module : Side → List QueueName → State ℕ → Acted ℕ (List (Module ℕ)) → Took ℕ (State ℕ)
-at_module side names s t = record { state = record (with_stream side (record (stream side s) { modules = t.state }) s) { enabled = names }; sent = t.sent; gone = t.gone }
+-- the modules of a side whose stack is another one
+pub stack-modules : {S : Type 0} (view : View S) (side : Side) (t : StoreValue) (p : Streams S) (x : S) (names : List QueueName) (a b : Book)
+    → (stream side (state_in view.modules t (record (with_end side (record (end_at side p) { stack = x }) p) { enabled = names; from_master = a; from_slave = b }))).modules ≡ view.modules t x
+stack-modules view Master t p x names a b = refl
+stack-modules view Slave t p x names a b = refl
+
+-- the books stay where a stream changes, and the queues that are enabled do
+pub books-same : {S : Type 0} (side : Side) (e : End S) (p : Streams S) → ((with_end side e p).from_master ≡ p.from_master) × ((with_end side e p).from_slave ≡ p.from_slave) × ((with_end side e p).enabled ≡ p.enabled)
+books-same Master e p = (refl, refl, refl)
+books-same Slave e p = (refl, refl, refl)
+
+-- A stack acted at a place: the streams stand for what its modules did, what they said of their queues is noted, and what they made is booked.
+pub record ActsIn {S : Type 0} (view : View S) (s t : StoreValue) (p q : Streams S) (gone sent : ℕ → ℕ) (is : State ℕ) : Type 0 where
+  pub state : state_in view.modules t q ≡ is
+  pub beside : AreBeside view t q
+  pub hands : Handles s t gone (kept_by view p) (kept_by view q) sent
+
+module _ {S : Type 0} (view : View S) (s t : StoreValue) (p q : Streams S) (x : S) (here : Spot) (gone sent : ℕ → ℕ) where
+  abbrev st : State ℕ
+  st = state_in view.modules s p
+
+  abbrev old : S
+  old = (end_at here.side p).stack
+
+  pub stack-acts : (did : Acted ℕ (List (Module ℕ))) (place : Option Place) (earlier : Way → Option QueueName) (notes : List Note) (m n : ℕ) → IsStore s → AreIn s gone (kept_by view p) → AreBeside view s p
+      → place ≡ slice_index_or (places_of (stream here.side st).modules) (here.at - 1) None → ((way : Way) → earlier way ≡ earlier_at here.side here.at st way)
+      → view.modules t x ≡ did.state → notes ≡ did.notes → SameNames did.state (stream here.side st).modules → view.IsHeld t x → OnlyOwn s t (view.owns old) (view.owns x)
+      → Handles s t gone (view.keeps old) (view.keeps x) sent → SamePool s t → m ≡ made_in MasterToSlave did.gone → n ≡ made_in SlaveToMaster did.gone
+      → q ≡ record (with_end here.side (record (end_at here.side p) { stack = x }) p) {
+        enabled = noted here.side place earlier notes p.enabled;
+        from_master = with_made m p.from_master;
+        from_slave = with_made n p.from_slave;
+      }
+      → ActsIn view s t p q gone sent (module_acted here did st).state
+  stack-acts did place earlier notes m n store can beside place_is earlier_is state notes_is names held own hands pool m_is n_is q_is =
+      let stays = other-stays view here.side s t p gone (view.keeps x) sent store can hands pool in
+      let queues = noted here.side place earlier notes p.enabled in
+      let queued = noted here.side (slice_index_or (places_of (stream here.side st).modules) (here.at - 1) None) (earlier_at here.side here.at st) did.notes p.enabled in
+      let queues_are : queues ≡ queued =
+      ap (λ ns. noted here.side place earlier ns p.enabled) notes_is
+      ∙ ap (λ pl. noted here.side pl earlier did.notes p.enabled) place_is
+      ∙ noted-same here.side (slice_index_or (places_of (stream here.side st).modules) (here.at - 1) None) earlier (earlier_at here.side here.at st) earlier_is did.notes p.enabled in
+      let booked_at : ℕ → ℕ → List QueueName → State ℕ → State ℕ = λ a b ns v. record v { enabled = ns; from_master = with_made a p.from_master; from_slave = with_made b p.from_slave } in
+      let on : Stream ℕ = record (stream here.side st) { modules = did.state } in
+      let same = ap (λ ls. map module_name ls) state ∙ names ∙ ap (λ ls. map module_name ls) (modules-are view s p here.side) in
+      record {
+        state = ap (λ y. state_in view.modules t y) q_is
+            ∙ ap (booked_at m n queues) (stack-state view s t p x beside here.side own stays did.state state)
+            ∙ ap (λ ns. booked_at m n ns (with_stream here.side on st)) queues_are
+            ∙ ap (λ a. booked_at a n queued (with_stream here.side on st)) m_is
+            ∙ ap (λ b. booked_at (made_in MasterToSlave did.gone) b queued (with_stream here.side on st)) n_is
+            ∙ sym (booked-on here.side on queued did.gone st);
+        beside = subst (λ y. AreBeside view t y) (sym q_is) (stack-changed view s t p x beside here.side own stays held same);
+        hands = subst (λ y. Handles s t gone (kept_by view p) (kept_by view y) sent) (sym q_is) (joint-hands view here.side s t p x gone sent hands);
+      }
 
 module _ {M S : Type 0} (name : M → ℕ) (view : View S) where
   -- a module takes the message
-  pub module-by : (side : Side) (s t : StoreValue) (p q : Streams S) (x : S) (i : ℕ) (to : Spot) (place : Option Place) (earlier : Way → Option QueueName) (acts : Acts M) (f f' : Fates)
-      → let m = message_in s i in let st = state_in view.modules s p in let old = (end_at side p).stack in let did = put_among module_puts (to.at - 1) to m (view.modules s old) in
-      IsStore s → CanPut s i (kept_by view p) → to.side ≡ side → place ≡ slice_index_or (places_of (stream to.side st).modules) (to.at - 1) None
-      → ((way : Way) → earlier way ≡ earlier_at to.side to.at st way) → AreBeside view s p
-      → view.modules t x ≡ did.state → acts.notes.items ≡ did.notes → parcels_in name t (sent_of acts.sent) ≡ did.sent → f' ≡ tallied did.gone f → view.IsHeld t x → OnlyOwn s t (view.owns old) (view.owns x)
-      → AreChains name t (sent_of acts.sent) → Hands s t i (view.keeps old) (view.keeps x) (λ j. times_sent name j (sent_of acts.sent))
-      → Spends s t (cost to m) (cost_of cost (parcels_in name t (sent_of acts.sent))) → SamePool s t
-      → q ≡ record (with_end side (record (end_at side p) { stack = x }) p) { enabled = noted to.side place earlier acts.notes.items p.enabled }
-      → let is = put_at_module to.side to m st in PutAs name view s t p q i (cost to m) (cost_of cost is.sent) (sent_of acts.sent) f f' is
-  module-by side s t p q x i to place earlier acts f f' store can is place_is earlier_is beside state notes sent told held own chains hands spends pool q_is =
+  pub module-by : (s t : StoreValue) (p q : Streams S) (x : S) (i : ℕ) (to : Spot) (place : Option Place) (earlier : Way → Option QueueName) (acts : Acts M) (f f' : Fates) (a b : ℕ)
+      → let m = message_in s i in let st = state_in view.modules s p in let ms = (stream to.side st).modules in IsStore s → CanPut s i (kept_by view p)
+      → place ≡ slice_index_or (places_of ms) (to.at - 1) None → ((way : Way) → earlier way ≡ earlier_at to.side to.at st way) → AreBeside view s p
+      → StackTakes name view s t (end_at to.side p).stack x i to acts f f' → a ≡ made_in MasterToSlave (taken_at to m ms).gone → b ≡ made_in SlaveToMaster (taken_at to m ms).gone
+      → q ≡ record (with_end to.side (record (end_at to.side p) { stack = x }) p) {
+        enabled = noted to.side place earlier acts.notes.items p.enabled;
+        from_master = with_made a p.from_master;
+        from_slave = with_made b p.from_slave;
+      }
+      → PutAs name view s t p q i (at_place (module_takes to m) 0 to.at ms) (at_place (module_leaves to m) 0 to.at ms) (sent_of acts.sent) f f' (put_at_module plain to m st)
+  module-by s t p q x i to place earlier acts f f' a b store can place_is earlier_is beside e a_is b_is q_is =
       let m = message_in s i in
       let st = state_in view.modules s p in
-      let old = (end_at side p).stack in
-      let acted : List (Module ℕ) → Acted ℕ (List (Module ℕ)) = λ ms. put_among module_puts (to.at - 1) to m ms in
-      let did = acted (view.modules s old) in
-      let queued : Side → List (Module ℕ) → List QueueName = λ sd ms. noted sd (slice_index_or (places_of (stream sd st).modules) (to.at - 1) None) (earlier_at sd to.at st) (acted ms).notes p.enabled in
-      let names = noted to.side place earlier acts.notes.items p.enabled in
-      let there = modules-are view s p side in
-      let stays = other-stays view side s t p (once i) (view.keeps x) (λ j. times_sent name j (sent_of acts.sent)) store can hands pool in
-      let noted_is : names ≡ queued to.side (view.modules s old) =
-      ap (λ ns. noted to.side place earlier ns p.enabled) notes
-      ∙ ap (λ pl. noted to.side pl earlier did.notes p.enabled) place_is
-      ∙ noted-same to.side (slice_index_or (places_of (stream to.side st).modules) (to.at - 1) None) earlier (earlier_at to.side to.at st) earlier_is did.notes p.enabled in
-      let here : at_module side (queued to.side (view.modules s old)) st did ≡ put_at_module to.side to m st =
-      ap (λ ms. at_module side (queued to.side ms) st (acted ms)) (sym there)
-      ∙ ap (λ sd. at_module sd (queued to.side (stream sd st).modules) st (acted (stream sd st).modules)) (sym is) in
-      let joint = joint-hands view side s t p x (once i) (λ j. times_sent name j (sent_of acts.sent)) hands in
-      subst (λ w. PutAs name view s t p q i (cost to m) (cost_of cost w.sent) (sent_of acts.sent) f f' w) here
+      let ms = (stream to.side st).modules in
+      let same = sym (modules-are view s p to.side) in
+      let did = taken_at to m ms in
+      let r = stack-acts view s t p q x to (once i) (λ j. times_sent name j (sent_of acts.sent)) did place earlier acts.notes.items a b store can beside place_is earlier_is
+      (e.state ∙ ap (λ ls. (taken_at to m ls).state) same) (e.notes ∙ ap (λ ls. (taken_at to m ls).notes) same) (keep-names plain 0 (to.at - 1) to m ms)
+      e.held e.own e.hands e.pool a_is b_is q_is in
+      let books : (Acted ℕ (List (Module ℕ))) → Took ℕ (State ℕ) = λ t. module_acted to t st in
+      subst (λ w. PutAs name view s t p q i (at_place (module_takes to m) 0 to.at ms) (at_place (module_leaves to m) 0 to.at ms) (sent_of acts.sent) f f' w)
+      (ap books (among-same 0 (made_above to.side st) to m (to.at - 1) ms))
       (record {
-        state = ap (λ y. state_in view.modules t y) q_is
-            ∙ ap (λ (y : State ℕ). record y { enabled = names }) (stack-state view s t p x beside side own stays did.state state)
-            ∙ ap (λ ns. record (with_stream side (record (stream side st) { modules = did.state }) st) { enabled = ns }) noted_is;
-        sent = sent;
-        tells = told;
-        beside = subst (λ y. AreBeside view t y) (sym q_is) (stack-changed view s t p x beside side own stays held);
-        chains = chains;
-        hands = subst (λ y. Hands s t i (kept_by view p) (kept_by view y) (λ j. times_sent name j (sent_of acts.sent))) (sym q_is) joint;
-        spends = subst (λ ps. Spends s t (cost to m) (cost_of cost ps)) sent spends;
-        pool = pool;
+        state = r.state;
+        sent = e.sent ∙ ap (λ ls. (taken_at to m ls).sent) same;
+        tells = e.tells ∙ ap (λ ls. tallied (taken_at to m ls).gone f) same;
+        beside = r.beside;
+        chains = e.chains;
+        hands = r.hands;
+        spends = subst (λ ls. Spends s t (at_place (module_takes to m) 0 to.at ls) (at_place (module_leaves to m) 0 to.at ls)) same e.spends;
+        pool = e.pool;
       })
+
+abbrev pub made_told : Dir → Fates → ℕ
+made_told MasterToSlave f = f.made_from_master
+made_told SlaveToMaster f = f.made_from_slave
+
+-- what a put at a module made, where it fits the books
+module _ (to : Spot) (m : Message ℕ) (st : State ℕ) (small : length m.plain ≤ 16777216) where
+  abbrev told_of : List (Fate ℕ)
+  told_of = (taken_at to m (stream to.side st).modules).gone
+
+  abbrev units : ℕ
+  units = at_place (module_packs to m) 0 to.at (stream to.side st).modules
+
+  makes : made_of told_of ≤ units * packet_most
+  makes = among-makes plain 0 to m small (to.at - 1) (stream to.side st).modules
+
+  one-unit : units ≤ 1
+  one-unit = among-one plain 0 to m small (to.at - 1) (stream to.side st).modules
+
+  put-makes : (units : ℕ) → made_of told_of ≤ units * packet_most → units ≤ 1 → made_of told_of ≤ packet_most
+  put-makes zero most one = omega (arith, most)
+  put-makes (suc zero) most one = omega (arith, most)
+  put-makes (suc (suc n)) most one = absurd (omega (arith, one))
+
+  few-made : made_of told_of ≤ packet_most
+  few-made = put-makes units makes one-unit
+
+  takes-by : (units made more : ℕ) → made_of told_of ≤ units * packet_most → units ≤ 1 → units ≤ spare_behind made → more ≤ made_of told_of → BookTakes made more
+  takes-by zero made more most one spare less = λ some. absurd (omega (arith, most, less, some))
+  takes-by (suc zero) made more most one spare less = λ some. (let fits = spare-fits made more spare (omega (arith, most, less)) in omega (arith, fits))
+  takes-by (suc (suc n)) made more most one spare less = absurd (omega (arith, one))
+
+  pub put-fits : units ≤ spare st → (d : Dir) → BookTakes (book d st).made (made_in d told_of)
+  put-fits spare MasterToSlave = takes-by units st.from_master.made (made_in MasterToSlave told_of) makes one-unit (omega (arith, spare)) (omega (arith, made-within told_of))
+  put-fits spare SlaveToMaster = takes-by units st.from_slave.made (made_in SlaveToMaster told_of) makes one-unit (omega (arith, spare)) (omega (arith, made-within told_of))
+
+  -- and the counts tell it
+  pub put-between : (d : Dir) (f f' : Fates) → f.made_from_master < 2 ^ 64 → f.made_from_slave < 2 ^ 64 → f' ≡ tallied told_of f → between (made_told d f) (made_told d f') ≡ made_in d told_of
+  put-between MasterToSlave f f' low few is =
+      ap (λ (g : Fates). between f.made_from_master g.made_from_master) is
+      ∙ ap (between f.made_from_master) (master-told told_of f low)
+      ∙ between-counts f.made_from_master (made_in MasterToSlave told_of) low (omega (arith, few-made, made-within told_of))
+  put-between SlaveToMaster f f' low few is =
+      ap (λ (g : Fates). between f.made_from_slave g.made_from_slave) is
+      ∙ ap (between f.made_from_slave) (slave-told told_of f few)
+      ∙ between-counts f.made_from_slave (made_in SlaveToMaster told_of) few (omega (arith, few-made, made-within told_of))

@@ -93,7 +93,9 @@ module _ {M : Type 0} (name : M → ℕ) (s t : StoreValue) (side : Side) (rule 
   cleared-list : (x y : AnyModule M) (k : ℕ) → module_in name t y ≡ (let_go_of side rule (module_in name s x)).state → 0 < owns y k → list_at t k ≡ []
   cleared-list (kinds.Ldterm x) (kinds.Ldterm y) k is some = cleared-ldterm x y k is some
   cleared-list (kinds.Ptem x) (kinds.Ldterm y) k is some = absurd (cc)
+  cleared-list (kinds.Pckt x) (kinds.Ldterm y) k is some = absurd (cc)
   cleared-list x (kinds.Ptem y) k is some = absurd (omega (arith, some))
+  cleared-list x (kinds.Pckt y) k is some = absurd (omega (arith, some))
 
   module _ (told told' : Fates) (taken : Taken) (a b c : Stream (AnyModule M)) where
     -- the stack before it, behind the clearing, and without the module

@@ -21,7 +21,7 @@ use Rattle.strm_types.specs.ModuleTurns.{asked_turn, module_turned, moved_within
 use Rattle.strm_types.specs.Modules.{change_among}
 use Rattle.strm_types.specs.Past.{has_room_past, waits_on, writer_waits}
 use Rattle.strm_types.specs.Queue.{is_none_left}
-use Rattle.strm_types.specs.Stacked.{IsAtRest, Module, OfLdterm, OfPtem, module_asks, module_queue, module_rests, with_module_queue}
+use Rattle.strm_types.specs.Stacked.{IsAtRest, Module, OfLdterm, OfPtem, OfPckt, module_asks, module_queue, module_rests, with_module_queue}
 use Rattle.strm_types.specs.State.{State, Stream, stream}
 use Rattle.strm_types.specs.TurnCalls.{bytes_left, ldterm_of}
 use Rattle.strm_types.specs.TurnOutcomes.{TurnOutcome, first_size, stayed_put}
@@ -37,6 +37,7 @@ rests-idle (OfLdterm l) idle =
     ∙ ap (λ b. not b && is_between l.stage) idle.2
     ∙ ap is_between idle.3
 rests-idle (OfPtem p) idle = refl
+rests-idle (OfPckt p) idle = refl
 
 rests-at : (i : ℕ) (ps : List (Module ℕ)) → AllByRecursion (λ p. IsAtRest p) ps → i < length ps → slice_index_or (map module_rests ps) i false ≡ true
 rests-at i [] idle low = absurd (omega (arith, low))
@@ -79,6 +80,8 @@ whole Up (OfLdterm l) = refl
 whole Down (OfLdterm l) = refl
 whole Up (OfPtem p) = refl
 whole Down (OfPtem p) = refl
+whole Up (OfPckt p) = refl
+whole Down (OfPckt p) = refl
 
 -- where it may serve
 pub may-move : (name : QueueName) (at : ℕ) (s : State ℕ) → place_named name.place (stream name.side s).modules ≡ Some at

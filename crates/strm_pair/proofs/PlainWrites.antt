@@ -72,35 +72,35 @@ module _ (side : Side) (bytes : List ℕ) (s : State ℕ) (stays : is_closed s.m
 
   sent-stands : write_sent plain side bytes s ≡ stands
   sent-stands =
-      ap (λ (xs : List ℕ). cells_sent side xs s) (written-plain (direction_from side) (book (direction_from side) s).written bytes)
-      ∙ chunks-stand side (chunks_of (chunk_count (length bytes)) bytes) s stays none
+      ap (λ (xs : List ℕ). cells_sent plain side xs s) (written-plain (direction_from side) (book (direction_from side) s).written bytes)
+      ∙ chunks-stand plain side (chunks_of (chunk_count (length bytes)) bytes) s stays none
 
   pub wrote-none : (write_sent plain side bytes s).gone ≡ []
   wrote-none = ap (λ (t : Wrote ℕ). t.gone) sent-stands
 
 -- what a write makes of what was sent
-abbrev booked : Side → State ℕ → Wrote ℕ → Outcome ℕ
-booked side s t = let dir = direction_from side in record { answer = Count t.taken; state = with_book dir (with_written t.taken (book dir s)) t.state }
+abbrev booked : Side → Wrote ℕ → Outcome ℕ
+booked side t = let dir = direction_from side in record { answer = Count t.taken; state = with_book dir (with_written t.taken (book dir t.state)) t.state }
 
-booked-stands : (side : Side) (bytes : List ℕ) (s : State ℕ) → booked side s (write_effect side (chunks_of (chunk_count (length bytes)) bytes) s) ≡ wrote_plain side bytes s
+booked-stands : (side : Side) (bytes : List ℕ) (s : State ℕ) → booked side (write_effect side (chunks_of (chunk_count (length bytes)) bytes) s) ≡ wrote_plain side bytes s
 booked-stands Master bytes s = refl
 booked-stands Slave bytes s = refl
 
 pub wrote-is : (side : Side) (bytes : List ℕ) (s : State ℕ) → is_closed s.master.opened ≡ false → NoModules s → wrote plain side bytes s ≡ wrote_plain side bytes s
-wrote-is side bytes s stays none = ap (λ (t : Wrote ℕ). booked side s t) (sent-stands side bytes s stays none) ∙ booked-stands side bytes s
+wrote-is side bytes s stays none = ap (λ (t : Wrote ℕ). booked side t) (sent-stands side bytes s stays none) ∙ booked-stands side bytes s
 
 -- the chunks of a write
 abbrev pub chunks-written : Side → ℕ → List ℕ → State ℕ → Wrote ℕ
-chunks-written side n bytes s = chunks_sent side (chunks_of n bytes) s
+chunks-written side n bytes s = chunks_sent plain side (chunks_of n bytes) s
 
 module _ (side : Side) (bytes : List ℕ) (s : State ℕ) (n : ℕ) (count : n ≡ chunk_count (length bytes)) where
   pub chunks-are : write_sent plain side bytes s ≡ chunks-written side n bytes s
   chunks-are =
-      ap (λ (xs : List ℕ). cells_sent side xs s) (written-plain (direction_from side) (book (direction_from side) s).written bytes)
+      ap (λ (xs : List ℕ). cells_sent plain side xs s) (written-plain (direction_from side) (book (direction_from side) s).written bytes)
       ∙ ap (λ k. chunks-written side k bytes s) (sym count)
 
-  pub wrote-chunks : wrote plain side bytes s ≡ booked side s (chunks-written side n bytes s)
-  wrote-chunks = ap (λ (t : Wrote ℕ). booked side s t) chunks-are
+  pub wrote-chunks : wrote plain side bytes s ≡ booked side (chunks-written side n bytes s)
+  wrote-chunks = ap (λ (t : Wrote ℕ). booked side t) chunks-are
 
 pub read-is : (side : Side) (n : ℕ) (s : State ℕ) → read_at plain side n s ≡ read_plain side n s
 read-is side n s =

@@ -6,10 +6,12 @@ use Rattle.strm_types.specs.declared.books.Book.{Book}
 use Rattle.strm_types.specs.declared.books.TheConstants.{BOOK_MAX}
 use Rattle.strm_types.specs.declared.modes.Prio.{Prio}
 use Rattle.strm_types.specs.declared.names.Dir.{Dir}
+use Rattle.strm_types.specs.declared.names.Dir.TheVariants.{MasterToSlave, SlaveToMaster}
 use Rattle.strm_types.specs.declared.names.Side.{Side}
 use Rattle.strm_types.specs.declared.names.Side.TheVariants.{Master, Slave}
 use Rattle.strm_types.specs.declared.names.Way.TheVariants.{Down}
 use Rattle.strm_types.specs.declared.rules.Fates.{Fates}
+use Rattle.strm_types.specs.declared.spots.Spot.{Spot}
 use Rattle.strm_types.specs.Books as books
 use Rattle.strm_types.specs.Books.{with_written}
 use Rattle.strm_types.specs.Calls.{message_put, put_at}
@@ -20,7 +22,9 @@ use Rattle.strm_types.specs.Names.{direction_from}
 use Rattle.strm_types.specs.PutMsg.{no_parts, put_message}
 use Rattle.strm_types.specs.Puts.{delivered}
 use Rattle.strm_types.specs.Refused.{in_range}
+use Rattle.strm_types.specs.Spares.{spare}
 use Rattle.strm_types.specs.State.{State, book, with_book}
+use Rattle.strm_types.proofs.PutsBook.{delivered-books}
 use Rattle.strm_types.proofs.PlainCells.{written-plain}
 
 -- a book that has room
@@ -54,10 +58,10 @@ message-plain side prio control body s =
 module _ (side : Side) (prio : Prio) (control body : Option (List ℕ)) (s : State ℕ) (some : no_parts control body ≡ false) where
   -- what is delivered of a message
   abbrev sent : Message ℕ → Carried ℕ (State ℕ)
-  sent m = delivered (record { side = side; at = 1; way = Down }) m s
+  sent m = delivered plain (record { side = side; at = 1; way = Down }) m s
 
   abbrev booked : Message ℕ → Carried ℕ (State ℕ)
-  booked m = record { state = with_book (direction_from side) (with_written (length (part control) + length (part body)) (book (direction_from side) s)) (sent m).state; gone = (sent m).gone }
+  booked m = record { state = with_book (direction_from side) (with_written (length (part control) + length (part body)) (book (direction_from side) (sent m).state)) (sent m).state; gone = (sent m).gone }
 
   put-is : put_at plain side prio control body s ≡ booked (put_message prio control body)
   put-is =
@@ -65,13 +69,13 @@ module _ (side : Side) (prio : Prio) (control body : Option (List ℕ)) (s : Sta
       ∙ ap booked (message-plain side prio control body s)
 
   module _ (message : Message ℕ) (shows : message ≡ put_message prio control body) where
-    pub put-state : (t u : State ℕ) (b : Book) (n : ℕ) → t ≡ (sent message).state → u ≡ with_book (direction_from side) b t → b ≡ with_written n (book (direction_from side) s) → n ≡ length (part control) + length (part body)
+    pub put-state : (t u : State ℕ) (b : Book) (n : ℕ) → t ≡ (sent message).state → u ≡ with_book (direction_from side) b t → b ≡ with_written n (book (direction_from side) t) → n ≡ length (part control) + length (part body)
         → u ≡ (put_at plain side prio control body s).state
     put-state t u b n led kept b_is n_is =
         kept
         ∙ ap (λ x. with_book (direction_from side) b x) led
-        ∙ ap (λ x. with_book (direction_from side) x (sent message).state) b_is
-        ∙ ap (λ k. with_book (direction_from side) (with_written k (book (direction_from side) s)) (sent message).state) n_is
+        ∙ ap (λ x. with_book (direction_from side) x (sent message).state) (b_is ∙ ap (λ v. with_written n (book (direction_from side) v)) led)
+        ∙ ap (λ k. with_book (direction_from side) (with_written k (book (direction_from side) (sent message).state)) (sent message).state) n_is
         ∙ ap (λ m. (booked m).state) shows
         ∙ sym (ap (λ (x : Carried ℕ (State ℕ)). x.state) put-is)
 
@@ -80,3 +84,11 @@ module _ (side : Side) (prio : Prio) (control body : Option (List ℕ)) (s : Sta
         told
         ∙ ap (λ m. tallied (sent m).gone old) shows
         ∙ sym (ap (λ (x : Carried ℕ (State ℕ)). tallied x.gone old) put-is)
+
+-- what was written before stays in a delivery, and more is written than made
+pub sent-written : (to : Spot) (m : Message ℕ) (dir : Dir) (s : State ℕ) → (book dir (delivered plain to m s).state).written ≡ (book dir s).written
+sent-written to m dir s = (delivered-books plain to m s).written dir
+
+pub written-spare : (dir : Dir) (n : ℕ) (s : State ℕ) → spare (with_book dir (with_written n (book dir s)) s) ≡ spare s
+written-spare MasterToSlave n s = refl
+written-spare SlaveToMaster n s = refl

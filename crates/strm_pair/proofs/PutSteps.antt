@@ -1,5 +1,5 @@
 -- Puts at the heads and the drivers of a pair, step by step.
-use Rattle.std.proofs.Common.{ℕ, ◌≡◌, ◌≤◌, ◌+◌, Bool, true, false, cond, List, [], ◌∷◌, refl, sym, ap, subst, ◌∙◌, arith}
+use Rattle.std.proofs.Common.{ℕ, ◌≡◌, ◌≤◌, ◌<◌, ◌+◌, Bool, true, false, cond, List, [], ◌∷◌, refl, sym, ap, subst, ◌∙◌, arith}
 use Rattle.std.specs.Prelude.{◌==◌, nat_le, Option, None, Some}
 use Rattle.std.proofs.lemmas.Bool.Decides.{nat_tests}
 use Rattle.strm_types.specs.declared.flushing.FlushAsked.{FlushAsked}
@@ -8,6 +8,7 @@ use Rattle.strm_types.specs.declared.kinds.MsgKind.TheVariants.{Flush, Ioctl}
 use Rattle.strm_types.specs.declared.names.Way.{Way}
 use Rattle.strm_types.specs.declared.spots.Across.{Across}
 use Rattle.strm_types.specs.declared.rules.Rule.TheVariants.{EndClosed}
+use Rattle.strm_types.specs.Cells as cells
 use Rattle.strm_types.specs.Drivers.{driver_put}
 use Rattle.strm_types.specs.Queue as plain
 use Rattle.strm_blocks.specs.Blocks.{IsStore, dropped, list_at}
@@ -48,17 +49,20 @@ use Rattle.strm_head.specs.declared.putting.Down.TheVariants as downs
 use Rattle.strm_head.specs.Heads.{down_message, notes_of, sent_down}
 use Rattle.strm_frame.specs.declared.parcels.Sent.{Sent}
 use Rattle.strm_frame.specs.Hands.{once, HasRoom, Shifts}
-use Rattle.strm_frame.specs.Outboxes.{cost_of, message_in, times_sent, parcels_in, AreChains}
+use Rattle.strm_frame.specs.Outboxes.{message_in, times_sent, parcels_in, AreChains}
 use Rattle.strm_frame.proofs.Handing.{one-parts, one-chains}
 use Rattle.strm_frame.proofs.Shifting.{shifts-both, shifts-as}
 use Rattle.strm_pty.specs.Does.{Makes, Swaps}
 use Rattle.strm_pty.proofs.Doing.{times-one}
 use Rattle.strm_pair.specs.declared.streams.Streams.{Streams}
-use Rattle.strm_types.specs.Costs.{cost, head_takes, below_takes, is_across}
+use Rattle.strm_types.specs.Costs.{cost, cost_of, head_takes, below_takes, is_across}
+use Rattle.strm_types.specs.ModuleQueues.{at_place}
+use Rattle.strm_types.specs.StackCosts.{module_leaves, module_takes, stack_cost, stands_of}
 use Rattle.strm_pair.specs.Pairs.{state_in, AreBeside, Stays, kept_by}
 use Rattle.strm_pair.specs.Framing.{same-state, same-beside}
 use Rattle.strm_pair.specs.PutBy.{PutAs, PutBy, CameBy}
-use Rattle.strm_pair.proofs.PutsCost.{behind-cost, behind-takes, head-cost}
+use Rattle.strm_pair.proofs.PlaceCosts.{place-cost}
+use Rattle.strm_pair.proofs.PutsCost.{behind-stack, behind-takes, head-stack}
 use Rattle.strm_pair.specs.Streams.{View}
 
 -- what a head sends down is nothing where nothing is turned round
@@ -320,9 +324,9 @@ module _ {M S : Type 0} (name : M → ℕ) (view : View S) where
   }
 
   -- what a put takes, with all that it gives rise to
-  with-later : (s t : StoreValue) (p q : Streams S) (m takes all : ℕ) (sent_on : List (Sent M)) (f f' : Fates) (is : Took ℕ (State ℕ)) → takes + cost_of cost is.sent ≤ all
-      → PutBy name view s t p q m takes sent_on f f' is → PutAs name view s t p q m all (cost_of cost is.sent) sent_on f f' is
-  with-later s t p q m takes all sent_on f f' is low put = record {
+  with-later : (s t : StoreValue) (p q : Streams S) (m takes all later : ℕ) (sent_on : List (Sent M)) (f f' : Fates) (is : Took ℕ (State ℕ)) → takes + later ≤ all
+      → PutBy name view s t p q m takes sent_on f f' is → PutAs name view s t p q m all later sent_on f f' is
+  with-later s t p q m takes all later sent_on f f' is low put = record {
     state = put.state;
     sent = put.sent;
     tells = put.tells;
@@ -335,41 +339,62 @@ module _ {M S : Type 0} (name : M → ℕ) (view : View S) where
 
   -- a put at a spot
   abbrev PutIn : (s t : StoreValue) (p q : Streams S) (i : ℕ) (to : Spot) (sent_on : List (Sent M)) (f f' : Fates) → Took ℕ (State ℕ) → Type 0
-  PutIn s t p q i to sent_on f f' is = PutAs name view s t p q i (cost to (message_in s i)) (cost_of cost is.sent) sent_on f f' is
+  PutIn s t p q i to sent_on f f' is =
+      let each = stack_cost (stands_of (state_in view.modules s p)) in
+      PutAs name view s t p q i (each to (message_in s i)) (cost_of each is.sent) sent_on f f' is
 
   -- at the head
   pub head-put : (s t : StoreValue) (p q : Streams S) (i : ℕ) (to : Spot) (sent_on : List (Sent M)) (f f' : Fates) → let m = message_in s i in to.at ≡ 0
-      → PutBy name view s t p q i (head_takes m) sent_on f f' (put_at_head to.side to m (state_in view.modules s p)) → PutIn s t p q i to sent_on f f' (put_in to m (state_in view.modules s p))
+      → PutBy name view s t p q i (head_takes m) sent_on f f' (put_at_head to.side to m (state_in view.modules s p)) → PutIn s t p q i to sent_on f f' (put_in cells.plain to m (state_in view.modules s p))
   head-put s t p q i to sent_on f f' top put =
       let m = message_in s i in
       let st = state_in view.modules s p in
+      let all = stands_of st in
+      let is = put_at_head to.side to m st in
       let at : (to.at == 0) ≡ true = grind (arith, nat_tests) in
-      subst (λ b. PutIn s t p q i to sent_on f f' (cond b (put_at_head to.side to m st) (put_below to.way to m st))) (sym at)
-      (with-later s t p q i (head_takes m) (cost to m) sent_on f f' (put_at_head to.side to m st) (head-cost to m st top) put)
+      subst (λ b. PutIn s t p q i to sent_on f f' (cond b (put_at_head to.side to m st) (put_below cells.plain to.way to m st))) (sym at)
+      (with-later s t p q i (head_takes m) (stack_cost all to m) (cost_of (stack_cost all) is.sent) sent_on f f' is (head-stack all to m st top) put)
 
   -- below the head, by whether a module stands at the place
   below-put : (s t : StoreValue) (p q : Streams S) (i : ℕ) (to : Spot) (sent_on : List (Sent M)) (f f' : Fates) (stands : Bool) → let m = message_in s i in let st = state_in view.modules s p in
       (to.at ≡ 0 → ⊥) → nat_le to.at (modules_on to.side st) ≡ stands
-      → PutIn s t p q i to sent_on f f' (cond stands (put_at_module to.side to m st) (put_behind to.way to m st)) → PutIn s t p q i to sent_on f f' (put_in to m st)
+      → PutIn s t p q i to sent_on f f' (cond stands (put_at_module cells.plain to m st) (put_behind to.way to m st)) → PutIn s t p q i to sent_on f f' (put_in cells.plain to m st)
   below-put s t p q i to sent_on f f' stands inside place put =
       let m = message_in s i in
       let st = state_in view.modules s p in
       let below : (to.at == 0) ≡ false = grind (arith, nat_tests) in
-      subst (λ b. PutIn s t p q i to sent_on f f' (cond b (put_at_head to.side to m st) (put_below to.way to m st))) (sym below)
-      (subst (λ b. PutIn s t p q i to sent_on f f' (cond b (put_at_module to.side to m st) (put_behind to.way to m st))) (sym place) put)
+      subst (λ b. PutIn s t p q i to sent_on f f' (cond b (put_at_head to.side to m st) (put_below cells.plain to.way to m st))) (sym below)
+      (subst (λ b. PutIn s t p q i to sent_on f f' (cond b (put_at_module cells.plain to m st) (put_behind to.way to m st))) (sym place) put)
 
   pub module-put : (s t : StoreValue) (p q : Streams S) (i : ℕ) (to : Spot) (sent_on : List (Sent M)) (f f' : Fates) → let m = message_in s i in let st = state_in view.modules s p in
-      (to.at ≡ 0 → ⊥) → nat_le to.at (modules_on to.side st) ≡ true → PutIn s t p q i to sent_on f f' (put_at_module to.side to m st) → PutIn s t p q i to sent_on f f' (put_in to m st)
-  module-put s t p q i to sent_on f f' inside stands put = below-put s t p q i to sent_on f f' true inside stands put
+      let ms = (stream to.side st).modules in (to.at ≡ 0 → ⊥) → nat_le to.at (modules_on to.side st) ≡ true
+      → PutAs name view s t p q i (at_place (module_takes to m) 0 to.at ms) (at_place (module_leaves to m) 0 to.at ms) sent_on f f' (put_at_module cells.plain to m st)
+      → PutIn s t p q i to sent_on f f' (put_in cells.plain to m st)
+  module-put s t p q i to sent_on f f' inside stands put =
+      let m = message_in s i in
+      let st = state_in view.modules s p in
+      let some : 0 < to.at = grind (arith, nat_tests) in
+      let low : to.at ≤ modules_on to.side st = grind (arith, nat_tests) in
+      let fits = place-cost to m st some low in
+      below-put s t p q i to sent_on f f' true inside stands record {
+        state = put.state;
+        sent = put.sent;
+        tells = put.tells;
+        beside = put.beside;
+        chains = put.chains;
+        hands = put.hands;
+        spends = record { mblks = omega (arith, put.spends.mblks, fits); dblks = omega (arith, put.spends.dblks, fits) };
+        pool = put.pool;
+      }
 
   pub behind-put : (way : Way) (s t : StoreValue) (p q : Streams S) (i : ℕ) (to : Spot) (sent_on : List (Sent M)) (f f' : Fates) → let m = message_in s i in let st = state_in view.modules s p in
       to.way ≡ way → (to.at ≡ 0 → ⊥) → nat_le to.at (modules_on to.side st) ≡ false
-      → PutBy name view s t p q i (below_takes way (has_parts m) (is_across to m)) sent_on f f' (put_behind way to m st) → PutIn s t p q i to sent_on f f' (put_in to m st)
+      → PutBy name view s t p q i (below_takes way (has_parts m) (is_across to m)) sent_on f f' (put_behind way to m st) → PutIn s t p q i to sent_on f f' (put_in cells.plain to m st)
   behind-put way s t p q i to sent_on f f' is inside past put =
       let m = message_in s i in
       let st = state_in view.modules s p in
       below-put s t p q i to sent_on f f' false inside past
-      (with-later s t p q i (below_takes to.way (has_parts m) (is_across to m)) (cost to m) sent_on f f' (put_behind to.way to m st) (behind-cost to m st inside past)
+      (with-later s t p q i (below_takes to.way (has_parts m) (is_across to m)) (stack_cost (stands_of st) to m) (cost_of (stack_cost (stands_of st)) (put_behind to.way to m st).sent) sent_on f f' (put_behind to.way to m st) (behind-stack (stands_of st) to m st inside past)
       (subst (λ w. PutBy name view s t p q i (below_takes w (has_parts m) (is_across to m)) sent_on f f' (put_behind w to m st)) (sym is) put))
 
   -- what a head sends down is made

@@ -22,10 +22,11 @@ use Rattle.strm_types.specs.Names.{is_master, is_open, other}
 use Rattle.strm_types.specs.Earlier.{driver_place, modules_on}
 use Rattle.strm_types.specs.Puts.{across_of, is_bare_flush, is_turned, passed_up, put_at_driver, put_at_head, put_behind, turns_round}
 use Rattle.strm_types.specs.Queue.{Queue}
+use Rattle.strm_types.specs.StackCosts.{Stands, stack_cost}
 use Rattle.strm_types.specs.State.{Head, State, stream}
 use Rattle.strm_types.proofs.PutsFall.{few-stand, reads-alone}
-use Rattle.strm_frame.specs.Outboxes.{cost_of}
-use Rattle.strm_types.specs.Costs.{across_at, asking_at, asking_cost, below_cost, below_takes, cost, cost_at, head_takes, is_across}
+use Rattle.strm_types.proofs.StackPuts.{behind-few, both-costs, reached-few}
+use Rattle.strm_types.specs.Costs.{across_at, asking_at, asking_cost, below_cost, below_takes, cost, cost_at, cost_of, head_takes, is_across}
 
 -- what goes down from the head costs no more than what a driver makes of it
 down-few : (parts : Bool) → cond {A = ℕ} parts 0 3 ≤ 3
@@ -298,3 +299,17 @@ takes-few Up parts false turned = omega arith
 pub behind-takes : {C : Type 0} (to : Spot) (m : Message C) → (to.at ≡ 0 → ⊥) → below_takes to.way (has_parts m) (is_across to m) ≤ cost to m
 behind-takes to m inside =
     omega (arith, behind-head to (has_parts m) (is_bare_flush m) (is_turned m) inside, takes-few to.way (has_parts m) (is_across to m) (is_turned m))
+
+-- and with the packets that come of it
+module _ {C : Type 0} (all : Stands) (to : Spot) (m : Message C) (s : State C) where
+  pub head-stack : to.at ≡ 0 → head_takes m + cost_of (stack_cost all) (put_at_head to.side to m s).sent ≤ stack_cost all to m
+  head-stack top =
+      let sent = (put_at_head to.side to m s).sent in
+      omega (arith, both-costs C all sent, head-cost to m s top, reached-few C all to.side to m s)
+
+  pub behind-stack : (to.at ≡ 0 → ⊥) → nat_le to.at (modules_on to.side s) ≡ false
+      → below_takes to.way (has_parts m) (is_across to m) + cost_of (stack_cost all) (put_behind to.way to m s).sent ≤ stack_cost all to m
+  behind-stack inside past =
+      let above : modules_on to.side s < to.at = grind (arith, nat_tests) in
+      let sent = (put_behind to.way to m s).sent in
+      omega (arith, both-costs C all sent, behind-cost to m s inside past, behind-few C all to.way to m s above)

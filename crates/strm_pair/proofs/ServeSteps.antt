@@ -1,6 +1,6 @@
 -- Calls of a turn of a module's queue: what the stack of a side does, what is booked of it, and what comes next.
 use Rattle.std.proofs.Common.{ℕ, zero, suc, ◌≡◌, ◌≤◌, ◌<◌, ◌+◌, ◌-◌, Bool, true, false, cond, List, [], ◌∷◌, length, map, refl, sym, ap, subst, ◌∙◌, arith}
-use Rattle.std.specs.Prelude.{◌^◌, slice_index_or, HoldsAt, Option, None}
+use Rattle.std.specs.Prelude.{◌*◌, ◌^◌, slice_index_or, HoldsAt, Option, None, is_some}
 use Rattle.std.specs.Bool.{OnTrue}
 use Rattle.std.proofs.lemmas.Bool.{false≢true}
 use Rattle.strm_types.specs.declared.books.Book.{Book}
@@ -17,35 +17,43 @@ use Rattle.strm_types.specs.declared.rules.Fates.{Fates}
 use Rattle.strm_types.specs.declared.spots.Spot.{Spot}
 use Rattle.strm_types.specs.Books.{with_made}
 use Rattle.strm_types.specs.Cells.{plain}
-use Rattle.strm_types.specs.Costs.{cost}
+use Rattle.strm_types.specs.Costs.{cost_of}
 use Rattle.strm_types.specs.Deliver.{Carried, Fate, Parcel, carried, in_turn, tallied}
 use Rattle.strm_types.specs.Earlier.{places_of}
 use Rattle.strm_types.specs.Input.{made_of}
+use Rattle.strm_types.specs.Ldterms.{Ldterm}
 use Rattle.strm_types.specs.ModuleQueues.{at_place}
-use Rattle.strm_types.specs.Puts.{earlier_at, noted, put_in}
-use Rattle.strm_types.specs.Stacked.{Module, OfLdterm, OfPtem, module_serves}
+use Rattle.strm_types.specs.Modules.{act_among}
+use Rattle.strm_types.specs.Puts.{earlier_at, module_acted, noted, put_in}
+use Rattle.strm_types.specs.Spares.{packet_most, spare, spare_behind}
+use Rattle.strm_types.specs.StackCosts.{most_cost, stack_cost, stands_of}
+use Rattle.strm_types.specs.Stacked.{Module, OfLdterm, OfPtem, OfPckt, module_serves}
 use Rattle.strm_types.specs.State.{State, Stream, book, stream, with_stream}
 use Rattle.strm_types.specs.TurnCalls.{Begins, Ends, asks_on, bytes_left, called, ldterm_of, module_at, most_made, treated}
-use Rattle.strm_types.proofs.Noted.{noted-same}
-use Rattle.strm_types.proofs.Booked.{between-counts, booked-on, made-within, made_in, master-told, slave-told}
+use Rattle.strm_types.proofs.CostSums.{none-few}
+use Rattle.strm_types.proofs.StackSpares.{acted-falls, units-fit}
+use Rattle.strm_types.proofs.StackStays.{serve-names}
+use Rattle.strm_types.proofs.Booked.{between-counts, made-within, made_in, master-told, slave-told}
 use Rattle.strm_types.proofs.LdtermStops.{GoesOn, serves-ends, serves-goes}
 use Rattle.strm_types.proofs.ModuleTurnCalls.{UnderWay, index-map, none_there, sent-stays, under_way}
 use Rattle.strm_blocks.specs.Blocks.{IsStore, StoreValue}
 use Rattle.strm_frame.specs.declared.service.Served.{Served}
 use Rattle.strm_frame.specs.declared.parcels.Sent.{Sent}
-use Rattle.strm_frame.specs.Hands.{AreIn, Handles, HasRoom, SamePool, Spends}
-use Rattle.strm_frame.specs.Outboxes.{cost_of, sent_of, times_sent, parcels_in}
+use Rattle.strm_frame.specs.Hands.{AreIn, Handles, HasRoom, MayTake, SamePool, Spends, Takes}
+use Rattle.strm_frame.specs.Outboxes.{sent_of, times_sent, parcels_in}
 use Rattle.strm_frame.specs.Serves.{later_cost, stop_at}
 use Rattle.strm_ldterm.specs.Turns.{needs}
 use Rattle.strm_pair.specs.AnyModules.{MayServe, turn_cost}
 use Rattle.strm_pair.specs.declared.ends.End.{End}
 use Rattle.strm_pair.specs.declared.calling.Call.{Call}
 use Rattle.strm_pair.specs.declared.streams.Streams.{Streams}
-use Rattle.strm_pair.specs.ModuleServed.{ActsAs, CallsAs, IsKeptAll, MayBook, StackServes, TellsAs, acts_in, between, call_of, next_cost, stop_in}
+use Rattle.strm_pair.specs.ModuleServed.{ActsAs, CallsAs, IsKeptAll, MayBook, StackServes, TellsAs, acts_in, between, call_of, call_units, next_cost, stop_in}
 use Rattle.strm_pair.specs.Pairs.{state_in, end_at, with_end, AreBeside, kept_by}
 use Rattle.strm_pair.specs.Streams.{View}
 use Rattle.strm_pair.proofs.Takings.{tallied-both}
-use Rattle.strm_pair.proofs.ModuleSteps.{joint-hands, modules-are, other-stays, stack-changed, stack-state}
+use Rattle.strm_ldterm.proofs.Spared.{call-few}
+use Rattle.strm_pair.proofs.ModuleSteps.{modules-are, stack-acts, stack-modules}
+use Rattle.strm_pair.proofs.PlaceCosts.{once-stands, sent-most}
 
 -- what is so where something is, is so of what follows from it
 pub on-true : {P Q : Type 0} (b : Bool) → (P → Q) → OnTrue b P → OnTrue b Q
@@ -61,10 +69,12 @@ module _ (here : Spot) (again : Bool) where
   pub module-goes : (p : Module ℕ) → Begins here.way again (ldterm_of p) → let t = module_serves plain here 0 again None p in t.again ≡ true → GoesOn here.way again (ldterm_of p) t.bytes (ldterm_of t.acted.state)
   module-goes (OfLdterm l) begins works = serves-goes here again l begins works
   module-goes (OfPtem p) begins works = absurd (false≢true works)
+  module-goes (OfPckt p) begins works = absurd (false≢true works)
 
   module-ends : (p : Module ℕ) → Begins here.way again (ldterm_of p) → let t = module_serves plain here 0 again None p in t.again ≡ false → Ends here.way again (ldterm_of p) t.bytes
   module-ends (OfLdterm l) begins over = (serves-ends here again l begins over).0
   module-ends (OfPtem p) begins over = record { treat = omega arith; done = omega arith }
+  module-ends (OfPckt p) begins over = record { treat = omega arith; done = omega arith }
 
 -- where a turn of a module begins or goes on, it may serve
 may-one : (way : Way) (again : Bool) (p : Module ℕ) → Begins way again (ldterm_of p) → MayServe way again p
@@ -73,6 +83,7 @@ may-one Up false (OfLdterm l) begins = begins
 may-one Down true (OfLdterm l) begins = begins
 may-one Down false (OfLdterm l) begins = begins
 may-one way again (OfPtem p) begins = tt
+may-one way again (OfPckt p) begins = tt
 
 pub may-serve : (way : Way) (again : Bool) (i : ℕ) (ps : List (Module ℕ)) → i < length ps → Begins way again (ldterm_of (slice_index_or ps i none_there)) → HoldsAt (MayServe way again) ps i
 may-serve way again i [] low begins = absurd (omega (arith, low))
@@ -104,12 +115,22 @@ module _ (here : Spot) (again : Bool) (call : Call) (st : State ℕ) (tells : Te
   abbrev told_in : List (Fate ℕ)
   told_in = (called here again (stop_in call) (stream here.side st).modules).gone
 
-  most-made : made_of told_in ≤ most_made (bytes_left here.way again (ldterm_of (module_at here st)))
+  abbrev left : ℕ
+  left = bytes_left here.way again (ldterm_of (module_at here st))
+
+  most-made : made_of told_in ≤ most_made left
   most-made = omega (arith, tells.made, call-within)
 
+  fits-by : (made more : ℕ) → call_units left ≤ spare_behind made → more ≤ made_of told_in → made + more < 2 ^ 64
+  fits-by made more may few = omega (arith, units-fit made more (call_units left) may (omega (arith, most-made, few)) (omega arith))
+
   pub made-fits : MayBook here again st → (d : Dir) → (book d st).made + made_in d told_in < 2 ^ 64
-  made-fits may MasterToSlave = omega (arith, may MasterToSlave, most-made, made-within told_in)
-  made-fits may SlaveToMaster = omega (arith, may SlaveToMaster, most-made, made-within told_in)
+  made-fits may MasterToSlave = fits-by st.from_master.made (made_in MasterToSlave told_in) (omega (arith, may)) (omega (arith, made-within told_in))
+  made-fits may SlaveToMaster = fits-by st.from_slave.made (made_in SlaveToMaster told_in) (omega (arith, may)) (omega (arith, made-within told_in))
+
+  -- it takes some of them
+  pub acted-left : spare st ≤ spare (module_acted here (called here again (stop_in call) (stream here.side st).modules) st).state + (3 * call.bytes + 2)
+  acted-left = acted-falls here (called here again (stop_in call) (stream here.side st).modules) st (3 * call.bytes + 2) (omega (arith, tells.made))
 
   -- and the counts tell it
   pub master-between : MayBook here again st → (f f' : Fates) → f.made_from_master < 2 ^ 64 → f' ≡ tallied told_in f → between f.made_from_master f'.made_from_master ≡ made_in MasterToSlave told_in
@@ -137,17 +158,6 @@ module _ {S : Type 0} (view : View S) where
   pub within-any : (s t : StoreValue) (p : Streams S) (side : Side) (at : ℕ) → at ≤ length (stream side (state_in view.modules s p)).modules → at ≤ length (stream side (state_in view.modules t p)).modules
   within-any s t p Master at low = omega (arith, low, view.long s t p.master.stack)
   within-any s t p Slave at low = omega (arith, low, view.long s t p.slave.stack)
-
--- the modules of a side whose stack is another one
-stack-modules : {S : Type 0} (view : View S) (side : Side) (t : StoreValue) (p : Streams S) (x : S) (names : List QueueName) (a b : Book)
-    → (stream side (state_in view.modules t (record (with_end side (record (end_at side p) { stack = x }) p) { enabled = names; from_master = a; from_slave = b }))).modules ≡ view.modules t x
-stack-modules view Master t p x names a b = refl
-stack-modules view Slave t p x names a b = refl
-
--- the books stay where a stream changes, and the queues that are enabled do
-pub books-same : {S : Type 0} (side : Side) (e : End S) (p : Streams S) → ((with_end side e p).from_master ≡ p.from_master) × ((with_end side e p).from_slave ≡ p.from_slave) × ((with_end side e p).enabled ≡ p.enabled)
-books-same Master e p = (refl, refl, refl)
-books-same Slave e p = (refl, refl, refl)
 
 module _ {M S : Type 0} (name : M → ℕ) (view : View S) (s t : StoreValue) (p q : Streams S) (x : S) (here : Spot) (again : Bool) (served : Served M) (f f' : Fates) where
   abbrev st : State ℕ
@@ -183,38 +193,41 @@ module _ {M S : Type 0} (name : M → ℕ) (view : View S) (s t : StoreValue) (p
       }
       → ActsAs name view s t p q here again (call_of served) (sent_of served.acts.sent) f f'
   acts-by place earlier m n store all beside place_is earlier_is e m_is n_is q_is =
-      let call = call_of served in
+      let stop = stop_in (call_of served) in
       let same = sym (modules-are view s p here.side) in
-      let did = called here again (stop_in call) ms in
-      let sent = λ (i : ℕ). times_sent name i (sent_of served.acts.sent) in
-      let stays = other-stays view here.side s t p (λ _. 0) (view.keeps x) sent store (all-in view s p all) e.hands e.pool in
-      let changed = with_end here.side (record (end_at here.side p) { stack = x }) p in
-      let names = noted here.side place earlier served.acts.notes.items p.enabled in
-      let queued = noted here.side (slice_index_or (places_of ms) (here.at - 1) None) (earlier_at here.side here.at st) did.notes p.enabled in
-      let notes : served.acts.notes.items ≡ did.notes = e.notes ∙ ap (λ ls. (called here again (stop_in call) ls).notes) same in
-      let names_is : names ≡ queued =
-      ap (λ ns. noted here.side place earlier ns p.enabled) notes
-      ∙ ap (λ pl. noted here.side pl earlier did.notes p.enabled) place_is
-      ∙ noted-same here.side (slice_index_or (places_of ms) (here.at - 1) None) earlier (earlier_at here.side here.at st) earlier_is did.notes p.enabled in
-      let booked_at : ℕ → ℕ → List QueueName → State ℕ → State ℕ = λ a b ns v. record v { enabled = ns; from_master = with_made a p.from_master; from_slave = with_made b p.from_slave } in
-      let on : Stream ℕ = record (stream here.side st) { modules = did.state } in
+      let did = called here again stop ms in
+      let r = stack-acts view s t p q x here (λ _. 0) (λ i. times_sent name i (sent_of served.acts.sent)) did place earlier served.acts.notes.items m n store (all-in view s p all) beside place_is earlier_is
+      (e.state ∙ ap (λ ls. (called here again stop ls).state) same) (e.notes ∙ ap (λ ls. (called here again stop ls).notes) same) (serve-names plain here 0 again stop (here.at - 1) ms)
+      e.held e.own e.hands e.pool m_is n_is q_is in
       record {
-        state = ap (λ y. state_in view.modules t y) q_is
-            ∙ ap (booked_at m n names) (stack-state view s t p x beside here.side e.own stays did.state (e.state ∙ ap (λ ls. (called here again (stop_in call) ls).state) same))
-            ∙ ap (λ ns. booked_at m n ns (with_stream here.side on st)) names_is
-            ∙ ap (λ a. booked_at a n queued (with_stream here.side on st)) m_is
-            ∙ ap (λ b. booked_at (made_in MasterToSlave did.gone) b queued (with_stream here.side on st)) n_is
-            ∙ sym (booked-on here.side on queued did.gone st);
-        sent = e.sent ∙ ap (λ ls. (called here again (stop_in call) ls).sent) same;
-        tells = e.tells ∙ ap (λ ls. tallied (called here again (stop_in call) ls).gone f) same;
+        state = r.state;
+        sent = e.sent ∙ ap (λ ls. (called here again stop ls).sent) same;
+        tells = e.tells ∙ ap (λ ls. tallied (called here again stop ls).gone f) same;
         itself = tells-by e;
-        beside = subst (λ y. AreBeside view t y) (sym q_is) (stack-changed view s t p x beside here.side e.own stays e.held);
+        beside = r.beside;
         chains = e.chains;
         falls = e.falls;
-        hands = subst (λ y. Handles s t (λ _. 0) (kept_by view p) (kept_by view y) sent) (sym q_is) (joint-hands view here.side s t p x (λ _. 0) sent e.hands);
-        room = subst (λ ls. HasRoom t (later_cost cost served.again (at_place (turn_cost here true) 0 here.at ls) (parcels_in name t (sent_of served.acts.sent)))) (sym (ap (λ y. (stream here.side (state_in view.modules t y)).modules) q_is ∙ stack-modules view here.side t p x names (with_made m p.from_master) (with_made n p.from_slave))) e.room;
+        hands = r.hands;
+        room = subst (λ ls. HasRoom t (later_cost most_cost served.again (at_place (turn_cost here true) 0 here.at ls) (parcels_in name t (sent_of served.acts.sent)))) (sym (ap (λ y. (stream here.side (state_in view.modules t y)).modules) q_is ∙ stack-modules view here.side t p x (noted here.side place earlier served.acts.notes.items p.enabled) (with_made m p.from_master) (with_made n p.from_slave))) e.room;
         pool = e.pool;
       }
+
+-- what a call sends takes little, also where it becomes packets
+begins-work : (way : Way) (again : Bool) (l : Ldterm ℕ) → Begins way again l → way ≡ Up → again ≡ true → is_some l.in_work ≡ true
+begins-work Up true l begins up more = begins
+begins-work Up false l begins up more = absurd (false≢true more)
+begins-work Down again l begins up more = absurd (cc)
+
+module _ (here : Spot) (inside : 0 < here.at) (again : Bool) (stop : Option ℕ) where
+  one-sends : (p : Module ℕ) → Begins here.way again (ldterm_of p) → cost_of most_cost (module_serves plain here 0 again stop p).acted.sent ≤ 31
+  one-sends (OfLdterm l) begins = call-few here inside again stop l (begins-work here.way again l begins)
+  one-sends (OfPtem p) begins = none-few {C = ℕ} most_cost 31
+  one-sends (OfPckt p) begins = none-few {C = ℕ} most_cost 31
+
+  among-sends : (i : ℕ) (ps : List (Module ℕ)) → i < length ps → Begins here.way again (ldterm_of (slice_index_or ps i none_there)) → cost_of most_cost (act_among (λ p. (module_serves plain here 0 again stop p).acted) i ps).sent ≤ 31
+  among-sends i [] low begins = absurd (omega (arith, low))
+  among-sends zero (p ∷ ps) low begins = one-sends p begins
+  among-sends (suc i) (p ∷ ps) low begins = among-sends i ps (omega (arith, low)) begins
 
 -- what one more call may count on goes by how far the turn has come, which puts leave as it is
 abbrev stage_cost : Way → UnderWay → ℕ
@@ -229,9 +242,9 @@ all-cost : (here : Spot) (ls : List (Module ℕ)) → map (turn_cost here true) 
 all-cost here [] = refl
 all-cost here (l ∷ ls) = ap (λ n. n ∷ map (turn_cost here true) ls) (one-cost here.way here l) ∙ ap (λ ns. stage_cost here.way (under_way l) ∷ ns) (all-cost here ls)
 
-sent-cost : (here : Spot) (sent : List (Parcel ℕ)) (s : State ℕ) → next_cost here (in_turn (carried put_in HOPS) sent s).state ≡ next_cost here s
+sent-cost : (here : Spot) (sent : List (Parcel ℕ)) (s : State ℕ) → next_cost here (in_turn (carried (put_in plain) HOPS) sent s).state ≡ next_cost here s
 sent-cost here sent s =
-    let u = (in_turn (carried put_in HOPS) sent s).state in
+    let u = (in_turn (carried (put_in plain) HOPS) sent s).state in
     ap (λ ns. slice_index_or ns (here.at - 1) 0) (all-cost here (stream here.side u).modules ∙ ap (map (stage_cost here.way)) (sent-stays sent s here.side) ∙ sym (all-cost here (stream here.side s).modules))
 
 next-room : (s t : StoreValue) (again : Bool) (sent next next' : ℕ) → next' ≡ next → HasRoom s (sent + cond {A = ℕ} again next 0) → Spends s t sent 0 → OnTrue again (HasRoom t next')
@@ -239,16 +252,39 @@ next-room s t true sent next next' same room spends = record { mblks = omega (ar
 next-room s t false sent next next' same room spends = tt
 
 -- a call whose messages are delivered
-module _ {M S : Type 0} (name : M → ℕ) (view : View S) (r s t : StoreValue) (o p q : Streams S) (here : Spot) (again : Bool) (call : Call) (sent_on : List (Sent M)) (f f' f'' : Fates) where
-  pub calls-by : IsKeptAll view r o → ActsAs name view r s o p here again call sent_on f f'
-      → (let u = in_turn (carried put_in HOPS) (parcels_in name s sent_on) (state_in view.modules s p) in f'' ≡ tallied u.gone f')
-      → (let u = in_turn (carried put_in HOPS) (parcels_in name s sent_on) (state_in view.modules s p) in state_in view.modules t q ≡ u.state)
+module _ {M S : Type 0} (name : M → ℕ) (view : View S) (r s : StoreValue) (o p : Streams S) (here : Spot) (again : Bool) (call : Call) (sent_on : List (Sent M)) (f f' : Fates)
+    (inside : 0 < here.at) (begins : Begins here.way again (ldterm_of (module_at here (state_in view.modules r o)))) (low : here.at - 1 < length (stream here.side (state_in view.modules r o)).modules)
+    (a : ActsAs name view r s o p here again call sent_on f f') where
+  -- what its messages take, by the modules that stand there
+  abbrev takes : ℕ
+  takes = cost_of (stack_cost (stands_of (state_in view.modules s p))) (parcels_in name s sent_on)
+
+  takes-most : takes ≤ cost_of most_cost (parcels_in name s sent_on)
+  takes-most = sent-most (stands_of (state_in view.modules s p)) (once-stands view s p a.beside) (parcels_in name s sent_on)
+
+  takes-few : takes ≤ 31
+  takes-few =
+      let few = among-sends here inside again (stop_in call) (here.at - 1) (stream here.side (state_in view.modules r o)).modules low begins in
+      omega (arith, takes-most, few, ap (cost_of (most_cost {C = ℕ})) a.sent)
+
+  acted-spare : spare (state_in view.modules r o) ≤ spare (state_in view.modules s p) + (3 * call.bytes + 2)
+  acted-spare = omega (arith, acted-left here again call (state_in view.modules r o) a.itself begins low, ap spare a.state)
+
+  pub calls-may : MayBook here again (state_in view.modules r o) → MayTake s (spare (state_in view.modules s p)) takes
+  calls-may may = record {
+    room = record { mblks = omega (arith, a.room.mblks, takes-most); dblks = omega (arith, a.room.dblks, takes-most) };
+    spare = omega (arith, may, call-within here again call (state_in view.modules r o) a.itself begins low, acted-spare, takes-few);
+  }
+
+  pub calls-by : (t : StoreValue) (q : Streams S) (f'' : Fates) → IsKeptAll view r o
+      → (let u = in_turn (carried (put_in plain) HOPS) (parcels_in name s sent_on) (state_in view.modules s p) in f'' ≡ tallied u.gone f')
+      → (let u = in_turn (carried (put_in plain) HOPS) (parcels_in name s sent_on) (state_in view.modules s p) in state_in view.modules t q ≡ u.state)
       → AreBeside view t q → Handles s t (λ i. times_sent name i sent_on) (kept_by view p) (kept_by view q) (λ _. 0)
-      → Spends s t (cost_of cost (parcels_in name s sent_on)) 0 → SamePool s t → CallsAs view r t o q here again call f f''
-  calls-by all a told state beside hands spends pool =
+      → Takes s t (spare (state_in view.modules s p)) (spare (state_in view.modules t q)) takes 0 → SamePool s t → CallsAs view r t o q here again call f f''
+  calls-by t q f'' all told state beside hands spends pool =
       let st = state_in view.modules r o in
       let w = acts_in here again call st in
-      let on : List (Parcel ℕ) → State ℕ → Carried ℕ (State ℕ) = λ ps v. in_turn (carried put_in HOPS) ps v in
+      let on : List (Parcel ℕ) → State ℕ → Carried ℕ (State ℕ) = λ ps v. in_turn (carried (put_in plain) HOPS) ps v in
       let is = ap (λ ps. on ps (state_in view.modules s p)) a.sent ∙ ap (on w.sent) a.state in
       let led_state = state ∙ ap (λ (u : Carried ℕ (State ℕ)). u.state) is in
       record {
@@ -257,7 +293,9 @@ module _ {M S : Type 0} (name : M → ℕ) (view : View S) (r s t : StoreValue) 
         itself = a.itself;
         beside = beside;
         hand = λ i. omega (arith, all i, a.hands.counts i, hands.counts i);
-        room = next-room s t call.again (cost_of cost (parcels_in name s sent_on)) (next_cost here (state_in view.modules s p)) (next_cost here (state_in view.modules t q))
-            (ap (next_cost here) led_state ∙ sent-cost here w.sent w.state ∙ ap (next_cost here) (sym a.state)) a.room spends;
+        room = next-room s t call.again (cost_of most_cost (parcels_in name s sent_on)) (next_cost here (state_in view.modules s p)) (next_cost here (state_in view.modules t q))
+            (ap (next_cost here) led_state ∙ sent-cost here w.sent w.state ∙ ap (next_cost here) (sym a.state)) a.room
+            (record { mblks = omega (arith, spends.blocks.mblks, takes-most); dblks = omega (arith, spends.blocks.dblks, takes-most) });
+        left = omega (arith, acted-spare, spends.spare, takes-few);
         pool = record { mblks = pool.mblks ∙ a.pool.mblks; dblks = pool.dblks ∙ a.pool.dblks };
       }

@@ -23,7 +23,7 @@ use Rattle.strm_pty.specs.Does.{OnlyQueue}
 use Rattle.strm_pair.specs.declared.ends.End.{End}
 use Rattle.strm_pair.specs.declared.streams.Streams.{Streams}
 use Rattle.strm_pair.specs.Framing.{state_with, stack-same, stays-master, stays-slave, still}
-use Rattle.strm_pair.specs.Streams.{View, stream_in, IsBlank, IsSide}
+use Rattle.strm_pair.specs.Streams.{View, stream_in, IsBlank, IsSide, AreApart}
 use Rattle.strm_pair.specs.Pairs.{state_in, end_at, with_end, AreBeside, AreHeld, Stays, kept_by}
 
 -- the driver of a side is ready, and so is the head
@@ -100,6 +100,7 @@ module _ {S : Type 0} (view : View S) (s t : StoreValue) (first : ℕ) (e : End 
     head = record { ready = ready-same s t e.head.queue (head-at stay) is.head.ready; readable = subst HoldsReadable (sym (head-at stay)) is.head.readable };
     driver = ready-same s t e.driver (driver-at stay) is.driver;
     stack = (stack-same view s t first e is stays (within stay)).1;
+    once = subst AreApart (sym (stack-same view s t first e is stays (within stay)).0) is.once;
     owned = is.owned;
     spare = λ k low high none. within stay k low high ∙ is.spare k low high none;
   }
@@ -125,6 +126,7 @@ module _ {S : Type 0} (view : View S) (s t : StoreValue) (first : ℕ) (e : End 
       head = record { ready = ready-same s t e.head.queue head-beside is.head.ready; readable = subst HoldsReadable (sym head-beside) is.head.readable };
       driver = only.ready;
       stack = (stack-same view s t first e is stays driver-apart).1;
+      once = subst AreApart (sym (stack-same view s t first e is stays driver-apart).0) is.once;
       owned = is.owned;
       spare = λ k low high none. driver-apart k low high ∙ is.spare k low high none;
     }
@@ -149,6 +151,7 @@ module _ {S : Type 0} (view : View S) (s t : StoreValue) (first : ℕ) (e : End 
       head = record { ready = only.ready; readable = readable };
       driver = ready-same s t e.driver driver-beside is.driver;
       stack = (stack-same view s t first e is stays head-apart).1;
+      once = subst AreApart (sym (stack-same view s t first e is stays head-apart).0) is.once;
       owned = is.owned;
       spare = λ k low high none. head-apart k low high ∙ is.spare k low high none;
     }
@@ -166,6 +169,7 @@ as-side view t first e e' same stays is = record {
   head = is.head;
   driver = subst (IsReady t) (sym same) is.driver;
   stack = subst (view.IsHeld t) (sym stays) is.stack;
+  once = subst (λ x. AreApart (view.modules t x)) (sym stays) is.once;
   owned = subst (λ x. (k : ℕ) → 0 < view.owns x k → (first + 2 ≤ k) × (k < first + 4)) (sym stays) is.owned;
   spare = subst (λ x. (k : ℕ) → first + 2 ≤ k → k < first + 4 → view.owns x k ≡ 0 → list_at t k ≡ []) (sym stays) is.spare;
 }

@@ -1,5 +1,5 @@
 -- The module on top of a side's stream, taken off it.
-use Rattle.std.proofs.Common.{ℕ, zero, suc, ◌≡◌, ◌≤◌, ◌<◌, ◌+◌, List, [], ◌∷◌, ◌++◌, length, refl, sym, ap, subst, ◌∙◌, arith}
+use Rattle.std.proofs.Common.{ℕ, zero, suc, ◌≡◌, ◌≤◌, ◌<◌, ◌+◌, List, [], ◌∷◌, ◌++◌, length, map, refl, sym, ap, subst, ◌∙◌, arith}
 use Rattle.std.specs.Prelude.{Some}
 use Rattle.strm_types.specs.declared.names.QueueName.{QueueName}
 use Rattle.strm_types.specs.declared.names.Side.{Side}
@@ -14,6 +14,7 @@ use Rattle.strm_types.specs.Pushes.{all_taken, top_taken, with_modules}
 use Rattle.strm_types.specs.Puts.{earlier_at, noted}
 use Rattle.strm_types.specs.Stacked.{Module, module_name}
 use Rattle.strm_types.specs.State.{State, stream}
+use Rattle.strm_types.proofs.StackOnce.{pop-once}
 use Rattle.strm_blocks.specs.Blocks.{StoreValue, list_at}
 use Rattle.strm_queue.specs.Stored.{queue_in, HoldsReadable}
 use Rattle.strm_queue.proofs.Placed.{ready-same}
@@ -22,7 +23,7 @@ use Rattle.strm_pair.specs.declared.stacks.Taken.{Taken}
 use Rattle.strm_pair.specs.declared.streams.Streams.{Streams}
 use Rattle.strm_pair.specs.Framing.{stays-master, stays-slave, still}
 use Rattle.strm_pair.specs.Pairs.{state_in, end_at, with_end, AreBeside, AreHeld, kept_by}
-use Rattle.strm_pair.specs.Streams.{View, stream_in, IsSide}
+use Rattle.strm_pair.specs.Streams.{View, stream_in, IsSide, AreApart}
 use Rattle.strm_pair.specs.Taken.{TookTop, WithoutTop, let_go_of}
 use Rattle.strm_pair.proofs.Sides.{both, queue-same, side-stays, stream-stays, stream_of}
 
@@ -65,6 +66,7 @@ module _ {S : Type 0} (view : View S) (s t : StoreValue) where
         head = record { ready = ready-same s t e.head.queue head-beside is.head.ready; readable = subst HoldsReadable (sym head-beside) is.head.readable };
         driver = ready-same s t e.driver driver-beside is.driver;
         stack = took.held;
+        once = subst AreApart (sym took.stays) (pop-once (module_name took.top) (map module_name took.rest) (subst AreApart took.was is.once));
         owned = λ k some. is.owned k (omega (arith, took.owns k, some));
         spare = took-spare;
       }

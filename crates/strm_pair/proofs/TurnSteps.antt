@@ -3,22 +3,30 @@ use Rattle.std.proofs.Common.{ℕ, ◌≡◌, ◌≤◌, ◌<◌, ◌+◌, Bool,
 use Rattle.std.specs.Prelude.{not, ◌&&◌, ◌||◌, ◌==◌, Option, None, Some, MatchOption}
 use Rattle.strm_types.specs.declared.answers.Turn.TheVariants.{Blocked}
 use Rattle.strm_types.specs.declared.kinds.MsgKind.{MsgKind}
-use Rattle.strm_types.specs.declared.kinds.MsgKind.TheVariants.{Iocack, Ioctl}
+use Rattle.strm_types.specs.declared.kinds.MsgKind.TheVariants.{Flush, Iocack, Ioctl}
 use Rattle.strm_types.specs.declared.names.Side.{Side}
 use Rattle.strm_types.specs.declared.names.Side.TheVariants.{Master, Slave}
+use Rattle.strm_types.specs.declared.names.Way.{Way}
 use Rattle.strm_types.specs.declared.names.Way.TheVariants.{Up}
-use Rattle.strm_types.specs.Costs.{asking_at, cost}
+use Rattle.strm_types.specs.Cells as cells
+use Rattle.strm_types.specs.Costs.{asking_at}
 use Rattle.strm_types.specs.Earlier.{driver_place}
+use Rattle.strm_types.specs.Flushing.{asked_by, is_flush}
 use Rattle.strm_types.specs.Kept.{AreIdle}
 use Rattle.strm_types.specs.Message.{Message, band_of, has_parts, is_held}
 use Rattle.strm_types.specs.Names.{other, is_open}
 use Rattle.strm_types.specs.Past.{has_room_past, writer_waits}
-use Rattle.strm_types.specs.Puts.{far_at, is_bare_flush, is_turned, turns_round}
+use Rattle.strm_types.specs.Pckts.{is_packed}
+use Rattle.strm_types.specs.Puts.{far_at, is_turned, turns_round}
 use Rattle.strm_types.specs.Queue as plain
 use Rattle.strm_types.specs.Queue.{left_with}
+use Rattle.strm_types.specs.Spares.{spare}
+use Rattle.strm_types.specs.StackCosts.{most_cost, most_up}
 use Rattle.strm_types.specs.State.{State, stream}
 use Rattle.strm_types.specs.TurnOutcomes.{stayed_put}
-use Rattle.strm_types.specs.Turns.{is_stopped_across, held_back, with_driver, moved_across, driver_serves, driver_turned}
+use Rattle.strm_types.specs.Turns.{is_stopped_across, held_back, with_driver, moved_across, driver_serves, driver_turned, turn_ended}
+use Rattle.strm_types.proofs.StackSpares.{same-spare}
+use Rattle.strm_types.proofs.StepBooks.{driver-books, end-books, waits-books}
 use Rattle.strm_blocks.specs.Blocks.{Block, StoreValue, block_at}
 use Rattle.strm_blocks.specs.Outcomes.{PeekedFirst}
 use Rattle.strm_blocks.specs.declared.asked.Peek.{Peek}
@@ -73,35 +81,52 @@ abbrev first_message : List (Message ℕ) → Message ℕ → Message ℕ
 first_message [] m = m
 first_message (x ∷ q) m = x
 
--- what comes up from a driver has fewer places before it than a delivery may go, and takes seven blocks of each kind at most
+-- what comes up from a driver has fewer places before it than a delivery may go, and takes eight blocks of each kind at most
 pub up-near : (turned : Bool) (at : ℕ) → at ≤ 3 → far_at Up turned at < 16
 up-near true at low = omega arith
 up-near false at low = omega arith
 
-few-blocks : (top turned across : Bool) → cond top (cond turned 4 0) (cond turned 4 (cond across 1 0)) ≤ cond {A = ℕ} turned 4 1
-few-blocks true true across = omega arith
-few-blocks true false across = omega arith
-few-blocks false true across = omega arith
-few-blocks false false true = omega arith
-few-blocks false false false = omega arith
+few-blocks : (top turned flush bare driver : Bool) → cond top (cond turned 4 0) (cond turned 4 (cond ((flush && bare) && driver) 1 0)) ≤ cond {A = ℕ} turned 4 (cond flush 1 0)
+few-blocks true true flush bare driver = omega arith
+few-blocks true false flush bare driver = omega arith
+few-blocks false true flush bare driver = omega arith
+few-blocks false false false bare driver = omega arith
+few-blocks false false true false driver = omega arith
+few-blocks false false true true true = omega arith
+few-blocks false false true true false = omega arith
 
--- an M_IOCTL is turned round, and an M_IOCACK isn't
-few-asked : (kind : MsgKind) (bytes : List ℕ) (at : ℕ) → cond {A = ℕ} (turns_round kind bytes) 4 1 + asking_at Up kind at ≤ 7
+-- an M_IOCTL is turned round, and an M_IOCACK isn't; each becomes packets at most where pckt stands once
+few-asked : (kind : MsgKind) (bytes : List ℕ) (at : ℕ) → cond {A = ℕ} (turns_round kind bytes) 4 (cond (is_flush kind) 1 0) + asking_at Up kind at + most_up kind (asked_by bytes).for_write ≤ 8
+few-asked Flush bytes at = by (asked_by bytes).for_write
+  where
+    by : (writes : Bool) → cond {A = ℕ} writes 4 1 + 0 + cond writes 4 1 ≤ 8
+    by true = omega arith
+    by false = omega arith
 few-asked Ioctl bytes at = omega arith
 few-asked Iocack bytes at = omega arith
-few-asked kind bytes at = at_most (turns_round kind bytes)
+few-asked kind bytes at = by (is_packed kind)
   where
-    at_most : (b : Bool) → cond {A = ℕ} b 4 1 + 0 ≤ 7
-    at_most true = omega arith
-    at_most false = omega arith
+    by : (packed : Bool) → 0 + 0 + cond {A = ℕ} packed 1 0 ≤ 8
+    by true = omega arith
+    by false = omega arith
 
 not-more : (b : Bool) (n : ℕ) → cond b 0 n ≤ n
 not-more true n = omega arith
 not-more false n = omega arith
 
-pub up-few : (side : Side) (at : ℕ) (m : Message ℕ) → cost (record { side = side; at = at; way = Up }) m ≤ 7
+pub up-few : (side : Side) (at : ℕ) (m : Message ℕ) → most_cost (record { side = side; at = at; way = Up }) m ≤ 8
 up-few side at m =
-    omega (arith, few-blocks (at == 0) (is_turned m) (is_bare_flush m && at == 4), few-asked m.kind m.plain at, not-more (at == 0 || has_parts m) (asking_at Up m.kind at))
+    omega (arith, few-blocks (at == 0) (is_turned m) (is_flush m.kind) (not (has_parts m)) (at == 4), few-asked m.kind m.plain at, not-more (at == 0 || has_parts m) (asking_at Up m.kind at))
+
+-- the books stay where a message is taken off a driver's queue, where a turn ends, and where a writer waits
+pub taken-spare : (side : Side) (q : plain.Queue ℕ) (s : State ℕ) → spare (with_driver side q s) ≡ spare s
+taken-spare side q s = same-spare s (with_driver side q s) (driver-books cells.plain side q s)
+
+pub ended-spare : (side : Side) (size : ℕ) (s : State ℕ) → spare (turn_ended side size s) ≡ spare s
+ended-spare side size s = same-spare s (turn_ended side size s) (end-books cells.plain side size s)
+
+pub waits-spare : (side : Side) (way : Way) (at band : ℕ) (s : State ℕ) → spare (writer_waits side way at band s) ≡ spare s
+waits-spare side way at band s = same-spare s (writer_waits side way at band s) (waits-books side way at band s)
 
 -- whether flow control stops a message by its band, as its first block tells
 held-by : (chain : List Block) (stops : ℕ → Bool) (v : Bool) → is_held (block_at 0 chain).kind ≡ v → (v && stops (band_of (message_of chain))) ≡ (v && stops (block_at 0 chain).band)
@@ -129,11 +154,11 @@ kept_back side band st =
     writer_waits (other side) Up (driver_place (other side) waits) band waits
 
 serves-stopped : (side : Side) (m : Message ℕ) (rest : List (Message ℕ)) (st : State ℕ) → is_open (stream (other side) st).opened ≡ true → is_stopped_across side m st ≡ true
-    → driver_serves side (m ∷ rest) st ≡ stayed_put Blocked (kept_back side (band_of m) st)
+    → driver_serves cells.plain side (m ∷ rest) st ≡ stayed_put Blocked (kept_back side (band_of m) st)
 serves-stopped side m rest st opened stop = rw (opened, stop) refl
 
 serves-moved : (side : Side) (m : Message ℕ) (rest : List (Message ℕ)) (st : State ℕ) → is_open (stream (other side) st).opened ≡ true → is_stopped_across side m st ≡ false
-    → driver_serves side (m ∷ rest) st ≡ moved_across side m rest st
+    → driver_serves cells.plain side (m ∷ rest) st ≡ moved_across cells.plain side m rest st
 serves-moved side m rest st opened goes = rw (opened, goes) refl
 
 -- what is seen of both ends is what the state has
@@ -156,15 +181,15 @@ module _ {S : Type 0} (view : View S) (s : StoreValue) (p : Streams S) (side : S
   stopped-is : is_stopped_across side (message_of seen.message) (state_in view.modules s p) ≡ stops
   stopped-is = sym (seen-stopped s e.driver.list peek seen (full_above side (state_in view.modules s p))) ∙ sym asked
 
-  pub turned-stopped : stops ≡ true → driver_turned side (state_in view.modules s p) ≡ stayed_put Blocked (kept_back side peek.band.0 (state_in view.modules s p))
+  pub turned-stopped : stops ≡ true → driver_turned cells.plain side (state_in view.modules s p) ≡ stayed_put Blocked (kept_back side peek.band.0 (state_in view.modules s p))
   turned-stopped stop =
       let held = seen-held s e.driver.list peek seen (full_above side (state_in view.modules s p)) (sym asked ∙ stop) in
-      ap (λ ms. driver_serves side ms (state_in view.modules s p)) stands
+      ap (λ ms. driver_serves cells.plain side ms (state_in view.modules s p)) stands
       ∙ serves-stopped side (message_of seen.message) (map message_of seen.rest) (state_in view.modules s p) is-open-there (stopped-is ∙ stop)
       ∙ ap (λ b. stayed_put Blocked (kept_back side b (state_in view.modules s p))) (held-band seen.message held ∙ sym seen.seen.band)
 
-  pub turned-moved : stops ≡ false → (m : Message ℕ) (rest : List (Message ℕ)) → (stream side (state_in view.modules s p)).driver.queue.messages ≡ m ∷ rest → driver_turned side (state_in view.modules s p) ≡ moved_across side m rest (state_in view.modules s p)
+  pub turned-moved : stops ≡ false → (m : Message ℕ) (rest : List (Message ℕ)) → (stream side (state_in view.modules s p)).driver.queue.messages ≡ m ∷ rest → driver_turned cells.plain side (state_in view.modules s p) ≡ moved_across cells.plain side m rest (state_in view.modules s p)
   turned-moved goes m rest first =
       let same : message_of seen.message ≡ m = ap (λ ms. first_message ms m) (sym stands ∙ first) in
-      ap (λ ms. driver_serves side ms (state_in view.modules s p)) first
+      ap (λ ms. driver_serves cells.plain side ms (state_in view.modules s p)) first
       ∙ serves-moved side m rest (state_in view.modules s p) is-open-there (ap (λ y. is_stopped_across side y (state_in view.modules s p)) (sym same) ∙ stopped-is ∙ goes)

@@ -1,12 +1,18 @@
 -- The streams stand for the same, and fit, where the lists of the store are the same.
 use Rattle.std.specs.Prelude.{ℕ, ◌≡◌, ◌+◌, ◌≤◌, ◌<◌, List, [], slice_index_or}
-use Rattle.std.proofs.Common.{sym, ap, subst, ◌∙◌, arith}
+use Rattle.std.proofs.Common.{refl, sym, ap, subst, ◌∙◌, arith}
 use Rattle.std.specs.List.{AllByRecursion}
+use Rattle.strm_types.specs.declared.spots.Spot.{Spot}
+use Rattle.strm_types.specs.Cells as cells
 use Rattle.strm_types.specs.Kept.{AreIdle}
+use Rattle.strm_types.specs.Message.{Message}
+use Rattle.strm_types.specs.Puts.{put_in}
+use Rattle.strm_types.specs.StackCosts.{Stands, stack_cost, stands_of}
 use Rattle.strm_types.specs.Stacked as plain
 use Rattle.strm_types.specs.Stacked.{IsAtRest}
 use Rattle.strm_types.specs.State as state
 use Rattle.strm_types.specs.State.{State}
+use Rattle.strm_types.proofs.StackStays.{puts-stand}
 use Rattle.strm_blocks.specs.Blocks.{StoreValue, in_hand, list_at}
 use Rattle.strm_frame.specs.Hands.{SameFor}
 use Rattle.strm_head.specs.Heads.{head_in}
@@ -15,7 +21,7 @@ use Rattle.strm_queue.proofs.Placed.{ready-same}
 use Rattle.strm_pair.specs.declared.ends.End.{End}
 use Rattle.strm_pair.specs.declared.streams.Streams.{Streams}
 use Rattle.strm_pair.specs.Pairs.{state_in, AreBeside, Stays, kept_by}
-use Rattle.strm_pair.specs.Streams.{View, stream_in, IsSide}
+use Rattle.strm_pair.specs.Streams.{View, stream_in, IsSide, AreApart}
 
 -- what is kept stays where all in hand does
 pub still : (s t : StoreValue) (keeps : ℕ → ℕ) → t.hand ≡ s.hand → t.mblks ≡ s.mblks → t.dblks ≡ s.dblks → Stays s t keeps
@@ -77,6 +83,7 @@ module _ {S : Type 0} (view : View S) where
         head = record { ready = ready-same s t e.head.queue (at e.head.queue.list) is.head.ready; readable = subst HoldsReadable (sym (at e.head.queue.list)) is.head.readable };
         driver = ready-same s t e.driver (at e.driver.list) is.driver;
         stack = (stack-same first e is stays (λ k low high. at k)).1;
+        once = subst AreApart (sym (stack-same first e is stays (λ k low high. at k)).0) is.once;
         owned = is.owned;
         spare = λ k low high none. at k ∙ is.spare k low high none;
       }
@@ -98,3 +105,8 @@ module _ {S : Type 0} (view : View S) where
   streams-frame s t p same beside =
       let stays : Stays s t (kept_by view p) = record { mblks = same.mblks; dblks = same.dblks; kept = same.kept } in
       (same-state s t same.lists p beside stays, same-beside s t same.lists p beside stays)
+
+-- No put changes what messages cost, as the modules stay.
+pub costs-stay : (to : Spot) (m : Message ℕ) (s : State ℕ)
+    → ◌≡◌ {A = Spot → Message ℕ → ℕ} (λ there n. stack_cost (stands_of (put_in cells.plain to m s).state) there n) (λ there n. stack_cost (stands_of s) there n)
+costs-stay to m s = ap {B = Spot → Message ℕ → ℕ} (λ (all : Stands) there n. stack_cost all there n) (puts-stand (stands_of s) cells.plain to m s refl)

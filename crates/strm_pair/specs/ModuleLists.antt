@@ -64,12 +64,14 @@ module _ {M : Type 0} (name : M → ℕ) (s : StoreValue) (first : ℕ) where
   none-queue (kinds.Ldterm x ∷ xs) none =
       let k = x.read_queue.list in absurd (omega (arith, none k, once-self k, sum_by-cons (λ y. owns y k) (kinds.Ldterm x) xs))
   none-queue (kinds.Ptem x ∷ xs) none = none-queue xs (λ k. omega (arith, none k, sum_by-cons (λ y. owns y k) (kinds.Ptem x) xs))
+  none-queue (kinds.Pckt x ∷ xs) none = none-queue xs (λ k. omega (arith, none k, sum_by-cons (λ y. owns y k) (kinds.Pckt x) xs))
 
   none-queued : (way : Way) (xs : List (AnyModule M)) → ((k : ℕ) → all_of owns xs k ≡ 0) → messages_queued way (map (module_in name s) xs) ≡ []
   none-queued way [] none = refl
   none-queued way (kinds.Ldterm x ∷ xs) none =
       let k = x.read_queue.list in absurd (omega (arith, none k, once-self k, sum_by-cons (λ y. owns y k) (kinds.Ldterm x) xs))
   none-queued way (kinds.Ptem x ∷ xs) none = none-queued way xs (λ k. omega (arith, none k, sum_by-cons (λ y. owns y k) (kinds.Ptem x) xs))
+  none-queued way (kinds.Pckt x ∷ xs) none = none-queued way xs (λ k. omega (arith, none k, sum_by-cons (λ y. owns y k) (kinds.Pckt x) xs))
 
   -- where an ldterm's lists stand
   module _ (x : Ldterm M) (xs : List (AnyModule M)) (are : AreFor s first (all_of owns (kinds.Ldterm x ∷ xs))) where
@@ -103,6 +105,20 @@ module _ {M : Type 0} (name : M → ℕ) (s : StoreValue) (first : ℕ) where
               let both = owns-both k within.0 within.1 in
               let few = apart k in
               absurd (omega (arith, all, is, both, few))
+
+  -- below a module without lists of its own
+  module _ (x : AnyModule M) (xs : List (AnyModule M)) (none : (k : ℕ) → owns x k ≡ 0) where
+    same-below : (k : ℕ) → all_of owns (x ∷ xs) k ≡ all_of owns xs k
+    same-below k = omega (arith, sum_by-cons (λ y. owns y k) x xs, none k)
+
+    held-below : AreHeld (IsHeld name) owns s (x ∷ xs) → AreHeld (IsHeld name) owns s xs
+    held-below held = record { each = held.each.1; apart = λ k. omega (arith, held.apart k, same-below k) }
+
+    for-below : AreFor s first (all_of owns (x ∷ xs)) → AreFor s first (all_of owns xs)
+    for-below are = record {
+      owned = λ k some. are.owned k (omega (arith, some, same-below k));
+      spare = λ k low high none. are.spare k low high (omega (arith, none, same-below k));
+    }
 
   pub stack-shown : (xs : List (AnyModule M)) → AreHeld (IsHeld name) owns s xs → AllByRecursion (λ p. IsAtRest p) (map (module_in name s) xs) → AreFor s first (all_of owns xs) → AreShown s first (map (module_in name s) xs)
   stack-shown [] held idle are =
@@ -139,11 +155,10 @@ module _ {M : Type 0} (name : M → ℕ) (s : StoreValue) (first : ℕ) where
         );
       }
   stack-shown (kinds.Ptem x ∷ xs) held idle are =
-      let same : (k : ℕ) → all_of owns (kinds.Ptem x ∷ xs) k ≡ all_of owns xs k = λ k. omega (arith, sum_by-cons (λ y. owns y k) (kinds.Ptem x) xs) in
-      let r = stack-shown xs (record { each = held.each.1; apart = λ k. omega (arith, held.apart k, same k) }) idle.1 (record {
-        owned = λ k some. are.owned k (omega (arith, some, same k));
-        spare = λ k low high none. are.spare k low high (omega (arith, none, same k));
-      }) in
+      let r = stack-shown xs (held-below (kinds.Ptem x) xs (λ k. refl) held) idle.1 (for-below (kinds.Ptem x) xs (λ k. refl) are) in
+      record { up = r.up; down = r.down; ordered = r.ordered; many = r.many }
+  stack-shown (kinds.Pckt x ∷ xs) held idle are =
+      let r = stack-shown xs (held-below (kinds.Pckt x) xs (λ k. refl) held) idle.1 (for-below (kinds.Pckt x) xs (λ k. refl) are) in
       record { up = r.up; down = r.down; ordered = r.ordered; many = r.many }
 
 -- without a module no list is owned

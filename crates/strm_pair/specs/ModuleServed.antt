@@ -2,19 +2,19 @@
 use Rattle.std.specs.Prelude.{ℕ, ◌≡◌, ◌≤◌, ◌<◌, ◌+◌, ◌-◌, ◌*◌, ◌==◌, ◌%◌, ◌^◌, Bool, true, false, not, List, length, Option, HoldsAt}
 use Rattle.std.specs.Bool.{OnTrue}
 use Rattle.strm_types.specs.declared.answers.Turn.TheVariants.{Moved}
-use Rattle.strm_types.specs.declared.names.Dir.{Dir}
 use Rattle.strm_types.specs.declared.names.QueueName.{QueueName}
 use Rattle.strm_types.specs.declared.rules.Fates.{Fates}
 use Rattle.strm_types.specs.declared.spots.Spot.{Spot}
 use Rattle.strm_types.specs.Cells.{plain}
-use Rattle.strm_types.specs.Costs.{cost}
 use Rattle.strm_types.specs.Deliver.{AreLower, Fate, Took, tallied}
 use Rattle.strm_types.specs.Input.{made_of}
 use Rattle.strm_types.specs.ModuleQueues.{at_place}
-use Rattle.strm_types.specs.ModuleTurns.{module_acted, module_turn_ended, moved_on}
-use Rattle.strm_types.specs.Puts.{far}
-use Rattle.strm_types.specs.State.{State, book, stream}
-use Rattle.strm_types.specs.TurnCalls.{Ends, asks_on, bytes_left, called, echo_most, ldterm_of, led, module_at, most_made, treated}
+use Rattle.strm_types.specs.ModuleTurns.{module_turn_ended, moved_on}
+use Rattle.strm_types.specs.Puts.{far, module_acted}
+use Rattle.strm_types.specs.Spares.{spare}
+use Rattle.strm_types.specs.StackCosts.{most_cost}
+use Rattle.strm_types.specs.State.{State, stream}
+use Rattle.strm_types.specs.TurnCalls.{Ends, asks_on, bytes_left, called, ldterm_of, led, module_at, most_made, treated}
 use Rattle.strm_blocks.specs.Blocks.{StoreValue, times_in}
 use Rattle.strm_frame.specs.declared.parcels.Sent.{Sent}
 use Rattle.strm_frame.specs.declared.service.Served.{Served}
@@ -43,9 +43,17 @@ call_cost here again s = at_place (turn_cost here again) 0 here.at (stream here.
 abbrev pub next_cost : Spot → State ℕ → ℕ
 next_cost here s = call_cost here true s
 
--- what a call may make fits the books, however far it goes
+-- where more is made, it fits a book
+abbrev pub BookTakes : ℕ → ℕ → Type 0
+BookTakes made more = 0 < more → made + more < 2 ^ 64
+
+-- how much of the books a call takes at most that treats so many bytes: for what it makes, and for what becomes packets of what it sends
+abbrev pub call_units : ℕ → ℕ
+call_units bytes = 3 * bytes + 33
+
+-- that much is left, however far a call goes
 abbrev pub MayBook : Spot → Bool → State ℕ → Type 0
-MayBook here again s = (d : Dir) → (book d s).made + most_made (bytes_left here.way again (ldterm_of (module_at here s))) < 2 ^ 64
+MayBook here again s = call_units (bytes_left here.way again (ldterm_of (module_at here s))) ≤ spare s
 
 -- what the module at a place does in a call
 abbrev pub acts_in : Spot → Bool → Call → State ℕ → Took ℕ (State ℕ)
@@ -75,7 +83,7 @@ pub record StackServes {M S : Type 0} (name : M → ℕ) (view : View S) (old ne
   pub chains : AreChains name new (sent_of served.acts.sent)
   pub falls : AreLower far (turn_height here) (parcels_in name new (sent_of served.acts.sent))
   pub hands : Handles old new (λ _. 0) (view.keeps x) (view.keeps y) (λ i. times_sent name i (sent_of served.acts.sent))
-  pub room : HasRoom new (later_cost cost served.again (at_place (turn_cost here true) 0 here.at (view.modules new y)) (parcels_in name new (sent_of served.acts.sent)))
+  pub room : HasRoom new (later_cost most_cost served.again (at_place (turn_cost here true) 0 here.at (view.modules new y)) (parcels_in name new (sent_of served.acts.sent)))
   pub pool : SamePool old new
 
 -- what a served call tells of itself
@@ -93,7 +101,7 @@ pub record ActsAs {M S : Type 0} (name : M → ℕ) (view : View S) (old new : S
   pub chains : AreChains name new sent_on
   pub falls : AreLower far (turn_height here) (parcels_in name new sent_on)
   pub hands : Handles old new (λ _. 0) (kept_by view p) (kept_by view q) (λ i. times_sent name i sent_on)
-  pub room : HasRoom new (later_cost cost call.again (next_cost here (state_in view.modules new q)) (parcels_in name new sent_on))
+  pub room : HasRoom new (later_cost most_cost call.again (next_cost here (state_in view.modules new q)) (parcels_in name new sent_on))
   pub pool : SamePool old new
 
 -- all that is in hand is kept by the stacks
@@ -108,9 +116,10 @@ pub record CallsAs {S : Type 0} (view : View S) (old new : StoreValue) (p q : St
   pub beside : AreBeside view new q
   pub hand : IsKeptAll view new q
   pub room : OnTrue call.again (HasRoom new (next_cost here (state_in view.modules new q)))
+  pub left : spare (state_in view.modules old p) ≤ spare (state_in view.modules new q) + call_units call.bytes
   pub pool : SamePool old new
 
--- Calls treated so many bytes of a turn, which would end here, and made so much at most.
+-- Calls treated so many bytes of a turn, which would end here, and so much of the books was taken at most.
 pub record TreatsAs (here : Spot) (bytes : ℕ) (old new : State ℕ) (told told' : Fates) : Type 0 where
   pub gone : List (Fate ℕ)
   pub within : bytes ≤ bytes_left here.way false (ldterm_of (module_at here old))
@@ -118,4 +127,4 @@ pub record TreatsAs (here : Spot) (bytes : ℕ) (old new : State ℕ) (told told
   pub moves : (name : QueueName) → moved_on plain here name bytes old
       ≡ record { turn = Moved bytes; state = module_turn_ended name here (not (bytes == 0)) new; gone = gone }
   pub tells : told' ≡ tallied gone told
-  pub made : (d : Dir) → (book d new).made ≤ (book d old).made + echo_most * (9 * bytes + 8)
+  pub left : spare old ≤ spare new + (102 * bytes + 99)

@@ -1,4 +1,4 @@
--- Stacks on which an ldterm and a ptem may stand.
+-- Stacks on which modules may stand, each of its own kind.
 use Rattle.std.specs.Prelude.{ℕ, ◌≡◌, List, [], ◌∷◌, map}
 use Rattle.std.specs.List.{AllByRecursion}
 use Rattle.std.proofs.Common.{arith, sym, ◌∙◌}
@@ -22,6 +22,7 @@ module _ {M : Type 0} (name : M → ℕ) where
   rest-keeps : (s : StoreValue) (x : AnyModule M) → IsHeld name s x → IsAtRest (module_in name s x) → (i : ℕ) → keeps name x i ≡ 0
   rest-keeps s (kinds.Ldterm x) held rest i = served-rests name s x Up i held rest
   rest-keeps s (kinds.Ptem x) held rest i = omega arith
+  rest-keeps s (kinds.Pckt x) held rest i = omega arith
 
   pub rests-keep : (s : StoreValue) (xs : List (AnyModule M)) → AllByRecursion (IsHeld name s) xs → AllByRecursion (λ p. IsAtRest p) (map (module_in name s) xs) → (i : ℕ) → all_of (keeps name) xs i ≡ 0
   rests-keep s [] held rest i = omega arith

@@ -1,12 +1,20 @@
 -- What a put at a spot of a pair did to the store and the streams.
-use Rattle.std.specs.Prelude.{ℕ, ◌≡◌, List}
+use Rattle.std.specs.Prelude.{ℕ, ◌≡◌, ◌-◌, List}
 use Rattle.strm_types.specs.declared.rules.Fates.{Fates}
-use Rattle.strm_types.specs.Deliver.{Parcel, Took, tallied}
+use Rattle.strm_types.specs.declared.spots.Spot.{Spot}
+use Rattle.strm_types.specs.Cells.{plain}
+use Rattle.strm_types.specs.Deliver.{Acted, Parcel, Took, tallied}
+use Rattle.strm_types.specs.Message.{Message}
+use Rattle.strm_types.specs.ModuleQueues.{at_place}
+use Rattle.strm_types.specs.Modules.{put_among}
+use Rattle.strm_types.specs.StackCosts.{module_leaves, module_takes}
+use Rattle.strm_types.specs.Stacked.{Module, module_puts}
 use Rattle.strm_types.specs.State.{State}
 use Rattle.strm_blocks.specs.Blocks.{StoreValue}
 use Rattle.strm_frame.specs.declared.parcels.Sent.{Sent}
-use Rattle.strm_frame.specs.Hands.{once, Handles, SamePool, Shifts, Spends}
-use Rattle.strm_frame.specs.Outboxes.{times_sent, parcels_in, AreChains}
+use Rattle.strm_frame.specs.declared.modules.Acts.{Acts}
+use Rattle.strm_frame.specs.Hands.{once, Handles, OnlyOwn, SamePool, Shifts, Spends}
+use Rattle.strm_frame.specs.Outboxes.{message_in, sent_of, times_sent, parcels_in, AreChains}
 use Rattle.strm_pair.specs.declared.streams.Streams.{Streams}
 use Rattle.strm_pair.specs.Pairs.{state_in, AreBeside, kept_by}
 use Rattle.strm_pair.specs.Streams.{View}
@@ -36,3 +44,20 @@ pub record CameBy {S : Type 0} (view : View S) (old new : StoreValue) (p q : Str
   pub beside : AreBeside view new q
   pub keeps : (i : ℕ) → kept_by view q i ≡ kept_by view p i
   pub hands : Shifts old new (once message) (λ _. 0) 0
+
+-- what the modules of a stack do with a message that is put at one of them
+abbrev pub taken_at : Spot → Message ℕ → List (Module ℕ) → Acted ℕ (List (Module ℕ))
+taken_at to m ms = put_among (module_puts plain 0) (to.at - 1) to m ms
+
+-- A stack of modules took a message at a place.
+pub record StackTakes {M S : Type 0} (name : M → ℕ) (view : View S) (old new : StoreValue) (x y : S) (message : ℕ) (to : Spot) (acts : Acts M) (told told' : Fates) : Type 0 where
+  pub state : view.modules new y ≡ (taken_at to (message_in old message) (view.modules old x)).state
+  pub notes : acts.notes.items ≡ (taken_at to (message_in old message) (view.modules old x)).notes
+  pub sent : parcels_in name new (sent_of acts.sent) ≡ (taken_at to (message_in old message) (view.modules old x)).sent
+  pub tells : told' ≡ tallied (taken_at to (message_in old message) (view.modules old x)).gone told
+  pub held : view.IsHeld new y
+  pub own : OnlyOwn old new (view.owns x) (view.owns y)
+  pub chains : AreChains name new (sent_of acts.sent)
+  pub hands : Handles old new (once message) (view.keeps x) (view.keeps y) (λ i. times_sent name i (sent_of acts.sent))
+  pub spends : Spends old new (at_place (module_takes to (message_in old message)) 0 to.at (view.modules old x)) (at_place (module_leaves to (message_in old message)) 0 to.at (view.modules old x))
+  pub pool : SamePool old new

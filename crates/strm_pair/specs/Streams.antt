@@ -1,8 +1,9 @@
 -- What the two streams stand for, beside their store.
-use Rattle.std.specs.Prelude.{ℕ, ◌≡◌, ◌+◌, ◌≤◌, ◌<◌, List, [], length, sum_by}
+use Rattle.std.specs.Prelude.{ℕ, ◌≡◌, ◌+◌, ◌≤◌, ◌<◌, List, [], length, map, sum_by}
 use Rattle.std.specs.List.{AllByRecursion}
 use Rattle.strm_types.specs.declared.names.Way.TheVariants.{Up, Down}
 use Rattle.strm_types.specs.Queue.{IsOrdered}
+use Rattle.strm_types.specs.StackCosts.{EachOnce}
 use Rattle.strm_types.specs.Stacked as plain
 use Rattle.strm_types.specs.Stacked.{IsAtRest}
 use Rattle.strm_types.specs.State.{Stream}
@@ -61,14 +62,19 @@ pub record IsBlank (s : StoreValue) (first : ℕ) : Type 0 where
   pub up : list_at s (first + 2) ≡ []
   pub down : list_at s (first + 3) ≡ []
 
+-- no two of the modules of a stream have the same name
+abbrev pub AreApart : List (plain.Module ℕ) → Type 0
+AreApart ps = EachOnce (map plain.module_name ps)
+
 -- A side's queues stand on lists of their own, from a number on: the head's, which has what readers may read alone, and the
--- driver's, with their kept numbers right; two more are for the queues of a module, and empty where none has them.
+-- driver's, with their kept numbers right; two more are for the queues of a module, and empty where none has them. Each module stands there once.
 pub record IsSide {S : Type 0} (view : View S) (s : StoreValue) (first : ℕ) (e : End S) : Type 0 where
   pub head_list : e.head.queue.list ≡ first
   pub driver_list : e.driver.list ≡ first + 1
   pub head : IsHeadQueue s e.head.queue
   pub driver : IsReady s e.driver
   pub stack : view.IsHeld s e.stack
+  pub once : AreApart (view.modules s e.stack)
   pub owned : (k : ℕ) → 0 < view.owns e.stack k → (first + 2 ≤ k) × (k < first + 4)
   pub spare : (k : ℕ) → first + 2 ≤ k → k < first + 4 → view.owns e.stack k ≡ 0 → list_at s k ≡ []
 

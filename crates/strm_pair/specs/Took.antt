@@ -3,6 +3,7 @@ use Rattle.std.specs.Prelude.{ℕ, ◌≡◌, Bool, not, ◌&&◌, ◌==◌, if�
 use Rattle.strm_types.specs.declared.answers.Turn.{Turn}
 use Rattle.strm_types.specs.declared.names.Side.{Side}
 use Rattle.strm_types.specs.declared.rules.Fates.{Fates}
+use Rattle.strm_types.specs.Cells.{plain}
 use Rattle.strm_types.specs.Deliver.{tallied}
 use Rattle.strm_types.specs.Message.{Message}
 use Rattle.strm_types.specs.Queue.{Queue, left_with, relieved, relieves}
@@ -39,6 +40,6 @@ pub record MovesAcross (side : Side) (old : State ℕ) (turn : Turn) (new : Stat
   pub message : Message ℕ
   pub rest : List (Message ℕ)
   pub first : (stream side old).driver.queue.messages ≡ message ∷ rest
-  pub answer : turn ≡ (moved_across side message rest old).turn
-  pub state : new ≡ (moved_across side message rest old).state
-  pub tells : told' ≡ tallied (moved_across side message rest old).gone told
+  pub answer : turn ≡ (moved_across plain side message rest old).turn
+  pub state : new ≡ (moved_across plain side message rest old).state
+  pub tells : told' ≡ tallied (moved_across plain side message rest old).gone told

@@ -11,7 +11,7 @@ ghost use Rattle.strm_types.specs.TurnCalls.{Begins, bytes_left, ldterm_of, modu
 ghost use Rattle.strm_blocks.specs.Blocks.{StoreValue};
 ghost use Rattle.strm_frame.specs.Hands.{HasRoom};
 ghost use Rattle.strm_frame.specs.Outboxes.{sent_of};
-ghost use Rattle.strm_pair.specs.ModuleServed.{ActsAs, CallsAs, IsKeptAll, MayBook, StackServes, TreatsAs, between, call_cost, call_of};
+ghost use Rattle.strm_pair.specs.ModuleServed.{ActsAs, BookTakes, CallsAs, IsKeptAll, MayBook, StackServes, TreatsAs, between, call_cost, call_of};
 
 use crate::earlier::note;
 use crate::stacks::Stacks;
@@ -21,7 +21,7 @@ use strm_types::{Fates, HOPS, Side, Spot};
 
 // How many bytes were made so far in each direction, modulo 2^64.
 #[derive(Clone, Copy)]
-struct Made {
+pub(crate) struct Made {
     from_master: u64,
     from_slave: u64,
 }
@@ -38,7 +38,7 @@ impl Made {
     }
 
     // Those that are told.
-    fn of(told: &Fates) -> Made
+    pub(crate) fn of(told: &Fates) -> Made
         ensures counts { result ≡ record { from_master = told.now.made_from_master; from_slave = told.now.made_from_slave } }
         ensures few { (result.from_master < 2 ^ 64) × (result.from_slave < 2 ^ 64) }
     {
@@ -67,18 +67,27 @@ pub(crate) struct Call {
 impl<S: Drop> Streams<S> {
     ghost use Rattle.strm_pair.specs.Pairs.{state_in, end_at, with_end, AreBeside, AreHeld, SamePool};
 
+    // How many bytes are booked as made in each direction.
+    pub(crate) fn booked(&self) -> Made
+        ensures counts { result ≡ record { from_master = self.now.from_master.made; from_slave = self.now.from_slave.made } }
+        ensures few { (result.from_master < 2 ^ 64) × (result.from_slave < 2 ^ 64) }
+    {
+        Made::new(self.from_master.made, self.from_slave.made)
+    }
+
     // Books what was made since so many had been, in each direction.
-    fn book_made(&mut self, before: Made, told: &Fates)
-        requires master { self.old.from_master.made + between before.from_master told.now.made_from_master < 2 ^ 64 }
-        requires slave { self.old.from_slave.made + between before.from_slave told.now.made_from_slave < 2 ^ 64 }
+    pub(crate) fn book_made(&mut self, before: Made, told: &Fates)
+        requires master { BookTakes self.old.from_master.made (between before.from_master told.now.made_from_master) }
+        requires slave { BookTakes self.old.from_slave.made (between before.from_slave told.now.made_from_slave) }
         ensures { self.new ≡ record self.old {
           from_master = with_made (between before.from_master told.now.made_from_master) self.old.from_master;
           from_slave = with_made (between before.from_slave told.now.made_from_slave) self.old.from_slave;
         } }
     {
         let made = Made::of(told).since(before);
-        self.from_master.made += made.from_master;
-        self.from_slave.made += made.from_slave;
+        let booked = self.booked();
+        self.from_master.made = booked.from_master + made.from_master;
+        self.from_slave.made = booked.from_slave + made.from_slave;
     }
 
     // The stack of a side serves a call of a turn, and nothing else of the streams changes.

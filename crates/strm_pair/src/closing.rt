@@ -1,13 +1,16 @@
 //! Flushes and closes of a side's stream (streamio(7I): I_FLUSH; close(2); STREAMS Programming Guide, "Flush Handling").
 
-ghost use Rattle.std.specs.Prelude.{ℕ, ◌≡◌};
+ghost use Rattle.std.specs.Prelude.{ℕ, ◌≡◌, ◌+◌, ◌≤◌, true};
 ghost use Rattle.strm_types.specs.declared.answers.Answer.TheVariants.{Done};
 ghost use Rattle.strm_types.specs.declared.rules.Rule.TheVariants.{EndClosed};
+ghost use Rattle.strm_types.specs.Cells.{plain};
 ghost use Rattle.strm_types.specs.Closes.{head_emptied, driver_emptied, ended, hung_up_at, closed_at};
 ghost use Rattle.strm_types.specs.Emptied.{of_all};
 ghost use Rattle.strm_types.specs.Deliver.{tallied};
 ghost use Rattle.strm_types.specs.Kept.{AreIdle};
 ghost use Rattle.strm_types.specs.Puts.{flushed_on};
+ghost use Rattle.strm_types.specs.Refused.{in_range};
+ghost use Rattle.strm_types.specs.Spares.{spare};
 ghost use Rattle.strm_frame.specs.Hands.{HasRoom};
 ghost use Rattle.strm_pair.specs.Streams.{Modules};
 
@@ -34,14 +37,16 @@ impl<S: Drop> Streams<S> {
     ) -> Answer<usize>
         requires held { AreHeld B.view (B.value store.old) self.old }
         requires idle { AreIdle (state_in B.view.modules (B.value store.old) self.old) }
-        requires room { HasRoom (B.value store.old) 5 }
+        requires room { HasRoom (B.value store.old) 6 }
+        requires range { in_range (state_in B.view.modules (B.value store.old) self.old) ≡ true }
         ensures answer { result ≡ Done }
         ensures state { state_in B.view.modules (B.value store.new) self.new
-            ≡ (flushed_on band side what (state_in B.view.modules (B.value store.old) self.old)).state }
+            ≡ (flushed_on plain band side what (state_in B.view.modules (B.value store.old) self.old)).state }
         ensures held { AreHeld B.view (B.value store.new) self.new }
         ensures pool { SamePool (B.value store.old) (B.value store.new) }
-        ensures told { told.new ≡ tallied (flushed_on band side what
+        ensures told { told.new ≡ tallied (flushed_on plain band side what
             (state_in B.view.modules (B.value store.old) self.old)).gone told.old }
+        ensures left { spare (state_in B.view.modules (B.value store.old) self.old) ≤ spare (state_in B.view.modules (B.value store.new) self.new) + 5 }
     {
         let message = make_flush(store, FlushAsked::of(what, band));
         let below = Spot {

@@ -1,11 +1,13 @@
 //! Messages that calls and turns send (STREAMS Programming Guide, "Put Procedures").
 
 ghost use Rattle.std.specs.Prelude.{◌≡◌, ◌<◌};
-ghost use Rattle.strm_types.specs.Costs.{cost};
+ghost use Rattle.strm_types.specs.Cells.{plain};
 ghost use Rattle.strm_types.specs.declared.limits.TheConstants.{HOPS};
 ghost use Rattle.strm_types.specs.Deliver.{tallied};
 ghost use Rattle.strm_types.specs.Puts.{delivered, far};
-ghost use Rattle.strm_frame.specs.Hands.{HasRoom, Spends};
+ghost use Rattle.strm_types.specs.Spares.{spare};
+ghost use Rattle.strm_types.specs.StackCosts.{most_cost};
+ghost use Rattle.strm_frame.specs.Hands.{MayTake, Takes};
 ghost use Rattle.strm_frame.specs.Outboxes.{message_in};
 ghost use Rattle.strm_pair.specs.Alone.{IsAlone};
 
@@ -17,7 +19,8 @@ use strm_types::{Fates, HOPS, Spot};
 impl<S: Drop> Streams<S> {
     ghost use Rattle.strm_pair.specs.Pairs.{state_in, AreHeld, SamePool};
 
-    /// Delivers the one message in hand to a spot, with all that it gives rise to. Nothing is in hand behind it.
+    /// Delivers the one message in hand to a spot, with all that it gives rise to. Nothing is in hand behind it. As each module stands on a
+    /// stream once at most, it takes few blocks, and little of the books.
     pub(crate) fn deliver_alone<B: Stacks<Stack = S>>(
         &mut self,
         store: &mut B,
@@ -27,13 +30,15 @@ impl<S: Drop> Streams<S> {
     )
         requires alone { IsAlone B.view (B.value store.old) self.old (B.name message) }
         requires low { far to (message_in (B.value store.old) (B.name message)) < HOPS }
-        requires room { HasRoom (B.value store.old) (cost to (message_in (B.value store.old) (B.name message))) }
+        requires room { let s = B.value store.old in
+            MayTake s (spare (state_in B.view.modules s self.old)) (most_cost to (message_in s (B.name message))) }
         ensures state { let s = B.value store.old in state_in B.view.modules (B.value store.new) self.new
-            ≡ (delivered to (message_in s (B.name message)) (state_in B.view.modules s self.old)).state }
+            ≡ (delivered plain to (message_in s (B.name message)) (state_in B.view.modules s self.old)).state }
         ensures told { let s = B.value store.old in told.new
-            ≡ tallied (delivered to (message_in s (B.name message)) (state_in B.view.modules s self.old)).gone told.old }
+            ≡ tallied (delivered plain to (message_in s (B.name message)) (state_in B.view.modules s self.old)).gone told.old }
         ensures held { AreHeld B.view (B.value store.new) self.new }
-        ensures spends { let s = B.value store.old in Spends s (B.value store.new) (cost to (message_in s (B.name message))) 0 }
+        ensures takes { let s = B.value store.old in let t = B.value store.new in
+            Takes s t (spare (state_in B.view.modules s self.old)) (spare (state_in B.view.modules t self.new)) (most_cost to (message_in s (B.name message))) 0 }
         ensures pool { SamePool (B.value store.old) (B.value store.new) }
     {
         deliver(store, self, HOPS, to, message, told);

@@ -1,7 +1,8 @@
 //! Ioctls on a side's stream, and the signals that wait at its head (ioctl(2), streamio(7I): I_STR).
 
-ghost use Rattle.std.specs.Prelude.{ℕ, ◌≡◌, ◌≤◌, ◌<◌, List, [], true, length};
+ghost use Rattle.std.specs.Prelude.{ℕ, ◌≡◌, ◌+◌, ◌≤◌, ◌<◌, List, [], true, length};
 ghost use Rattle.strm_types.specs.declared.limits.TheConstants.{IOCTL_BLOCKS, IOCTL_END, IOCTL_MAX, READ_MAX, SIGNALS_MAX};
+ghost use Rattle.strm_types.specs.Cells.{plain};
 ghost use Rattle.strm_types.specs.Calls.{ioctl_begun, ioctl_sent, ioctl_told, signals_told};
 ghost use Rattle.strm_types.specs.Deliver.{tallied};
 ghost use Rattle.strm_types.specs.Dropped.{is_met, number_sought};
@@ -9,7 +10,8 @@ ghost use Rattle.strm_types.specs.Journal.{answer_len, reply_in};
 ghost use Rattle.strm_types.specs.Kept.{AreIdle};
 ghost use Rattle.strm_types.specs.Message.{Message};
 ghost use Rattle.strm_types.specs.Pushes.{ioctl_dropped};
-ghost use Rattle.strm_types.specs.Refused.{may_ask};
+ghost use Rattle.strm_types.specs.Refused.{in_range, may_ask};
+ghost use Rattle.strm_types.specs.Spares.{spare};
 ghost use Rattle.strm_types.specs.State.{stream};
 ghost use Rattle.strm_blocks.specs.Blocks.{StoreValue};
 ghost use Rattle.strm_frame.specs.Hands.{HasRoom};
@@ -63,11 +65,13 @@ impl<S: Drop> Streams<S> {
         requires idle { AreIdle (state_in B.view.modules (B.value store.old) self.old) }
         requires may_ask { may_ask body.now (state_in B.view.modules (B.value store.old) self.old) ≡ true }
         requires room { HasRoom (B.value store.old) IOCTL_BLOCKS }
+        requires range { in_range (state_in B.view.modules (B.value store.old) self.old) ≡ true }
         ensures state { state_in B.view.modules (B.value store.new) self.new
-            ≡ (ioctl_sent side command body.now (state_in B.view.modules (B.value store.old) self.old)).state }
+            ≡ (ioctl_sent plain side command body.now (state_in B.view.modules (B.value store.old) self.old)).state }
         ensures held { AreHeld B.view (B.value store.new) self.new }
         ensures pool { SamePool (B.value store.old) (B.value store.new) }
-        ensures told { told.new ≡ tallied (ioctl_sent side command body.now (state_in B.view.modules (B.value store.old) self.old)).gone told.old }
+        ensures told { told.new ≡ tallied (ioctl_sent plain side command body.now (state_in B.view.modules (B.value store.old) self.old)).gone told.old }
+        ensures left { spare (state_in B.view.modules (B.value store.old) self.old) ≤ spare (state_in B.view.modules (B.value store.new) self.new) + 30 }
     {
         let message = make_ioctl(store, Ioc::asking(command, self.next_ioctl), body);
         self.begin_ioctl::<B>(side, command);
@@ -116,16 +120,18 @@ impl<S: Drop> Streams<S> {
         requires idle { AreIdle (state_in B.view.modules (B.value store.old) self.old) }
         requires may_ask { may_ask body.now (state_in B.view.modules (B.value store.old) self.old) ≡ true }
         requires room { HasRoom (B.value store.old) IOCTL_BLOCKS }
+        requires range { in_range (state_in B.view.modules (B.value store.old) self.old) ≡ true }
         requires fresh { out.old.items ≡ [] }
         ensures answer { reply_in result out.new.items
-            ≡ (ioctl_told side (ioctl_sent side command body.now (state_in B.view.modules (B.value store.old) self.old)).state).answer }
+            ≡ (ioctl_told side (ioctl_sent plain side command body.now (state_in B.view.modules (B.value store.old) self.old)).state).answer }
         ensures filled { answer_len result ≡ length out.new.items }
         ensures content { length out.new.items ≤ IOCTL_MAX }
         ensures state { state_in B.view.modules (B.value store.new) self.new
-            ≡ (ioctl_told side (ioctl_sent side command body.now (state_in B.view.modules (B.value store.old) self.old)).state).state }
+            ≡ (ioctl_told side (ioctl_sent plain side command body.now (state_in B.view.modules (B.value store.old) self.old)).state).state }
         ensures held { AreHeld B.view (B.value store.new) self.new }
         ensures pool { SamePool (B.value store.old) (B.value store.new) }
-        ensures told { told.new ≡ tallied (ioctl_sent side command body.now (state_in B.view.modules (B.value store.old) self.old)).gone told.old }
+        ensures told { told.new ≡ tallied (ioctl_sent plain side command body.now (state_in B.view.modules (B.value store.old) self.old)).gone told.old }
+        ensures left { spare (state_in B.view.modules (B.value store.old) self.old) ≤ spare (state_in B.view.modules (B.value store.new) self.new) + 30 }
     {
         self.send_ioctl(store, side, command, body, told);
         self.tell_ioctl::<B>(side, out)

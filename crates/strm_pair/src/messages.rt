@@ -14,6 +14,7 @@ ghost use Rattle.strm_types.specs.Message.{part};
 ghost use Rattle.strm_types.specs.Names.{direction_from, direction_of, head_of};
 ghost use Rattle.strm_types.specs.PutMsg.{put_blocks, put_refusal};
 ghost use Rattle.strm_types.specs.Refused.{in_range};
+ghost use Rattle.strm_types.specs.Spares.{spare};
 ghost use Rattle.strm_types.specs.State.{book, stream, with_book};
 ghost use Rattle.strm_blocks.specs.Blocks.{StoreValue, free_m, free_d};
 ghost use Rattle.strm_pair.specs.Parts.{longest_part};
@@ -21,6 +22,7 @@ ghost use Rattle.strm_pair.specs.Streams.{Modules};
 
 use crate::stacks::Stacks;
 use crate::streams::Streams;
+use crate::writing::with_written;
 use strm_head::{getmsg, make_message};
 use strm_types::{Answer, Book, Content, Fates, Prio, READ_MAX, Side, Spot, Wanted, Way};
 
@@ -37,20 +39,6 @@ fn len_of(lent: Option<&[u8]>) -> usize
 
 impl<S: Drop> Streams<S> {
     ghost use Rattle.strm_pair.specs.Pairs.{state_in, AreHeld, SamePool};
-
-    // The book of what comes from a side, with so many more bytes written.
-    fn book_with(&self, side: Side, count: usize) -> Book
-        requires in_range { (modules : Modules S) (s : StoreValue) → in_range (state_in modules s self.now) ≡ true }
-        requires few { count < 2 ^ 63 }
-        ensures { (modules : Modules S) (s : StoreValue) → result ≡ with_written count (book (direction_from side) (state_in modules s self.now)) }
-    {
-        let mut book = match side {
-            Side::Master => self.from_master,
-            Side::Slave => self.from_slave,
-        };
-        book.written += count as u64;
-        book
-    }
 
     /// Keeps a book of what comes from a side.
     pub(crate) fn keep_book<B: Stacks<Stack = S>>(&mut self, side: Side, book: Book)
@@ -88,17 +76,18 @@ impl<S: Drop> Streams<S> {
         ensures pool { SamePool (B.value store.old) (B.value store.new) }
         ensures told { let c = option_map (λ bytes. bytes.now) control.entry in let b = option_map (λ bytes. bytes.now) body.entry in
             told.new ≡ tallied (put_at plain side prio c b (state_in B.view.modules (B.value store.old) self.old)).gone told.old }
+        ensures left { spare (state_in B.view.modules (B.value store.old) self.old) ≤ spare (state_in B.view.modules (B.value store.new) self.new) }
     {
         let Some(message) = make_message(store, prio, control, body) else {
             return Answer::Done;
         };
-        let book = self.book_with(side, len_of(control) + len_of(body));
         let below = Spot {
             side,
             at: 1,
             way: Way::Down,
         };
         self.deliver_alone(store, below, message, told);
+        let book = with_written(self.book_of(side), len_of(control) + len_of(body));
         self.keep_book::<B>(side, book);
         Answer::Done
     }

@@ -1,8 +1,7 @@
-//! The modules that may stand on a side's stream: ldterm (ldterm(7M)) and ptem (ptem(7M)), each as it is by itself.
+//! The modules that may stand on a side's stream: ldterm (ldterm(7M)), ptem (ptem(7M)) and pckt (pckt(7M)), each as it is by itself.
 
-ghost use Rattle.std.specs.Prelude.{ℕ, ◌≡◌, ◌≤◌, ◌+◌, None, Some, MatchOption};
+ghost use Rattle.std.specs.Prelude.{ℕ, ◌≡◌, ◌≤◌, ◌+◌};
 ghost use Rattle.strm_types.specs.Ptems.{new_ptem};
-ghost use Rattle.strm_types.specs.Pushes.{named_by};
 ghost use Rattle.strm_types.specs.Stacked.{OfPtem};
 ghost use Rattle.strm_blocks.specs.Blocks.{StoreValue};
 ghost use Rattle.strm_pair.specs.AnyModules.{IsMade, module_in};
@@ -10,7 +9,7 @@ ghost use Rattle.strm_pair.specs.AnyModules.{IsMade, module_in};
 use strm_blocks::Blocks;
 use strm_frame::{Acts, LetGo, Module, Served, TurnEnd};
 use strm_ldterm::Ldterm;
-use strm_pty::Ptem;
+use strm_pty::{Pckt, Ptem};
 use strm_types::{Asks, Band, Fates, ModuleName, Rule, Side, Spot, Way};
 
 /// A module of any kind.
@@ -18,6 +17,7 @@ use strm_types::{Asks, Band, Fates, ModuleName, Rule, Side, Spot, Way};
 pub enum AnyModule<Mp> {
     Ldterm(Ldterm<Mp>),
     Ptem(Ptem),
+    Pckt(Pckt),
 }
 
 impl<Mp: Drop> Default for AnyModule<Mp> {
@@ -30,22 +30,22 @@ impl<Mp: Drop> Default for AnyModule<Mp> {
 }
 
 impl<Mp: Drop> AnyModule<Mp> {
-    /// One as its name makes it, with two lists of its own from a number on, where it has queues. So far pckt isn't built.
-    pub(crate) fn made(name: ModuleName, first: usize) -> Option<AnyModule<Mp>>
+    /// One as its name makes it, with two lists of its own from a number on, where it has queues.
+    pub(crate) fn made(name: ModuleName, first: usize) -> AnyModule<Mp>
         requires { first ≤ 6 }
-        ensures { MatchOption result (named_by {C = ℕ} (Some name) ≡ None) (λ x. IsMade first name x) }
+        ensures { IsMade first name result }
     {
         match name {
-            ModuleName::Ldterm => Some(AnyModule::Ldterm(Ldterm::new(first, first + 1))),
-            ModuleName::Ptem => Some(AnyModule::Ptem(Ptem::new())),
-            ModuleName::Pckt => None,
+            ModuleName::Ldterm => AnyModule::Ldterm(Ldterm::new(first, first + 1)),
+            ModuleName::Ptem => AnyModule::Ptem(Ptem::new()),
+            ModuleName::Pckt => AnyModule::Pckt(Pckt),
         }
     }
 }
 
 impl<B: Blocks> Module<B> for AnyModule<B::Mp> {
     ghost use Rattle.strm_types.specs.Cells as cells;
-    ghost use Rattle.strm_types.specs.Costs as costs;
+    ghost use Rattle.strm_types.specs.StackCosts as costs;
     ghost use Rattle.strm_types.specs.Puts.{far};
     ghost use Rattle.strm_types.specs.Stacked as plain;
     ghost use Rattle.strm_types.specs.TurnCalls.{Ends, ldterm_of};
@@ -64,7 +64,7 @@ impl<B: Blocks> Module<B> for AnyModule<B::Mp> {
 
     ghost keeps = { λ x. any.keeps B.name x };
 
-    ghost puts = { plain.module_puts };
+    ghost puts = { λ here m p. plain.module_puts cells.plain 0 here m p };
 
     ghost queue_of = { plain.module_queue };
 
@@ -84,7 +84,11 @@ impl<B: Blocks> Module<B> for AnyModule<B::Mp> {
 
     ghost height = { far };
 
-    ghost cost = { costs.cost };
+    ghost takes = { costs.module_takes };
+
+    ghost leaves = { costs.module_leaves };
+
+    ghost cost = { costs.most_cost };
 
     ghost turn_height = { turn_height };
 
@@ -94,6 +98,7 @@ impl<B: Blocks> Module<B> for AnyModule<B::Mp> {
         match self {
             AnyModule::Ldterm(ldterm) => Module::<B>::name(ldterm),
             AnyModule::Ptem(ptem) => Module::<B>::name(ptem),
+            AnyModule::Pckt(pckt) => Module::<B>::name(pckt),
         }
     }
 
@@ -101,6 +106,7 @@ impl<B: Blocks> Module<B> for AnyModule<B::Mp> {
         match self {
             AnyModule::Ldterm(ldterm) => ldterm.put(store, here, message, told),
             AnyModule::Ptem(ptem) => ptem.put(store, here, message, told),
+            AnyModule::Pckt(pckt) => pckt.put(store, here, message, told),
         }
     }
 
@@ -108,6 +114,7 @@ impl<B: Blocks> Module<B> for AnyModule<B::Mp> {
         match self {
             AnyModule::Ldterm(ldterm) => Module::<B>::has_queue(ldterm, way),
             AnyModule::Ptem(ptem) => Module::<B>::has_queue(ptem, way),
+            AnyModule::Pckt(pckt) => Module::<B>::has_queue(pckt, way),
         }
     }
 
@@ -115,6 +122,7 @@ impl<B: Blocks> Module<B> for AnyModule<B::Mp> {
         match self {
             AnyModule::Ldterm(ldterm) => ldterm.is_full(store, way, band),
             AnyModule::Ptem(ptem) => ptem.is_full(store, way, band),
+            AnyModule::Pckt(pckt) => pckt.is_full(store, way, band),
         }
     }
 
@@ -122,6 +130,7 @@ impl<B: Blocks> Module<B> for AnyModule<B::Mp> {
         match self {
             AnyModule::Ldterm(ldterm) => ldterm.count(store, way, band),
             AnyModule::Ptem(ptem) => ptem.count(store, way, band),
+            AnyModule::Pckt(pckt) => pckt.count(store, way, band),
         }
     }
 
@@ -129,6 +138,7 @@ impl<B: Blocks> Module<B> for AnyModule<B::Mp> {
         match self {
             AnyModule::Ldterm(ldterm) => ldterm.sizes(store, way),
             AnyModule::Ptem(ptem) => ptem.sizes(store, way),
+            AnyModule::Pckt(pckt) => pckt.sizes(store, way),
         }
     }
 
@@ -136,6 +146,7 @@ impl<B: Blocks> Module<B> for AnyModule<B::Mp> {
         match self {
             AnyModule::Ldterm(ldterm) => ldterm.first_size(store, way),
             AnyModule::Ptem(ptem) => ptem.first_size(store, way),
+            AnyModule::Pckt(pckt) => pckt.first_size(store, way),
         }
     }
 
@@ -143,6 +154,7 @@ impl<B: Blocks> Module<B> for AnyModule<B::Mp> {
         match self {
             AnyModule::Ldterm(ldterm) => ldterm.none_waits_up(store),
             AnyModule::Ptem(ptem) => ptem.none_waits_up(store),
+            AnyModule::Pckt(pckt) => pckt.none_waits_up(store),
         }
     }
 
@@ -150,6 +162,7 @@ impl<B: Blocks> Module<B> for AnyModule<B::Mp> {
         match self {
             AnyModule::Ldterm(ldterm) => Module::<B>::line_len(ldterm),
             AnyModule::Ptem(ptem) => Module::<B>::line_len(ptem),
+            AnyModule::Pckt(pckt) => Module::<B>::line_len(pckt),
         }
     }
 
@@ -157,6 +170,7 @@ impl<B: Blocks> Module<B> for AnyModule<B::Mp> {
         match self {
             AnyModule::Ldterm(ldterm) => Module::<B>::let_wait(ldterm, way, band),
             AnyModule::Ptem(ptem) => Module::<B>::let_wait(ptem, way, band),
+            AnyModule::Pckt(pckt) => Module::<B>::let_wait(pckt, way, band),
         }
     }
 
@@ -164,6 +178,7 @@ impl<B: Blocks> Module<B> for AnyModule<B::Mp> {
         match self {
             AnyModule::Ldterm(ldterm) => ldterm.asks(store, way),
             AnyModule::Ptem(ptem) => ptem.asks(store, way),
+            AnyModule::Pckt(pckt) => pckt.asks(store, way),
         }
     }
 
@@ -171,6 +186,7 @@ impl<B: Blocks> Module<B> for AnyModule<B::Mp> {
         match self {
             AnyModule::Ldterm(ldterm) => ldterm.serve(store, here, again, told),
             AnyModule::Ptem(ptem) => ptem.serve(store, here, false, told),
+            AnyModule::Pckt(pckt) => pckt.serve(store, here, false, told),
         }
     }
 
@@ -178,6 +194,7 @@ impl<B: Blocks> Module<B> for AnyModule<B::Mp> {
         match self {
             AnyModule::Ldterm(ldterm) => ldterm.end_turn(store, way, took),
             AnyModule::Ptem(ptem) => ptem.end_turn(store, way, took),
+            AnyModule::Pckt(pckt) => pckt.end_turn(store, way, took),
         }
     }
 
@@ -192,6 +209,7 @@ impl<B: Blocks> Module<B> for AnyModule<B::Mp> {
         match self {
             AnyModule::Ldterm(ldterm) => ldterm.clear(store, side, rule, seeking, told),
             AnyModule::Ptem(ptem) => ptem.clear(store, side, rule, seeking, told),
+            AnyModule::Pckt(pckt) => pckt.clear(store, side, rule, seeking, told),
         }
     }
 

@@ -4,6 +4,7 @@
 ghost use Rattle.std.specs.Prelude.{ℕ, ◌≡◌, ◌<◌, ◌≤◌, ◌&&◌, ◌==◌, [], ◌∷◌, suc, true, false, if◌then◌else◌, Some};
 ghost use Rattle.strm_types.specs.declared.limits.TheConstants.{MODULES};
 ghost use Rattle.strm_types.specs.declared.names.Way.TheVariants.{Up};
+ghost use Rattle.strm_types.specs.Cells.{plain};
 ghost use Rattle.strm_types.specs.Earlier.{modules_on};
 ghost use Rattle.strm_types.specs.Flushing.{is_flush};
 ghost use Rattle.strm_types.specs.Message.{has_parts};
@@ -12,20 +13,24 @@ ghost use Rattle.strm_types.specs.Puts.{across_of, put_at_head, put_at_module, p
 ghost use Rattle.strm_types.specs.State.{stream};
 ghost use Rattle.strm_blocks.specs.Blocks.{in_hand, block_at};
 ghost use Rattle.strm_msg.specs.Messages.{IsChain};
-ghost use Rattle.strm_frame.specs.Hands.{CanPut, HasRoom, Shifts, once};
-ghost use Rattle.strm_frame.specs.Outboxes.{cost_of, message_in, sent_of, times_sent, parcels_in, AreChains};
+ghost use Rattle.strm_frame.specs.Hands.{CanPut, HasRoom, MayTake, Shifts, once};
+ghost use Rattle.strm_frame.specs.Outboxes.{message_in, sent_of, times_sent, parcels_in, AreChains};
 ghost use Rattle.strm_types.specs.Reads.{is_there};
 ghost use Rattle.strm_head.specs.Heads.{down_message, sent_down};
 ghost use Rattle.strm_pty.specs.Does.{Makes, MadeOne};
-ghost use Rattle.strm_types.specs.Costs.{head_takes, is_across, below_takes, cost};
-ghost use Rattle.strm_pair.specs.PutBy.{PutAs, PutBy, CameBy};
+ghost use Rattle.strm_types.specs.Costs.{below_takes, cost_of, head_takes, is_across};
+ghost use Rattle.strm_types.specs.ModuleQueues.{at_place};
+ghost use Rattle.strm_types.specs.Spares.{module_packs, spare};
+ghost use Rattle.strm_types.specs.StackCosts.{module_leaves, module_takes, stack_cost, stands_of};
+ghost use Rattle.strm_pair.specs.PutBy.{PutAs, PutBy, CameBy, StackTakes};
 ghost use Rattle.strm_pair.specs.Streams.{Modules};
 
+use crate::calling::Made;
 use crate::earlier::note;
 use crate::stacks::Stacks;
 use crate::streams::Streams;
 use strm_blocks::Blocks;
-use strm_frame::{Outbox, Sent, Stations};
+use strm_frame::{Acts, Outbox, Sent, Stations};
 use strm_head::{Down, make_flush};
 use strm_msg::booked_size;
 use strm_pty::{make, put};
@@ -70,7 +75,7 @@ fn is_flush(kind: MsgKind) -> bool
 }
 
 impl<S: Drop> Streams<S> {
-    ghost use Rattle.strm_pair.specs.Pairs.{state_in, AreBeside, kept_by};
+    ghost use Rattle.strm_pair.specs.Pairs.{state_in, end_at, with_end, AreBeside, kept_by};
     ghost use Rattle.strm_blocks.specs.Blocks.{StoreValue};
 
     // What the driver of a side is told of the other one.
@@ -157,7 +162,33 @@ impl<S: Drop> Streams<S> {
         send_down(store, to, down)
     }
 
-    // A message that comes to a module of a side's stream. What it says of its queues goes by how the stream was before.
+    // The stack of a side takes a message, and nothing else of the streams changes.
+    fn put_on_stack<B: Stacks<Stack = S>>(
+        &mut self,
+        store: &mut B,
+        to: Spot,
+        message: B::Mp,
+        told: &mut Fates,
+    ) -> Acts<B::Mp>
+        requires beside { AreBeside B.view (B.value store.old) self.old }
+        requires can_put { CanPut (B.value store.old) (B.name message) (kept_by B.view self.old) }
+        requires chain { IsChain (in_hand (B.value store.old) (B.name message)) }
+        requires room { let s = B.value store.old in let m = message_in s (B.name message) in
+            HasRoom s (at_place (module_takes to m) 0 to.at (stream to.side (state_in B.view.modules s self.old)).modules) }
+        requires inside { 0 < to.at }
+        requires within { to.at ≤ modules_on to.side (state_in B.view.modules (B.value store.old) self.old) }
+        ensures streams { self.new ≡ with_end to.side (record (end_at to.side self.old) { stack = (end_at to.side self.new).stack }) self.old }
+        ensures takes { StackTakes B.name B.view (B.value store.old) (B.value store.new) (end_at to.side self.old).stack (end_at to.side self.new).stack
+            (B.name message) to result told.old told.new }
+    {
+        match to.side {
+            Side::Master => B::put(&mut self.master.stack, store, to, message, told),
+            Side::Slave => B::put(&mut self.slave.stack, store, to, message, told),
+        }
+    }
+
+    // A message that comes to a module of a side's stream. What it says of its queues goes by how the stream was before, and what it made
+    // is booked.
     fn put_module<B: Stacks<Stack = S>>(
         &mut self,
         store: &mut B,
@@ -168,21 +199,22 @@ impl<S: Drop> Streams<S> {
         requires beside { AreBeside B.view (B.value store.old) self.old }
         requires can_put { CanPut (B.value store.old) (B.name message) (kept_by B.view self.old) }
         requires chain { IsChain (in_hand (B.value store.old) (B.name message)) }
-        requires room { HasRoom (B.value store.old) (cost to (message_in (B.value store.old) (B.name message))) }
+        requires room { let s = B.value store.old in let m = message_in s (B.name message) in
+            HasRoom s (at_place (module_takes to m) 0 to.at (stream to.side (state_in B.view.modules s self.old)).modules) }
+        requires books { let s = B.value store.old in let m = message_in s (B.name message) in let st = state_in B.view.modules s self.old in
+            at_place (module_packs to m) 0 to.at (stream to.side st).modules ≤ spare st }
         requires inside { 0 < to.at }
         requires within { (s : StoreValue) → to.at ≤ modules_on to.side (state_in B.view.modules s self.old) }
-        ensures { let s = B.value store.old in let m = message_in s (B.name message) in
-            let is = put_at_module to.side to m (state_in B.view.modules s self.old) in
-            PutAs B.name B.view s (B.value store.new) self.old self.new (B.name message) (cost to m) (cost_of cost is.sent)
-            (sent_of result) told.old told.new is }
+        ensures { let s = B.value store.old in let m = message_in s (B.name message) in let st = state_in B.view.modules s self.old in
+            let ms = (stream to.side st).modules in
+            PutAs B.name B.view s (B.value store.new) self.old self.new (B.name message) (at_place (module_takes to m) 0 to.at ms)
+            (at_place (module_leaves to m) 0 to.at ms) (sent_of result) told.old told.new (put_at_module plain to m st) }
     {
         store.audit();
         let place = B::place(&self.end(to.side).stack, to.at);
         let earlier = self.earlier::<B>(to.side, to.at);
-        let acts = match to.side {
-            Side::Master => B::put(&mut self.master.stack, store, to, message, told),
-            Side::Slave => B::put(&mut self.slave.stack, store, to, message, told),
-        };
+        let before = Made::of(told);
+        let acts = self.put_on_stack(store, to, message, told);
         note(
             &mut self.enabled,
             to.side,
@@ -190,6 +222,7 @@ impl<S: Drop> Streams<S> {
             earlier,
             acts.notes.as_slice(),
         );
+        self.book_made(before, told);
         acts.sent
     }
 
@@ -273,11 +306,12 @@ impl<S: Drop> Streams<S> {
         requires beside { AreBeside B.view (B.value store.old) self.old }
         requires can_put { CanPut (B.value store.old) (B.name message) (kept_by B.view self.old) }
         requires chain { IsChain (in_hand (B.value store.old) (B.name message)) }
-        requires room { HasRoom (B.value store.old) (cost to (message_in (B.value store.old) (B.name message))) }
-        ensures { let s = B.value store.old in let m = message_in s (B.name message) in
-            let is = put_in to m (state_in B.view.modules s self.old) in
-            PutAs B.name B.view s (B.value store.new) self.old self.new (B.name message) (cost to m) (cost_of cost is.sent)
-            (sent_of result) told.old told.new is }
+        requires room { let s = B.value store.old in let st = state_in B.view.modules s self.old in
+            MayTake s (spare st) (stack_cost (stands_of st) to (message_in s (B.name message))) }
+        ensures { let s = B.value store.old in let m = message_in s (B.name message) in let st = state_in B.view.modules s self.old in
+            let is = put_in plain to m st in
+            PutAs B.name B.view s (B.value store.new) self.old self.new (B.name message) (stack_cost (stands_of st) to m)
+            (cost_of (stack_cost (stands_of st)) is.sent) (sent_of result) told.old told.new is }
     {
         if to.at == 0 {
             return self.put_head(store, to, message, told);
@@ -296,7 +330,7 @@ impl<B: Stacks> Stations<B> for Streams<B::Stack> {
     ghost use Rattle.std.specs.Prelude.{ℕ};
     ghost use Rattle.strm_types.specs.State.{State};
     ghost use Rattle.strm_pair.specs.Pairs.{state_in, AreBeside, kept_by};
-    ghost use Rattle.strm_pair.specs.Framing.{streams-frame};
+    ghost use Rattle.strm_pair.specs.Framing.{costs-stay, streams-frame};
 
     ghost Plain = { State ℕ };
 
@@ -306,11 +340,13 @@ impl<B: Stacks> Stations<B> for Streams<B::Stack> {
 
     ghost keeps = { kept_by B.view };
 
-    ghost puts = { put_in };
+    ghost puts = { put_in plain };
 
     ghost height = { far };
 
-    ghost cost = { cost };
+    ghost cost = { λ s to m. stack_cost (stands_of s) to m };
+
+    ghost spare = { spare };
 
     fn put_at(
         &mut self,
@@ -319,8 +355,11 @@ impl<B: Stacks> Stations<B> for Streams<B::Stack> {
         message: B::Mp,
         told: &mut Fates,
     ) -> Outbox<B::Mp> {
+        store.audit();
         self.put(store, to, message, told)
     }
 
     ghost frame = { streams-frame B.view };
+
+    ghost cost_stays = { λ to m p. costs-stay to m p };
 }

@@ -41,14 +41,11 @@ pub(crate) fn or_else(first: Option<Refusal>, second: Option<Refusal>) -> Option
     }
 }
 
-// Whether a module of this name may be pushed: so far pckt isn't built.
+// Whether a name is that of a module.
 fn is_known(name: Option<ModuleName>) -> bool
     ensures { result ≡ is_known name }
 {
-    match name {
-        Some(ModuleName::Ldterm | ModuleName::Ptem) => true,
-        Some(ModuleName::Pckt) | None => false,
-    }
+    name.is_some()
 }
 
 // Whether a band, where one is named, is one of those that queues have.

@@ -6,7 +6,6 @@ ghost use Rattle.std.specs.Bool.{OnTrue};
 ghost use Rattle.strm_types.specs.declared.limits.TheConstants.{BANDS, STOP_BLOCKS};
 ghost use Rattle.strm_types.specs.declared.spots.Asks.TheVariants.{Empty};
 ghost use Rattle.strm_types.specs.Cells as cells;
-ghost use Rattle.strm_types.specs.Costs.{cost};
 ghost use Rattle.strm_types.specs.Deliver.{AreLower, tallied};
 ghost use Rattle.strm_types.specs.Dropped.{is_met};
 ghost use Rattle.strm_types.specs.Earlier.{places_of};
@@ -18,13 +17,14 @@ ghost use Rattle.strm_types.specs.Puts.{far};
 ghost use Rattle.strm_types.specs.Queue.{bytes_of, count_of};
 ghost use Rattle.strm_types.specs.Refused.{none_waits_up};
 ghost use Rattle.strm_types.specs.Service.{end_relieves, has_more, turn_ended};
+ghost use Rattle.strm_types.specs.StackCosts.{module_leaves, module_takes, most_cost};
 ghost use Rattle.strm_types.specs.Stacked.{module_asks, module_line, module_name, module_puts, module_queue, module_serves, with_module_queue};
 ghost use Rattle.strm_types.specs.TurnCalls.{Ends, ldterm_of, most_made};
 ghost use Rattle.strm_types.specs.TurnOutcomes.{first_size};
 ghost use Rattle.strm_blocks.specs.Blocks.{StoreValue, in_hand, list_at};
 ghost use Rattle.strm_msg.specs.Messages.{IsChain};
 ghost use Rattle.strm_frame.specs.Hands.{AreIn, CanPut, Handles, Hands, HasRoom, OnlyOwn, SamePool, Spends};
-ghost use Rattle.strm_frame.specs.Outboxes.{AreChains, cost_of, message_in, parcels_in, sent_of, times_sent};
+ghost use Rattle.strm_frame.specs.Outboxes.{AreChains, message_in, parcels_in, sent_of, times_sent};
 ghost use Rattle.strm_frame.specs.Serves.{IsBand, later_cost, least_free, stop_of};
 ghost use Rattle.strm_frame.specs.Stacks.{IsPlace};
 ghost use Rattle.strm_ldterm.specs.Bounds.{turn_height};
@@ -159,22 +159,23 @@ pub trait Stacks: Blocks {
         requires held { view.IsHeld (Self.value store.old) stack.old }
         requires can_put { CanPut (Self.value store.old) (Self.name message) (view.keeps stack.old) }
         requires chain { IsChain (in_hand (Self.value store.old) (Self.name message)) }
-        requires room { HasRoom (Self.value store.old) (cost to (message_in (Self.value store.old) (Self.name message))) }
+        requires room { HasRoom (Self.value store.old) (at_place (module_takes to (message_in (Self.value store.old) (Self.name message))) 0 to.at
+            (view.modules (Self.value store.old) stack.old)) }
         ensures state { let s = Self.value store.old in view.modules (Self.value store.new) stack.new
-            ≡ (put_among module_puts (to.at - 1) to (message_in s (Self.name message)) (view.modules s stack.old)).state }
+            ≡ (put_among (module_puts cells.plain 0) (to.at - 1) to (message_in s (Self.name message)) (view.modules s stack.old)).state }
         ensures notes { let s = Self.value store.old in result.notes.items
-            ≡ (put_among module_puts (to.at - 1) to (message_in s (Self.name message)) (view.modules s stack.old)).notes }
+            ≡ (put_among (module_puts cells.plain 0) (to.at - 1) to (message_in s (Self.name message)) (view.modules s stack.old)).notes }
         ensures sent { let s = Self.value store.old in parcels_in Self.name (Self.value store.new) (sent_of result.sent)
-            ≡ (put_among module_puts (to.at - 1) to (message_in s (Self.name message)) (view.modules s stack.old)).sent }
+            ≡ (put_among (module_puts cells.plain 0) (to.at - 1) to (message_in s (Self.name message)) (view.modules s stack.old)).sent }
         ensures told { let s = Self.value store.old in told.new
-            ≡ tallied (put_among module_puts (to.at - 1) to (message_in s (Self.name message)) (view.modules s stack.old)).gone told.old }
+            ≡ tallied (put_among (module_puts cells.plain 0) (to.at - 1) to (message_in s (Self.name message)) (view.modules s stack.old)).gone told.old }
         ensures held { view.IsHeld (Self.value store.new) stack.new }
         ensures own { OnlyOwn (Self.value store.old) (Self.value store.new) (view.owns stack.old) (view.owns stack.new) }
         ensures chains { AreChains Self.name (Self.value store.new) (sent_of result.sent) }
         ensures hands { Hands (Self.value store.old) (Self.value store.new) (Self.name message) (view.keeps stack.old) (view.keeps stack.new)
             (λ i. times_sent Self.name i (sent_of result.sent)) }
-        ensures spends { Spends (Self.value store.old) (Self.value store.new) (cost to (message_in (Self.value store.old) (Self.name message)))
-            (cost_of cost (parcels_in Self.name (Self.value store.new) (sent_of result.sent))) }
+        ensures spends { let s = Self.value store.old in let m = message_in s (Self.name message) in let ms = view.modules s stack.old in
+            Spends s (Self.value store.new) (at_place (module_takes to m) 0 to.at ms) (at_place (module_leaves to m) 0 to.at ms) }
         ensures pool { SamePool (Self.value store.old) (Self.value store.new) };
 
     /// What the first message asks of a queue of the module of a place, before it goes on.
@@ -224,7 +225,7 @@ pub trait Stacks: Blocks {
         ensures falls { AreLower far (turn_height here) (parcels_in Self.name (Self.value store.new) (sent_of result.acts.sent)) }
         ensures hands { Handles (Self.value store.old) (Self.value store.new) (λ _. 0) (view.keeps stack.old) (view.keeps stack.new)
             (λ i. times_sent Self.name i (sent_of result.acts.sent)) }
-        ensures room { HasRoom (Self.value store.new) (later_cost cost result.again
+        ensures room { HasRoom (Self.value store.new) (later_cost most_cost result.again
             (at_place (turn_cost here true) 0 here.at (view.modules (Self.value store.new) stack.new))
             (parcels_in Self.name (Self.value store.new) (sent_of result.acts.sent))) }
         ensures pool { SamePool (Self.value store.old) (Self.value store.new) };
@@ -432,9 +433,6 @@ impl Stacks for TableStore {
         first: usize,
     ) {
         let _ = store;
-        let Some(module) = AnyModule::made(name, first + 2) else {
-            return;
-        };
-        let _ = stack.push::<TableStore>(module);
+        let _ = stack.push::<TableStore>(AnyModule::made(name, first + 2));
     }
 }

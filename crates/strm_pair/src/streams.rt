@@ -1,12 +1,13 @@
 //! Both streams of a pair, and what calls and turns do to them, on the store in which their messages stand.
 
+ghost use Rattle.std.specs.Bool.{OnTrue};
 ghost use Rattle.std.specs.Prelude.{ℕ, ◌≡◌, ◌+◌, ◌≤◌, ◌<◌, true, false, [], length, min, None};
 ghost use Rattle.strm_types.specs.Ledgers.{FewBooked};
 ghost use Rattle.strm_types.specs.Cells.{plain};
 ghost use Rattle.strm_types.specs.State.{opening, new_stream};
 ghost use Rattle.strm_types.specs.declared.answers.Answer.TheVariants.{Done, Bytes};
 ghost use Rattle.strm_types.specs.declared.names.Openness.TheVariants.{Open};
-ghost use Rattle.strm_types.specs.Calls.{Reply, called, mode_set, request, opened_slave};
+ghost use Rattle.strm_types.specs.Calls.{Reply, called, delivers, mode_set, request, opened_slave};
 ghost use Rattle.strm_types.specs.CutOff.{IsCutOff};
 ghost use Rattle.strm_types.specs.declared.entries.Entry.TheVariants.{Called};
 ghost use Rattle.strm_types.specs.Deliver.{tallied};
@@ -15,6 +16,7 @@ ghost use Rattle.strm_types.specs.Turns.{turned};
 ghost use Rattle.strm_types.specs.declared.limits.TheConstants.{READ_MAX};
 ghost use Rattle.strm_frame.specs.Hands.{HasRoom};
 ghost use Rattle.strm_types.specs.Refused.{blocks_asked, in_range, refused_at_once, refused_by_state, turn_blocks};
+ghost use Rattle.strm_types.specs.Spares.{spare};
 ghost use Rattle.strm_types.specs.Journal.{reply_in, answer_len, content_max};
 ghost use Rattle.strm_blocks.specs.Blocks.{StoreValue, free_m, free_d, empty_store};
 ghost use Rattle.strm_pair.specs.Streams.{Modules, IsBlank, IsSide, stream_in};
@@ -178,6 +180,8 @@ impl<S: Drop> Streams<S> {
         ensures held { AreHeld B.view (B.value store.new) self.new }
         ensures told { (answer : Reply) → told.new ≡ tallied (gone plain (state_in B.view.modules (B.value store.old) self.old)
             (Called caller (request event.now) answer)) told.old }
+        ensures left { OnTrue (delivers (request event.now))
+            (spare (state_in B.view.modules (B.value store.old) self.old) ≤ spare (state_in B.view.modules (B.value store.new) self.new) + 30) }
         ensures pool { SamePool (B.value store.old) (B.value store.new) }
     {
         out.clear();

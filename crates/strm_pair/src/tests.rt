@@ -446,18 +446,11 @@ const PTEM: Event<&'static [u8]> = Event::Push {
     name: Some(ModuleName::Ptem),
 };
 
-const UNKNOWN: [Step<'static>; 10] = [
+const UNKNOWN: [Step<'static>; 9] = [
     Step::Call(SLAVE, PTEM, DONE),
     Step::Call(SLAVE, PTEM, INVALID),
     Step::Call(SLAVE, Event::Look, Ok(Answer::Name(ModuleName::Ptem))),
     Step::Call(SLAVE, Event::Pop, DONE),
-    Step::Call(
-        SLAVE,
-        Event::Push {
-            name: Some(ModuleName::Pckt),
-        },
-        INVALID,
-    ),
     Step::Call(SLAVE, Event::Push { name: None }, INVALID),
     Step::Call(SLAVE, Event::Pop, INVALID),
     Step::Call(SLAVE, Event::Look, INVALID),

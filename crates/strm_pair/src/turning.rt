@@ -1,8 +1,9 @@
 //! A turn of a driver: what goes from it up the other side's stream (STREAMS Programming Guide, "Service Procedures").
 
-ghost use Rattle.std.specs.Prelude.{ℕ, ◌≡◌, ◌<◌, ◌&&◌, [], not, false, MatchOption};
+ghost use Rattle.std.specs.Prelude.{ℕ, ◌≡◌, ◌+◌, ◌≤◌, ◌<◌, ◌&&◌, [], not, true, false, MatchOption};
 ghost use Rattle.strm_types.specs.declared.limits.TheConstants.{BANDS};
 ghost use Rattle.strm_types.specs.declared.names.Way.TheVariants.{Up};
+ghost use Rattle.strm_types.specs.Cells.{plain};
 ghost use Rattle.strm_types.specs.Deliver.{tallied};
 ghost use Rattle.strm_types.specs.Earlier.{driver_place};
 ghost use Rattle.strm_types.specs.Kept.{AreIdle};
@@ -10,6 +11,8 @@ ghost use Rattle.strm_types.specs.Message.{is_held};
 ghost use Rattle.strm_types.specs.Past.{has_room_past};
 ghost use Rattle.strm_types.specs.Turns.{driver_turned, turn_ended, with_driver};
 ghost use Rattle.strm_types.specs.Queue.{is_none_left};
+ghost use Rattle.strm_types.specs.Refused.{in_range};
+ghost use Rattle.strm_types.specs.Spares.{spare};
 ghost use Rattle.strm_types.specs.State.{stream};
 ghost use Rattle.strm_frame.specs.Hands.{HasRoom};
 ghost use Rattle.strm_queue.specs.Stored.{messages_on, queue_in, IsReady};
@@ -89,12 +92,14 @@ impl<S: Drop> Streams<S> {
     ) -> Turn
         requires held { AreHeld B.view (B.value store.old) self.old }
         requires idle { AreIdle (state_in B.view.modules (B.value store.old) self.old) }
-        requires room { HasRoom (B.value store.old) 7 }
+        requires room { HasRoom (B.value store.old) 8 }
+        requires range { in_range (state_in B.view.modules (B.value store.old) self.old) ≡ true }
         requires some { is_none_left (messages_on (B.value store.old) (end_at side self.old).driver.list) ≡ false }
         ensures moves { MovesAcross side (state_in B.view.modules (B.value store.old) self.old) result
             (state_in B.view.modules (B.value store.new) self.new) told.old told.new }
         ensures held { AreHeld B.view (B.value store.new) self.new }
         ensures pool { SamePool (B.value store.old) (B.value store.new) }
+        ensures left { spare (state_in B.view.modules (B.value store.old) self.old) ≤ spare (state_in B.view.modules (B.value store.new) self.new) + 8 }
     {
         let Some(message) = self.take_first(store, side) else {
             return Turn::Idle;
@@ -152,13 +157,15 @@ impl<S: Drop> Streams<S> {
     ) -> Turn
         requires held { AreHeld B.view (B.value store.old) self.old }
         requires idle { AreIdle (state_in B.view.modules (B.value store.old) self.old) }
-        requires room { HasRoom (B.value store.old) 7 }
-        ensures turn { result ≡ (driver_turned side (state_in B.view.modules (B.value store.old) self.old)).turn }
+        requires room { HasRoom (B.value store.old) 8 }
+        requires range { in_range (state_in B.view.modules (B.value store.old) self.old) ≡ true }
+        ensures turn { result ≡ (driver_turned plain side (state_in B.view.modules (B.value store.old) self.old)).turn }
         ensures state { state_in B.view.modules (B.value store.new) self.new
-            ≡ (driver_turned side (state_in B.view.modules (B.value store.old) self.old)).state }
-        ensures told { told.new ≡ tallied (driver_turned side (state_in B.view.modules (B.value store.old) self.old)).gone told.old }
+            ≡ (driver_turned plain side (state_in B.view.modules (B.value store.old) self.old)).state }
+        ensures told { told.new ≡ tallied (driver_turned plain side (state_in B.view.modules (B.value store.old) self.old)).gone told.old }
         ensures held { AreHeld B.view (B.value store.new) self.new }
         ensures pool { SamePool (B.value store.old) (B.value store.new) }
+        ensures left { spare (state_in B.view.modules (B.value store.old) self.old) ≤ spare (state_in B.view.modules (B.value store.new) self.new) + 8 }
     {
         let Some(first) = store.peek(self.end(side).driver.list) else {
             self.keep::<B>(side, true);

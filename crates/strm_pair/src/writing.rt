@@ -12,6 +12,7 @@ ghost use Rattle.strm_types.specs.Message.{data_message};
 ghost use Rattle.strm_types.specs.Names.{direction_from, is_closed};
 ghost use Rattle.strm_types.specs.Puts.{delivered};
 ghost use Rattle.strm_types.specs.Refused.{in_range};
+ghost use Rattle.strm_types.specs.Spares.{spare};
 ghost use Rattle.strm_types.specs.State.{book};
 ghost use Rattle.strm_types.specs.Write.{chunk_count, chunks_of};
 ghost use Rattle.strm_types.specs.Writes.{below_head, chunks_sent};
@@ -26,7 +27,7 @@ use strm_head::write;
 use strm_types::{Band, Book, Fates, Side, Spot, Way, chunk_count};
 
 // A book with so many more bytes written.
-fn with_written(book: Book, count: usize) -> Book
+pub(crate) fn with_written(book: Book, count: usize) -> Book
     requires { book.written + count < 2 ^ 64 }
     ensures { result ≡ with_written count book }
 {
@@ -40,7 +41,7 @@ impl<S: Drop> Streams<S> {
     ghost use Rattle.strm_pair.specs.Pairs.{state_in, AreHeld, SamePool};
 
     // The book of what comes from a side.
-    fn book_of(&self, side: Side) -> Book
+    pub(crate) fn book_of(&self, side: Side) -> Book
         ensures { (modules : Modules S) (s : StoreValue) → result ≡ book (direction_from side) (state_in modules s self.now) }
     {
         match side {
@@ -63,13 +64,14 @@ impl<S: Drop> Streams<S> {
         requires room_m { 0 < free_m (B.value store.old) }
         requires room_d { 0 < free_d (B.value store.old) }
         ensures state { state_in B.view.modules (B.value store.new) self.new
-            ≡ (delivered (below_head side) (data_message chunk.now) (state_in B.view.modules (B.value store.old) self.old)).state }
+            ≡ (delivered plain (below_head side) (data_message chunk.now) (state_in B.view.modules (B.value store.old) self.old)).state }
         ensures told { told.new
-            ≡ tallied (delivered (below_head side) (data_message chunk.now) (state_in B.view.modules (B.value store.old) self.old)).gone told.old }
+            ≡ tallied (delivered plain (below_head side) (data_message chunk.now) (state_in B.view.modules (B.value store.old) self.old)).gone told.old }
         ensures takes_m { free_m (B.value store.old) ≤ free_m (B.value store.new) + 1 }
         ensures takes_d { free_d (B.value store.old) ≤ free_d (B.value store.new) + 1 }
         ensures held { AreHeld B.view (B.value store.new) self.new }
         ensures pool { SamePool (B.value store.old) (B.value store.new) }
+        ensures left { spare (state_in B.view.modules (B.value store.old) self.old) ≤ spare (state_in B.view.modules (B.value store.new) self.new) }
     {
         let Ok(message) = write(store, true, chunk) else {
             unreachable!()
@@ -97,14 +99,15 @@ impl<S: Drop> Streams<S> {
         requires room_m { chunks ≤ free_m (B.value store.old) }
         requires room_d { chunks ≤ free_d (B.value store.old) }
         ensures taken { result
-            ≡ (chunks_sent side (chunks_of chunks bytes.now) (state_in B.view.modules (B.value store.old) self.old)).taken }
+            ≡ (chunks_sent plain side (chunks_of chunks bytes.now) (state_in B.view.modules (B.value store.old) self.old)).taken }
         ensures state { state_in B.view.modules (B.value store.new) self.new
-            ≡ (chunks_sent side (chunks_of chunks bytes.now) (state_in B.view.modules (B.value store.old) self.old)).state }
+            ≡ (chunks_sent plain side (chunks_of chunks bytes.now) (state_in B.view.modules (B.value store.old) self.old)).state }
         ensures told { told.new
-            ≡ tallied (chunks_sent side (chunks_of chunks bytes.now) (state_in B.view.modules (B.value store.old) self.old)).gone told.old }
+            ≡ tallied (chunks_sent plain side (chunks_of chunks bytes.now) (state_in B.view.modules (B.value store.old) self.old)).gone told.old }
         ensures fits { result ≤ length bytes.now }
         ensures held { AreHeld B.view (B.value store.new) self.new }
         ensures pool { SamePool (B.value store.old) (B.value store.new) }
+        ensures left { spare (state_in B.view.modules (B.value store.old) self.old) ≤ spare (state_in B.view.modules (B.value store.new) self.new) }
     {
         if chunks == 0 {
             return 0;
@@ -176,15 +179,15 @@ impl<S: Drop> Streams<S> {
         ensures told { told.new ≡ tallied (write_sent plain side bytes.now (state_in B.view.modules (B.value store.old) self.old)).gone told.old }
         ensures held { AreHeld B.view (B.value store.new) self.new }
         ensures pool { SamePool (B.value store.old) (B.value store.new) }
+        ensures left { spare (state_in B.view.modules (B.value store.old) self.old) ≤ spare (state_in B.view.modules (B.value store.new) self.new) }
     {
         let modules = self.modules_on::<B>(Side::Master) + self.modules_on::<B>(Side::Slave);
         if modules == 0 {
             return self.write_alone(store, side, bytes);
         }
-        let old = self.book_of(side);
         let chunks = chunk_count(bytes.len());
         let taken = self.send_chunks(store, side, bytes, chunks, told);
-        let book = with_written(old, taken);
+        let book = with_written(self.book_of(side), taken);
         self.keep_book::<B>(side, book);
         taken
     }

@@ -11,7 +11,7 @@ use Rattle.strm_types.specs.declared.spots.Spot.{Spot}
 use Rattle.strm_types.specs.declared.winsize.Winsize.{Winsize}
 use Rattle.strm_types.specs.Acks.{ack_message, telling_message}
 use Rattle.strm_types.specs.Commands.{is_asked, is_ioctl}
-use Rattle.strm_types.specs.Costs.{across_at, asking_at, cost}
+use Rattle.strm_types.specs.Costs.{across_at, asking_at, cost, cost_of}
 use Rattle.strm_types.specs.Deliver.{Parcel, toward}
 use Rattle.strm_types.specs.Flushing.{is_flush}
 use Rattle.strm_types.specs.Ioctls.{nak_message}
@@ -21,7 +21,6 @@ use Rattle.strm_types.specs.Ptems.{signals_up, sigwinch, window_signal}
 use Rattle.strm_types.specs.Puts.{is_bare_flush, is_turned, turns_round}
 use Rattle.strm_types.specs.Typing.{bare}
 use Rattle.strm_types.specs.Winsizes.{same_winsize}
-use Rattle.strm_frame.specs.Outboxes.{cost_of}
 
 -- what a message costs on its way down and on its way up, by what is asked of it
 abbrev down_form : Bool → Bool → Bool → MsgKind → ℕ → ℕ

@@ -61,7 +61,7 @@ can-of s i is = record {
 }
 
 -- a message that came
-times-held : (s : StoreValue) (i : ℕ) (chain : List Block) (j : ℕ) → times_in j (held s i chain).hand ≡ once i j + times_in j s.hand
+pub times-held : (s : StoreValue) (i : ℕ) (chain : List Block) (j : ℕ) → times_in j (held s i chain).hand ≡ once i j + times_in j s.hand
 unfolding once
 times-held s i chain j = sum_by-cons (λ (h : Held). cond (eqb h.name j) 1 0) (record { name = i; chain = chain }) s.hand
 
@@ -138,6 +138,19 @@ module _ {M : Type 0} (name : M → ℕ) where
         lists = second.lists ∙ first.lists;
         hands = shifts-as s u (λ _. 0) (λ i. times_sent name i a + times_sent name i b) (λ _. 0) (λ i. times_sent name i (a ++ b)) (n + k) (n + k)
             (shifts-both s t u (λ _. 0) (λ i. times_sent name i a) (λ _. 0) (λ i. times_sent name i b) n k first.hands second.hands) (λ i. refl) (λ i. sym (times-append i a b)) (omega arith);
+        sent = parcels-append u a b ∙ ap (λ xs. xs ++ parcels_in name u b) (parcels-same name t u a stays ∙ first.sent) ∙ ap (λ xs. ps ++ xs) second.sent;
+        chains = chains-append u a b (chains-same name t u a stays first.chains) second.chains;
+      }
+
+  -- what was made of a message stays, and others were made behind it
+  pub swaps-both : (s t u : StoreValue) (m n k : ℕ) (a b : List (Sent M)) (ps qs : List (Parcel ℕ)) → IsInHand s m → Swaps name s t m n a ps → Makes name t u k b qs → Swaps name s u m (n + k) (a ++ b) (ps ++ qs)
+  swaps-both s t u m n k a b ps qs is first second =
+      let stays : (i : ℕ) → 0 < times_sent name i a → in_hand u i ≡ in_hand t i =
+      λ i some. second.hands.others i refl (let c = first.hands.counts i in let there = (can-of s m is).apart i in omega arith) in
+      record {
+        lists = second.lists ∙ first.lists;
+        hands = shifts-as s u (λ i. once m i + 0) (λ i. times_sent name i a + times_sent name i b) (once m) (λ i. times_sent name i (a ++ b)) (n + k) (n + k)
+            (shifts-both s t u (once m) (λ i. times_sent name i a) (λ _. 0) (λ i. times_sent name i b) n k first.hands second.hands) (λ i. omega arith) (λ i. sym (times-append i a b)) (omega arith);
         sent = parcels-append u a b ∙ ap (λ xs. xs ++ parcels_in name u b) (parcels-same name t u a stays ∙ first.sent) ∙ ap (λ xs. ps ++ xs) second.sent;
         chains = chains-append u a b (chains-same name t u a stays first.chains) second.chains;
       }

@@ -3,6 +3,9 @@ pub mod Costing
 pub mod Doing
 pub mod Flushed
 pub mod Made
+pub mod Packed
+pub mod Packing
+pub mod PacketCosts
 pub mod Putting
 pub mod Taken
 pub mod Tested

@@ -15,7 +15,7 @@ use Rattle.strm_types.specs.Ioctls.{nak_message, read_ioc}
 use Rattle.strm_types.specs.Ldterms.{onward}
 use Rattle.strm_types.specs.Message.{Message}
 use Rattle.strm_types.specs.Ptems as plain
-use Rattle.strm_types.specs.Costs.{cost}
+use Rattle.strm_types.specs.Costs.{cost, cost_of}
 use Rattle.strm_types.specs.Ptems.{acks, asked_above, asked_below, asked_by_header, asked_on_way, naks, ptem_passes, ptem_puts, ptem_sends, set_above, window_signal}
 use Rattle.strm_types.specs.Winsizes.{same_winsize}
 use Rattle.strm_types.proofs.CostsBounded.{next-cost}
@@ -24,7 +24,7 @@ use Rattle.strm_msg.specs.Messages.{IsChain}
 use Rattle.strm_frame.specs.declared.modules.Acts.{Acts}
 use Rattle.strm_frame.specs.declared.parcels.Sent.{Sent}
 use Rattle.strm_frame.specs.Hands.{HasRoom}
-use Rattle.strm_frame.specs.Outboxes.{cost_of, message_in, sent_of}
+use Rattle.strm_frame.specs.Outboxes.{message_in, sent_of}
 use Rattle.strm_frame.proofs.Behind.{all-said, first-tell, read_of}
 use Rattle.strm_frame.proofs.Handing.{one-chains, one-hands, one-parts}
 use Rattle.strm_pty.specs.declared.ptem.Ptem.{Ptem}

@@ -8,13 +8,13 @@ use Rattle.strm_types.specs.Commands.{is_asked}
 use Rattle.strm_types.specs.Deliver.{Acted}
 use Rattle.strm_types.specs.Message.{Message}
 use Rattle.strm_types.specs.Ptems as plain
-use Rattle.strm_types.specs.Costs.{cost}
+use Rattle.strm_types.specs.Costs.{cost, cost_of}
 use Rattle.strm_types.specs.Service.{Serving}
 use Rattle.strm_blocks.specs.Blocks.{StoreValue, IsInHand, in_hand}
 use Rattle.strm_msg.specs.Messages.{IsChain}
 use Rattle.strm_frame.specs.declared.modules.Acts.{Acts}
 use Rattle.strm_frame.specs.Hands.{Hands, HasRoom, SamePool, Spends}
-use Rattle.strm_frame.specs.Outboxes.{message_in, sent_of, times_sent, parcels_in, AreChains, cost_of}
+use Rattle.strm_frame.specs.Outboxes.{message_in, sent_of, times_sent, parcels_in, AreChains}
 use Rattle.strm_pty.specs.declared.ptem.Ptem.{Ptem}
 
 -- what it stands for, whatever the store holds

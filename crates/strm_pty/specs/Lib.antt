@@ -1,2 +1,3 @@
 pub mod Does
 pub mod Beside
+pub mod Packs

@@ -7,13 +7,17 @@ mod drivers;
 mod flushing;
 mod making;
 mod module;
+pub mod pckt;
 pub mod ptem;
 mod replies;
 mod taking;
 
 pub use drivers::put;
 pub use making::make;
+pub use pckt::Pckt;
 pub use ptem::Ptem;
 
+#[cfg(test)]
+mod packet_tests;
 #[cfg(test)]
 mod tests;

@@ -1,11 +1,158 @@
-//! The module, as a stream's stack of modules has it (STREAMS Programming Guide, "Modules"). It has no queues and no line, and no turn of
-//! its is ever made.
+//! The modules, as a stream's stack of modules has them (STREAMS Programming Guide, "Modules"). They have no queues and no line, and no turn of
+//! theirs is ever made.
 
+use crate::pckt::{self, Pckt};
 use crate::ptem::{self, Ptem};
 use arrayvec::ArrayVec;
 use strm_blocks::Blocks;
 use strm_frame::{Acts, LetGo, Module, Outbox, Served, TurnEnd};
 use strm_types::{Asks, Band, Fates, ModuleName, Rule, Side, Spot, Way};
+
+impl<B: Blocks> Module<B> for Pckt {
+    ghost use Rattle.std.specs.Prelude.{◌≡◌, refl, None, [], false};
+    ghost use Rattle.strm_types.specs.declared.names.ModuleName.TheVariants as names;
+    ghost use Rattle.strm_types.specs.declared.spots.Asks.TheVariants.{Empty};
+    ghost use Rattle.strm_types.specs.Costs as costs;
+    ghost use Rattle.strm_types.specs.Pckts as plain;
+    ghost use Rattle.strm_types.specs.Puts.{far};
+    ghost use Rattle.strm_types.specs.Stacked.{unserved};
+    ghost use Rattle.strm_pty.specs.Packs.{pckt_in, puts};
+
+    ghost Plain = { plain.Pckt };
+
+    ghost plain = { λ s x. pckt_in };
+
+    ghost name_of = { λ p. names.Pckt };
+
+    ghost IsHeld = { λ s x. Unit {0} };
+
+    ghost owns = { λ x k. 0 };
+
+    ghost keeps = { λ x i. 0 };
+
+    ghost puts = { puts };
+
+    ghost queue_of = { λ way p. None };
+
+    ghost with_queue = { λ way q p. p };
+
+    ghost line_of = { λ p. [] };
+
+    ghost without_line = { λ p. p };
+
+    ghost asks = { λ way p. Empty };
+
+    ghost serves = { λ here again stop p. unserved p };
+
+    ghost MayServe = { λ way again p. again ≡ false };
+
+    ghost MayStop = { λ way again bytes p. ⊥ };
+
+    ghost height = { far };
+
+    ghost takes = { λ here m p. costs.pckt_takes here m };
+
+    ghost leaves = { λ here m p. 0 };
+
+    ghost cost = { costs.cost };
+
+    ghost turn_height = { λ here. 0 };
+
+    ghost turn_cost = { λ here again p. 0 };
+
+    fn name(&self) -> ModuleName {
+        ModuleName::Pckt
+    }
+
+    fn put(&mut self, store: &mut B, here: Spot, message: B::Mp, told: &mut Fates) -> Acts<B::Mp> {
+        store.audit();
+        pckt::put(store, here, message, told)
+    }
+
+    fn has_queue(&self, _way: Way) -> bool {
+        false
+    }
+
+    fn is_full(&self, _store: &B, _way: Way, _band: Band) -> bool {
+        false
+    }
+
+    fn count(&self, _store: &B, _way: Way, _band: Band) -> usize {
+        0
+    }
+
+    fn sizes(&self, _store: &B, _way: Way) -> (usize, usize) {
+        (0, 0)
+    }
+
+    fn first_size(&self, _store: &B, _way: Way) -> usize {
+        0
+    }
+
+    fn none_waits_up(&self, _store: &B) -> bool {
+        true
+    }
+
+    fn line_len(&self) -> usize {
+        0
+    }
+
+    fn let_wait(&mut self, _way: Way, _band: Band) {}
+
+    fn asks(&self, _store: &B, _way: Way) -> Asks {
+        Asks::Empty
+    }
+
+    fn serve(
+        &mut self,
+        _store: &mut B,
+        _here: Spot,
+        _again: bool,
+        _told: &mut Fates,
+    ) -> Served<B::Mp> {
+        Served {
+            acts: Acts {
+                notes: ArrayVec::new(),
+                sent: Outbox::none(),
+            },
+            bytes: 0,
+            stopped: false,
+            again: false,
+        }
+    }
+
+    fn end_turn(&mut self, _store: &B, _way: Way, _took: bool) -> TurnEnd {
+        TurnEnd {
+            room: false,
+            more: false,
+        }
+    }
+
+    fn clear(
+        &mut self,
+        _store: &mut B,
+        _side: Side,
+        _rule: Rule,
+        _seeking: Option<u32>,
+        _told: &mut Fates,
+    ) -> LetGo {
+        LetGo::nothing()
+    }
+
+    ghost frame = { λ s t x same held. (refl, held) };
+
+    ghost rests = { λ s x way i held may. refl };
+
+    ghost either_way = { λ way other p may. may };
+
+    ghost turn_goes = { λ here again stop p may. refl };
+
+    ghost put_stays = { λ here m p way again may. may };
+
+    ghost queue_stays = { λ at q p way again may. may };
+
+    ghost line_stays = { λ p way again may. may };
+}
 
 impl<B: Blocks> Module<B> for Ptem {
     ghost use Rattle.std.specs.Prelude.{◌≡◌, refl, None, [], false};
@@ -47,6 +194,10 @@ impl<B: Blocks> Module<B> for Ptem {
     ghost MayStop = { λ way again bytes p. ⊥ };
 
     ghost height = { far };
+
+    ghost takes = { λ here m p. costs.cost here m };
+
+    ghost leaves = { λ here m p. costs.cost_of costs.cost (plain.ptem_puts here m p).sent };
 
     ghost cost = { costs.cost };
 

@@ -107,8 +107,8 @@ pub flush-takes-bytes : told_from 1 [] None (codes "open" ∷ codes "unlock" ∷
 unfolding told_from reading command_in open_in named_in write_in read_in turn_in run_in stream_in sided_call_in push_in flush_in show_in message_in put_in get_in set_mode_in control_in ioctl_in poll_in ledger_in side_alone module_in is_name flush_queues_in band_in number_in number_from digit_of text_in text_from side_in place_in way_in queue_in answered by_open by_call by_flush by_show call_of by_run turns_of by_turn turn_of line_text chunk_count data_message rank_of band_of size_of cells_of is_high_priority is_held is_data_kind carried
 flush-takes-bytes = refl
 
--- a module is pushed only if its name is known and it is built
-pub other-modules-are-not-known : told_from 1 [] None (codes "open" ∷ codes "look m" ∷ codes "pop m" ∷ codes "push m pckt" ∷ codes "push m foo" ∷ []) ≡ wrote (codes "ok" ∷ codes "err EINVAL" ∷ codes "err EINVAL" ∷ codes "err EINVAL" ∷ codes "err EINVAL" ∷ []) None
+-- a module is pushed only if its name is known
+pub other-modules-are-not-known : told_from 1 [] None (codes "open" ∷ codes "look m" ∷ codes "pop m" ∷ codes "push m foo" ∷ codes "push m pckt" ∷ codes "look m" ∷ []) ≡ wrote (codes "ok" ∷ codes "err EINVAL" ∷ codes "err EINVAL" ∷ codes "err EINVAL" ∷ codes "ok" ∷ codes "name pckt" ∷ []) None
 unfolding told_from reading command_in open_in named_in write_in read_in turn_in run_in stream_in sided_call_in push_in flush_in show_in message_in put_in get_in set_mode_in control_in ioctl_in poll_in ledger_in side_alone module_in is_name flush_queues_in band_in number_in number_from digit_of text_in text_from side_in place_in way_in queue_in answered by_open by_call by_flush by_show call_of by_run turns_of by_turn turn_of line_text chunk_count data_message rank_of band_of size_of cells_of is_high_priority is_held is_data_kind carried
 other-modules-are-not-known = refl
 

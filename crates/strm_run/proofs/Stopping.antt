@@ -25,7 +25,7 @@ use Rattle.strm_types.specs.ModuleTurns.{Calls, again_at, asked_turn, calls, mad
 use Rattle.strm_types.specs.OutputTurns.{output_serves}
 use Rattle.strm_types.specs.Past.{has_room_past}
 use Rattle.strm_types.specs.Queue.{left_with}
-use Rattle.strm_types.specs.Stacked.{Module, OfLdterm, OfPtem, module_asks, module_queue, module_rests, module_serves}
+use Rattle.strm_types.specs.Stacked.{Module, OfLdterm, OfPckt, OfPtem, module_asks, module_queue, module_rests, module_serves}
 use Rattle.strm_types.specs.State.{State, Stream, stream}
 use Rattle.strm_types.specs.TurnOutcomes.{TurnOutcome, first_size, stayed_put}
 use Rattle.strm_types.specs.Turns.{turned, turned_at, whole_turn}
@@ -60,6 +60,7 @@ module _ (side : Side) (at : ℕ) where
   serves-once Down made (OfLdterm l) = output-once made l.write_queue.messages l
   serves-once Up made (OfLdterm l) = input-once made l.read_queue.messages l
   serves-once way made (OfPtem p) = refl
+  serves-once way made (OfPckt p) = refl
 
   none-among : (say : Module ℕ → Bool) → ((p : Module ℕ) → say p ≡ false) → (i : ℕ) (ps : List (Module ℕ)) → slice_index_or (map say ps) i false ≡ false
   none-among say none i [] = refl

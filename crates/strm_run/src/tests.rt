@@ -1,4 +1,4 @@
-//! Scripts run from memory to memory: the titled scenes of `sessions`, `scripts`, `messages`, `ioctls`, `keys`, `echo`, `outputs`, `ptem`, `turns` and `ledgers`, and
+//! Scripts run from memory to memory: the titled scenes of `sessions`, `scripts`, `messages`, `ioctls`, `keys`, `echo`, `outputs`, `ptem`, `pckt`, `turns` and `ledgers`, and
 //! readers, writers and lines that no scene can show.
 
 mod echo;
@@ -8,6 +8,7 @@ mod ledgers;
 mod messages;
 mod no_memory;
 mod outputs;
+mod pckt;
 mod ptem;
 mod scripts;
 mod sessions;
@@ -126,6 +127,7 @@ fn each_scene_answers_as_it_says(rt: HostRuntime) -> Result<(), Fail> {
     plays_scenes(&rt, rt.alloc(), &outputs::STOPPED)?;
     plays_scenes(&rt, rt.alloc(), &sessions::SESSIONS)?;
     plays_scenes(&rt, rt.alloc(), &ptem::PTEM)?;
+    plays_scenes(&rt, rt.alloc(), &pckt::PCKT)?;
     plays_scenes(&rt, rt.alloc(), &ledgers::LEDGERS)?;
     plays_scenes(&rt, rt.alloc(), &echo::BYTES)?;
     plays_scenes(&rt, rt.alloc(), &echo::RUBBING_OUT)?;

@@ -72,8 +72,8 @@ stored-changes = refl
 
 -- arguments
 
-pub ldterm-and-ptem-are-known : map is_known (None ∷ Some Ldterm ∷ Some Ptem ∷ Some Pckt ∷ []) ≡ false ∷ true ∷ true ∷ false ∷ []
-ldterm-and-ptem-are-known = refl
+pub modules-are-known : map is_known (None ∷ Some Ldterm ∷ Some Ptem ∷ Some Pckt ∷ []) ≡ false ∷ true ∷ true ∷ true ∷ []
+modules-are-known = refl
 
 pub bands-up-to-seven : map is_a_band (None ∷ band 0 ∷ band 7 ∷ band 8 ∷ band 255 ∷ []) ≡ true ∷ true ∷ true ∷ false ∷ false ∷ []
 bands-up-to-seven = refl
@@ -162,10 +162,10 @@ pops-want-room-in-the-books = refl
 pub bands-are-asked-for-before-the-books : map (answers (Flush flushes.Both (band 8))) (booked Open false) ≡ whatever (always Einval)
 bands-are-asked-for-before-the-books = refl
 
-pub modules-are-asked-for-before-the-books : map (λ name. map (answers (Push name)) (booked Open false)) (None ∷ Some Pckt ∷ []) ≡ whatever (always Einval) ∷ whatever (always Einval) ∷ []
+pub modules-are-asked-for-before-the-books : map (λ name. map (answers (Push name)) (booked Open false)) (None ∷ []) ≡ whatever (always Einval) ∷ []
 modules-are-asked-for-before-the-books = refl
 
-pub pushes-want-room-in-the-books : map (λ name. map (answers (Push (Some name))) (booked Open false)) (Ldterm ∷ Ptem ∷ []) ≡ ranged (at_last None) ∷ ranged (at_last None) ∷ []
+pub pushes-want-room-in-the-books : map (λ name. map (answers (Push (Some name))) (booked Open false)) (Ldterm ∷ Ptem ∷ Pckt ∷ []) ≡ ranged (at_last None) ∷ ranged (at_last None) ∷ ranged (at_last None) ∷ []
 pushes-want-room-in-the-books = refl
 
 -- where an ldterm stands, another one is refused and a ptem isn't, and it may be taken off and looked at

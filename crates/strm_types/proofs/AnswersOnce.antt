@@ -75,7 +75,7 @@ module _ {C : Type 0} where
   pub told-pending : (cells : Cells C) (caller : Caller) (command number : ℕ) (body : List ℕ) (s : State C) → (called cells caller (Ioctl command body) s).answer ≡ Pending number
       → refused_by_state (called cells caller (Ioctl command body) s).state caller (IoctlResult number) ≡ Some Eagain
   told-pending cells caller command number body s is =
-      let sent = (ioctl_sent caller.side command body s).state in
+      let sent = (ioctl_sent cells caller.side command body s).state in
       result-behind number caller.side sent ∙ waits-told number (slot_of caller.side sent) is
 
   told-or-waits : (asked : ℕ) (side : Side) (s : State C) → (result_refusal asked (slot_of side (ioctl_told side s).state) ≡ Some Einval) ⊎ ((number : ℕ) × ((ioctl_told side s).answer ≡ Pending number))
@@ -88,4 +88,4 @@ module _ {C : Type 0} where
 
   pub told-at-once : (cells : Cells C) (caller : Caller) (command asked : ℕ) (body : List ℕ) (s : State C) → let t = called cells caller (Ioctl command body) s in
       (refused_by_state t.state caller (IoctlResult asked) ≡ Some Einval) ⊎ ((number : ℕ) × (t.answer ≡ Pending number))
-  told-at-once cells caller command asked body s = told-or-waits asked caller.side (ioctl_sent caller.side command body s).state
+  told-at-once cells caller command asked body s = told-or-waits asked caller.side (ioctl_sent cells caller.side command body s).state

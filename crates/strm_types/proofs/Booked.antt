@@ -10,7 +10,7 @@ use Rattle.strm_types.specs.declared.rules.Fates.{Fates}
 use Rattle.strm_types.specs.Books.{with_made}
 use Rattle.strm_types.specs.Deliver.{Fate, Goes, Comes, counted_with, tallied}
 use Rattle.strm_types.specs.Input.{made_of}
-use Rattle.strm_types.specs.ModuleTurns.{booked}
+use Rattle.strm_types.specs.Puts.{booked}
 use Rattle.strm_types.specs.State.{State, Stream, book, with_stream}
 
 -- how many cells were made in a direction, of what is told

@@ -19,7 +19,7 @@ use Rattle.strm_types.specs.Pushes.{all_taken, head_above, ioctl_dropped, module
 use Rattle.strm_types.specs.Queue.{weight}
 use Rattle.strm_types.specs.Stacked.{Module, IsAtRest}
 use Rattle.strm_types.specs.State.{Head, State, stream}
-use Rattle.strm_types.proofs.Deliveries.{delivered-unread}
+use Rattle.strm_types.proofs.PutsKeep.{head-unread}
 use Rattle.strm_types.proofs.DeliveryKeeps.{gone-append, made-append}
 use Rattle.strm_types.proofs.EmptiedKeeps.{and_then-keeps, behind-all, driver_emptied-keeps, driver_emptied-unread, head_emptied-keeps, head_emptied-unread}
 use Rattle.strm_types.proofs.PushHolds.{Survives, modules_emptied-holds, pop-holds, push-holds}
@@ -100,7 +100,7 @@ module _ {C : Type 0} where
     named = λ names s unread. record { master = unread.master; slave = unread.slave };
     dropped = dropped side;
     apart = apart side;
-    given = λ m s unread. delivered-unread (head_above side) m s unread;
+    given = λ m s unread. head-unread side (head_above side) m s unread;
     good = λ s unread. tt;
     below = λ l ls good. tt;
   }

@@ -8,7 +8,6 @@ use Rattle.strm_types.specs.declared.events.FlushQueues.TheVariants.{Read, Write
 use Rattle.strm_types.specs.declared.kinds.Band.{Band}
 use Rattle.strm_types.specs.declared.names.Dir.{Dir}
 use Rattle.strm_types.specs.declared.names.Dir.TheVariants.{MasterToSlave, SlaveToMaster}
-use Rattle.strm_types.specs.declared.names.ModuleName.TheVariants.{Pckt}
 use Rattle.strm_types.specs.declared.names.Openness.{Openness}
 use Rattle.strm_types.specs.declared.names.Openness.TheVariants.{Never, Open, Closed}
 use Rattle.strm_types.specs.declared.names.QueueName.{QueueName}
@@ -135,34 +134,34 @@ abbrev leads : State ℕ → List (Fate ℕ) → Carried ℕ (State ℕ)
 leads s gone = record { state = s; gone = gone }
 
 -- FLUSHW: the side's own driver, and then the head across
-pub flush-of-the-masters-writes : flushed_on None Master Write (ones Open Open) ≡ leads (pair (end Open (one 1) none) (end Open none (one 4))) (down 2 ∷ down 3 ∷ [])
+pub flush-of-the-masters-writes : flushed_on plain None Master Write (ones Open Open) ≡ leads (pair (end Open (one 1) none) (end Open none (one 4))) (down 2 ∷ down 3 ∷ [])
 unfolding carried is_data_kind size_of cells_of
 flush-of-the-masters-writes = refl
 
-pub flush-of-the-slaves-writes : flushed_on None Slave Write (ones Open Open) ≡ leads (pair (end Open none (one 2)) (end Open (one 3) none)) (up 4 ∷ up 1 ∷ [])
+pub flush-of-the-slaves-writes : flushed_on plain None Slave Write (ones Open Open) ≡ leads (pair (end Open none (one 2)) (end Open (one 3) none)) (up 4 ∷ up 1 ∷ [])
 unfolding carried is_data_kind size_of cells_of
 flush-of-the-slaves-writes = refl
 
 -- FLUSHR: the driver across, and then the side's own head
-pub flush-of-the-masters-reads : flushed_on None Master Read (ones Open Open) ≡ leads (pair (end Open none (one 2)) (end Open (one 3) none)) (up 4 ∷ up 1 ∷ [])
+pub flush-of-the-masters-reads : flushed_on plain None Master Read (ones Open Open) ≡ leads (pair (end Open none (one 2)) (end Open (one 3) none)) (up 4 ∷ up 1 ∷ [])
 unfolding carried is_data_kind size_of cells_of
 flush-of-the-masters-reads = refl
 
-pub flush-of-the-slaves-reads : flushed_on None Slave Read (ones Open Open) ≡ leads (pair (end Open (one 1) none) (end Open none (one 4))) (down 2 ∷ down 3 ∷ [])
+pub flush-of-the-slaves-reads : flushed_on plain None Slave Read (ones Open Open) ≡ leads (pair (end Open (one 1) none) (end Open none (one 4))) (down 2 ∷ down 3 ∷ [])
 unfolding carried is_data_kind size_of cells_of
 flush-of-the-slaves-reads = refl
 
 -- FLUSHRW: first what was written, then what is to be read
-pub flush-of-both : map (λ side. flushed_on None side Both (ones Open Open)) (Master ∷ Slave ∷ []) ≡ leads (pair (end Open none none) (end Open none none)) (down 2 ∷ down 3 ∷ up 4 ∷ up 1 ∷ []) ∷ leads (pair (end Open none none) (end Open none none)) (up 4 ∷ up 1 ∷ down 2 ∷ down 3 ∷ []) ∷ []
+pub flush-of-both : map (λ side. flushed_on plain None side Both (ones Open Open)) (Master ∷ Slave ∷ []) ≡ leads (pair (end Open none none) (end Open none none)) (down 2 ∷ down 3 ∷ up 4 ∷ up 1 ∷ []) ∷ leads (pair (end Open none none) (end Open none none)) (up 4 ∷ up 1 ∷ down 2 ∷ down 3 ∷ []) ∷ []
 unfolding carried is_data_kind size_of cells_of
 flush-of-both = refl
 
 -- what a driver sends up reaches no head of a side that isn't open
-pub flush-towards-a-side-that-is-closed : map (λ slave. flushed_on None Master Write (ones Open slave)) (Never ∷ Closed ∷ []) ≡ leads (pair (end Open (one 1) none) (end Never (one 3) (one 4))) (down 2 ∷ []) ∷ leads (pair (end Open (one 1) none) (end Closed (one 3) (one 4))) (down 2 ∷ []) ∷ []
+pub flush-towards-a-side-that-is-closed : map (λ slave. flushed_on plain None Master Write (ones Open slave)) (Never ∷ Closed ∷ []) ≡ leads (pair (end Open (one 1) none) (end Never (one 3) (one 4))) (down 2 ∷ []) ∷ leads (pair (end Open (one 1) none) (end Closed (one 3) (one 4))) (down 2 ∷ []) ∷ []
 unfolding carried is_data_kind size_of cells_of
 flush-towards-a-side-that-is-closed = refl
 
-pub flush-on-a-side-that-is-closed : flushed_on None Slave Both (ones Open Closed) ≡ leads (pair (end Open none none) (end Closed (one 3) none)) (up 4 ∷ up 1 ∷ down 2 ∷ [])
+pub flush-on-a-side-that-is-closed : flushed_on plain None Slave Both (ones Open Closed) ≡ leads (pair (end Open none none) (end Closed (one 3) none)) (up 4 ∷ up 1 ∷ down 2 ∷ [])
 unfolding carried is_data_kind size_of cells_of
 flush-on-a-side-that-is-closed = refl
 
@@ -178,8 +177,8 @@ pub flush-call : map (λ asked. called plain (caller Master) asked (pair banded 
 unfolding carried is_data_kind is_high_priority size_of cells_of
 flush-call = refl
 
--- pushes of what isn't built, and pops and looks where no module stands, change nothing
-pub other-calls-change-nothing : map (λ asked. called plain (caller Slave) asked (ones Open Open)) (events.Push (Some Pckt) ∷ events.Pop ∷ events.Look ∷ []) ≡ replicate 3 (record { answer = Done; state = ones Open Open })
+-- pops and looks where no module stands change nothing
+pub other-calls-change-nothing : map (λ asked. called plain (caller Slave) asked (ones Open Open)) (events.Pop ∷ events.Look ∷ []) ≡ replicate 2 (record { answer = Done; state = ones Open Open })
 other-calls-change-nothing = refl
 
 -- writers that are let go
@@ -204,7 +203,7 @@ unfolding is_high_priority band_of size_of cells_of
 flush-of-a-driver-enables-nothing = refl
 
 -- a writer in a band that is flushed, and one in a band that isn't
-pub flush-of-a-full-band : map (λ n. (flushed_on (band n) Master Write (pair (end Open none none) (end Open full none))).state.enabled) (0 ∷ 1 ∷ []) ≡ (driver_of Master ∷ []) ∷ [] ∷ []
+pub flush-of-a-full-band : map (λ n. (flushed_on plain (band n) Master Write (pair (end Open none none) (end Open full none))).state.enabled) (0 ∷ 1 ∷ []) ≡ (driver_of Master ∷ []) ∷ [] ∷ []
 unfolding carried is_data_kind is_high_priority band_of size_of cells_of
 flush-of-a-full-band = refl
 

@@ -6,7 +6,7 @@ use Rattle.strm_types.specs.declared.names.Side.TheVariants.{Slave}
 use Rattle.strm_types.specs.declared.names.Way.{Way}
 use Rattle.strm_types.specs.declared.names.Way.TheVariants.{Up, Down}
 use Rattle.strm_types.specs.declared.spots.Spot.{Spot}
-use Rattle.strm_types.specs.Costs.{cost, takes}
+use Rattle.strm_types.specs.Costs.{cost, pckt_takes, takes}
 use Rattle.strm_types.specs.Message.{Message}
 use Rattle.strm_types.proofs.Samples.{header, ordinary, proto, urgent, without_parts}
 
@@ -106,3 +106,7 @@ parted-takes = refl
 
 pub parted-reads-take : own Up (parted reads) ≡ 0 ∷ 0 ∷ 0 ∷ 0 ∷ 0 ∷ []
 parted-reads-take = refl
+
+pub packets-take : map (at_each (λ here. pckt_takes here both)) (Up ∷ Down ∷ []) ∷ map (at_each (λ here. pckt_takes here reads)) (Up ∷ Down ∷ []) ∷ map (at_each (λ here. pckt_takes here answers)) (Up ∷ Down ∷ []) ∷ []
+    ≡ ((2 ∷ 2 ∷ 2 ∷ 2 ∷ 2 ∷ []) ∷ (0 ∷ 0 ∷ 0 ∷ 0 ∷ 0 ∷ []) ∷ []) ∷ ((1 ∷ 1 ∷ 1 ∷ 1 ∷ 1 ∷ []) ∷ (0 ∷ 0 ∷ 0 ∷ 0 ∷ 0 ∷ []) ∷ []) ∷ ((0 ∷ 0 ∷ 0 ∷ 0 ∷ 0 ∷ []) ∷ (0 ∷ 0 ∷ 0 ∷ 0 ∷ 0 ∷ []) ∷ []) ∷ []
+packets-take = refl

@@ -12,7 +12,6 @@ use Rattle.strm_types.specs.Costs.{across_at, asking_at, asking_cost, below_cost
 use Rattle.strm_types.specs.Deliver.{toward}
 use Rattle.strm_types.specs.Message.{Message, has_parts}
 use Rattle.strm_types.specs.Puts.{is_bare_flush, is_turned}
-use Rattle.strm_types.specs.Flushing.{is_flush}
 
 below-few : (way : Way) (parts across turned : Bool) → below_cost way parts across turned ≤ 4
 below-few Down true across turned = omega arith
@@ -21,7 +20,7 @@ below-few Up parts across true = omega arith
 below-few Up parts true false = omega arith
 below-few Up parts false false = omega arith
 
-few-at : (way : Way) (parts across turned top : Bool) → cond top (cond turned 4 0) (below_cost way parts across turned) ≤ 4
+pub few-at : (way : Way) (parts across turned top : Bool) → cond top (cond turned 4 0) (below_cost way parts across turned) ≤ 4
 few-at way parts across true true = omega arith
 few-at way parts across false true = omega arith
 few-at way parts across turned false = below-few way parts across turned

@@ -1,6 +1,6 @@
 -- Once the master is closed, nothing goes down the slave's stream: in a new pair, and behind each step.
-use Rattle.std.proofs.Common.{ℕ, suc, ◌≡◌, Bool, true, false, cond, List, [], ◌∷◌, refl, ap, subst}
-use Rattle.std.specs.Prelude.{not, ◌&&◌, ◌==◌, Option, None, Some, nat_le}
+use Rattle.std.proofs.Common.{ℕ, ◌≡◌, Bool, true, false, cond, List, [], ◌∷◌, refl, ap, subst}
+use Rattle.std.specs.Prelude.{not, ◌&&◌, Option, None, Some}
 use Rattle.strm_types.specs.declared.answers.Turn.{Turn}
 use Rattle.strm_types.specs.declared.books.Book.{Book}
 use Rattle.strm_types.specs.declared.entries.Entry.TheVariants.{Called, Turned}
@@ -9,7 +9,6 @@ use Rattle.strm_types.specs.declared.events.Event.TheVariants.{OpenMaster, Unloc
 use Rattle.strm_types.specs.declared.flushing.FlushAsked.{FlushAsked}
 use Rattle.strm_types.specs.declared.kinds.MsgKind.{MsgKind}
 use Rattle.strm_types.specs.declared.kinds.MsgKind.TheVariants as kinds
-use Rattle.strm_types.specs.declared.limits.TheConstants.{HOPS, MODULES}
 use Rattle.strm_types.specs.declared.modes.Mode as modes
 use Rattle.strm_types.specs.declared.modes.Mode.TheVariants as chosen
 use Rattle.strm_types.specs.declared.modes.Prio.{Prio}
@@ -26,20 +25,19 @@ use Rattle.strm_types.specs.declared.names.Way.TheVariants.{Up, Down}
 use Rattle.strm_types.specs.declared.refusals.Refusal.TheVariants.{Enxio}
 use Rattle.strm_types.specs.declared.rules.Rule.TheVariants.{EndClosed}
 use Rattle.strm_types.specs.declared.spots.Spot.{Spot}
-use Rattle.strm_types.specs.Books.{with_made}
 use Rattle.strm_types.specs.Calls.{Request, called, get_at, ioctl_begun, ioctl_sent, ioctl_told, message_put, mode_set, opened_slave, put_at, read_at, signals_told, wrote}
 use Rattle.strm_types.specs.Cells.{Cells, cells_written}
 use Rattle.strm_types.specs.Closes.{closed_at, driver_emptied, ended, hung_up_at, stream_emptied}
 use Rattle.strm_types.specs.CutOff.{IsCutOff}
-use Rattle.strm_types.specs.Deliver.{Acted, Took}
+use Rattle.strm_types.specs.Deliver.{Acted}
 use Rattle.strm_types.specs.Emptied.{of_all}
-use Rattle.strm_types.specs.Flushing.{asked_by, asked_of, flush_bytes, flush_message, is_flush}
+use Rattle.strm_types.specs.Flushing.{asked_by, asked_of, flush_bytes, flush_message}
 use Rattle.strm_types.specs.Heads.{flush_up, head_flushed, head_put, is_doubled, obeyed, passed_by, waits_for_readers}
 use Rattle.strm_types.specs.Ioctls.{asking, ioctl_message}
 use Rattle.strm_types.specs.Journal.{PlainEntry}
 use Rattle.strm_types.specs.Message.{Message, has_parts}
 use Rattle.strm_types.specs.Names.{direction_from, is_closed, is_open}
-use Rattle.strm_types.specs.Puts.{delivered, is_bare_flush, passed_up, put_at_driver, put_at_head, put_at_module, put_behind, put_below, put_in}
+use Rattle.strm_types.specs.Puts.{delivered, put_at_driver, put_at_head}
 use Rattle.strm_types.specs.Queue.{Queue}
 use Rattle.strm_types.specs.Refused.{goes_down, or_else, refused_at_once, refused_by_state, unless}
 use Rattle.strm_types.specs.Slots.{PlainSlot, slot_behind}
@@ -48,11 +46,9 @@ use Rattle.strm_types.specs.State.{State, book, opening, stream, with_book, with
 use Rattle.strm_types.specs.Step.{IsLegal, Step, after, replay}
 use Rattle.strm_types.specs.Turns.{turned, with_driver}
 use Rattle.strm_types.proofs.TurnHolds.{turn-holds, turns-stay}
-use Rattle.strm_types.proofs.DeliveryHolds.{carried-holds}
-use Rattle.strm_types.proofs.ModuleTurnEnds.{Stays, waiting}
+use Rattle.strm_types.proofs.PutParts.{BookHolds, Stays, delivered-holds, either-holds, waiting}
 use Rattle.strm_types.proofs.Replay.{or_else-none, unless-none}
 use Rattle.strm_types.proofs.WriteSteps.{cells_sent-holds}
-use Rattle.strm_types.specs.Earlier.{modules_on}
 use Rattle.strm_types.specs.Stacked.{Module}
 use Rattle.strm_types.specs.Pushes.{head_above, ioctl_dropped, named_by, popped, pushed_named, with_modules}
 use Rattle.strm_types.proofs.PushHolds.{Survives, pop-holds, push-holds}
@@ -99,51 +95,24 @@ module _ {C : Type 0} where
       (either-hung h (is_doubled m h.queue.messages) _ _ (λ was. was) (λ was. was)) (obeyed-hung here m.kind m.plain h)
 
   -- in a pair
-  either-cut : (b : Bool) (one another : Took C (State C)) → IsCutOff one.state → IsCutOff another.state → IsCutOff (cond b one another).state
-  either-cut true one another first second = first
-  either-cut false one another first second = second
-
   head-cut : (side : Side) (here : Spot) (m : Message C) (s : State C) → IsCutOff s → IsCutOff (put_at_head side here m s).state
-  head-cut Master here m s cut = either-cut (is_open s.master.opened) _ _ (record { slave = cut.slave }) cut
+  head-cut Master here m s cut = either-holds IsCutOff (is_open s.master.opened) _ _ (record { slave = cut.slave }) cut
   head-cut Slave here m s cut =
-      either-cut (is_open s.slave.opened) _ _
+      either-holds IsCutOff (is_open s.slave.opened) _ _
       (record { slave = λ closed. low-stays (is_open s.slave.opened) s.slave.head.hung_up (head_put here m s.slave.head).state.hung_up (put-hung here m s.slave.head) (cut.slave closed) }) cut
 
-  driver-cut : (side : Side) (here : Spot) (m : Message C) (s : State C) → IsCutOff s → IsCutOff (put_at_driver side here m s).state
-  driver-cut Master here m s cut = record { slave = cut.slave }
-  driver-cut Slave here m s cut = record { slave = cut.slave }
-
-  module-cut : (side : Side) (here : Spot) (m : Message C) (s : State C) → IsCutOff s → IsCutOff (put_at_module side here m s).state
-  module-cut Master here m s cut = record { slave = cut.slave }
-  module-cut Slave here m s cut = record { slave = cut.slave }
-
-  behind-cut : (way : Way) (here : Spot) (m : Message C) (s : State C) → IsCutOff s → IsCutOff (put_behind way here m s).state
-  behind-cut Down here m s cut = driver-cut here.side here m s cut
-  behind-cut Up here m s cut = either-cut (is_bare_flush m && here.at == suc MODULES) (put_at_driver here.side here m s) (passed_up here m s) (driver-cut here.side here m s cut) cut
-
-  below-cut : (way : Way) (here : Spot) (m : Message C) (s : State C) → IsCutOff s → IsCutOff (put_below way here m s).state
-  below-cut way here m s cut =
-      either-cut (nat_le here.at (modules_on here.side s)) (put_at_module here.side here m s) (put_behind way here m s) (module-cut here.side here m s cut) (behind-cut way here m s cut)
-
-  pub puts-cut : (here : Spot) (m : Message C) (s : State C) → IsCutOff s → IsCutOff (put_in here m s).state
-  puts-cut here m s cut = either-cut (here.at == 0) (put_at_head here.side here m s) (put_below here.way here m s) (head-cut here.side here m s cut) (below-cut here.way here m s cut)
-
-  delivered-cut : (to : Spot) (m : Message C) (s : State C) → IsCutOff s → IsCutOff (delivered to m s).state
-  delivered-cut to m s cut = carried-holds IsCutOff put_in puts-cut HOPS (record { to = to; message = m }) s cut
-
-  -- turns
-  with_driver-cut : (side : Side) (q : Queue C) (s : State C) → IsCutOff s → IsCutOff (with_driver side q s)
-  with_driver-cut Master q s cut = record { slave = cut.slave }
-  with_driver-cut Slave q s cut = record { slave = cut.slave }
-
   cut-stays : Stays {C = C} IsCutOff
-  cut-stays = record { puts = puts-cut; modules = modules; names = λ names s cut. record { slave = cut.slave }; books = books; waits = waits }
+  cut-stays = record { head = head-cut; driver = driver; modules = modules; names = λ names s cut. record { slave = cut.slave }; books = books; waits = waits }
     where
+      driver : (side : Side) (here : Spot) (m : Message C) (s : State C) → IsCutOff s → IsCutOff (put_at_driver side here m s).state
+      driver Master here m s cut = record { slave = cut.slave }
+      driver Slave here m s cut = record { slave = cut.slave }
+
       modules : (side : Side) (ps : List (Module C)) (s : State C) → IsCutOff s → IsCutOff (with_modules side ps s)
       modules Master ps s cut = record { slave = cut.slave }
       modules Slave ps s cut = record { slave = cut.slave }
 
-      books : (dir : Dir) (n : ℕ) (s : State C) → IsCutOff s → IsCutOff (with_book dir (with_made n (book dir s)) s)
+      books : BookHolds {C = C} IsCutOff
       books MasterToSlave n s cut = record { slave = cut.slave }
       books SlaveToMaster n s cut = record { slave = cut.slave }
 
@@ -152,6 +121,14 @@ module _ {C : Type 0} where
       waits Master Down band s cut = record { slave = cut.slave }
       waits Slave Up band s cut = record { slave = cut.slave }
       waits Slave Down band s cut = record { slave = cut.slave }
+
+  delivered-cut : (cells : Cells C) (to : Spot) (m : Message C) (s : State C) → IsCutOff s → IsCutOff (delivered cells to m s).state
+  delivered-cut cells to m s cut = delivered-holds IsCutOff cut-stays cells to m s cut
+
+  -- turns
+  with_driver-cut : (side : Side) (q : Queue C) (s : State C) → IsCutOff s → IsCutOff (with_driver side q s)
+  with_driver-cut Master q s cut = record { slave = cut.slave }
+  with_driver-cut Slave q s cut = record { slave = cut.slave }
 
   turn-cut : (cells : Cells C) (name : QueueName) (turn : Turn) (s : State C) → IsCutOff s → IsCutOff (turned cells name turn s).state
   turn-cut cells name turn s cut = turn-holds IsCutOff (turns-stay IsCutOff with_driver-cut cut-stays) cells name turn s cut
@@ -165,7 +142,7 @@ module _ {C : Type 0} where
     named = λ names s cut. record { slave = cut.slave };
     dropped = dropped side;
     apart = apart side;
-    given = λ m s cut. delivered-cut (head_above side) m s cut;
+    given = λ m s cut. head-cut side (head_above side) m s cut;
     good = λ s cut. tt;
     below = λ l ls good. tt;
   }
@@ -208,7 +185,7 @@ module _ {C : Type 0} where
 
   write-cut : (cells : Cells C) (side : Side) (bytes : List ℕ) (s : State C) → IsCutOff s → IsCutOff (wrote cells side bytes s).state
   write-cut cells side bytes s cut =
-      booked-cut _ _ _ (cells_sent-holds IsCutOff delivered-cut side (cells_written cells (direction_from side) (book (direction_from side) s).written bytes) s cut)
+      booked-cut _ _ _ (cells_sent-holds cells IsCutOff (delivered-cut cells) side (cells_written cells (direction_from side) (book (direction_from side) s).written bytes) s cut)
 
   read-cut : (cells : Cells C) (side : Side) (n : ℕ) (s : State C) → IsCutOff s → IsCutOff (read_at cells side n s).state
   read-cut cells Master n s cut = record { slave = cut.slave }
@@ -221,9 +198,9 @@ module _ {C : Type 0} where
   put_at-cut : (cells : Cells C) (side : Side) (prio : Prio) (control body : Option (List ℕ)) (s : State C) → IsCutOff s → IsCutOff (put_at cells side prio control body s).state
   put_at-cut cells side prio None None s cut = cut
   put_at-cut cells side prio None (Some xs) s cut =
-      booked-cut _ _ _ (delivered-cut (below side) (message_put cells side prio None (Some xs) s) s cut)
+      booked-cut _ _ _ (delivered-cut cells (below side) (message_put cells side prio None (Some xs) s) s cut)
   put_at-cut cells side prio (Some xs) body s cut =
-      booked-cut _ _ _ (delivered-cut (below side) (message_put cells side prio (Some xs) body s) s cut)
+      booked-cut _ _ _ (delivered-cut cells (below side) (message_put cells side prio (Some xs) body s) s cut)
 
   mode-cut : (side : Side) (mode : modes.Mode) (s : State C) → IsCutOff s → IsCutOff (mode_set side mode s)
   mode-cut Master (chosen.Read mode) s cut = record { slave = cut.slave }
@@ -256,7 +233,7 @@ module _ {C : Type 0} where
   call-cut cells caller (Push name) s cut allowed = push-cut caller.side (named_by name) s cut
   call-cut cells caller Pop s cut allowed = pop-cut caller.side s cut
   call-cut cells caller Look s cut allowed = cut
-  call-cut cells caller (Flush what band) s cut allowed = delivered-cut (below caller.side) (flush_message (flush_bytes (asked_of what band))) s cut
+  call-cut cells caller (Flush what band) s cut allowed = delivered-cut cells (below caller.side) (flush_message (flush_bytes (asked_of what band))) s cut
   call-cut cells caller (Write bytes) s cut allowed = write-cut cells caller.side bytes s cut
   call-cut cells caller (Read n) s cut allowed = read-cut cells caller.side n s cut
   call-cut cells caller (Put prio control body) s cut allowed = put_at-cut cells caller.side prio control body s cut
@@ -264,8 +241,8 @@ module _ {C : Type 0} where
   call-cut cells caller (Mode mode) s cut allowed = mode-cut caller.side mode s cut
   call-cut cells caller Nread s cut allowed = cut
   call-cut cells caller (Ioctl command body) s cut allowed =
-      told-cut caller.side (ioctl_sent caller.side command body s).state
-      (delivered-cut (below caller.side) (ioctl_message (asking command s.next_ioctl) body) (ioctl_begun caller.side command s) (begun-cut caller.side command s cut))
+      told-cut caller.side (ioctl_sent cells caller.side command body s).state
+      (delivered-cut cells (below caller.side) (ioctl_message (asking command s.next_ioctl) body) (ioctl_begun caller.side command s) (begun-cut caller.side command s cut))
   call-cut cells caller (IoctlResult number) s cut allowed = told-cut caller.side s cut
   call-cut cells caller Signals s cut allowed = signals-cut caller.side s cut
 

@@ -11,7 +11,7 @@ use Rattle.strm_types.specs.declared.names.Way.TheVariants.{Up, Down}
 use Rattle.strm_types.specs.Earlier.{NoModules, before_among, before_at, before_by, before_driver, before_head, modules_on, places_of}
 use Rattle.strm_types.specs.ModuleQueues.{first_place, has_queue, last_place, place_before, place_past}
 use Rattle.strm_types.specs.Names.{place_of}
-use Rattle.strm_types.specs.Stacked.{Module, OfLdterm, OfPtem, map_module, module_name, module_queue}
+use Rattle.strm_types.specs.Stacked.{Module, OfLdterm, OfPtem, OfPckt, map_module, module_name, module_queue}
 use Rattle.strm_types.specs.State.{State, stream, map_state}
 
 module _ {C D : Type 0} (f : C → D) where
@@ -21,10 +21,12 @@ module _ {C D : Type 0} (f : C → D) where
   pub queue-forgets : (way : Way) (p : Module C) → has_queue module_queue way (map_module f p) ≡ has_queue module_queue way p
   queue-forgets way (OfLdterm l) = refl
   queue-forgets way (OfPtem p) = refl
+  queue-forgets way (OfPckt p) = refl
 
   pub name-forgets : (p : Module C) → module_name (map_module f p) ≡ module_name p
   name-forgets (OfLdterm l) = refl
   name-forgets (OfPtem p) = refl
+  name-forgets (OfPckt p) = refl
 
   first-forgets : (way : Way) (place : ℕ) (ps : List (Module C)) → first_place module_queue way place (images ps) ≡ first_place module_queue way place ps
   first-forgets way place [] = refl

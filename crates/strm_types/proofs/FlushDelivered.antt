@@ -16,6 +16,7 @@ use Rattle.strm_types.specs.declared.names.Way.TheVariants.{Up, Down}
 use Rattle.strm_types.specs.declared.rules.Rule.TheVariants.{Flushed, EndClosed}
 use Rattle.strm_types.specs.declared.spots.Note.TheVariants.{Room}
 use Rattle.strm_types.specs.declared.spots.Spot.{Spot}
+use Rattle.strm_types.specs.Cells.{Cells}
 use Rattle.strm_types.specs.Deliver.{Acted, Carried, Fate, Goes, Parcel, Took, carried, in_turn}
 use Rattle.strm_types.specs.Drivers.{flush_across, flush_down, freed, own_flushed, reader_flush}
 use Rattle.strm_types.specs.Closes.{and_then, driver_behind, driver_emptied, head_behind, head_emptied}
@@ -63,17 +64,17 @@ room-noted : (side : Side) (place : Option Place) (earlier : Way → Option Queu
 room-noted side place earlier way true names = refl
 room-noted side place earlier way false names = refl
 
-module _ {C : Type 0} where
+module _ {C : Type 0} (cells : Cells C) where
   abbrev flush_to : Spot → List ℕ → Parcel C
   flush_to to bytes = record { to = to; message = flush_message bytes }
 
   -- what carrying does with what a put took
   abbrev pub went_on : ℕ → Took C (State C) → Carried C (State C)
   went_on hops t =
-      let u = in_turn (carried put_in hops) t.sent t.state in
+      let u = in_turn (carried (put_in cells) hops) t.sent t.state in
       record { state = u.state; gone = t.gone ++ u.gone }
 
-  pub carries : (hops : ℕ) (p : Parcel C) (s : State C) → carried put_in (suc hops) p s ≡ went_on hops (put_in p.to p.message s)
+  pub carries : (hops : ℕ) (p : Parcel C) (s : State C) → carried (put_in cells) (suc hops) p s ≡ went_on hops (put_in cells p.to p.message s)
   unfolding carried
   carries hops p s = refl
 
@@ -100,7 +101,7 @@ module _ {C : Type 0} where
         gone = t.gone;
       }
 
-  head-takes : (side : Side) (bytes : List ℕ) (s : State C) → is_open (stream side s).opened ≡ true → put_in (head_spot side) (flush_message bytes) s ≡ head_took side (asked_by bytes) s
+  head-takes : (side : Side) (bytes : List ℕ) (s : State C) → is_open (stream side s).opened ≡ true → put_in cells (head_spot side) (flush_message bytes) s ≡ head_took side (asked_by bytes) s
   head-takes side bytes s is =
       let none : Took C (State C) = record { state = s; sent = []; gone = Goes (direction_at Up side) EndClosed (cells_of (flush_message bytes)) ∷ [] } in
       ap (λ (opened : Bool). cond opened (head_took side (asked_by bytes) s) none) is
@@ -116,7 +117,7 @@ module _ {C : Type 0} where
       }) (room-noted side (Some places.Head) (earlier_at side 0 s) Up (writer_goes chosen above.head.queue) s.enabled)
 
   head-carried : (hops : ℕ) (band : Option Band) (side : Side) (s : State C) → is_a_band band ≡ true → is_open (stream side s).opened ≡ true
-      → carried put_in (suc hops) (flush_to (head_spot side) (read_flush band)) s ≡ head_emptied Flushed (of_data band) side s
+      → carried (put_in cells) (suc hops) (flush_to (head_spot side) (read_flush band)) s ≡ head_emptied Flushed (of_data band) side s
   head-carried hops band side s known is =
       carries hops (flush_to (head_spot side) (read_flush band)) s
       ∙ ap (λ (t : Took C (State C)). went_on hops t) (head-takes side (read_flush band) s is)
@@ -125,13 +126,13 @@ module _ {C : Type 0} where
 
   -- what a driver sends up a stream
   reads-reach : (hops : ℕ) (band : Option Band) (side : Side) (s : State C) → is_a_band band ≡ true
-      → in_turn (carried put_in (suc hops)) (reader_flush (is_open (stream side s).opened) (asked_of Read band) (head_spot side)) s ≡ reached (of_data band) side s
+      → in_turn (carried (put_in cells) (suc hops)) (reader_flush (is_open (stream side s).opened) (asked_of Read band) (head_spot side)) s ≡ reached (of_data band) side s
   reads-reach hops band side s known = at (is_open (stream side s).opened) refl
     where
       at : (opened : Bool) → is_open (stream side s).opened ≡ opened
-          → in_turn (carried put_in (suc hops)) (reader_flush opened (asked_of Read band) (head_spot side)) s ≡ cond opened (head_emptied Flushed (of_data band) side s) (none_gone s)
+          → in_turn (carried (put_in cells) (suc hops)) (reader_flush opened (asked_of Read band) (head_spot side)) s ≡ cond opened (head_emptied Flushed (of_data band) side s) (none_gone s)
       at true is =
-          turns-one (carried put_in (suc hops)) (flush_to (head_spot side) (read_flush band)) s
+          turns-one (carried (put_in cells) (suc hops)) (flush_to (head_spot side) (read_flush band)) s
           ∙ head-carried hops band side s known is
       at false is = refl
 
@@ -183,22 +184,22 @@ module _ {C : Type 0} where
   abbrev across_took : Side → FlushAsked → State C → Took C (State C)
   across_took side asked s = driver_took side (flush_across side (across_of side s) asked (stream side s).driver.queue) s
 
-  across-takes : (side : Side) (bytes : List ℕ) (s : State C) → put_in (across_spot side) (flush_message bytes) s ≡ across_took side (asked_by bytes) s
-  across-takes side bytes s = ap (λ (stands : Bool). cond stands (put_at_module side (across_spot side) (flush_message bytes) s) (across_took side (asked_by bytes) s)) (few-behind side s)
+  across-takes : (side : Side) (bytes : List ℕ) (s : State C) → put_in cells (across_spot side) (flush_message bytes) s ≡ across_took side (asked_by bytes) s
+  across-takes side bytes s = ap (λ (stands : Bool). cond stands (put_at_module cells (across_spot side) (flush_message bytes) s) (across_took side (asked_by bytes) s)) (few-behind side s)
 
   -- what a driver sends up behind its own queue's flush
   up-behind : (hops : ℕ) (band : Option Band) (side : Side) (s : State C) → is_a_band band ≡ true → NoModules s
       → let behind = driver_behind (of_data band) side s in
-      in_turn (carried put_in (suc hops)) (reader_flush (is_open (stream (other side) s).opened) (asked_of Read band) (up_spot (other side) (modules_on (other side) s))) behind
+      in_turn (carried (put_in cells) (suc hops)) (reader_flush (is_open (stream (other side) s).opened) (asked_of Read band) (up_spot (other side) (modules_on (other side) s))) behind
       ≡ reached (of_data band) (other side) behind
   up-behind hops band side s known none =
       let behind = driver_behind (of_data band) side s in
-      ap (λ (bottom : ℕ). in_turn (carried put_in (suc hops)) (reader_flush (is_open (stream (other side) s).opened) (asked_of Read band) (up_spot (other side) bottom)) behind) (none-on (other side) s none)
-      ∙ ap (λ (opened : Bool). in_turn (carried put_in (suc hops)) (reader_flush opened (asked_of Read band) (head_spot (other side))) behind) (stays-opened (of_data band) side s)
+      ap (λ (bottom : ℕ). in_turn (carried (put_in cells) (suc hops)) (reader_flush (is_open (stream (other side) s).opened) (asked_of Read band) (up_spot (other side) bottom)) behind) (none-on (other side) s none)
+      ∙ ap (λ (opened : Bool). in_turn (carried (put_in cells) (suc hops)) (reader_flush opened (asked_of Read band) (head_spot (other side))) behind) (stays-opened (of_data band) side s)
       ∙ reads-reach hops band (other side) behind known
 
   across-carried : (hops : ℕ) (band : Option Band) (side : Side) (s : State C) → is_a_band band ≡ true → NoModules s
-      → carried put_in (suc (suc hops)) (flush_to (across_spot side) (read_flush band)) s ≡ write_flushed (of_data band) side s
+      → carried (put_in cells) (suc (suc hops)) (flush_to (across_spot side) (read_flush band)) s ≡ write_flushed (of_data band) side s
   across-carried hops band side s known none =
       let up = reader_flush (is_open (stream (other side) s).opened) (asked_of Read band) (up_spot (other side) (modules_on (other side) s)) in
       let first = driver_emptied Flushed (of_data band) side s in
@@ -210,9 +211,9 @@ module _ {C : Type 0} where
 
   -- the driver across, and then the side's own readers
   reads-carried : (hops : ℕ) (band : Option Band) (side : Side) (s : State C) → is_a_band band ≡ true → NoModules s
-      → in_turn (carried put_in (suc (suc hops))) (flush_to (across_spot (other side)) (read_flush band) ∷ []) s ≡ read_flushed (of_data band) side s
+      → in_turn (carried (put_in cells) (suc (suc hops))) (flush_to (across_spot (other side)) (read_flush band) ∷ []) s ≡ read_flushed (of_data band) side s
   reads-carried hops band side s known none =
-      turns-one (carried put_in (suc (suc hops))) (flush_to (across_spot (other side)) (read_flush band)) s
+      turns-one (carried (put_in cells) (suc (suc hops))) (flush_to (across_spot (other side)) (read_flush band)) s
       ∙ across-carried hops band (other side) s known none
       ∙ back side
     where
@@ -224,8 +225,8 @@ module _ {C : Type 0} where
   abbrev down_took : Side → FlushAsked → State C → Took C (State C)
   down_took side asked s = driver_took side (flush_down side (across_of side s) asked (stream side s).driver.queue) s
 
-  down-takes : (side : Side) (bytes : List ℕ) (s : State C) → NoModules s → put_in (down_spot side) (flush_message bytes) s ≡ down_took side (asked_by bytes) s
-  down-takes side bytes s none = ap (λ (count : ℕ). cond (nat_le 1 count) (put_at_module side (down_spot side) (flush_message bytes) s) (down_took side (asked_by bytes) s)) (none-on side s none)
+  down-takes : (side : Side) (bytes : List ℕ) (s : State C) → NoModules s → put_in cells (down_spot side) (flush_message bytes) s ≡ down_took side (asked_by bytes) s
+  down-takes side bytes s none = ap (λ (count : ℕ). cond (nat_le 1 count) (put_at_module cells (down_spot side) (flush_message bytes) s) (down_took side (asked_by bytes) s)) (none-on side s none)
 
   went-down : (hops : ℕ) (band : Option Band) (side : Side) (what : FlushQueues) (s : State C) → is_a_band band ≡ true → NoModules s
       → went_on (suc (suc hops)) (down_took side (asked_of what band) s) ≡ flush_effect (of_data band) side what s
@@ -240,7 +241,7 @@ module _ {C : Type 0} where
       ∙ ap (λ (ps : List (Parcel C)). went_on (suc (suc hops)) (record { state = first.state; sent = ps; gone = first.gone })) (append-nil up)
       ∙ ap (λ (u : Carried C (State C)). record { state = u.state; gone = first.gone ++ u.gone }) (up-behind (suc hops) band side s known none)
   went-down hops band side Both s known none =
-      let carry = carried put_in (suc (suc hops)) in
+      let carry = carried (put_in cells) (suc (suc hops)) in
       let up = reader_flush (is_open (stream (other side) s).opened) (asked_of Read band) (up_spot (other side) (modules_on (other side) s)) in
       let across = flush_to (across_spot (other side)) (read_flush band) ∷ [] in
       let first = driver_emptied Flushed (of_data band) side s in
@@ -252,12 +253,12 @@ module _ {C : Type 0} where
       ∙ ap (λ (u : Carried C (State C)). behind (record { state = u.state; gone = second.gone ++ u.gone })) (reads-carried hops band side second.state known (reached-none (of_data band) (other side) first.state (driver-none (of_data band) side s none)))
 
   pub flush-carried : (hops : ℕ) (band : Option Band) (side : Side) (what : FlushQueues) (s : State C) → is_a_band band ≡ true → NoModules s
-      → carried put_in (suc (suc (suc hops))) (flush_to (down_spot side) (flush_bytes (asked_of what band))) s ≡ flush_effect (of_data band) side what s
+      → carried (put_in cells) (suc (suc (suc hops))) (flush_to (down_spot side) (flush_bytes (asked_of what band))) s ≡ flush_effect (of_data band) side what s
   flush-carried hops band side what s known none =
       carries (suc (suc hops)) (flush_to (down_spot side) (flush_bytes (asked_of what band))) s
       ∙ ap (λ (t : Took C (State C)). went_on (suc (suc hops)) t) (down-takes side (flush_bytes (asked_of what band)) s none)
       ∙ ap (λ (asked : FlushAsked). went_on (suc (suc hops)) (down_took side asked s)) (bytes-ask what band known)
       ∙ went-down hops band side what s known none
 
-  pub flush-delivered : (band : Option Band) (side : Side) (what : FlushQueues) (s : State C) → is_a_band band ≡ true → NoModules s → flushed_on band side what s ≡ flush_effect (of_data band) side what s
+  pub flush-delivered : (band : Option Band) (side : Side) (what : FlushQueues) (s : State C) → is_a_band band ≡ true → NoModules s → flushed_on cells band side what s ≡ flush_effect (of_data band) side what s
   flush-delivered band side what s known none = flush-carried 13 band side what s known none

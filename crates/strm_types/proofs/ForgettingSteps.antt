@@ -53,8 +53,8 @@ use Rattle.strm_types.proofs.ReadForgets.{body-forgets, head_draw-forgets, read_
 use Rattle.strm_types.proofs.TurnForgets.{driver_turned-forgets}
 
 -- what a write makes of what was sent
-abbrev sent_on : {C : Type 0} → Side → State C → Wrote C → Outcome C
-sent_on side s t = let dir = direction_from side in record { answer = Count t.taken; state = with_book dir (with_written t.taken (book dir s)) t.state }
+abbrev sent_on : {C : Type 0} → Side → Wrote C → Outcome C
+sent_on side t = let dir = direction_from side in record { answer = Count t.taken; state = with_book dir (with_written t.taken (book dir t.state)) t.state }
 
 -- what a read makes of what was taken, with this answer
 abbrev taken_with : {C : Type 0} → Side → State C → Reply → Queue C → Bool → Option QueueName → Outcome C
@@ -103,9 +103,9 @@ module _ {C D : Type 0} (f : C → D) where
   sizes-forgets Slave s = told-forgets s.slave.head.queue.messages (map_state f s)
 
   -- a write
-  sent_on-forgets : (side : Side) (s : State C) (t : Wrote C) → sent_on side (map_state f s) (map_wrote f t) ≡ map_outcome f (sent_on side s t)
-  sent_on-forgets Master s t = refl
-  sent_on-forgets Slave s t = refl
+  sent_on-forgets : (side : Side) (t : Wrote C) → sent_on side (map_wrote f t) ≡ map_outcome f (sent_on side t)
+  sent_on-forgets Master t = refl
+  sent_on-forgets Slave t = refl
 
   -- a read
   taken_with-forgets : (side : Side) (s : State C) (answer : Reply) (q : Queue C) (lets : Bool) (earlier : Option QueueName)
@@ -126,9 +126,9 @@ module _ {C : Type 0} (cells : Cells C) (are : AreCells cells) where
       let n = (book dir s).written in
       let base = map_state cells.byte s in
       let written = cells_written cells dir n bytes in
-      ap (λ (xs : List ℕ). sent_on side base (cells_sent side xs base)) (written-plain dir (book dir base).written bytes ∙ sym (written-bytes cells are dir n bytes))
-      ∙ ap (λ (t : Wrote ℕ). sent_on side base t) (cells_sent-forgets cells.byte side written s)
-      ∙ sent_on-forgets cells.byte side s (cells_sent side written s)
+      ap (λ (xs : List ℕ). sent_on side (cells_sent plain side xs base)) (written-plain dir (book dir base).written bytes ∙ sym (written-bytes cells are dir n bytes))
+      ∙ ap (λ (t : Wrote ℕ). sent_on side t) (cells_sent-forgets cells are side written s)
+      ∙ sent_on-forgets cells.byte side (cells_sent cells side written s)
 
   -- a read, which gives the bytes of its cells
   read_at-forgets : (side : Side) (n : ℕ) (s : State C) → read_at plain side n (map_state cells.byte s) ≡ map_outcome cells.byte (read_at cells side n s)
@@ -200,7 +200,7 @@ module _ {C : Type 0} (cells : Cells C) (are : AreCells cells) where
   call-forgets caller (Push name) s = ap (λ (t : Carried ℕ (State ℕ)). done t.state) (push-forgets cells.byte caller.side name s)
   call-forgets caller Pop s = ap (λ (t : Carried ℕ (State ℕ)). done t.state) (pop-forgets cells.byte caller.side s)
   call-forgets caller Look s = ap (λ (name : Option ModuleName). name_answered name (map_state cells.byte s)) (top-forgets cells.byte caller.side s)
-  call-forgets caller (Flush what band) s = ap (λ (t : Carried ℕ (State ℕ)). done t.state) (flushed_on-forgets cells.byte band caller.side what s)
+  call-forgets caller (Flush what band) s = ap (λ (t : Carried ℕ (State ℕ)). done t.state) (flushed_on-forgets cells are band caller.side what s)
   call-forgets caller (Write bytes) s = write-forgets caller.side bytes s
   call-forgets caller (Read n) s = read_at-forgets caller.side n s
   call-forgets caller (Put prio control body) s = ap (λ (t : Carried ℕ (State ℕ)). done t.state) (put_at-forgets cells are caller.side prio control body s)
@@ -208,8 +208,8 @@ module _ {C : Type 0} (cells : Cells C) (are : AreCells cells) where
   call-forgets caller (Mode mode) s = ap (λ (t : State ℕ). done t) (mode-forgets cells.byte caller.side mode s)
   call-forgets caller Nread s = sizes-forgets cells.byte caller.side s
   call-forgets caller (Ioctl command body) s =
-      ap (λ (t : Carried ℕ (State ℕ)). ioctl_told caller.side t.state) (sent-forgets cells.byte caller.side command body s)
-      ∙ ioctl_told-forgets cells.byte caller.side (ioctl_sent caller.side command body s).state
+      ap (λ (t : Carried ℕ (State ℕ)). ioctl_told caller.side t.state) (sent-forgets cells are caller.side command body s)
+      ∙ ioctl_told-forgets cells.byte caller.side (ioctl_sent cells caller.side command body s).state
   call-forgets caller (IoctlResult number) s = ioctl_told-forgets cells.byte caller.side s
   call-forgets caller events.Signals s = signals-forget cells.byte caller.side s
 
@@ -217,7 +217,7 @@ module _ {C : Type 0} (cells : Cells C) (are : AreCells cells) where
   turn-forgets name turn s = at name.place (record s { enabled = without name s.enabled })
     where
       at : (place : Place) (s : State C) → turned_at plain place name turn (map_state cells.byte s) ≡ map_turn_outcome cells.byte (turned_at cells place name turn s)
-      at places.Driver s = driver_turned-forgets cells.byte name.side s
+      at places.Driver s = driver_turned-forgets cells are name.side s
       at places.Head s = refl
       at places.Ldterm s = module_turned-forgets cells are name turn s
 

@@ -1,9 +1,8 @@
 -- Cells that are told as made are the next ones of their direction, one after the other.
-use Rattle.std.proofs.Common.{ℕ, zero, suc, ◌≡◌, ◌+◌, Bool, true, false, List, [], ◌∷◌, ◌++◌, length, refl, sym, ap, subst, ◌∙◌, arith}
+use Rattle.std.proofs.Common.{ℕ, zero, suc, ◌≡◌, ◌+◌, Bool, true, List, [], ◌∷◌, ◌++◌, length, refl, sym, ap, subst, ◌∙◌, arith}
 use Rattle.std.specs.Prelude.{count_by}
 use Rattle.strm_types.specs.declared.names.Dir.{Dir}
 use Rattle.strm_types.specs.declared.names.Dir.TheVariants.{MasterToSlave, SlaveToMaster}
-use Rattle.strm_types.specs.declared.rules.Rule.{Rule}
 use Rattle.strm_types.specs.Cells.{Cells, cells_made, cells_written}
 use Rattle.strm_types.specs.Deliver.{Carried, Fate, Goes, Comes, Parcel, Took, carried, in_turn}
 use Rattle.strm_types.specs.Message.{Message}

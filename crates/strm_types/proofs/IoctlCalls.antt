@@ -7,6 +7,7 @@ use Rattle.strm_types.specs.declared.names.Side.TheVariants.{Master, Slave}
 use Rattle.strm_types.specs.declared.names.Way.TheVariants.{Down}
 use Rattle.strm_types.specs.declared.spots.Spot.{Spot}
 use Rattle.strm_types.specs.declared.names.Dir.{Dir}
+use Rattle.strm_types.specs.Cells.{AreCells, Cells, plain}
 use Rattle.strm_types.specs.Names.{direction_from}
 use Rattle.strm_types.specs.Calls.{ioctl_begun, ioctl_sent, ioctl_told, signals_told, map_outcome}
 use Rattle.strm_types.specs.Ioctls.{asking, ioctl_message}
@@ -45,13 +46,13 @@ module _ {C : Type 0} where
     told-keeps Master s = refl
     told-keeps Slave s = refl
 
-    pub sent-keeps : (side : Side) (command : ℕ) (body : List ℕ) (s : State C) → let t = ioctl_sent side command body s in
+    pub sent-keeps : (cells : Cells C) (side : Side) (command : ℕ) (body : List ℕ) (s : State C) → let t = ioctl_sent cells side command body s in
         state_weight p (ioctl_told side t.state).state + weight_gone p t.gone ≡ state_weight p s + weight_made p t.gone
-    sent-keeps side command body s =
+    sent-keeps cells side command body s =
         let ioc = asking command s.next_ioctl in
         let m : Message C = ioctl_message ioc body in
         let begun = ioctl_begun side command s in
-        omega (arith, told-keeps side (delivered (below side) m begun).state, delivered-keeps p (below side) m begun (omega arith), weight-ioctl (p (direction_from side)) ioc body, begun-keeps side command s)
+        omega (arith, told-keeps side (delivered cells (below side) m begun).state, delivered-keeps cells p (below side) m begun (omega arith), weight-ioctl (p (direction_from side)) ioc body, begun-keeps side command s)
 
   begun-unread : (side : Side) (command : ℕ) (s : State C) → NothingUnread s → NothingUnread (ioctl_begun side command s)
   begun-unread Master command s unread = record { master = unread.master; slave = unread.slave }
@@ -65,9 +66,9 @@ module _ {C : Type 0} where
   signals-unread Master s unread = record { master = unread.master; slave = unread.slave }
   signals-unread Slave s unread = record { master = unread.master; slave = unread.slave }
 
-  pub sent-unread : (side : Side) (command : ℕ) (body : List ℕ) (s : State C) → NothingUnread s → NothingUnread (ioctl_sent side command body s).state
-  sent-unread side command body s unread =
-      delivered-unread (below side) (ioctl_message (asking command s.next_ioctl) body) (ioctl_begun side command s) (begun-unread side command s unread)
+  pub sent-unread : (cells : Cells C) (side : Side) (command : ℕ) (body : List ℕ) (s : State C) → NothingUnread s → NothingUnread (ioctl_sent cells side command body s).state
+  sent-unread cells side command body s unread =
+      delivered-unread cells (below side) (ioctl_message (asking command s.next_ioctl) body) (ioctl_begun side command s) (begun-unread side command s unread)
 
 module _ {C D : Type 0} (f : C → D) where
   message-forgets : (ioc : Ioc) (body : List ℕ) → map_message f (ioctl_message ioc body) ≡ ioctl_message ioc body
@@ -86,9 +87,13 @@ module _ {C D : Type 0} (f : C → D) where
   signals-forget Master s = refl
   signals-forget Slave s = refl
 
-  pub sent-forgets : (side : Side) (command : ℕ) (body : List ℕ) (s : State C) → ioctl_sent side command body (map_state f s) ≡ map_carried f (map_state f) (ioctl_sent side command body s)
+module _ {C : Type 0} (cells : Cells C) (are : AreCells cells) where
+  abbrev f : C → ℕ
+  f = cells.byte
+
+  pub sent-forgets : (side : Side) (command : ℕ) (body : List ℕ) (s : State C) → ioctl_sent plain side command body (map_state f s) ≡ map_carried f (map_state f) (ioctl_sent cells side command body s)
   sent-forgets side command body s =
       let m = ioctl_message (asking command s.next_ioctl) body in
-      ap (λ (t : State D). delivered (below side) (ioctl_message (asking command s.next_ioctl) body) t) (begun-forgets side command s)
-      ∙ ap (λ x. delivered (below side) x (map_state f (ioctl_begun side command s))) (sym (message-forgets (asking command s.next_ioctl) body))
-      ∙ delivered-forgets f (below side) m (ioctl_begun side command s)
+      ap (λ (t : State ℕ). delivered plain (below side) (ioctl_message (asking command s.next_ioctl) body) t) (begun-forgets f side command s)
+      ∙ ap (λ x. delivered plain (below side) x (map_state f (ioctl_begun side command s))) (sym (message-forgets f (asking command s.next_ioctl) body))
+      ∙ delivered-forgets cells are (below side) m (ioctl_begun side command s)

@@ -1,6 +1,6 @@
 -- In every legal journal each byte that was booked has one place, and no other byte has any; and of each direction the books say how many
 -- bytes stand there and have gone.
-use Rattle.std.proofs.Common.{ℕ, zero, suc, ◌≡◌, ◌<◌, ◌+◌, Bool, true, false, cond, List, [], ◌∷◌, ◌++◌, length, refl, sym, ap, subst, ◌∙◌, arith}
+use Rattle.std.proofs.Common.{ℕ, suc, ◌≡◌, ◌+◌, Bool, true, false, cond, List, [], ◌∷◌, length, refl, ap, ◌∙◌, arith}
 use Rattle.std.specs.Prelude.{◌==◌, ◌&&◌, nat_lt, count_by}
 use Rattle.std.proofs.lemmas.Bool.Decides.{nat_tests}
 use Rattle.strm_types.specs.declared.entries.Entry.TheVariants.{Called, Turned}
@@ -10,13 +10,13 @@ use Rattle.strm_types.specs.declared.names.Place.{Place}
 use Rattle.strm_types.specs.declared.names.Place.TheVariants.{Head, Ldterm, Driver}
 use Rattle.strm_types.specs.Cells.{Cells, Origin, Written, Made, Base, Tagged, cells_made, cells_written, tagged}
 use Rattle.strm_types.specs.Journal.{PlainEntry}
-use Rattle.strm_types.specs.Kept.{AreIdle, MayTest, NothingUnread, count_came, gone, state_weight, tests_at}
+use Rattle.strm_types.specs.Kept.{AreIdle, MayTest, NothingUnread, gone, state_weight, tests_at}
 use Rattle.strm_types.specs.LdtermWeights.{IgnoresMapping}
 use Rattle.strm_types.specs.Ledgers.{all_gone, direction_in, is_booked, own_places_of, places_of, same_dir, same_origin}
-use Rattle.strm_types.specs.Places.{weight_gone, weight_made}
+use Rattle.strm_types.specs.Places.{weight_gone}
 use Rattle.strm_types.specs.State.{State, book, opening}
-use Rattle.strm_types.specs.Step.{IsLegal, Step, after, replay}
-use Rattle.strm_types.proofs.Balances.{step-counts, total, upto, written-long}
+use Rattle.strm_types.specs.Step.{IsLegal, after, replay}
+use Rattle.strm_types.proofs.Balances.{step-counts, total, written-long}
 use Rattle.strm_types.proofs.DeliveryKeeps.{gone-append}
 use Rattle.strm_types.proofs.InOrder.{Numbered}
 use Rattle.strm_types.proofs.MadeCells.{made-long}

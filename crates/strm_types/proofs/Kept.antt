@@ -35,7 +35,7 @@ use Rattle.strm_types.specs.Refused.{or_else, unless, asks_a_band, refused_at_on
 use Rattle.strm_types.specs.Step.{Step}
 use Rattle.strm_types.specs.Turns.{turned}
 use Rattle.strm_types.specs.Places.{weight_gone, weight_made}
-use Rattle.strm_types.specs.Kept.{state_weight, NothingUnread, AreIdle, MayTest, cells_taken, came, gone, count_came}
+use Rattle.strm_types.specs.Kept.{state_weight, NothingUnread, AreIdle, MayTest, cells_taken, gone, count_came}
 use Rattle.strm_types.proofs.ClosesKeep.{closed_at-keeps, closed_at-unread, pop-unread, push-unread}
 use Rattle.strm_types.proofs.PushKeeps.{pop-keeps, push-keeps}
 use Rattle.strm_types.proofs.Deliveries.{flushed_on-keeps, flushed_on-unread, delivered-unread}
@@ -70,7 +70,7 @@ module _ {C : Type 0} where
     write-keeps cells side bytes s =
         let dir = direction_from side in
         let t = write_sent cells side bytes s in
-        omega (arith, book-weight dir (with_written t.taken (book dir s)) t.state, cells_sent-keeps p side (cells_written cells dir (book dir s).written bytes) s)
+        omega (arith, book-weight dir (with_written t.taken (book dir t.state)) t.state, cells_sent-keeps cells p side (cells_written cells dir (book dir s).written bytes) s)
 
     -- what a read leaves on the queue, and what goes by its rules
     drawn-keeps : (dir : Dir) (read : ReadMode) (control : ControlMode) (n : ℕ) (q : Queue C) → weight (p dir) (read_queue read control n q).messages + weight_gone p (read_gone dir read control n q.messages) ≡ weight (p dir) q.messages + weight_made p (read_gone dir read control n q.messages)
@@ -113,7 +113,7 @@ module _ {C : Type 0} where
     call-keeps cells caller (Push name) answer s unread idle allowed = omega (arith, push-keeps p caller.side name s)
     call-keeps cells caller Pop answer s unread idle allowed = omega (arith, pop-keeps p caller.side s (idle-at caller.side s idle))
     call-keeps cells caller Look answer s unread idle allowed = refl
-    call-keeps cells caller (Flush what band) answer s unread idle allowed = omega (arith, flushed_on-keeps p band caller.side what s)
+    call-keeps cells caller (Flush what band) answer s unread idle allowed = omega (arith, flushed_on-keeps cells p band caller.side what s)
     call-keeps cells caller OpenSlave answer s unread idle allowed =
         let by_state = or_else-none _ _ (or_else-none (unless (is_open s.master.opened) Enxio) _ allowed).1 in
         let closed = closed-of (is_open s.slave.opened) (unless-none (not (is_open s.slave.opened)) Einval by_state.0) in
@@ -125,7 +125,7 @@ module _ {C : Type 0} where
     call-keeps cells caller (Get wanted cmax dmax) answer s unread idle allowed = omega (arith, get-keeps cells caller.side wanted cmax dmax s)
     call-keeps cells caller (Mode mode) answer s unread idle allowed = omega (arith, mode-keeps caller.side mode s)
     call-keeps cells caller Nread answer s unread idle allowed = refl
-    call-keeps cells caller (Ioctl command body) answer s unread idle allowed = omega (arith, sent-keeps p caller.side command body s)
+    call-keeps cells caller (Ioctl command body) answer s unread idle allowed = omega (arith, sent-keeps p cells caller.side command body s)
     call-keeps cells caller (IoctlResult number) answer s unread idle allowed = omega (arith, told-keeps p caller.side s)
     call-keeps cells caller Signals answer s unread idle allowed = omega (arith, signals-keep p caller.side [] s)
 
@@ -150,7 +150,7 @@ module _ {C : Type 0} where
   write-unread cells side bytes s unread =
       let dir = direction_from side in
       let t = write_sent cells side bytes s in
-      book-unread dir (with_written t.taken (book dir s)) t.state (cells_sent-holds NothingUnread delivered-unread side (cells_written cells dir (book dir s).written bytes) s unread)
+      book-unread dir (with_written t.taken (book dir t.state)) t.state (cells_sent-holds cells NothingUnread (delivered-unread cells) side (cells_written cells dir (book dir s).written bytes) s unread)
 
   taken-unread : (side : Side) (s : State C) (answer : Reply) (q : Queue C) (lets : Bool) → NothingUnread s → is_open (stream side s).opened ≡ true → NothingUnread (taken_from side s answer q lets).state
   taken-unread Master s answer q lets unread is = record { master = λ closed. absurd (cc); slave = unread.slave }
@@ -170,7 +170,7 @@ module _ {C : Type 0} where
   call-unread cells caller (Push name) s unread allowed = push-unread caller.side (named_by name) s unread
   call-unread cells caller Pop s unread allowed = pop-unread caller.side s unread
   call-unread cells caller Look s unread allowed = unread
-  call-unread cells caller (Flush what band) s unread allowed = flushed_on-unread band caller.side what s unread
+  call-unread cells caller (Flush what band) s unread allowed = flushed_on-unread cells band caller.side what s unread
   call-unread cells caller (Write bytes) s unread allowed = write-unread cells caller.side bytes s unread
   call-unread cells caller (Read n) s unread allowed =
       let h = (stream caller.side s).head in
@@ -188,7 +188,7 @@ module _ {C : Type 0} where
   call-unread cells caller (Mode mode) s unread allowed = mode-unread caller.side mode s unread
   call-unread cells caller Nread s unread allowed = unread
   call-unread cells caller (Ioctl command body) s unread allowed =
-      told-unread caller.side (ioctl_sent caller.side command body s).state (sent-unread caller.side command body s unread)
+      told-unread caller.side (ioctl_sent cells caller.side command body s).state (sent-unread cells caller.side command body s unread)
   call-unread cells caller (IoctlResult number) s unread allowed = told-unread caller.side s unread
   call-unread cells caller Signals s unread allowed = signals-unread caller.side s unread
 

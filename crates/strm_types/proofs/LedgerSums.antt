@@ -1,10 +1,9 @@
 -- The numbers of a ledger: what stands in a direction is on its queues and in its lines, and the counts by rule are of all that has gone.
-use Rattle.std.proofs.Common.{ℕ, zero, suc, ◌≡◌, ◌<◌, ◌≤◌, ◌+◌, ◌%◌, ◌^◌, Bool, true, false, cond, List, [], ◌∷◌, ◌++◌, length, refl, sym, ap, subst, ◌∙◌, arith}
-use Rattle.std.specs.Prelude.{count_by, flat_map, sum_by, slice_index_or, slice_set, if◌then◌else◌, Option, None, Some}
+use Rattle.std.proofs.Common.{ℕ, ◌≡◌, ◌<◌, ◌+◌, ◌%◌, ◌^◌, Bool, true, false, List, [], ◌∷◌, ◌++◌, length, refl, sym, ap, ◌∙◌, arith}
+use Rattle.std.specs.Prelude.{count_by, flat_map, sum_by, slice_index_or, if◌then◌else◌}
 use Rattle.std.specs.List.{AllByRecursion}
 use Rattle.std.proofs.lemmas.List.Sums.{get_or-le-sum_by, sum_by-cons, sum_by-set}
 use Rattle.std.proofs.lemmas.List.{length-set}
-use Rattle.strm_types.specs.declared.limits.TheConstants.{MODULES}
 use Rattle.strm_types.specs.declared.names.Dir.{Dir}
 use Rattle.strm_types.specs.declared.names.Dir.TheVariants.{MasterToSlave, SlaveToMaster}
 use Rattle.strm_types.specs.declared.names.Place.TheVariants as places
@@ -20,18 +19,18 @@ use Rattle.strm_types.specs.Cells.{Cells, plain}
 use Rattle.strm_types.specs.Deliver.{Fate, Goes, Comes, counted_with, tallied}
 use Rattle.strm_types.specs.Journal.{PlainEntry}
 use Rattle.strm_types.specs.Kept.{AreIdle, gone, state_weight, told_by}
-use Rattle.strm_types.specs.Ledgers.{all_gone, cells_on, inline, queued, same_dir}
+use Rattle.strm_types.specs.Ledgers.{all_gone, inline, queued}
 use Rattle.strm_types.specs.LdtermWeights.{ldterm_weight, weight_begun, weight_in_work}
 use Rattle.strm_types.specs.Ldterms.{Ldterm, IsIdle}
 use Rattle.strm_types.specs.Message.{Message, cells_of, weight_of}
 use Rattle.strm_types.specs.ModuleQueues.{messages_at}
 use Rattle.strm_types.specs.Names.{direction_at, place_of}
 use Rattle.strm_types.specs.Places.{weight_gone}
-use Rattle.strm_types.specs.Pushes.{is_there, messages_on, messages_there}
+use Rattle.strm_types.specs.Pushes.{is_there}
 use Rattle.strm_types.specs.Queue.{weight}
 use Rattle.strm_types.specs.Rules.{counted_more, fates_of, made_more, no_fates, number_of, told_more}
-use Rattle.strm_types.specs.Stacked.{Module, OfLdterm, OfPtem, IsAtRest, module_line, module_name, module_queue, module_weight, modules_weight}
-use Rattle.strm_types.specs.State.{State, book, opening, stream}
+use Rattle.strm_types.specs.Stacked.{Module, OfLdterm, OfPtem, OfPckt, IsAtRest, module_line, module_name, module_queue, module_weight, modules_weight}
+use Rattle.strm_types.specs.State.{State, book, opening}
 use Rattle.strm_types.specs.Step.{IsLegal, after, replay}
 use Rattle.strm_types.proofs.JournalPlaces.{balanced, of_dir}
 use Rattle.strm_types.proofs.StepsIdle.{opening-idle, step-idle}
@@ -82,6 +81,7 @@ module _ {C : Type 0} where
       → modules_weight p side ps ≡ weight all (on_queues Down ps)
   modules-down p side up down [] idle = refl
   modules-down p side up down (OfPtem q ∷ ps) idle = omega (arith, sum_by-cons (module_weight p side) (OfPtem q) ps, modules-down p side up down ps idle.1)
+  modules-down p side up down (OfPckt q ∷ ps) idle = omega (arith, sum_by-cons (module_weight p side) (OfPckt q) ps, modules-down p side up down ps idle.1)
   modules-down p side up down (OfLdterm l ∷ ps) idle =
       omega (
         arith,
@@ -99,6 +99,8 @@ module _ {C : Type 0} where
   modules-up p side up down [] idle = refl
   modules-up p side up down (OfPtem q ∷ ps) idle =
       omega (arith, sum_by-cons (module_weight p side) (OfPtem q) ps, sum_by-cons (λ q. length (module_line q)) (OfPtem q) ps, modules-up p side up down ps idle.1)
+  modules-up p side up down (OfPckt q ∷ ps) idle =
+      omega (arith, sum_by-cons (module_weight p side) (OfPckt q) ps, sum_by-cons (λ q. length (module_line q)) (OfPckt q) ps, modules-up p side up down ps idle.1)
   modules-up p side up down (OfLdterm l ∷ ps) idle =
       omega (
         arith,

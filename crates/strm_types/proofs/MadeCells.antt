@@ -18,7 +18,10 @@ pub made-forget : {C : Type 0} (cells : Cells C) → AreCells cells → (dir : D
 made-forget cells are dir n [] = refl
 made-forget cells are dir n (b ∷ bytes) = ap (λ rest. b ∷ rest) (made-forget cells are dir (suc n) bytes) ∙ ap (λ c. c ∷ map cells.byte (cells_made cells dir (suc n) bytes)) (sym (are.byte_made dir n b))
 
--- plain bytes are the same whichever cells they are
+-- plain bytes are themselves, and so the same whichever cells they are
+pub made-plain : (dir : Dir) (n : ℕ) (bytes : List ℕ) → cells_made plain dir n bytes ≡ bytes
+made-plain dir n [] = refl
+made-plain dir n (x ∷ bytes) = ap (λ rest. x ∷ rest) (made-plain dir (suc n) bytes)
+
 pub made-same : (dir : Dir) (a b : ℕ) (bytes : List ℕ) → cells_made plain dir a bytes ≡ cells_made plain dir b bytes
-made-same dir a b [] = refl
-made-same dir a b (x ∷ bytes) = ap (λ rest. x ∷ rest) (made-same dir (suc a) (suc b) bytes)
+made-same dir a b bytes = made-plain dir a bytes ∙ sym (made-plain dir b bytes)

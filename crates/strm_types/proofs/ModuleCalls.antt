@@ -21,7 +21,7 @@ use Rattle.strm_types.specs.Modules.{act_among, put_among}
 use Rattle.strm_types.specs.OutputTurns.{output_serves}
 use Rattle.strm_types.specs.Places.{weight_gone, weight_made, weight_sent}
 use Rattle.strm_types.specs.Queue.{left_with}
-use Rattle.strm_types.specs.Stacked.{Module, OfLdterm, OfPtem, IsAtRest, module_puts, module_serves, module_weight, modules_weight}
+use Rattle.strm_types.specs.Stacked.{Module, OfLdterm, OfPtem, OfPckt, IsAtRest, module_puts, module_serves, module_weight, modules_weight}
 use Rattle.strm_types.proofs.LdtermOrderly.{orderly-echo, puts-orderly, serves-orderly}
 use Rattle.strm_types.proofs.LdtermProgress.{serves-leaves}
 use Rattle.strm_types.proofs.LdtermPutStays.{puts-stay}
@@ -40,6 +40,7 @@ IsReady false way left l = IsIdle l
 abbrev pub IsReadyAt : {C : Type 0} → Bool → Way → ℕ → Module C → Type 0
 IsReadyAt again way left (OfLdterm l) = IsReady again way left l
 IsReadyAt again way left (OfPtem p) = Unit {0}
+IsReadyAt again way left (OfPckt p) = Unit {0}
 
 module _ {C : Type 0} where
   idle-orderly : (l : Ldterm C) → IsIdle l → IsOrderly l
@@ -66,16 +67,18 @@ module _ {C : Type 0} where
   down-idle false left l ready = ready
 
   -- a put leaves it so
-  pub puts-ready : (again : Bool) (way : Way) (left : ℕ) (here : Spot) (m : Message C) (q : Module C) → IsReadyAt again way left q → IsReadyAt again way left (module_puts here m q).state
-  puts-ready again way left here m (OfPtem q) ready = tt
-  puts-ready true Up left here m (OfLdterm l) ready = (puts-orderly here m l ready.0, subst (λ stage. stages_done stage ≤ 3 * left) (sym (puts-stay here m l).stage) ready.1)
-  puts-ready true Down left here m (OfLdterm l) ready = puts-idle here m (OfLdterm l) ready
-  puts-ready false way left here m (OfLdterm l) ready = puts-idle here m (OfLdterm l) ready
+  pub puts-ready : (cells : Cells C) (made : ℕ) (again : Bool) (way : Way) (left : ℕ) (here : Spot) (m : Message C) (q : Module C) → IsReadyAt again way left q → IsReadyAt again way left (module_puts cells made here m q).state
+  puts-ready cells made again way left here m (OfPtem q) ready = tt
+  puts-ready cells made again way left here m (OfPckt q) ready = tt
+  puts-ready cells made true Up left here m (OfLdterm l) ready = (puts-orderly here m l ready.0, subst (λ stage. stages_done stage ≤ 3 * left) (sym (puts-stay here m l).stage) ready.1)
+  puts-ready cells made true Down left here m (OfLdterm l) ready = puts-idle cells made here m (OfLdterm l) ready
+  puts-ready cells made false way left here m (OfLdterm l) ready = puts-idle cells made here m (OfLdterm l) ready
 
   -- a module is ready for the first call of a turn where nothing of one is under way
   pub first-ready : (way : Way) (left : ℕ) (q : Module C) → IsAtRest q → IsReadyAt false way left q
   first-ready way left (OfLdterm l) rests = rests
   first-ready way left (OfPtem q) rests = tt
+  first-ready way left (OfPckt q) rests = tt
 
   none-of : (o : Option (Message C)) → is_some o ≡ false → o ≡ None
   none-of None is = refl
@@ -129,13 +132,14 @@ module _ {C : Type 0} where
   one-of-idle Is from zero (l ∷ ls) idle = (from l idle.0, idle.1)
   one-of-idle Is from (suc i) (l ∷ ls) idle = (idle.0, one-of-idle Is from i ls idle.1)
 
-  pub one-puts : (Is : Module C → Type 0) → ((here : Spot) (m : Message C) (l : Module C) → Is l → Is (module_puts here m l).state)
-      → (i j : ℕ) (here : Spot) (m : Message C) (ps : List (Module C)) → OneIs Is i ps → OneIs Is i (put_among module_puts j here m ps).state
-  one-puts Is stays i j here m [] one = tt
-  one-puts Is stays zero zero here m (l ∷ ls) one = (stays here m l one.0, one.1)
-  one-puts Is stays zero (suc j) here m (l ∷ ls) one = (one.0, among-idle j here m ls one.1)
-  one-puts Is stays (suc i) zero here m (l ∷ ls) one = (puts-idle here m l one.0, one.1)
-  one-puts Is stays (suc i) (suc j) here m (l ∷ ls) one = (one.0, one-puts Is stays i j here m ls one.1)
+  module _ (cells : Cells C) (made : ℕ) where
+    pub one-puts : (Is : Module C → Type 0) → ((here : Spot) (m : Message C) (l : Module C) → Is l → Is (module_puts cells made here m l).state)
+        → (i j : ℕ) (here : Spot) (m : Message C) (ps : List (Module C)) → OneIs Is i ps → OneIs Is i (put_among (module_puts cells made) j here m ps).state
+    one-puts Is stays i j here m [] one = tt
+    one-puts Is stays zero zero here m (l ∷ ls) one = (stays here m l one.0, one.1)
+    one-puts Is stays zero (suc j) here m (l ∷ ls) one = (one.0, among-idle cells made j here m ls one.1)
+    one-puts Is stays (suc i) zero here m (l ∷ ls) one = (puts-idle cells made here m l one.0, one.1)
+    one-puts Is stays (suc i) (suc j) here m (l ∷ ls) one = (one.0, one-puts Is stays i j here m ls one.1)
 
 -- a call of the one at a place
 module _ {C : Type 0} (cells : Cells C) (here : Spot) (made : ℕ) (again : Bool) (left : ℕ) where
@@ -154,14 +158,17 @@ module _ {C : Type 0} (cells : Cells C) (here : Spot) (made : ℕ) (again : Bool
   module-near : (q : Module C) → AllByRecursion (λ (x : Parcel C). x.to.at ≤ suc here.at) (acts q).sent
   module-near (OfLdterm l) = serves-near cells here made again (Some left) l
   module-near (OfPtem q) = tt
+  module-near (OfPckt q) = tt
 
   module-goes : (q : Module C) → Ready q → asks q ≡ true → IsReadyAt true here.way (left - treated q) (acts q).state
   module-goes (OfLdterm l) ready works = goes-at cells here.way here again made left l ready works
   module-goes (OfPtem q) ready works = tt
+  module-goes (OfPckt q) ready works = tt
 
   module-rests : (q : Module C) → Ready q → asks q ≡ false → IsAtRest (acts q).state
   module-rests (OfLdterm l) ready over = rests-at cells here.way here again made left l ready over
   module-rests (OfPtem q) ready over = tt
+  module-rests (OfPckt q) ready over = tt
 
   pub among-near : (i : ℕ) (ps : List (Module C)) → AllByRecursion (λ (q : Parcel C). q.to.at ≤ suc here.at) (act_among acts i ps).sent
   among-near i [] = tt
@@ -183,6 +190,7 @@ module _ {C : Type 0} (cells : Cells C) (here : Spot) (made : ℕ) (again : Bool
     module-keeps : (q : Module C) → Ready q → let t = acts q in module_weight p here.side t.state + (weight_sent p t.sent + weight_gone p t.gone) ≡ module_weight p here.side q + weight_made p t.gone
     module-keeps (OfLdterm l) ready = serves-keep p cells ignores here made again (Some left) l (orderly-echo l (ready-orderly again here.way left l ready)) (ready-may again here.way left l ready)
     module-keeps (OfPtem q) ready = refl
+    module-keeps (OfPckt q) ready = refl
 
     pub among-keeps : (i : ℕ) (ps : List (Module C)) → OneIs Ready i ps → let t = act_among acts i ps in
         modules_weight p here.side t.state + (weight_sent p t.sent + weight_gone p t.gone) ≡ modules_weight p here.side ps + weight_made p t.gone

@@ -1,4 +1,4 @@
--- A put at one of the modules of a stream: it loses no cell and makes none, does the same where the origins of cells are forgotten, and
+-- A put at one of the modules of a stream: it loses no cell, makes none but those that it tells, does the same where the origins of cells are forgotten, and
 -- sends on nothing but to the next place.
 use Rattle.std.proofs.Common.{ℕ, zero, suc, ◌≡◌, ◌<◌, ◌≤◌, ◌+◌, ◌-◌, Bool, true, false, cond, List, [], ◌∷◌, ◌++◌, length, map, refl, sym, ap, subst, ◌∙◌, arith}
 use Rattle.std.specs.Prelude.{◌&&◌, ◌==◌, not, Option, None}
@@ -13,6 +13,7 @@ use Rattle.strm_types.specs.declared.spots.Spot.{Spot}
 use Rattle.strm_types.specs.declared.termios.Termios.{Termios}
 use Rattle.strm_types.specs.declared.names.Dir.{Dir}
 use Rattle.strm_types.specs.Names.{direction_at}
+use Rattle.strm_types.specs.Cells.{AreCells, Cells, plain}
 use Rattle.strm_types.specs.Commands.{is_acked}
 use Rattle.strm_types.specs.Deliver.{Acted, AreLower, Parcel, toward}
 use Rattle.strm_types.specs.Flushing.{asked_by, flush_message, read_flush}
@@ -25,7 +26,7 @@ use Rattle.strm_types.specs.Origins.{map_acted}
 use Rattle.strm_types.specs.Places.{weight_gone, weight_made, weight_sent}
 use Rattle.strm_types.specs.Puts.{far, far_at, is_turned, turns_round}
 use Rattle.strm_types.specs.Service.{line_gone}
-use Rattle.strm_types.specs.Stacked.{Module, OfLdterm, OfPtem, done_by, map_module, module_puts, module_weight, modules_weight}
+use Rattle.strm_types.specs.Stacked.{Module, OfLdterm, OfPtem, OfPckt, done_by, map_module, module_puts, module_weight, modules_weight}
 use Rattle.strm_types.specs.TakenUp.{ends_lines, input_flushed, line_up, read_mode_of, taken_up, termios_taken}
 use Rattle.strm_types.specs.Typing.{up_alone}
 use Rattle.strm_types.proofs.DeliveryKeeps.{made-append}
@@ -33,6 +34,7 @@ use Rattle.strm_types.proofs.LdtermKeeps.{either, lost-made, puts-hold}
 use Rattle.strm_types.proofs.LdtermPutForgets.{puts-forget}
 use Rattle.strm_types.proofs.LdtermPuts.{acked-kind, puts-each}
 use Rattle.strm_types.proofs.Onward.{onward-lower}
+use Rattle.strm_types.proofs.PcktPuts.{puts-keep as pckt-keeps, puts-forget as pckt-forgets, puts-lower as pckt-lower}
 use Rattle.strm_types.proofs.PtemPuts.{puts-gone, puts-sent, puts-forget as ptem-forgets, puts-lower as ptem-lower}
 
 module _ {C : Type 0} (p : Dir → C → Bool) where
@@ -70,7 +72,7 @@ module _ {C : Type 0} (p : Dir → C → Bool) where
       let told : Ldterm C → Acted C (Ldterm C) = sends (onward Up here (flush_message (read_flush None)) ∷ []) in
       both-none (input_flushed here command l) (termios_taken here t m) (either MakesNone (command == TCSETSF) (both read told) (sends [] l) (both-none read told (read-none here up_alone l) refl) refl) refl
 
-  ldterm-none : (here : Spot) (m : Message C) (l : Ldterm C) → MakesNone (ldterm_puts here m l)
+  pub ldterm-none : (here : Spot) (m : Message C) (l : Ldterm C) → MakesNone (ldterm_puts here m l)
   ldterm-none here m l = puts-each here m l MakesNone (record {
     waits = λ is. refl;
     flushes = λ is. flush-none here m l;
@@ -78,37 +80,45 @@ module _ {C : Type 0} (p : Dir → C → Bool) where
     taken = λ way is ioc t. taken-none here ioc.command t m l;
   })
 
-  pub puts-none : (here : Spot) (m : Message C) (q : Module C) → weight_made p (module_puts here m q).gone ≡ 0
-  puts-none here m (OfLdterm l) = ldterm-none here m l
-  puts-none here m (OfPtem q) = ap (λ gone. weight_made p gone) (puts-gone here m q)
+  module _ (cells : Cells C) (made : ℕ) where
+    module-keeps : (here : Spot) (m : Message C) (q : Module C) → let t = module_puts cells made here m q in
+        module_weight p here.side t.state + (weight_sent p t.sent + weight_gone p t.gone) ≡ module_weight p here.side q + weight_of (p (direction_at here.way here.side)) m + weight_made p t.gone
+    module-keeps here m (OfLdterm l) = omega (arith, puts-hold p here m l, ldterm-none here m l)
+    module-keeps here m (OfPtem q) =
+        let sent = puts-sent p here m q in
+        let gone = ap (λ gone. weight_gone p gone) (puts-gone here m q) in
+        let made = ap (λ gone. weight_made p gone) (puts-gone here m q) in
+        omega arith
+    module-keeps here m (OfPckt q) = let kept = pckt-keeps p cells made here m in omega arith
 
-  module-keeps : (here : Spot) (m : Message C) (q : Module C) → let t = module_puts here m q in module_weight p here.side t.state + (weight_sent p t.sent + weight_gone p t.gone) ≡ module_weight p here.side q + weight_of (p (direction_at here.way here.side)) m
-  module-keeps here m (OfLdterm l) = puts-hold p here m l
-  module-keeps here m (OfPtem q) = let sent = puts-sent p here m q in let gone = ap (λ gone. weight_gone p gone) (puts-gone here m q) in omega arith
+    -- a put at one of several modules
+    pub among-keeps : (i : ℕ) (here : Spot) (m : Message C) (ps : List (Module C)) → i < length ps → let t = put_among (module_puts cells made) i here m ps in
+        modules_weight p here.side t.state + (weight_sent p t.sent + weight_gone p t.gone) ≡ modules_weight p here.side ps + weight_of (p (direction_at here.way here.side)) m + weight_made p t.gone
+    among-keeps i here m [] within = absurd (omega arith)
+    among-keeps zero here m (l ∷ ls) within =
+        let t = module_puts cells made here m l in
+        omega (arith, module-keeps here m l, sum_by-cons (module_weight p here.side) l ls, sum_by-cons (module_weight p here.side) t.state ls)
+    among-keeps (suc i) here m (l ∷ ls) within =
+        let t = put_among (module_puts cells made) i here m ls in
+        omega (arith, among-keeps i here m ls (omega arith), sum_by-cons (module_weight p here.side) l ls, sum_by-cons (module_weight p here.side) l t.state)
 
-  -- a put at one of several modules
-  pub among-keeps : (i : ℕ) (here : Spot) (m : Message C) (ps : List (Module C)) → i < length ps → let t = put_among module_puts i here m ps in
-      modules_weight p here.side t.state + (weight_sent p t.sent + weight_gone p t.gone) ≡ modules_weight p here.side ps + weight_of (p (direction_at here.way here.side)) m + weight_made p t.gone
-  among-keeps i here m [] within = absurd (omega arith)
-  among-keeps zero here m (l ∷ ls) within =
-      let t = module_puts here m l in
-      omega (arith, module-keeps here m l, puts-none here m l, sum_by-cons (module_weight p here.side) l ls, sum_by-cons (module_weight p here.side) t.state ls)
-  among-keeps (suc i) here m (l ∷ ls) within =
-      let t = put_among module_puts i here m ls in
-      omega (arith, among-keeps i here m ls (omega arith), sum_by-cons (module_weight p here.side) l ls, sum_by-cons (module_weight p here.side) l t.state)
+module _ {C : Type 0} (cells : Cells C) (are : AreCells cells) (made : ℕ) where
+  abbrev f : C → ℕ
+  f = cells.byte
 
-module _ {C D : Type 0} (f : C → D) where
-  abbrev image : Acted C (List (Module C)) → Acted D (List (Module D))
+  abbrev image : Acted C (List (Module C)) → Acted ℕ (List (Module ℕ))
   image t = map_acted f (map (map_module f)) t
 
-  module-forgets : (here : Spot) (m : Message C) (q : Module C) → module_puts here (map_message f m) (map_module f q) ≡ map_acted f (map_module f) (module_puts here m q)
+  module-forgets : (here : Spot) (m : Message C) (q : Module C) → module_puts plain made here (map_message f m) (map_module f q) ≡ map_acted f (map_module f) (module_puts cells made here m q)
   module-forgets here m (OfLdterm l) = ap (done_by OfLdterm) (puts-forget f here m l)
   module-forgets here m (OfPtem q) = ap (done_by OfPtem) (ptem-forgets f here m q)
+  module-forgets here m (OfPckt q) = ap (done_by OfPckt) (pckt-forgets cells are made here m)
 
-  pub among-forgets : (i : ℕ) (here : Spot) (m : Message C) (ps : List (Module C)) → put_among module_puts i here (map_message f m) (map (map_module f) ps) ≡ image (put_among module_puts i here m ps)
+  pub among-forgets : (i : ℕ) (here : Spot) (m : Message C) (ps : List (Module C))
+      → put_among (module_puts plain made) i here (map_message f m) (map (map_module f) ps) ≡ image (put_among (module_puts cells made) i here m ps)
   among-forgets i here m [] = refl
-  among-forgets zero here m (l ∷ ls) = ap (λ (t : Acted D (Module D)). record { state = t.state ∷ map (map_module f) ls; notes = t.notes; sent = t.sent; gone = t.gone }) (module-forgets here m l)
-  among-forgets (suc i) here m (l ∷ ls) = ap (λ (t : Acted D (List (Module D))). record { state = map_module f l ∷ t.state; notes = t.notes; sent = t.sent; gone = t.gone }) (among-forgets i here m ls)
+  among-forgets zero here m (l ∷ ls) = ap (λ (t : Acted ℕ (Module ℕ)). record { state = t.state ∷ map (map_module f) ls; notes = t.notes; sent = t.sent; gone = t.gone }) (module-forgets here m l)
+  among-forgets (suc i) here m (l ∷ ls) = ap (λ (t : Acted ℕ (List (Module ℕ))). record { state = map_module f l ∷ t.state; notes = t.notes; sent = t.sent; gone = t.gone }) (among-forgets i here m ls)
 
 module _ {C : Type 0} (here : Spot) (m : Message C) (some : 0 < here.at) (few : here.at ≤ MODULES) where
   abbrev Lower : List (Parcel C) → Type 0
@@ -121,14 +131,14 @@ module _ {C : Type 0} (here : Spot) (m : Message C) (some : 0 < here.at) (few : 
   sends-none : (t : Acted C (Ldterm C)) → t.sent ≡ [] → Lower t.sent
   sends-none t is = subst Lower (sym is) tt
 
-  read-lower : (asked : FlushAsked) (l : Ldterm C) → (read_flushed here asked l).sent ≡ []
+  pub read-lower : (asked : FlushAsked) (l : Ldterm C) → (read_flushed here asked l).sent ≡ []
   read-lower asked l = either (λ t. t.sent ≡ []) asked.for_read (both (queue_flushed Up here asked.band l) (line_flushed here asked.band)) (sends [] l) (line (takes_band_0 asked.band) (queue_flushed Up here asked.band l).state) refl
     where
       line : (b : Bool) (l : Ldterm C) → (cond b (record (sends [] (without_line l)) { gone = line_gone here.side Flushed l.line }) (sends [] l)).sent ≡ []
       line true l = refl
       line false l = refl
 
-  write-lower : (asked : FlushAsked) (l : Ldterm C) → (write_flushed here asked l).sent ≡ []
+  pub write-lower : (asked : FlushAsked) (l : Ldterm C) → (write_flushed here asked l).sent ≡ []
   write-lower asked l = at asked.for_write
     where
       at : (b : Bool) → (cond b (queue_flushed Down here asked.band (record l { echoing = l.echoing && not (takes_band_0 asked.band) })) (sends [] l)).sent ≡ []
@@ -193,11 +203,13 @@ module _ {C : Type 0} (here : Spot) (m : Message C) (some : 0 < here.at) (few : 
     taken = λ way is ioc t. taken-lower ioc.command t l way is;
   })
 
-  module-lower : (q : Module C) → Lower (module_puts here m q).sent
-  module-lower (OfLdterm l) = ldterm-lower l
-  module-lower (OfPtem q) = ptem-lower here m q some few
+  module _ (cells : Cells C) (made : ℕ) where
+    module-lower : (q : Module C) → Lower (module_puts cells made here m q).sent
+    module-lower (OfLdterm l) = ldterm-lower l
+    module-lower (OfPtem q) = ptem-lower here m q some few
+    module-lower (OfPckt q) = pckt-lower cells made here m some few
 
-  pub among-lower : (i : ℕ) (ps : List (Module C)) → Lower (put_among module_puts i here m ps).sent
-  among-lower i [] = tt
-  among-lower zero (l ∷ ls) = module-lower l
-  among-lower (suc i) (l ∷ ls) = among-lower i ls
+    pub among-lower : (i : ℕ) (ps : List (Module C)) → Lower (put_among (module_puts cells made) i here m ps).sent
+    among-lower i [] = tt
+    among-lower zero (l ∷ ls) = module-lower l
+    among-lower (suc i) (l ∷ ls) = among-lower i ls

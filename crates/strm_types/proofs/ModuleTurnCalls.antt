@@ -23,18 +23,18 @@ use Rattle.strm_types.specs.LdtermPuts.{ldterm_puts}
 use Rattle.strm_types.specs.Ldterms.{Stage, new_ldterm}
 use Rattle.strm_types.specs.Message.{Message}
 use Rattle.strm_types.specs.ModuleQueues.{at_place, messages_at}
-use Rattle.strm_types.specs.ModuleTurns.{Calls, again_at, booked, bytes_at, call_at, calls, made_below, module_acted, module_turn_ended, moved_on, moved_within}
+use Rattle.strm_types.specs.ModuleTurns.{Calls, again_at, bytes_at, call_at, calls, made_below, module_turn_ended, moved_on, moved_within}
 use Rattle.strm_types.specs.Modules.{act_among, put_among}
-use Rattle.strm_types.specs.Puts.{put_in}
+use Rattle.strm_types.specs.Puts.{booked, module_acted, put_in}
 use Rattle.strm_types.specs.Service.{Serving}
-use Rattle.strm_types.specs.Stacked.{Module, OfLdterm, OfPtem, module_puts, module_queue, module_serves, served_by}
+use Rattle.strm_types.specs.Stacked.{Module, OfLdterm, OfPtem, OfPckt, module_puts, module_queue, module_serves, served_by}
 use Rattle.strm_types.specs.State.{State, book, stream, with_book, with_stream}
 use Rattle.strm_types.specs.TurnCalls.{Begins, Ends, Stopped, asks_on, bytes_left, called, ldterm_of, led, module_at, treated}
 use Rattle.strm_types.specs.TurnOutcomes.{TurnOutcome, first_size, stayed_put}
 use Rattle.strm_types.proofs.DeliveryHolds.{carried-holds, in_turn-holds}
 use Rattle.strm_types.proofs.LdtermPutStays.{puts-stay}
 use Rattle.strm_types.proofs.LdtermStops.{GoesOn, serves-alike, serves-ends, serves-goes, serves-made}
-use Rattle.strm_types.proofs.ModulesHold.{OnBoth, puts-hold}
+use Rattle.strm_types.proofs.ModulesHold.{OnBoth, puts-good}
 
 -- one of several, and what is said of it
 module _ {P : Type 0} (d : P) where
@@ -75,43 +75,48 @@ module _ (here : Spot) (again : Bool) where
   module-goes : (p : Module ℕ) → Begins here.way again (ldterm_of p) → let t = module_serves plain here 0 again None p in t.again ≡ true → GoesOn here.way again (ldterm_of p) t.bytes (ldterm_of t.acted.state)
   module-goes (OfLdterm l) begins works = serves-goes here again l begins works
   module-goes (OfPtem p) begins works = absurd (false≢true works)
+  module-goes (OfPckt p) begins works = absurd (false≢true works)
 
   module-alike : (p : Module ℕ) → let t = module_serves plain here 0 again None p in t.again ≡ true → (left made : ℕ) → stages_done (ldterm_of t.acted.state).stage + 3 * t.bytes ≤ 3 * left → module_serves plain here made again (Some left) p ≡ t
   module-alike (OfLdterm l) works left made fits = ap (served_by OfLdterm) (serves-alike here again l works left made fits)
   module-alike (OfPtem p) works left made fits = refl
+  module-alike (OfPckt p) works left made fits = refl
 
   module-ends : (p : Module ℕ) → Begins here.way again (ldterm_of p) → let t = module_serves plain here 0 again None p in t.again ≡ false
       → Ends here.way again (ldterm_of p) t.bytes × ((made : ℕ) → module_serves plain here made again (Some t.bytes) p ≡ t)
   module-ends (OfLdterm l) begins over = let e = serves-ends here again l begins over in (e.0, λ made. ap (served_by OfLdterm) (e.1 made))
   module-ends (OfPtem p) begins over = (record { treat = omega arith; done = omega arith }, λ made. refl)
+  module-ends (OfPckt p) begins over = (record { treat = omega arith; done = omega arith }, λ made. refl)
 
   module-made : (stop : Option ℕ) (p : Module ℕ) (made : ℕ) → module_serves plain here made again stop p ≡ module_serves plain here 0 again stop p
   module-made stop (OfLdterm l) made = ap (served_by OfLdterm) (serves-made here again stop l made)
   module-made stop (OfPtem p) made = refl
+  module-made stop (OfPckt p) made = refl
 
 ways : (a b : Stage ℕ) (c d : Option (Message ℕ)) → a ≡ b → c ≡ d → (let x : UnderWay = record { stage = a; in_work = c } in let y : UnderWay = record { stage = b; in_work = d } in x ≡ y)
 ways a b c d same work = ap (λ (x : Stage ℕ). let v : UnderWay = record { stage = x; in_work = c } in v) same ∙ ap (λ (x : Option (Message ℕ)). let v : UnderWay = record { stage = b; in_work = x } in v) work
 
-put-stays : (j : ℕ) (to : Spot) (m : Message ℕ) (ps : List (Module ℕ)) → map under_way (put_among module_puts j to m ps).state ≡ map under_way ps
-put-stays j to m [] = refl
-put-stays zero to m (OfPtem p ∷ ls) = refl
-put-stays zero to m (OfLdterm l ∷ ls) =
+put-stays : (made j : ℕ) (to : Spot) (m : Message ℕ) (ps : List (Module ℕ)) → map under_way (put_among (module_puts plain made) j to m ps).state ≡ map under_way ps
+put-stays made j to m [] = refl
+put-stays made zero to m (OfPtem p ∷ ls) = refl
+put-stays made zero to m (OfPckt p ∷ ls) = refl
+put-stays made zero to m (OfLdterm l ∷ ls) =
     let q = (ldterm_puts to m l).state in
     let same = puts-stay to m l in
     ap (λ x. x ∷ map under_way ls) (ways q.stage l.stage q.in_work l.in_work same.stage same.work)
-put-stays (suc j) to m (l ∷ ls) = ap (λ xs. under_way l ∷ xs) (put-stays j to m ls)
+put-stays made (suc j) to m (l ∷ ls) = ap (λ xs. under_way l ∷ xs) (put-stays made j to m ls)
 
 -- so it does in deliveries
-pub sent-stays : (sent : List (Parcel ℕ)) (s : State ℕ) (side : Side) → map under_way (stream side (in_turn (carried put_in HOPS) sent s).state).modules ≡ map under_way (stream side s).modules
+pub sent-stays : (sent : List (Parcel ℕ)) (s : State ℕ) (side : Side) → map under_way (stream side (in_turn (carried (put_in plain) HOPS) sent s).state).modules ≡ map under_way (stream side s).modules
 sent-stays sent s side = of side
   where
     Good : Side → List (Module ℕ) → Type 0
     Good side ps = map under_way ps ≡ map under_way (stream side s).modules
 
-    both : OnBoth Good (in_turn (carried put_in HOPS) sent s).state
-    both = in_turn-holds (OnBoth Good) (carried put_in HOPS) (carried-holds (OnBoth Good) put_in (puts-hold Good (λ side i to m ps same. put-stays i to m ps ∙ same)) HOPS) sent s (refl, refl)
+    both : OnBoth Good (in_turn (carried (put_in plain) HOPS) sent s).state
+    both = in_turn-holds (OnBoth Good) (carried (put_in plain) HOPS) (carried-holds (OnBoth Good) (put_in plain) (puts-good Good plain (λ side made i to m ps same. put-stays made i to m ps ∙ same)) HOPS) sent s (refl, refl)
 
-    of : (side : Side) → map under_way (stream side (in_turn (carried put_in HOPS) sent s).state).modules ≡ map under_way (stream side s).modules
+    of : (side : Side) → map under_way (stream side (in_turn (carried (put_in plain) HOPS) sent s).state).modules ≡ map under_way (stream side s).modules
     of Master = both.0
     of Slave = both.1
 
@@ -174,7 +179,7 @@ module _ (here : Spot) where
   abbrev next_of : ℕ → ℕ → Acted ℕ (List (Module ℕ)) → ℕ → Bool → State ℕ → Calls ℕ
   next_of more left t bytes again s =
       let w = module_acted here t s in
-      let u = in_turn (carried put_in HOPS) w.sent w.state in
+      let u = in_turn (carried (put_in plain) HOPS) w.sent w.state in
       let v = calls plain here more true (left - bytes) u.state in
       cond {A = Calls ℕ} again (record { state = v.state; gone = w.gone ++ u.gone ++ v.gone; bytes = bytes + v.bytes; ended = v.ended }) (record { state = u.state; gone = w.gone ++ u.gone; bytes = bytes; ended = true })
 
@@ -279,7 +284,7 @@ module _ (here : Spot) where
         goes : (left more : ℕ) → stages_done (ldterm_of q).stage ≤ 3 * left → calls plain here (suc r.made + more) false (bytes + b + left) s0 ≡ behind (gone ++ (led here again None s).gone) (bytes + b) (calls plain here more true left (led here again None s).state)
         goes left more fits =
             let w = module_acted here (called here again None ps) s in
-            let u = in_turn (carried put_in HOPS) w.sent w.state in
+            let u = in_turn (carried (put_in plain) HOPS) w.sent w.state in
             let v = calls plain here more true left u.state in
             ap (λ n. calls plain here n false (bytes + b + left) s0) (let e : suc r.made + more ≡ r.made + suc more = omega arith in e)
             ∙ ap (λ n. calls plain here (r.made + suc more) false n s0) (let e : bytes + b + left ≡ bytes + (b + left) = omega arith in e)
@@ -323,7 +328,7 @@ module _ (here : Spot) where
           let b = treated here again stop ps in
           let more = 3 * (bytes + b) - r.made in
           let w = module_acted here (called here again stop ps) s in
-          let u = in_turn (carried put_in HOPS) w.sent w.state in
+          let u = in_turn (carried (put_in plain) HOPS) w.sent w.state in
           ap (λ (t : Calls ℕ). cond {A = TurnOutcome ℕ} t.ended (record { turn = Moved t.bytes; state = module_turn_ended name here (not (t.bytes == 0)) t.state; gone = t.gone }) (stayed_put Blocked s0))
           (ap (λ n. calls plain here n false (bytes + b) s0) (let few = r.few in let done = is.0.done in let e : 3 * (bytes + b) + 1 ≡ r.made + suc more = omega (arith, few, done) in e)
           ∙ r.goes b (suc more) is.0.done
@@ -341,7 +346,9 @@ module _ (here : Spot) where
   whole Up (OfLdterm l) = refl
   whole Down (OfLdterm l) = refl
   whole Up (OfPtem p) = refl
+  whole Up (OfPckt p) = refl
   whole Down (OfPtem p) = refl
+  whole Down (OfPckt p) = refl
 
   -- and no further than to the end of the first message
   pub moves-within : (name : QueueName) (bytes : ℕ) (s : State ℕ) → here.at - 1 < length (stream here.side s).modules → bytes ≤ bytes_left here.way false (ldterm_of (module_at here s))

@@ -1,12 +1,10 @@
 -- Forgetting the origins of cells commutes with turns of the queues of modules.
-use Rattle.std.proofs.Common.{ℕ, zero, suc, ◌≡◌, ◌+◌, ◌-◌, Bool, true, false, cond, List, [], ◌∷◌, ◌++◌, length, map, take, refl, sym, ap, ◌∙◌}
+use Rattle.std.proofs.Common.{ℕ, zero, suc, ◌≡◌, ◌+◌, ◌-◌, Bool, true, false, cond, List, [], ◌∷◌, ◌++◌, map, take, refl, sym, ap, ◌∙◌}
 use Rattle.std.specs.Prelude.{◌==◌, ◌*◌, ◌&&◌, not, min, slice_index_or, is_some, Option, None, Some, option_map}
-use Rattle.std.proofs.lemmas.List.{take-map, length-map}
+use Rattle.std.proofs.lemmas.List.{take-map}
 use Rattle.strm_types.specs.declared.answers.Turn.{Turn}
 use Rattle.strm_types.specs.declared.answers.Turn.TheVariants.{Moved, Blocked, Idle}
 use Rattle.strm_types.specs.declared.limits.TheConstants.{MODULES, HOPS}
-use Rattle.strm_types.specs.declared.names.Dir.{Dir}
-use Rattle.strm_types.specs.declared.names.Dir.TheVariants.{MasterToSlave, SlaveToMaster}
 use Rattle.strm_types.specs.declared.names.Place.{Place}
 use Rattle.strm_types.specs.declared.names.QueueName.{QueueName}
 use Rattle.strm_types.specs.declared.names.Side.{Side}
@@ -17,25 +15,24 @@ use Rattle.strm_types.specs.declared.spots.Asks.{Asks}
 use Rattle.strm_types.specs.declared.spots.Asks.TheVariants as asked
 use Rattle.strm_types.specs.declared.spots.Spot.{Spot}
 use Rattle.strm_types.specs.Asking.{asked_by, asked_first}
-use Rattle.strm_types.specs.Books.{with_made}
 use Rattle.strm_types.specs.Cells.{Cells, AreCells, plain}
-use Rattle.strm_types.specs.Deliver.{Acted, Carried, Fate, Goes, Comes, Took, carried, in_turn}
+use Rattle.strm_types.specs.Deliver.{Acted, Carried, Took, carried, in_turn}
 use Rattle.strm_types.specs.Earlier.{places_of}
 use Rattle.strm_types.specs.LdtermOrigins.{map_ldterm, map_serving, map_stage}
 use Rattle.strm_types.specs.LdtermTurns.{is_between}
 use Rattle.strm_types.specs.Ldterms.{Between, Begun, Answered, Stage}
 use Rattle.strm_types.specs.Message.{Message, map_message}
 use Rattle.strm_types.specs.ModuleQueues.{at_place, messages_at, queue_changed}
-use Rattle.strm_types.specs.ModuleTurns.{Calls, again_at, asked_turn, booked, bytes_at, call_at, calls, made_below, module_acted, module_called, module_turn_ended, module_turned, moved_by, moved_on, moved_within, named_from, place_named, queue_ended, stayed_at, turned_named, turned_there, waits_there}
+use Rattle.strm_types.specs.ModuleTurns.{Calls, again_at, asked_turn, bytes_at, call_at, calls, made_below, module_called, module_turn_ended, module_turned, moved_by, moved_on, moved_within, named_from, place_named, queue_ended, stayed_at, turned_named, turned_there, waits_there}
 use Rattle.strm_types.specs.Modules.{act_among, change_among}
 use Rattle.strm_types.specs.Names.{enable_if, enable_some}
 use Rattle.strm_types.specs.Origins.{map_acted, map_carried, map_fate, map_parcel, map_took}
 use Rattle.strm_types.specs.Past.{has_room_past, writer_waits}
-use Rattle.strm_types.specs.Puts.{earlier_at, noted, put_in}
+use Rattle.strm_types.specs.Puts.{earlier_at, module_acted, put_in}
 use Rattle.strm_types.specs.Queue.{Queue, is_none_left, map_messages, map_queue, relieved}
 use Rattle.strm_types.specs.Service.{Serving, end_relieves, has_more, turn_ended, turn_relieves}
-use Rattle.strm_types.specs.Stacked.{Module, OfLdterm, OfPtem, map_module, module_asks, module_queue, module_rests, module_serves, served_by, with_module_queue}
-use Rattle.strm_types.specs.State.{State, Stream, book, stream, with_book, with_stream, map_state, map_stream}
+use Rattle.strm_types.specs.Stacked.{Module, OfLdterm, OfPtem, OfPckt, map_module, module_asks, module_queue, module_rests, module_serves, served_by, with_module_queue}
+use Rattle.strm_types.specs.State.{State, Stream, stream, with_stream, map_state, map_stream}
 use Rattle.strm_types.specs.TurnOutcomes.{TurnOutcome, first_size, map_turn_outcome, stayed_put}
 use Rattle.strm_types.proofs.DeliveryForgets.{carried-agrees, in_turn-agrees, map-join}
 use Rattle.strm_types.proofs.Earlier.{before_at-forgets, places-forget}
@@ -43,7 +40,7 @@ use Rattle.strm_types.proofs.EmptiedForgets.{stream-forgets}
 use Rattle.strm_types.proofs.Forgetting.{kind-forgets, named_band-forgets, none-forgets, relieved-forgets, relieves_from-forgets, size-forgets}
 use Rattle.strm_types.proofs.LdtermServes.{serves-forget}
 use Rattle.strm_types.proofs.Past.{room-forgets, with_stream-same, writer_waits-forgets}
-use Rattle.strm_types.proofs.PutsForget.{notes-forget, puts-forget}
+use Rattle.strm_types.proofs.PutsForget.{acted-same, puts-forget}
 
 module _ {C D : Type 0} (f : C → D) where
   abbrev images : List (Module C) → List (Module D)
@@ -74,6 +71,7 @@ module _ {C D : Type 0} (f : C → D) where
   asks-same Up (OfLdterm l) = asked-same Up l.stopped l.read_queue.messages
   asks-same Down (OfLdterm l) = asked-same Down l.stopped l.write_queue.messages
   asks-same way (OfPtem p) = refl
+  asks-same way (OfPckt p) = refl
 
   between-same : (x : Stage C) → is_between (map_stage f x) ≡ is_between x
   between-same Between = refl
@@ -90,6 +88,7 @@ module _ {C D : Type 0} (f : C → D) where
 
   rests-same : (p : Module C) → module_rests (map_module f p) ≡ module_rests p
   rests-same (OfPtem p) = refl
+  rests-same (OfPckt p) = refl
   rests-same (OfLdterm p) =
       ap (λ b. not b && (is_none_left (map f p.gathered) && (not p.echoing && is_between (map_stage f p.stage)))) (work-same p.in_work)
       ∙ ap (λ b. not (is_some p.in_work) && (b && (not p.echoing && is_between (map_stage f p.stage)))) (gathered-same p.gathered)
@@ -103,6 +102,7 @@ module _ {C D : Type 0} (f : C → D) where
   size-same Up (OfLdterm l) = first-same l.read_queue.messages
   size-same Down (OfLdterm l) = first-same l.write_queue.messages
   size-same way (OfPtem p) = refl
+  size-same way (OfPckt p) = refl
 
   -- the end of a turn
   ended-same : (took : Bool) (q : Queue C) → turn_ended took (map_queue f q) ≡ map_queue f (turn_ended took q)
@@ -118,6 +118,7 @@ module _ {C D : Type 0} (f : C → D) where
   changed-same Up took (OfLdterm l) = ap (λ q. OfLdterm (record (map_ldterm f l) { read_queue = q })) (ended-same took l.read_queue)
   changed-same Down took (OfLdterm l) = ap (λ q. OfLdterm (record (map_ldterm f l) { write_queue = q })) (ended-same took l.write_queue)
   changed-same way took (OfPtem p) = refl
+  changed-same way took (OfPckt p) = refl
 
   queue_ended-same : (here : Spot) (took : Bool) (t : Stream C) → queue_ended here took (map_stream f t) ≡ map_stream f (queue_ended here took t)
   queue_ended-same here took t =
@@ -137,11 +138,13 @@ module _ {C D : Type 0} (f : C → D) where
   end_relieves-same took Up (OfLdterm l) = relieves-same took l.read_queue
   end_relieves-same took Down (OfLdterm l) = relieves-same took l.write_queue
   end_relieves-same took way (OfPtem p) = refl
+  end_relieves-same took way (OfPckt p) = refl
 
   more-same : (way : Way) (p : Module C) → has_more module_queue way (map_module f p) ≡ has_more module_queue way p
   more-same Up (OfLdterm l) = ap (λ none. not none) (none-forgets f (map_message f) l.read_queue.messages)
   more-same Down (OfLdterm l) = ap (λ none. not none) (none-forgets f (map_message f) l.write_queue.messages)
   more-same way (OfPtem p) = refl
+  more-same way (OfPckt p) = refl
 
   abbrev with_enabled : {E : Type 0} → List QueueName → State E → State E
   with_enabled names s = record s { enabled = names }
@@ -160,47 +163,10 @@ module _ {C D : Type 0} (f : C → D) where
       ∙ ap (λ e. with_enabled (names more goes e) ended) (before_at-forgets f here.side here.way here.at s)
       ∙ ap (λ x. with_enabled (names more goes earlier) x) (ended_at-same here took s)
 
-  -- the books
-  booked-same : (told : List (Fate C)) (s : State C) → booked (map (map_fate f) told) (map_state f s) ≡ map_state f (booked told s)
-  booked-same [] s = refl
-  booked-same (Goes dir rule cells ∷ told) s = booked-same told s
-  booked-same (Comes dir cells ∷ told) s =
-      ap (λ n. booked (map (map_fate f) told) (with_book dir (with_made n (book dir (map_state f s))) (map_state f s))) (length-map cells f)
-      ∙ ap (λ x. booked (map (map_fate f) told) x) (book-same dir (length cells) s)
-      ∙ booked-same told (with_book dir (with_made (length cells) (book dir s)) s)
-    where
-      book-same : (dir : Dir) (n : ℕ) (s : State C) → with_book dir (with_made n (book dir (map_state f s))) (map_state f s) ≡ map_state f (with_book dir (with_made n (book dir s)) s)
-      book-same MasterToSlave n s = refl
-      book-same SlaveToMaster n s = refl
-
+  -- how many were made
   made-same : (side : Side) (s : State C) → made_below side (map_state f s) ≡ made_below side s
   made-same Master s = refl
   made-same Slave s = refl
-
-  -- a call that a module has served
-  abbrev acted_so : {E : Type 0} → Spot → Acted E (List (Module E)) → List QueueName → State E → Took E (State E)
-  acted_so here t names s = record {
-    state = booked t.gone (record (with_stream here.side (record (stream here.side s) { modules = t.state }) s) { enabled = names });
-    sent = t.sent;
-    gone = t.gone;
-  }
-
-  with_modules-same : (side : Side) (ps : List (Module C)) (names : List QueueName) (s : State C)
-      → record (with_stream side (record (stream side (map_state f s)) { modules = images ps }) (map_state f s)) { enabled = names } ≡ map_state f (record (with_stream side (record (stream side s) { modules = ps }) s) { enabled = names })
-  with_modules-same Master ps names s = refl
-  with_modules-same Slave ps names s = refl
-
-  acted-same : (here : Spot) (t : Acted C (List (Module C))) (s : State C) → module_acted here (map_acted f (map (map_module f)) t) (map_state f s) ≡ map_took f (map_state f) (module_acted here t s)
-  acted-same here t s =
-      let on = stream here.side s in
-      let u = map_acted f (map (map_module f)) t in
-      let place = slice_index_or (places_of on.modules) (here.at - 1) None in
-      let names = noted here.side place (earlier_at here.side here.at s) t.notes s.enabled in
-      ap (λ (x : Stream D). acted_so here u (noted here.side (slice_index_or (places_of x.modules) (here.at - 1) None) (earlier_at here.side here.at (map_state f s)) t.notes s.enabled) (map_state f s)) (stream-forgets f here.side s)
-      ∙ ap (λ places. acted_so here u (noted here.side (slice_index_or places (here.at - 1) None) (earlier_at here.side here.at (map_state f s)) t.notes s.enabled) (map_state f s)) (places-forget f on.modules)
-      ∙ ap (λ ns. acted_so here u ns (map_state f s)) (notes-forget f here.side place here.at t.notes s.enabled s)
-      ∙ ap (λ x. record { state = booked u.gone x; sent = u.sent; gone = u.gone }) (with_modules-same here.side t.state names s)
-      ∙ ap (λ x. record { state = x; sent = u.sent; gone = u.gone }) (booked-same t.gone (record (with_stream here.side (record on { modules = t.state }) s) { enabled = names }))
 
   -- one of several acts
   among-same : (acts : Module C → Acted C (Module C)) (acts' : Module D → Acted D (Module D)) → ((p : Module C) → acts' (map_module f p) ≡ map_acted f (map_module f) (acts p)) → (i : ℕ) (ps : List (Module C))
@@ -234,6 +200,7 @@ module _ {C : Type 0} (cells : Cells C) (are : AreCells cells) where
   module-serves : (here : Spot) (made : ℕ) (again : Bool) (left : ℕ) (p : Module C) → module_serves plain here made again (Some left) (map_module f p) ≡ map_serving f (map_module f) (module_serves cells here made again (Some left) p)
   module-serves here made again left (OfLdterm l) = ap (served_by OfLdterm) (serves-forget cells are here made again (Some left) l)
   module-serves here made again left (OfPtem p) = refl
+  module-serves here made again left (OfPckt p) = refl
 
   acts-same : (here : Spot) (made : ℕ) (again : Bool) (left : ℕ) (p : Module C) → (module_serves plain here made again (Some left) (map_module f p)).acted ≡ map_acted f (map_module f) (module_serves cells here made again (Some left) p).acted
   acts-same here made again left p = ap (λ (t : Serving ℕ (Module ℕ)). t.acted) (module-serves here made again left p)
@@ -255,8 +222,8 @@ module _ {C : Type 0} (cells : Cells C) (are : AreCells cells) where
       (among-same f (λ p. (module_serves cells here made again (Some left) p).acted) (λ p. (module_serves plain here made again (Some left) p).acted) (acts-same here made again left) (here.at - 1) ps)
       ∙ acted-same f here (call_at cells here made again left ps) s
 
-  sent-same : (t : Took C (State C)) → in_turn (carried put_in HOPS) (map (map_parcel f) t.sent) (map_state f t.state) ≡ map_carried f (map_state f) (in_turn (carried put_in HOPS) t.sent t.state)
-  sent-same t = in_turn-agrees f (map_state f) (carried put_in HOPS) (carried put_in HOPS) (carried-agrees f (map_state f) put_in put_in (puts-forget f) HOPS) t.sent t.state
+  sent-same : (t : Took C (State C)) → in_turn (carried (put_in plain) HOPS) (map (map_parcel f) t.sent) (map_state f t.state) ≡ map_carried f (map_state f) (in_turn (carried (put_in cells) HOPS) t.sent t.state)
+  sent-same t = in_turn-agrees f (map_state f) (carried (put_in cells) HOPS) (carried (put_in plain) HOPS) (carried-agrees f (map_state f) (put_in cells) (put_in plain) (puts-forget cells are) HOPS) t.sent t.state
 
   -- what a call and those behind it come to
   abbrev went_on : {E : Type 0} → Bool → ℕ → Took E (State E) → Carried E (State E) → Calls E → Calls E
@@ -278,10 +245,10 @@ module _ {C : Type 0} (cells : Cells C) (are : AreCells cells) where
       let ps = (stream here.side s).modules in
       let made = made_below here.side s in
       let t = module_called cells here again left s in
-      let u = in_turn (carried put_in HOPS) t.sent t.state in
+      let u = in_turn (carried (put_in cells) HOPS) t.sent t.state in
       let bytes = bytes_at cells here made again left ps in
       let goes = again_at cells here made again left ps in
-      let next : Bool → ℕ → Took ℕ (State ℕ) → Calls ℕ = λ b n x. (let y = in_turn (carried put_in HOPS) x.sent x.state in went_on b n x y (calls plain here more true (left - n) y.state)) in
+      let next : Bool → ℕ → Took ℕ (State ℕ) → Calls ℕ = λ b n x. (let y = in_turn (carried (put_in plain) HOPS) x.sent x.state in went_on b n x y (calls plain here more true (left - n) y.state)) in
       ap (λ (on : Stream ℕ). next (again_at plain here (made_below here.side (map_state f s)) again left on.modules) (bytes_at plain here (made_below here.side (map_state f s)) again left on.modules) (module_called plain here again left (map_state f s))) (stream-forgets f here.side s)
       ∙ ap (λ n. next (again_at plain here n again left (map (map_module f) ps)) (bytes_at plain here n again left (map (map_module f) ps)) (module_called plain here again left (map_state f s))) (made-same f here.side s)
       ∙ ap (λ b. next b (bytes_at plain here made again left (map (map_module f) ps)) (module_called plain here again left (map_state f s)))

@@ -1,15 +1,13 @@
 -- A turn of a module's queue loses no cell, and behind it nothing of a turn is under way at any module.
-use Rattle.std.proofs.Common.{ℕ, zero, suc, ◌≡◌, ◌≤◌, ◌<◌, ◌+◌, ◌-◌, ◌*◌, Bool, true, false, cond, List, [], ◌∷◌, ◌++◌, length, take, refl, ◌∙◌, arith}
+use Rattle.std.proofs.Common.{ℕ, zero, suc, ◌≡◌, ◌≤◌, ◌<◌, ◌+◌, ◌-◌, ◌*◌, Bool, true, false, cond, List, [], ◌∷◌, ◌++◌, length, take, refl, arith}
 use Rattle.std.specs.Prelude.{◌==◌, not, slice_index_or, Option, None, Some}
 use Rattle.std.specs.List.{AllByRecursion}
 use Rattle.std.proofs.lemmas.Bool.{false≢true}
 use Rattle.std.proofs.lemmas.List.{length-map, length-take}
 use Rattle.strm_types.specs.declared.answers.Turn.{Turn}
 use Rattle.strm_types.specs.declared.answers.Turn.TheVariants.{Moved, Blocked}
-use Rattle.strm_types.specs.declared.books.Book.{Book}
 use Rattle.strm_types.specs.declared.limits.TheConstants.{MODULES, HOPS}
 use Rattle.strm_types.specs.declared.names.Dir.{Dir}
-use Rattle.strm_types.specs.declared.names.Dir.TheVariants.{MasterToSlave, SlaveToMaster}
 use Rattle.strm_types.specs.declared.names.Place.{Place}
 use Rattle.strm_types.specs.declared.names.QueueName.{QueueName}
 use Rattle.strm_types.specs.declared.names.Side.{Side}
@@ -17,15 +15,14 @@ use Rattle.strm_types.specs.declared.names.Side.TheVariants.{Master, Slave}
 use Rattle.strm_types.specs.declared.spots.Asks.{Asks}
 use Rattle.strm_types.specs.declared.spots.Asks.TheVariants as asked
 use Rattle.strm_types.specs.declared.spots.Spot.{Spot}
-use Rattle.strm_types.specs.Books.{with_made}
 use Rattle.strm_types.specs.Cells.{Cells}
-use Rattle.strm_types.specs.Deliver.{Acted, Carried, Fate, Goes, Comes, Parcel, carried, in_turn}
+use Rattle.strm_types.specs.Deliver.{Acted, Carried, Parcel, carried, in_turn}
 use Rattle.strm_types.specs.Earlier.{places_of}
 use Rattle.strm_types.specs.Kept.{AreIdle, state_weight}
 use Rattle.strm_types.specs.LdtermWeights.{IgnoresMapping}
 use Rattle.strm_types.specs.Message.{Message}
 use Rattle.strm_types.specs.ModuleQueues.{at_place}
-use Rattle.strm_types.specs.ModuleTurns.{Calls, again_at, asked_turn, booked, bytes_at, call_at, calls, made_below, module_called, module_turn_ended, module_turned, moved_on, moved_within, named_from, place_named, queue_ended, turned_named, turned_there, waits_there}
+use Rattle.strm_types.specs.ModuleTurns.{Calls, again_at, asked_turn, bytes_at, call_at, calls, made_below, module_called, module_turn_ended, module_turned, moved_on, moved_within, named_from, place_named, queue_ended, turned_named, turned_there, waits_there}
 use Rattle.strm_types.specs.Modules.{put_among}
 use Rattle.strm_types.specs.Names.{place_of, same_place}
 use Rattle.strm_types.specs.Past.{has_room_past, writer_waits}
@@ -34,17 +31,18 @@ use Rattle.strm_types.specs.Puts.{earlier_at, far, noted, put_in}
 use Rattle.strm_types.specs.Queue.{Queue}
 use Rattle.strm_types.specs.Service.{turn_ended}
 use Rattle.strm_types.specs.Stacked.{Module, module_asks, module_name, module_puts, module_rests, modules_weight}
-use Rattle.strm_types.specs.State.{State, book, stream, with_book, with_stream}
+use Rattle.strm_types.specs.State.{State, stream, with_stream}
 use Rattle.strm_types.specs.TurnOutcomes.{TurnOutcome, stayed_put}
 use Rattle.strm_types.proofs.DeliveryHolds.{carried-holds, in_turn-holds}
 use Rattle.strm_types.proofs.DeliveryKeeps.{carried-keeps, gone-append, in_turn-keeps, made-append}
 use Rattle.strm_types.proofs.LdtermKeeps.{either}
 use Rattle.strm_types.proofs.ModuleCalls.{IsReadyAt, OneIs, among-goes, among-keeps, among-near, among-rests, first-ready, one-of-idle, one-puts, puts-ready}
-use Rattle.strm_types.proofs.ModulesHold.{OnBoth, puts-hold}
+use Rattle.strm_types.proofs.ModulesHold.{OnBoth, books-good, puts-good}
 use Rattle.strm_types.proofs.ModulesIdle.{AllIdle, among-idle}
 use Rattle.strm_types.proofs.Past.{waits-idle, waits-keeps}
 use Rattle.strm_types.proofs.PutsFall.{far-within, puts-fall}
-use Rattle.strm_types.proofs.PutsKeep.{puts-keep}
+use Rattle.strm_types.proofs.PutsKeep.{booked-keeps, puts-keep}
+use Rattle.strm_types.proofs.PutParts.{booked-holds}
 use Rattle.strm_types.proofs.QueueChanges.{changes-idle, changes-keep}
 
 module _ {C : Type 0} where
@@ -79,18 +77,23 @@ module _ {C : Type 0} where
   turn-with Slave Was On ps names s both on = (both.0, on)
 
   -- what is sent is delivered
-  on-one-puts : (side : Side) (On : List (Module C) → Type 0) → ((i : ℕ) (here : Spot) (m : Message C) (ps : List (Module C)) → On ps → On (put_among module_puts i here m ps).state)
-      → (of : Side) (i : ℕ) (here : Spot) (m : Message C) (ps : List (Module C)) → OnOne side On of ps → OnOne side On of (put_among module_puts i here m ps).state
-  on-one-puts Master On stays Master i here m ps on = stays i here m ps on
-  on-one-puts Master On stays Slave i here m ps on = among-idle i here m ps on
-  on-one-puts Slave On stays Master i here m ps on = among-idle i here m ps on
-  on-one-puts Slave On stays Slave i here m ps on = stays i here m ps on
+  module _ (cells : Cells C) where
+    -- what a put at one of several modules keeps
+    abbrev PutsStay : (List (Module C) → Type 0) → Type 0
+    PutsStay On = (made i : ℕ) (here : Spot) (m : Message C) (ps : List (Module C)) → On ps → On (put_among (module_puts cells made) i here m ps).state
 
-  turn-sent : (side : Side) (On : List (Module C) → Type 0) → ((i : ℕ) (here : Spot) (m : Message C) (ps : List (Module C)) → On ps → On (put_among module_puts i here m ps).state)
-      → (sent : List (Parcel C)) (s : State C) → InTurn side On s → InTurn side On (in_turn (carried put_in HOPS) sent s).state
-  turn-sent side On stays sent s both =
-      let puts = puts-hold (OnOne side On) (on-one-puts side On stays) in
-      in_turn-holds (InTurn side On) (carried put_in HOPS) (carried-holds (InTurn side On) put_in puts HOPS) sent s both
+    on-one-puts : (side : Side) (On : List (Module C) → Type 0) → PutsStay On
+        → (of : Side) (made i : ℕ) (here : Spot) (m : Message C) (ps : List (Module C)) → OnOne side On of ps → OnOne side On of (put_among (module_puts cells made) i here m ps).state
+    on-one-puts Master On stays Master made i here m ps on = stays made i here m ps on
+    on-one-puts Master On stays Slave made i here m ps on = among-idle cells made i here m ps on
+    on-one-puts Slave On stays Master made i here m ps on = among-idle cells made i here m ps on
+    on-one-puts Slave On stays Slave made i here m ps on = stays made i here m ps on
+
+    turn-sent : (side : Side) (On : List (Module C) → Type 0) → PutsStay On
+        → (sent : List (Parcel C)) (s : State C) → InTurn side On s → InTurn side On (in_turn (carried (put_in cells) HOPS) sent s).state
+    turn-sent side On stays sent s both =
+        let puts = puts-good (OnOne side On) cells (on-one-puts side On stays) in
+        in_turn-holds (InTurn side On) (carried (put_in cells) HOPS) (carried-holds (InTurn side On) (put_in cells) puts HOPS) sent s both
 
   -- the queues that are enabled behind a call, and what stands behind it before it is booked
   abbrev names_behind : Spot → Acted C (List (Module C)) → State C → List QueueName
@@ -100,18 +103,6 @@ module _ {C : Type 0} where
   stands_behind here t s =
       let on = stream here.side s in
       record (with_stream here.side (record on { modules = t.state }) s) { enabled = names_behind here t s }
-
-  -- the books have no modules
-  book-turn : (Good : Side → List (Module C) → Type 0) (dir : Dir) (b : Book) (s : State C) → OnBoth Good s → OnBoth Good (with_book dir b s)
-  book-turn Good MasterToSlave b s both = both
-  book-turn Good SlaveToMaster b s both = both
-
-  booked-turn : (Good : Side → List (Module C) → Type 0) (told : List (Fate C)) (s : State C) → OnBoth Good s → OnBoth Good (booked told s)
-  booked-turn Good [] s both = both
-  booked-turn Good (Goes dir rule cells ∷ told) s both = booked-turn Good told s both
-  booked-turn Good (Comes dir cells ∷ told) s both =
-      let b = with_made (length cells) (book dir s) in
-      booked-turn Good told (with_book dir b s) (book-turn Good dir b s both)
 
   -- the end of a turn
   ended-messages : (took : Bool) (q : Queue C) → (turn_ended took q).messages ≡ q.messages
@@ -145,14 +136,14 @@ module _ {C : Type 0} (cells : Cells C) (here : Spot) where
   abbrev HasCall : Bool → ℕ → List (Module C) → Type 0
   HasCall again left ps = OneIs (λ l. IsReadyAt again here.way left l) (here.at - 1) ps
 
-  call-stays : (again : Bool) (left i : ℕ) (to : Spot) (m : Message C) (ps : List (Module C)) → HasCall again left ps → HasCall again left (put_among module_puts i to m ps).state
-  call-stays again left i to m ps one = one-puts (λ l. IsReadyAt again here.way left l) (puts-ready again here.way left) (here.at - 1) i to m ps one
+  call-stays : (again : Bool) (left : ℕ) → PutsStay cells (HasCall again left)
+  call-stays again left made i to m ps one = one-puts cells made (λ l. IsReadyAt again here.way left l) (puts-ready cells made again here.way left) (here.at - 1) i to m ps one
 
   -- what a call leads to, with what it sent
   abbrev called_out : Bool → ℕ → State C → Carried C (State C)
   called_out again left s =
       let t = module_called cells here again left s in
-      in_turn (carried put_in HOPS) t.sent t.state
+      in_turn (carried (put_in cells) HOPS) t.sent t.state
 
   module _ (again : Bool) (left : ℕ) (s : State C) (turn : InTurn here.side (HasCall again left) s) where
     abbrev on_it : List (Module C)
@@ -162,20 +153,20 @@ module _ {C : Type 0} (cells : Cells C) (here : Spot) where
     call = call_at cells here (made_below here.side s) again left on_it
 
     called-turn : (On : List (Module C) → Type 0) → On call.state → InTurn here.side On (module_called cells here again left s).state
-    called-turn On on = booked-turn (OnOne here.side On) call.gone (stands_behind here call s) (turn-with here.side (HasCall again left) On call.state (names_behind here call s) s turn on)
+    called-turn On on = booked-holds (OnBoth (OnOne here.side On)) (books-good (OnOne here.side On)) call.gone (stands_behind here call s) (turn-with here.side (HasCall again left) On call.state (names_behind here call s) s turn on)
 
     out-goes : again_at cells here (made_below here.side s) again left on_it ≡ true
         → InTurn here.side (HasCall true (left - bytes_at cells here (made_below here.side s) again left on_it)) (called_out again left s).state
     out-goes works =
         let t = module_called cells here again left s in
         let less = left - bytes_at cells here (made_below here.side s) again left on_it in
-        turn-sent here.side (HasCall true less) (call-stays true less) t.sent t.state
+        turn-sent cells here.side (HasCall true less) (call-stays true less) t.sent t.state
         (called-turn (HasCall true less) (among-goes cells here (made_below here.side s) again left (here.at - 1) on_it (turn-on here.side (HasCall again left) s turn) works))
 
     out-rests : again_at cells here (made_below here.side s) again left on_it ≡ false → InTurn here.side AllIdle (called_out again left s).state
     out-rests over =
         let t = module_called cells here again left s in
-        turn-sent here.side AllIdle among-idle t.sent t.state
+        turn-sent cells here.side AllIdle (among-idle cells) t.sent t.state
         (called-turn AllIdle (among-rests cells here (made_below here.side s) again left (here.at - 1) on_it (turn-on here.side (HasCall again left) s turn) over))
 
   -- where nothing of a turn is under way, one may begin
@@ -245,17 +236,6 @@ module _ {C : Type 0} where
 
 -- no cell is lost, and none made that isn't told
 module _ {C : Type 0} (p : Dir → C → Bool) where
-  book-keeps : (dir : Dir) (b : Book) (s : State C) → state_weight p (with_book dir b s) ≡ state_weight p s
-  book-keeps MasterToSlave b s = refl
-  book-keeps SlaveToMaster b s = refl
-
-  booked-keeps : (told : List (Fate C)) (s : State C) → state_weight p (booked told s) ≡ state_weight p s
-  booked-keeps [] s = refl
-  booked-keeps (Goes dir rule cells ∷ told) s = booked-keeps told s
-  booked-keeps (Comes dir cells ∷ told) s =
-      let b = with_made (length cells) (book dir s) in
-      booked-keeps told (with_book dir b s) ∙ book-keeps dir b s
-
   -- other modules stand on a side's stream
   with-keeps : (side : Side) (ps : List (Module C)) (names : List QueueName) (s : State C)
       → state_weight p (record (with_stream side (record (stream side s) { modules = ps }) s) { enabled = names }) + modules_weight p side (stream side s).modules ≡ state_weight p s + modules_weight p side ps
@@ -268,11 +248,11 @@ module _ {C : Type 0} (p : Dir → C → Bool) where
       omega (arith, with-keeps here.side (queue_ended here took (stream here.side s)).modules s.enabled s, changes-keep (turn_ended took) p here.side (ended-messages took) here.way (here.at - 1) ps)
 
   -- what goes to places next to a module's own is delivered
-  carries : (at : ℕ) → at ≤ MODULES → (sent : List (Parcel C)) → AllByRecursion (λ (q : Parcel C). q.to.at ≤ suc at) sent → AllByRecursion (CarryKeeps p (state_weight p) (carried put_in HOPS)) sent
-  carries at low [] near = tt
-  carries at low (q ∷ sent) near =
+  carries : (cells : Cells C) (at : ℕ) → at ≤ MODULES → (sent : List (Parcel C)) → AllByRecursion (λ (q : Parcel C). q.to.at ≤ suc at) sent → AllByRecursion (CarryKeeps p (state_weight p) (carried (put_in cells) HOPS)) sent
+  carries cells at low [] near = tt
+  carries cells at low (q ∷ sent) near =
       let far_less = far-within q.to q.message (let next = near.0 in omega arith) in
-      (carried-keeps p (state_weight p) far put_in (puts-keep p) (puts-fall C) HOPS q far_less, carries at low sent near.1)
+      (carried-keeps p (state_weight p) far (put_in cells) (puts-keep p cells) (puts-fall cells) HOPS q far_less, carries cells at low sent near.1)
 
   module _ (cells : Cells C) (ignores : IgnoresMapping cells p) (here : Spot) (low : here.at ≤ MODULES) where
     -- a call, with what it sent
@@ -288,9 +268,9 @@ module _ {C : Type 0} (p : Dir → C → Bool) where
         omega (
           arith,
           among-keeps cells here made again left p ignores (here.at - 1) ps one,
-          booked-keeps acted.gone (stands_behind here acted s),
+          booked-keeps p acted.gone (stands_behind here acted s),
           with-keeps here.side acted.state (names_behind here acted s) s,
-          in_turn-keeps p (state_weight p) (carried put_in HOPS) t.sent (carries here.at low t.sent (among-near cells here made again left (here.at - 1) ps)) t.state,
+          in_turn-keeps p (state_weight p) (carried (put_in cells) HOPS) t.sent (carries cells here.at low t.sent (among-near cells here made again left (here.at - 1) ps)) t.state,
           gone-append p t.gone u.gone,
           made-append p t.gone u.gone,
         )

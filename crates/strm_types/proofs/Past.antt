@@ -11,7 +11,7 @@ use Rattle.strm_types.specs.ModuleQueues.{can_pass, full_at, place_past, room_at
 use Rattle.strm_types.specs.Modules.{change_among}
 use Rattle.strm_types.specs.Past.{end_queue, has_room_past, may_pass, waits_on, writer_waits}
 use Rattle.strm_types.specs.Queue.{is_full}
-use Rattle.strm_types.specs.Stacked.{Module, OfLdterm, OfPtem, map_module, module_queue, with_module_queue}
+use Rattle.strm_types.specs.Stacked.{Module, OfLdterm, OfPtem, OfPckt, map_module, module_queue, with_module_queue}
 use Rattle.strm_types.specs.State.{State, Stream, stream, with_stream, map_state, map_stream}
 use Rattle.strm_types.proofs.Earlier.{place_past-forgets}
 use Rattle.strm_types.proofs.EmptiedForgets.{stream-forgets}
@@ -28,6 +28,7 @@ module _ {C D : Type 0} (f : C → D) where
   full-same Up band (OfLdterm l) = full-forgets f band l.read_queue
   full-same Down band (OfLdterm l) = full-forgets f band l.write_queue
   full-same way band (OfPtem p) = refl
+  full-same way band (OfPckt p) = refl
 
   fulls-same : (way : Way) (band : ℕ) (ps : List (Module C)) → map (full_at module_queue way band) (images ps) ≡ map (full_at module_queue way band) ps
   fulls-same way band [] = refl
@@ -59,6 +60,7 @@ module _ {C D : Type 0} (f : C → D) where
   waits-same Up band (OfLdterm l) = refl
   waits-same Down band (OfLdterm l) = refl
   waits-same way band (OfPtem p) = refl
+  waits-same way band (OfPckt p) = refl
 
   change-same : (way : Way) (band i : ℕ) (ps : List (Module C))
       → change_among (waits module_queue with_module_queue way band) i (images ps) ≡ images (change_among (waits module_queue with_module_queue way band) i ps)

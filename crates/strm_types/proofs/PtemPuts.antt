@@ -100,7 +100,7 @@ asked-bare true false is = refl
 asked-bare true true is = absurd (cc)
 asked-bare false b is = absurd (cc)
 
-asked-ioctl : {C : Type 0} (m : Message C) → is_asked m ≡ true → m.kind ≡ Ioctl
+pub asked-ioctl : {C : Type 0} (m : Message C) → is_asked m ≡ true → m.kind ≡ Ioctl
 asked-ioctl m is = at m.kind (has_parts m) is
   where
     at : (kind : MsgKind) (parts : Bool) → (is_ioctl kind && not parts) ≡ true → kind ≡ Ioctl

@@ -17,7 +17,7 @@ use Rattle.strm_types.specs.declared.rules.Rule.{Rule}
 use Rattle.strm_types.specs.declared.rules.Rule.TheVariants.{ModulePopped}
 use Rattle.strm_types.specs.declared.slots.Slot.TheVariants.{Free, Waiting, Acked, Nacked}
 use Rattle.strm_types.specs.declared.spots.Note.TheVariants.{Room}
-use Rattle.strm_types.specs.Deliver.{Acted, Carried, Fate, Goes}
+use Rattle.strm_types.specs.Deliver.{Acted, Carried, Fate, Goes, Took}
 use Rattle.strm_types.specs.Commands.{is_asked, is_ioctl}
 use Rattle.strm_types.specs.Dropped.{has_ioctl, has_number, is_ioctl_of, slot_dropped}
 use Rattle.strm_types.specs.Earlier.{before_at}
@@ -32,11 +32,11 @@ use Rattle.strm_types.specs.Names.{direction_at, enable_if, place_of}
 use Rattle.strm_types.specs.Options.{mode_message}
 use Rattle.strm_types.specs.Origins.{map_acted, map_carried, map_fate}
 use Rattle.strm_types.specs.Pushes.{all_taken, below_top, enable_waiting, head_above, ioctl_dropped, is_there, let_come, messages_on, messages_there, mode_behind, mode_on_push, mode_put, modules_emptied, named_by, popped, pushed, pushed_named, taken_off, top_on, top_taken, with_modules, without_top}
-use Rattle.strm_types.specs.Puts.{delivered, earlier_at, noted}
+use Rattle.strm_types.specs.Puts.{earlier_at, noted, put_at_head}
 use Rattle.strm_types.specs.Queue.{Queue, is_none_left, map_messages, map_queue}
 use Rattle.strm_types.specs.Slots.{PlainSlot}
 use Rattle.strm_types.specs.Service.{cleared, line_gone}
-use Rattle.strm_types.specs.Stacked.{Module, OfLdterm, OfPtem, done_by, map_module, module_line, module_name, module_queue, with_module_queue, without_module_line}
+use Rattle.strm_types.specs.Stacked.{Module, OfLdterm, OfPtem, OfPckt, done_by, map_module, module_line, module_name, module_queue, with_module_queue, without_module_line}
 use Rattle.strm_types.specs.State.{State, Stream, stream, map_state, map_stream, with_ioctl}
 use Rattle.strm_types.proofs.Earlier.{before_at-forgets, name-forgets, queue-forgets}
 use Rattle.strm_types.proofs.EmptiedForgets.{gone-forgets, queue_behind-forgets, stream-forgets, writer_goes-forgets}
@@ -44,7 +44,7 @@ use Rattle.strm_types.proofs.Forgetting.{kind-forgets, none-forgets}
 use Rattle.strm_types.proofs.LdtermPutForgets.{line_gone-forgets}
 use Rattle.strm_types.proofs.PutForgets.{mode-forgets}
 use Rattle.strm_types.proofs.PutForgets.{bytes-forget, parts-forget}
-use Rattle.strm_types.proofs.PutsForget.{delivered-forgets, notes-forget}
+use Rattle.strm_types.proofs.PutsForget.{head-forgets, notes-forget}
 
 -- what is left of a module whose queues and line have gone, so, with what let writers go
 abbrev let_go : {E : Type 0} → Side → Rule → ldterms.Ldterm E → Queue E → Bool → List E → List (Fate E) → Queue E → Bool → List E → Acted E (ldterms.Ldterm E)
@@ -91,6 +91,7 @@ module _ {C D : Type 0} (f : C → D) where
 
   pub clears-forget : (side : Side) (rule : Rule) (p : Module C) → clears side rule (map_module f p) ≡ map_acted f (map_module f) (clears side rule p)
   clears-forget side rule (OfPtem q) = refl
+  clears-forget side rule (OfPckt q) = refl
   clears-forget side rule (OfLdterm p) = ap (done_by OfLdterm) (
       let r = p.read_queue in
       let w = p.write_queue in
@@ -144,7 +145,11 @@ module _ {C D : Type 0} (f : C → D) where
   mode_put-forgets : (side : Side) (mode : Option ReadMode) (s : State C) → mode_put side mode (map_state f s) ≡ image (mode_put side mode s)
   mode_put-forgets side None s = refl
   mode_put-forgets side (Some mode) s =
-      ap (λ (m : Message D). delivered (head_above side) m (map_state f s)) (sym (mode-forgets f mode)) ∙ delivered-forgets f (head_above side) (mode_message mode) s
+      ap (λ (m : Message D). carried_of (put_at_head side (head_above side) m (map_state f s))) (sym (mode-forgets f mode))
+      ∙ ap (λ (t : Took D (State D)). carried_of t) (head-forgets f side (head_above side) (mode_message mode) s)
+    where
+      carried_of : {E : Type 0} → Took E (State E) → Carried E (State E)
+      carried_of t = record { state = t.state; gone = t.gone }
 
   -- a push
   abbrev there : {E : Type 0} → Way → Module E → List (Message E)
@@ -155,6 +160,7 @@ module _ {C D : Type 0} (f : C → D) where
   all-there Up (OfLdterm l ∷ ps) = ap (λ ms. map_messages f l.read_queue.messages ++ ms) (all-there Up ps) ∙ sym (map-append (map_message f) l.read_queue.messages (flat_map (there Up) ps))
   all-there Down (OfLdterm l ∷ ps) = ap (λ ms. map_messages f l.write_queue.messages ++ ms) (all-there Down ps) ∙ sym (map-append (map_message f) l.write_queue.messages (flat_map (there Down) ps))
   all-there way (OfPtem p ∷ ps) = all-there way ps
+  all-there way (OfPckt p ∷ ps) = all-there way ps
 
   there-forgets : (place : Place) (way : Way) (t : Stream C) → messages_there place way (map_stream f t) ≡ map_messages f (messages_there place way t)
   there-forgets Head way t = refl
@@ -231,6 +237,7 @@ module _ {C D : Type 0} (f : C → D) where
   below-forgets [] = refl
   below-forgets (OfLdterm l ∷ ps) = refl
   below-forgets (OfPtem p ∷ ps) = refl
+  below-forgets (OfPckt p ∷ ps) = refl
 
   ioctl-forgets : (number : ℕ) (m : Message C) → is_ioctl_of number (map_message f m) ≡ is_ioctl_of number m
   ioctl-forgets number m =

@@ -14,7 +14,7 @@ use Rattle.strm_types.specs.Modules.{without_module}
 use Rattle.strm_types.specs.Names.{place_of}
 use Rattle.strm_types.specs.Options.{mode_message}
 use Rattle.strm_types.specs.Pushes.{all_taken, below_top, enable_waiting, head_above, ioctl_dropped, let_come, mode_behind, mode_on_push, mode_put, modules_emptied, popped, pushed, pushed_named, taken_off, top_on, top_taken, with_modules}
-use Rattle.strm_types.specs.Puts.{delivered, earlier_at, noted}
+use Rattle.strm_types.specs.Puts.{earlier_at, noted, put_at_head}
 use Rattle.strm_types.specs.Stacked.{Module, module_name, module_queue}
 use Rattle.strm_types.specs.State.{State, stream}
 use Rattle.strm_types.proofs.PushForgets.{clears}
@@ -25,7 +25,7 @@ use Rattle.strm_types.proofs.PushForgets.{clears}
 pub record Survives {C : Type 0} (side : Side) (Holds : State C → Type 0) (Good : List (Module C) → Type 0) : Type 0 where
   pub named : (names : List QueueName) (s : State C) → Holds s → Holds (record s { enabled = names })
   pub apart : (ps : List (Module C)) (s : State C) → Good ps → Holds s → Holds (with_modules side ps s)
-  pub given : (m : Message C) (s : State C) → Holds s → Holds (delivered (head_above side) m s).state
+  pub given : (m : Message C) (s : State C) → Holds s → Holds (put_at_head side (head_above side) m s).state
   pub good : (s : State C) → Holds s → Good (stream side s).modules
   pub dropped : (ms : List (Message C)) (s : State C) → Holds s → Holds (ioctl_dropped side ms s)
   pub below : (p : Module C) (ps : List (Module C)) → Good (p ∷ ps) → Good ps

@@ -1,5 +1,5 @@
 -- No push and no pop loses a byte, or makes one: what a module has that is taken off goes by a rule.
-use Rattle.std.proofs.Common.{ℕ, ◌≡◌, ◌+◌, Bool, true, false, List, [], ◌∷◌, refl, ap, arith}
+use Rattle.std.proofs.Common.{ℕ, ◌≡◌, ◌+◌, Bool, true, false, cond, List, [], ◌∷◌, refl, ap, arith}
 use Rattle.std.specs.Prelude.{Option, None, Some, count_by}
 use Rattle.std.specs.List.{AllByRecursion}
 use Rattle.std.proofs.lemmas.List.Sums.{sum_by-cons}
@@ -12,23 +12,25 @@ use Rattle.strm_types.specs.declared.names.Way.TheVariants.{Up, Down}
 use Rattle.strm_types.specs.declared.rules.Rule.{Rule}
 use Rattle.strm_types.specs.declared.rules.Rule.TheVariants.{ModulePopped}
 use Rattle.strm_types.specs.declared.names.Dir.{Dir}
-use Rattle.strm_types.specs.Deliver.{Carried, Fate, Goes}
+use Rattle.strm_types.specs.Deliver.{Carried, Fate, Goes, Took}
 use Rattle.strm_types.specs.Emptied.{of_all, cells_gone}
 use Rattle.strm_types.specs.Kept.{state_weight}
 use Rattle.strm_types.specs.LdtermWeights.{ldterm_weight, weight_begun, weight_in_work}
 use Rattle.strm_types.specs.Ldterms.{IsIdle, Ldterm, new_ldterm}
 use Rattle.strm_types.specs.Message.{Message}
 use Rattle.strm_types.specs.ModuleQueues.{has_queue}
-use Rattle.strm_types.specs.Names.{direction_at}
+use Rattle.strm_types.specs.Names.{direction_at, is_open}
 use Rattle.strm_types.specs.Options.{mode_message}
-use Rattle.strm_types.specs.Places.{weight_gone, weight_made}
+use Rattle.strm_types.specs.Places.{weight_gone, weight_made, weight_sent}
+use Rattle.strm_types.specs.Pckts.{new_pckt}
 use Rattle.strm_types.specs.Ptems.{new_ptem}
 use Rattle.strm_types.specs.Pushes.{all_taken, below_top, head_above, ioctl_dropped, let_come, mode_behind, mode_on_push, mode_put, modules_emptied, named_by, popped, pushed, pushed_named, taken_off, top_on, top_taken, with_modules}
+use Rattle.strm_types.specs.Puts.{put_at_head}
 use Rattle.strm_types.specs.Queue.{Queue, weight}
 use Rattle.strm_types.specs.Service.{line_gone}
-use Rattle.strm_types.specs.Stacked.{Module, OfLdterm, OfPtem, IsAtRest, module_name, module_queue, module_weight, modules_weight}
+use Rattle.strm_types.specs.Stacked.{Module, OfLdterm, OfPtem, OfPckt, IsAtRest, module_name, module_queue, module_weight, modules_weight}
 use Rattle.strm_types.specs.State.{State, stream}
-use Rattle.strm_types.proofs.Deliveries.{delivered-keeps}
+use Rattle.strm_types.proofs.PutsKeep.{head-keeps}
 use Rattle.strm_types.proofs.DeliveryKeeps.{gone-append, made-append}
 use Rattle.strm_types.proofs.EmptiedKeeps.{behind-all, behind-keeps}
 use Rattle.strm_types.proofs.LdtermKeeps.{lost-gone, lost-made}
@@ -58,6 +60,7 @@ module _ {C : Type 0} (p : Dir → C → Bool) where
 
   clears-keeps : (side : Side) (rule : Rule) (q : Module C) → IsAtRest q → weight_gone p (clears side rule q).gone ≡ module_weight p side q
   clears-keeps side rule (OfPtem q) idle = refl
+  clears-keeps side rule (OfPckt q) idle = refl
   clears-keeps side rule (OfLdterm l) idle =
       let line = lost-gone p side rule l.line in
       let up = all-goes (p (direction_at Up side)) l.read_queue in
@@ -67,6 +70,7 @@ module _ {C : Type 0} (p : Dir → C → Bool) where
 
   pub clears-make-none : (side : Side) (rule : Rule) (q : Module C) → weight_made p (clears side rule q).gone ≡ 0
   clears-make-none side rule (OfPtem q) = refl
+  clears-make-none side rule (OfPckt q) = refl
   clears-make-none side rule (OfLdterm l) = omega (arith, lost-made p side rule l.line, made-append p (line_gone side rule l.line) (down_gone side rule l))
 
   -- a pair with other modules on a side
@@ -110,7 +114,15 @@ module _ {C : Type 0} (p : Dir → C → Bool) where
   -- the head's read mode
   mode_put-keeps : (side : Side) (mode : Option ReadMode) (s : State C) → Keeps (mode_put side mode s) (state_weight p s)
   mode_put-keeps side None s = refl
-  mode_put-keeps side (Some mode) s = omega (arith, delivered-keeps p (head_above side) (mode_message mode) s (omega arith), weight-mode (p (direction_at Up side)) mode)
+  mode_put-keeps side (Some mode) s = omega (arith, head-keeps p side (head_above side) (mode_message mode) s, quiet, weight-mode (p (direction_at Up side)) mode)
+    where
+      none-sent : (b : Bool) (one another : Took C (State C)) → one.sent ≡ [] → another.sent ≡ [] → weight_sent p (cond b one another).sent ≡ 0
+      none-sent true one another first second = ap (λ ps. weight_sent p ps) first
+      none-sent false one another first second = ap (λ ps. weight_sent p ps) second
+
+      -- a head sends nothing of it
+      quiet : weight_sent p (put_at_head side (head_above side) (mode_message mode) s).sent ≡ 0
+      quiet = none-sent (is_open (stream side s).opened) _ _ refl refl
 
   -- a push
   come-keeps : (reads : Bool) (side : Side) (s : State C) → state_weight p (let_come reads side s) ≡ state_weight p s
@@ -134,7 +146,7 @@ module _ {C : Type 0} (p : Dir → C → Bool) where
   push-keeps side None s = refl
   push-keeps side (Some names.Ldterm) s = let made = new-weight side in let all = pushed-keeps side (OfLdterm new_ldterm) s in omega arith
   push-keeps side (Some names.Ptem) s = let all = pushed-keeps side (OfPtem new_ptem) s in omega arith
-  push-keeps side (Some names.Pckt) s = refl
+  push-keeps side (Some names.Pckt) s = let all = pushed-keeps side (OfPckt new_pckt) s in omega arith
 
   -- a pop
   off-keeps : (side : Side) (s : State C) → AllByRecursion (λ l. IsAtRest l) (stream side s).modules → Keeps (taken_off side s) (state_weight p s)

@@ -19,12 +19,13 @@ use Rattle.strm_types.specs.Ldterms.{new_ldterm}
 use Rattle.strm_types.specs.Message.{Message, cells_of, size_of, is_held, band_of, is_high_priority}
 use Rattle.strm_types.specs.Names.{driver_of}
 use Rattle.strm_types.specs.Options.{mode_number}
+use Rattle.strm_types.specs.Pckts.{new_pckt}
 use Rattle.strm_types.specs.Ptems.{new_ptem}
 use Rattle.strm_types.specs.Pushes.{may_stand, named_by, popped, pushed, pushed_named, top_on}
 use Rattle.strm_types.specs.Queue.{Flow}
 use Rattle.strm_types.specs.Refused.{none_waits_up, at_end}
 use Rattle.strm_types.specs.Past.{has_room_past, writer_waits}
-use Rattle.strm_types.specs.Stacked.{Module, OfLdterm, OfPtem, module_line, module_name}
+use Rattle.strm_types.specs.Stacked.{Module, OfLdterm, OfPtem, OfPckt, module_line, module_name}
 use Rattle.strm_types.specs.State.{State, Stream}
 use Rattle.strm_types.proofs.Samples.{flow, head_with, ordinary, proto, queue, header, without_parts}
 use Rattle.strm_types.specs.Slots.{PlainSlot}
@@ -40,6 +41,7 @@ holding above flows below line = OfLdterm (record new_ldterm { read_queue = queu
 abbrev flows_of : Module ℕ → List Flow
 flows_of (OfLdterm l) = l.read_queue.flows
 flows_of (OfPtem p) = []
+flows_of (OfPckt p) = []
 
 abbrev one : ℕ → List (Message ℕ)
 one b = ordinary (b ∷ []) ∷ []
@@ -94,18 +96,16 @@ unfolding carried cells_of size_of
 push-above-a-module = refl
 
 pub push-by-name : map (λ name. map module_line (pushed_named Slave (named_by name) (pair [] [] [])).state.slave.modules)
-    (None ∷ Some names.Ldterm ∷ Some names.Ptem ∷ Some names.Pckt ∷ []) ≡ [] ∷ ([] ∷ []) ∷ ([] ∷ []) ∷ [] ∷ []
+    (None ∷ Some names.Ldterm ∷ Some names.Ptem ∷ Some names.Pckt ∷ []) ≡ [] ∷ ([] ∷ []) ∷ ([] ∷ []) ∷ ([] ∷ []) ∷ []
 unfolding carried cells_of size_of
 push-by-name = refl
 
--- one of a name stands once, beside others, and what isn't built can't be pushed
+-- one of a name stands once, beside others
 pub stands-once : map (λ ps. may_stand {C = ℕ} (named_by (Some names.Ldterm)) ps) ([] ∷ (OfLdterm new_ldterm ∷ []) ∷ []) ≡ true ∷ false ∷ []
 stands-once = refl
 
-pub not-built : may_stand {C = ℕ} (named_by (Some names.Pckt)) [] ≡ false
-not-built = refl
-
-pub others-may-stand : map (λ name. map (λ ps. may_stand {C = ℕ} (named_by (Some name)) ps) ((OfLdterm new_ldterm ∷ []) ∷ (OfPtem new_ptem ∷ []) ∷ [])) (names.Ldterm ∷ names.Ptem ∷ []) ≡ (false ∷ true ∷ []) ∷ (true ∷ false ∷ []) ∷ []
+pub others-may-stand : map (λ name. map (λ ps. may_stand {C = ℕ} (named_by (Some name)) ps) ((OfLdterm new_ldterm ∷ []) ∷ (OfPtem new_ptem ∷ []) ∷ (OfPckt new_pckt ∷ []) ∷ []))
+    (names.Ldterm ∷ names.Ptem ∷ names.Pckt ∷ []) ≡ (false ∷ true ∷ true ∷ []) ∷ (true ∷ false ∷ true ∷ []) ∷ (true ∷ true ∷ false ∷ []) ∷ []
 others-may-stand = refl
 
 -- a ptem is pushed as it is made, tells the head nothing and lets nothing come; its pop takes nothing with it

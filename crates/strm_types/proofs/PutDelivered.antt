@@ -7,6 +7,7 @@ use Rattle.strm_types.specs.declared.names.Way.{Way}
 use Rattle.strm_types.specs.declared.names.Way.TheVariants.{Down}
 use Rattle.strm_types.specs.declared.spots.Note.TheVariants.{Enable}
 use Rattle.strm_types.specs.declared.spots.Spot.{Spot}
+use Rattle.strm_types.specs.Cells.{Cells}
 use Rattle.strm_types.specs.Deliver.{Acted}
 use Rattle.std.specs.Prelude.{nat_le, Option, Some}
 use Rattle.strm_types.specs.Earlier.{NoModules, driver_place}
@@ -36,10 +37,10 @@ module _ {C : Type 0} where
   is-taken side m s parts =
       ap (λ (b : Bool). cond b (taken side (is_closed s.master.opened) m s) (put_down side (across_of side s) (record (below side) { at = driver_place side s }) m.kind m (stream side s).driver.queue)) parts
 
-  pub put-delivered : (side : Side) (m : Message C) (s : State C) → has_parts m ≡ true → is_closed s.master.opened ≡ false → NoModules s → delivered (below side) m s ≡ put_effect side m s
-  put-delivered side m s parts stays none =
-      carries 15 (record { to = below side; message = m }) s
-      ∙ ap (λ (count : ℕ). went_on 15 (cond (nat_le 1 count) (put_at_module side (below side) m s) (put_at_driver side (below side) m s))) (none-on side s none)
-      ∙ ap (λ t. went_on 15 (driver_took side t s)) (is-taken side m s parts ∙ ap (λ (ended : Bool). taken side ended m s) stays)
+  pub put-delivered : (cells : Cells C) (side : Side) (m : Message C) (s : State C) → has_parts m ≡ true → is_closed s.master.opened ≡ false → NoModules s → delivered cells (below side) m s ≡ put_effect side m s
+  put-delivered cells side m s parts stays none =
+      carries cells 15 (record { to = below side; message = m }) s
+      ∙ ap (λ (count : ℕ). went_on cells 15 (cond (nat_le 1 count) (put_at_module cells (below side) m s) (put_at_driver side (below side) m s))) (none-on side s none)
+      ∙ ap (λ t. went_on cells 15 (driver_took cells side t s)) (is-taken side m s parts ∙ ap (λ (ended : Bool). taken side ended m s) stays)
       ∙ ap (λ (names : List QueueName). record { state = record (with_stream side (with_driver_queue (put_on m (stream side s).driver.queue) (stream side s)) s) { enabled = names }; gone = [] })
       (enabled-noted side (earlier_at side (driver_place side s) s) (put_enables m (stream side s).driver.queue) s.enabled)

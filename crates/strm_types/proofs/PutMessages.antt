@@ -34,8 +34,8 @@ below side = record { side = side; at = 1; way = Down }
 
 module _ {C : Type 0} where
   -- what a delivery leads to, where so many bytes are booked as written
-  abbrev booked : Dir → ℕ → Book → Carried C (State C) → Carried C (State C)
-  booked dir n b t = record { state = with_book dir (with_written n b) t.state; gone = t.gone }
+  abbrev booked : Dir → ℕ → Carried C (State C) → Carried C (State C)
+  booked dir n t = record { state = with_book dir (with_written n (book dir t.state)) t.state; gone = t.gone }
 
   module _ (p : Dir → C → Bool) where
     book-weight : (dir : Dir) (b : Book) (s : State C) → state_weight p (with_book dir b s) ≡ state_weight p s
@@ -46,17 +46,19 @@ module _ {C : Type 0} where
     unfolding cells_of
     nothing-put cells side prio s = refl
 
-    sent-keeps : (side : Side) (dir : Dir) (n : ℕ) (b : Book) (m : Message C) (s : State C) → let t = booked dir n b (delivered (below side) m s) in
-        state_weight p t.state + weight_gone p t.gone ≡ state_weight p s + (count_by (p (direction_from side)) (cells_of m) + weight_made p t.gone)
-    sent-keeps side dir n b m s =
-        omega (arith, book-weight dir (with_written n b) (delivered (below side) m s).state, delivered-keeps p (below side) m s (omega arith), weight-whole (p (direction_from side)) m)
+    module _ (cells : Cells C) where
+      sent-keeps : (side : Side) (n : ℕ) (m : Message C) (s : State C) → let t = booked (direction_from side) n (delivered cells (below side) m s) in
+          state_weight p t.state + weight_gone p t.gone ≡ state_weight p s + (count_by (p (direction_from side)) (cells_of m) + weight_made p t.gone)
+      sent-keeps side n m s =
+          let dir = direction_from side in
+          let led = (delivered cells (below side) m s).state in
+          omega (arith, book-weight dir (with_written n (book dir led)) led, delivered-keeps cells p (below side) m s (omega arith), weight-whole (p dir) m)
 
-    pub put_at-keeps : (cells : Cells C) (side : Side) (prio : Prio) (control body : Option (List ℕ)) (s : State C) → let t = put_at cells side prio control body s in
-        state_weight p t.state + weight_gone p t.gone ≡ state_weight p s + (count_by (p (direction_from side)) (cells_of (message_put cells side prio control body s)) + weight_made p t.gone)
-    put_at-keeps cells side prio None None s = omega (arith, nothing-put cells side prio s)
-    put_at-keeps cells side prio None (Some xs) s = sent-keeps side (direction_from side) (0 + length xs) (book (direction_from side) s) (message_put cells side prio None (Some xs) s) s
-    put_at-keeps cells side prio (Some xs) body s =
-        sent-keeps side (direction_from side) (length xs + length (part body)) (book (direction_from side) s) (message_put cells side prio (Some xs) body s) s
+      pub put_at-keeps : (side : Side) (prio : Prio) (control body : Option (List ℕ)) (s : State C) → let t = put_at cells side prio control body s in
+          state_weight p t.state + weight_gone p t.gone ≡ state_weight p s + (count_by (p (direction_from side)) (cells_of (message_put cells side prio control body s)) + weight_made p t.gone)
+      put_at-keeps side prio None None s = omega (arith, nothing-put cells side prio s)
+      put_at-keeps side prio None (Some xs) s = sent-keeps side (0 + length xs) (message_put cells side prio None (Some xs) s) s
+      put_at-keeps side prio (Some xs) body s = sent-keeps side (length xs + length (part body)) (message_put cells side prio (Some xs) body s) s
 
   booked-unread : (dir : Dir) (b : Book) (s : State C) → NothingUnread s → NothingUnread (with_book dir b s)
   booked-unread MasterToSlave b s unread = record { master = unread.master; slave = unread.slave }
@@ -66,10 +68,10 @@ module _ {C : Type 0} where
   put_at-unread cells side prio None None s unread = unread
   put_at-unread cells side prio None (Some xs) s unread =
       let m = message_put cells side prio None (Some xs) s in
-      booked-unread (direction_from side) (with_written (0 + length xs) (book (direction_from side) s)) (delivered (below side) m s).state (delivered-unread (below side) m s unread)
+      booked-unread (direction_from side) _ (delivered cells (below side) m s).state (delivered-unread cells (below side) m s unread)
   put_at-unread cells side prio (Some xs) body s unread =
       let m = message_put cells side prio (Some xs) body s in
-      booked-unread (direction_from side) (with_written (length xs + length (part body)) (book (direction_from side) s)) (delivered (below side) m s).state (delivered-unread (below side) m s unread)
+      booked-unread (direction_from side) _ (delivered cells (below side) m s).state (delivered-unread cells (below side) m s unread)
 
 put-forgets : {C D : Type 0} (f : C → D) (prio : Prio) (control body : Option (List C)) → put_message prio (option_map (map f) control) (option_map (map f) body) ≡ map_message f (put_message prio control body)
 unfolding map_message
@@ -77,9 +79,9 @@ put-forgets f High control body = refl
 put-forgets f (Band band) None body = refl
 put-forgets f (Band band) (Some xs) body = refl
 
-booked-forgets : {C D : Type 0} (f : C → D) (dir : Dir) (n : ℕ) (b : Book) (t : Carried C (State C)) → booked dir n b (map_carried f (map_state f) t) ≡ map_carried f (map_state f) (booked dir n b t)
-booked-forgets f MasterToSlave n b t = refl
-booked-forgets f SlaveToMaster n b t = refl
+booked-forgets : {C D : Type 0} (f : C → D) (dir : Dir) (n : ℕ) (t : Carried C (State C)) → booked dir n (map_carried f (map_state f) t) ≡ map_carried f (map_state f) (booked dir n t)
+booked-forgets f MasterToSlave n t = refl
+booked-forgets f SlaveToMaster n t = refl
 
 module _ {C : Type 0} (cells : Cells C) (are : AreCells cells) where
   written-forgets : (dir : Dir) (n : ℕ) (o : Option (List ℕ)) → option_map (cells_written plain dir n) o ≡ option_map (map cells.byte) (option_map (cells_written cells dir n) o)
@@ -105,16 +107,16 @@ module _ {C : Type 0} (cells : Cells C) (are : AreCells cells) where
       size : ℕ
       size = length (part control) + length (part body)
 
-      sent-forgets : (side : Side) (dir : Dir) (b : Book) → booked dir size b (delivered (below side) (message_of plain dir b.written prio control body) image)
-          ≡ map_carried cells.byte (map_state cells.byte) (booked dir size b (delivered (below side) (message_of cells dir b.written prio control body) s))
+      sent-forgets : (side : Side) (dir : Dir) (b : Book) → booked dir size (delivered plain (below side) (message_of plain dir b.written prio control body) image)
+          ≡ map_carried cells.byte (map_state cells.byte) (booked dir size (delivered cells (below side) (message_of cells dir b.written prio control body) s))
       sent-forgets side dir b =
           let m = message_of cells dir b.written prio control body in
-          ap (λ x. booked dir size b (delivered (below side) x image)) (message-forgets dir b.written prio control body)
-          ∙ ap (λ t. booked dir size b t) (delivered-forgets cells.byte (below side) m s)
-          ∙ booked-forgets cells.byte dir size b (delivered (below side) m s)
+          ap (λ x. booked dir size (delivered plain (below side) x image)) (message-forgets dir b.written prio control body)
+          ∙ ap (λ t. booked dir size t) (delivered-forgets cells are (below side) m s)
+          ∙ booked-forgets cells.byte dir size (delivered cells (below side) m s)
 
-      at : (none : Bool) (side : Side) (dir : Dir) (b : Book) → cond none (record { state = image; gone = [] }) (booked dir size b (delivered (below side) (message_of plain dir b.written prio control body) image))
-          ≡ map_carried cells.byte (map_state cells.byte) (cond none (record { state = s; gone = [] }) (booked dir size b (delivered (below side) (message_of cells dir b.written prio control body) s)))
+      at : (none : Bool) (side : Side) (dir : Dir) (b : Book) → cond none (record { state = image; gone = [] }) (booked dir size (delivered plain (below side) (message_of plain dir b.written prio control body) image))
+          ≡ map_carried cells.byte (map_state cells.byte) (cond none (record { state = s; gone = [] }) (booked dir size (delivered cells (below side) (message_of cells dir b.written prio control body) s)))
       at true side dir b = refl
       at false side dir b = sent-forgets side dir b
 

@@ -13,15 +13,16 @@ use Rattle.strm_types.specs.declared.names.Way.{Way}
 use Rattle.strm_types.specs.declared.names.Way.TheVariants.{Up, Down}
 use Rattle.strm_types.specs.declared.spots.Across.{Across}
 use Rattle.strm_types.specs.declared.spots.Spot.{Spot}
+use Rattle.strm_types.specs.Cells.{Cells}
 use Rattle.strm_types.specs.Deliver.{Acted, AreLower, Falls, Parcel, Took, toward}
 use Rattle.strm_types.specs.Drivers.{answered, bottom_across, crosses, driver_across, driver_put, freed, ioctl_put, own_flushed, put_across, put_down, reader_flush, taken_in}
 use Rattle.strm_types.specs.Earlier.{driver_place, modules_on}
-use Rattle.strm_types.specs.Flushing.{is_flush, asked_by, flush_bytes, flush_message, nothing_asked, read_flush}
+use Rattle.strm_types.specs.Flushing.{asked_by, flush_bytes, flush_message, nothing_asked, read_flush}
 use Rattle.strm_types.specs.Ioctls.{nak_message, read_ioc}
 use Rattle.strm_types.specs.Heads.{head_put, is_doubled, nak_down, obeyed, turned_round, waits_for_readers}
 use Rattle.strm_types.specs.Message.{Message, has_parts}
 use Rattle.strm_types.specs.Names.{is_master, is_open, other}
-use Rattle.strm_types.specs.Puts.{across_of, far, far_at, is_bare_flush, is_turned, passed_up, put_at_driver, put_at_head, put_at_module, put_behind, put_below, put_in, turns_round}
+use Rattle.strm_types.specs.Puts.{across_of, far, far_at, is_bare_flush, is_turned, made_above, passed_up, put_at_driver, put_at_head, put_at_module, put_behind, put_below, put_in, turns_round}
 use Rattle.strm_types.specs.Queue.{Queue}
 use Rattle.strm_types.specs.State.{Head, State, stream}
 use Rattle.strm_types.proofs.ModulePuts.{among-lower}
@@ -192,21 +193,21 @@ module _ (C : Type 0) where
       (λ is. came-up-lower top here.side (across_of here.side s) (record here { at = driver_place here.side s }) m (stream here.side s).driver.queue (up-some (is_turned m) (modules_on (other here.side) s) here.at few (across-place (is_bare_flush m) here.at is)))
       (λ is. (up-less (is_turned m) (modules_on here.side s) here.at past, tt))
 
-  below-lower : (way : Way) (here : Spot) (m : Message C) (s : State C) → 0 < here.at → let to : Spot = record here { way = way } in Lower (far to m) (put_below way to m s).sent
-  below-lower way here m s some =
+  below-lower : (cells : Cells C) (way : Way) (here : Spot) (m : Message C) (s : State C) → 0 < here.at → let to : Spot = record here { way = way } in Lower (far to m) (put_below cells way to m s).sent
+  below-lower cells way here m s some =
       let to : Spot = record here { way = way } in
       let count = length (stream here.side s).modules in
-      either-known (far to m) (nat_le here.at (modules_on here.side s)) (put_at_module here.side to m s) (put_behind way to m s)
-      (λ is. among-lower to m some (omega (arith, stands-among here.at count is)) (here.at - 1) (stream here.side s).modules)
+      either-known (far to m) (nat_le here.at (modules_on here.side s)) (put_at_module cells to m s) (put_behind way to m s)
+      (λ is. among-lower to m some (omega (arith, stands-among here.at count is)) cells (made_above here.side s) (here.at - 1) (stream here.side s).modules)
       (λ is. behind-lower way here m s (stands-past here.at count is))
 
-  put-lower : (way : Way) (here : Spot) (m : Message C) (s : State C) (top : Bool) → (here.at == 0) ≡ top → let to : Spot = record here { way = way } in
-      Lower (far to m) (cond top (put_at_head here.side to m s) (put_below way to m s)).sent
-  put-lower way here m s true is = reached-lower here.side (record here { way = way }) m s (let top : here.at ≡ 0 = grind (arith, nat_tests) in top)
-  put-lower way here m s false is = below-lower way here m s (let some : 0 < here.at = grind (arith, nat_tests) in some)
+  put-lower : (cells : Cells C) (way : Way) (here : Spot) (m : Message C) (s : State C) (top : Bool) → (here.at == 0) ≡ top → let to : Spot = record here { way = way } in
+      Lower (far to m) (cond top (put_at_head here.side to m s) (put_below cells way to m s)).sent
+  put-lower cells way here m s true is = reached-lower here.side (record here { way = way }) m s (let top : here.at ≡ 0 = grind (arith, nat_tests) in top)
+  put-lower cells way here m s false is = below-lower cells way here m s (let some : 0 < here.at = grind (arith, nat_tests) in some)
 
-  pub puts-fall : Falls {C = C} far put_in
-  puts-fall to m s = put-lower to.way to m s (to.at == 0) refl
+pub puts-fall : {C : Type 0} (cells : Cells C) → Falls far (put_in cells)
+puts-fall {C} cells to m s = put-lower C cells to.way to m s (to.at == 0) refl
 
 -- a spot of a stream is so far that deliveries from it end
 pub far-within : {C : Type 0} (to : Spot) (m : Message C) → to.at ≤ 4 → far to m < HOPS

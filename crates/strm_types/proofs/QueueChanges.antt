@@ -10,7 +10,7 @@ use Rattle.strm_types.specs.Message.{Message}
 use Rattle.strm_types.specs.ModuleQueues.{queue_changed}
 use Rattle.strm_types.specs.Modules.{change_among}
 use Rattle.strm_types.specs.Queue.{Queue, weight}
-use Rattle.strm_types.specs.Stacked.{Module, OfLdterm, OfPtem, IsAtRest, module_queue, module_weight, modules_weight, with_module_queue}
+use Rattle.strm_types.specs.Stacked.{Module, OfLdterm, OfPtem, OfPckt, IsAtRest, module_queue, module_weight, modules_weight, with_module_queue}
 use Rattle.strm_types.proofs.ModulesIdle.{AllIdle}
 
 module _ {C : Type 0} (change : Queue C → Queue C) where
@@ -22,6 +22,7 @@ module _ {C : Type 0} (change : Queue C → Queue C) where
   changed-idle Up (OfLdterm l) idle = idle
   changed-idle Down (OfLdterm l) idle = idle
   changed-idle way (OfPtem q) idle = tt
+  changed-idle way (OfPckt q) idle = tt
 
   pub changes-idle : (way : Way) (i : ℕ) (ps : List (Module C)) → AllIdle ps → AllIdle (change_among (changed way) i ps)
   changes-idle way i [] idle = tt
@@ -33,6 +34,7 @@ module _ {C : Type 0} (change : Queue C → Queue C) where
     changed-keeps Up (OfLdterm l) = let messages = ap (λ (ms : List (Message C)). weight (p (direction_at Up side)) ms) (same l.read_queue) in omega arith
     changed-keeps Down (OfLdterm l) = let messages = ap (λ (ms : List (Message C)). weight (p (direction_at Down side)) ms) (same l.write_queue) in omega arith
     changed-keeps way (OfPtem q) = refl
+    changed-keeps way (OfPckt q) = refl
 
     pub changes-keep : (way : Way) (i : ℕ) (ps : List (Module C)) → modules_weight p side (change_among (changed way) i ps) ≡ modules_weight p side ps
     changes-keep way i [] = refl

@@ -1,42 +1,38 @@
 -- Whatever stands for bytes, a call is refused for the same, a turn goes on or not, and a journal is legal or not.
-use Rattle.std.proofs.Common.{ℕ, ◌≡◌, Bool, true, false, cond, List, [], ◌∷◌, length, map, refl, sym, ap, subst, ◌∙◌}
+use Rattle.std.proofs.Common.{ℕ, ◌≡◌, Bool, cond, List, [], ◌∷◌, length, map, refl, sym, ap, subst, ◌∙◌}
 use Rattle.std.specs.Prelude.{◌&&◌, ◌||◌, not, is_some, nat_lt, option_map, Option, None, Some}
 use Rattle.std.specs.List.{list_any}
 use Rattle.std.proofs.lemmas.List.{length-map}
 use Rattle.strm_types.specs.declared.entries.Entry.TheVariants.{Called, Turned}
 use Rattle.strm_types.specs.declared.events.Caller.{Caller}
 use Rattle.strm_types.specs.declared.events.Event.TheVariants.{OpenMaster, Unlock, OpenSlave, Shut, Push, Pop, Look, Flush, Write, Read, Put, Get, Mode, Nread, Ioctl, IoctlResult, Signals}
-use Rattle.strm_types.specs.declared.kinds.MsgKind.{MsgKind}
 use Rattle.strm_types.specs.declared.limits.TheConstants.{MODULES}
 use Rattle.strm_types.specs.declared.modes.Prio.{Prio}
 use Rattle.strm_types.specs.declared.modes.Prio.TheVariants as prios
 use Rattle.strm_types.specs.declared.modes.Wanted.{Wanted}
 use Rattle.strm_types.specs.declared.names.ModuleName.{ModuleName}
-use Rattle.strm_types.specs.declared.names.QueueName.{QueueName}
 use Rattle.strm_types.specs.declared.names.Side.{Side}
 use Rattle.strm_types.specs.declared.names.Side.TheVariants.{Master, Slave}
 use Rattle.strm_types.specs.declared.names.Way.TheVariants.{Up, Down}
-use Rattle.strm_types.specs.declared.refusals.Refusal.{Refusal}
 use Rattle.strm_types.specs.declared.refusals.Refusal.TheVariants.{Eagain, Einval, Enxio, Erange}
-use Rattle.strm_types.specs.Calls.{Request, called}
+use Rattle.strm_types.specs.Calls.{Request}
 use Rattle.strm_types.specs.Cells.{AreCells, Cells, plain}
 use Rattle.strm_types.specs.Message.{is_held}
-use Rattle.strm_types.specs.Gets.{get_refusal, is_wanted}
+use Rattle.strm_types.specs.Gets.{get_refusal}
 use Rattle.strm_types.specs.Journal.{PlainEntry}
-use Rattle.strm_types.specs.Message.{Message, map_message}
+use Rattle.strm_types.specs.Message.{Message}
 use Rattle.strm_types.specs.ModuleQueues.{messages_at}
 use Rattle.strm_types.specs.Modules.{may_push, stands}
-use Rattle.strm_types.specs.Names.{is_closed, is_enabled, is_master, is_open, same_module}
+use Rattle.strm_types.specs.Names.{is_closed, is_master, is_open, same_module}
 use Rattle.strm_types.specs.PutMsg.{no_parts, put_refusal, put_waits}
-use Rattle.strm_types.specs.Pushes.{may_stand, named_by, top_on}
+use Rattle.strm_types.specs.Pushes.{may_stand, named_by}
 use Rattle.strm_types.specs.Queue.{map_messages}
 use Rattle.strm_types.specs.Reads.{read_refusal}
 use Rattle.strm_types.specs.Refused.{asks_a_band, at_end, goes_down, has_no_data, in_range, is_a_band, is_known, may_ask, none_waits_up, or_else, refused_at_once, refused_by_state, unless}
 use Rattle.strm_types.specs.Slots.{is_free, result_refusal}
-use Rattle.strm_types.specs.Stacked.{Module, OfLdterm, OfPtem, map_module, module_name, module_queue}
+use Rattle.strm_types.specs.Stacked.{Module, OfLdterm, OfPtem, OfPckt, map_module, module_name, module_queue}
 use Rattle.strm_types.specs.State.{State, map_state, opening, stream}
-use Rattle.strm_types.specs.Step.{IsCall, IsLegal, IsTurn, Step, after, replay}
-use Rattle.strm_types.specs.Turns.{turned}
+use Rattle.strm_types.specs.Step.{IsLegal, Step, after}
 use Rattle.strm_types.specs.Writes.{is_full_below}
 use Rattle.strm_types.proofs.Forgetting.{kind-forgets}
 use Rattle.strm_types.proofs.ForgettingSteps.{after-forgets, call-forgets, turn-forgets}
@@ -90,6 +86,7 @@ module _ {C D : Type 0} (f : C → D) where
   waits-up : (ps : List (Module C)) → list_any (λ p. not (has_no_data (messages_at module_queue Up p))) (images ps) ≡ list_any (λ p. not (has_no_data (messages_at module_queue Up p))) ps
   waits-up [] = refl
   waits-up (OfPtem p ∷ ps) = waits-up ps
+  waits-up (OfPckt p ∷ ps) = waits-up ps
   waits-up (OfLdterm l ∷ ps) =
       ap (λ b. not b || list_any (λ p. not (has_no_data (messages_at module_queue Up p))) (images ps)) (no-data l.read_queue.messages) ∙ ap (λ b. not (has_no_data l.read_queue.messages) || b) (waits-up ps)
 
@@ -122,6 +119,7 @@ module _ {C D : Type 0} (f : C → D) where
   named-same : (p : Module C) → module_name (map_module f p) ≡ module_name p
   named-same (OfLdterm l) = refl
   named-same (OfPtem p) = refl
+  named-same (OfPckt p) = refl
 
   stands-same : (name : ModuleName) (ps : List (Module C)) → stands module_name name (images ps) ≡ stands module_name name ps
   stands-same name [] = refl

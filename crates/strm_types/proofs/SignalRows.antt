@@ -161,7 +161,7 @@ abbrev caller : Side → Caller
 caller side = record { side = side }
 
 -- a side that isn't open has nobody for signals, and no cell goes with one
-pub signals-want-an-open-side : map (λ opened. let t = put_in here (without_parts Sig (3 ∷ [])) (pair (end Open two) (end opened two)) in t.state) (Open ∷ Never ∷ Closed ∷ [])
+pub signals-want-an-open-side : map (λ opened. let t = put_in plain here (without_parts Sig (3 ∷ [])) (pair (end Open two) (end opened two)) in t.state) (Open ∷ Never ∷ Closed ∷ [])
     ≡ pair (end Open two) (end Open (2 ∷ 5 ∷ 3 ∷ [])) ∷ pair (end Open two) (end Never two) ∷ pair (end Open two) (end Closed two) ∷ []
 signals-want-an-open-side = refl
 

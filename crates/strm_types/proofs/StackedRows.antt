@@ -105,10 +105,10 @@ pub nothing-is-served : unserved {C = ℕ} ptem ≡ record { acted = record { st
 nothing-is-served = refl
 
 -- what is put at each does what its kind does
-pub ptem-takes-puts : let here : Spot = record { side = Slave; at = 2; way = Down } in module_puts here (ordinary (9 ∷ [])) ptem ≡ record { state = ptem; notes = []; sent = onward Down here (ordinary (9 ∷ [])) ∷ []; gone = [] }
+pub ptem-takes-puts : let here : Spot = record { side = Slave; at = 2; way = Down } in module_puts plain 0 here (ordinary (9 ∷ [])) ptem ≡ record { state = ptem; notes = []; sent = onward Down here (ordinary (9 ∷ [])) ∷ []; gone = [] }
 ptem-takes-puts = refl
 
-pub ldterm-takes-puts : let t = module_puts (record { side = Slave; at = 2; way = Down }) (ordinary (9 ∷ [])) (with_these [] [] []) in t.notes ≡ Enable Down ∷ []
+pub ldterm-takes-puts : let t = module_puts plain 0 (record { side = Slave; at = 2; way = Down }) (ordinary (9 ∷ [])) (with_these [] [] []) in t.notes ≡ Enable Down ∷ []
 unfolding cells_of size_of band_of is_high_priority rank_of
 ldterm-takes-puts = refl
 

@@ -149,7 +149,7 @@ turn-of-the-last-message = refl
 -- What a turn of a driver with these messages and flows does, towards a head with one message of two bytes.
 
 abbrev serves : Openness → List (Message ℕ) → List Flow → List Flow → TurnOutcome ℕ
-serves opened messages below above = driver_serves Master messages (pair (end Open (queue [] []) (queue messages below)) (end opened (queue (ordinary (7 ∷ 8 ∷ []) ∷ []) above) (queue [] [])) [])
+serves opened messages below above = driver_serves plain Master messages (pair (end Open (queue [] []) (queue messages below)) (end opened (queue (ordinary (7 ∷ 8 ∷ []) ∷ []) above) (queue [] [])) [])
 
 abbrev served : Turn → Openness → List (Message ℕ) → List Flow → List (Message ℕ) → List Flow → Bool → List QueueName → TurnOutcome ℕ
 served turn opened messages below heads above want_read enabled = record {

@@ -31,16 +31,17 @@ use Rattle.strm_types.specs.Kept.{AreIdle}
 use Rattle.strm_types.specs.Ldterms.{new_ldterm}
 use Rattle.strm_types.specs.Message.{Message}
 use Rattle.strm_types.specs.Names.{is_open, direction_from}
+use Rattle.strm_types.specs.Pckts.{new_pckt}
 use Rattle.strm_types.specs.Ptems.{new_ptem}
 use Rattle.strm_types.specs.Pushes.{head_above, ioctl_dropped, named_by, popped, pushed_named, with_modules}
 use Rattle.strm_types.specs.Queue.{Queue}
-use Rattle.strm_types.specs.Stacked.{Module, OfLdterm, OfPtem}
+use Rattle.strm_types.specs.Stacked.{Module, OfLdterm, OfPtem, OfPckt}
 use Rattle.strm_types.specs.State.{Head, State, opening, stream, with_book, with_stream, book}
 use Rattle.strm_types.specs.Step.{Step}
 use Rattle.strm_types.specs.Turns.{turned, with_driver}
 use Rattle.strm_types.proofs.TurnHolds.{Turns, turn-holds}
 use Rattle.strm_types.proofs.ModuleTurnKeeps.{module_turned-rests}
-use Rattle.strm_types.proofs.ModulesIdle.{AllIdle, delivered-idle}
+use Rattle.strm_types.proofs.ModulesIdle.{AllIdle, delivered-idle, head-idle}
 use Rattle.strm_types.proofs.PushHolds.{Survives, modules_emptied-holds, pop-holds, pushed-holds}
 use Rattle.strm_types.proofs.Past.{waits-idle}
 use Rattle.strm_types.proofs.WriteSteps.{cells_sent-holds}
@@ -70,7 +71,7 @@ module _ {C : Type 0} where
     named = λ names s idle. record { master = idle.master; slave = idle.slave };
     dropped = dropped side;
     apart = apart side;
-    given = λ m s idle. delivered-idle (head_above side) m s idle;
+    given = λ m s idle. head-idle side (head_above side) m s idle;
     good = good side;
     below = λ l ls idle. idle.1;
   }
@@ -98,7 +99,7 @@ module _ {C : Type 0} where
   push-idle side (Some names.Ldterm) s idle =
       pushed-holds side AreIdle AllIdle (survives side) (OfLdterm new_ldterm) s (new-idle (stream side s).modules (side-idle side s idle)) idle
   push-idle side (Some names.Ptem) s idle = pushed-holds side AreIdle AllIdle (survives side) (OfPtem new_ptem) s (tt, side-idle side s idle) idle
-  push-idle side (Some names.Pckt) s idle = idle
+  push-idle side (Some names.Pckt) s idle = pushed-holds side AreIdle AllIdle (survives side) (OfPckt new_pckt) s (tt, side-idle side s idle) idle
 
   pop-idle : (side : Side) (s : State C) → AreIdle s → AreIdle (popped side s).state
   pop-idle side s idle = pop-holds side AreIdle AllIdle (survives side) s idle
@@ -134,7 +135,7 @@ module _ {C : Type 0} where
 
   write-idle : (cells : Cells C) (side : Side) (bytes : List ℕ) (s : State C) → AreIdle s → AreIdle (wrote cells side bytes s).state
   write-idle cells side bytes s idle =
-      booked-idle _ _ _ (cells_sent-holds AreIdle delivered-idle side (cells_written cells (direction_from side) (book (direction_from side) s).written bytes) s idle)
+      booked-idle _ _ _ (cells_sent-holds cells AreIdle (delivered-idle cells) side (cells_written cells (direction_from side) (book (direction_from side) s).written bytes) s idle)
 
   read-idle : (cells : Cells C) (side : Side) (n : ℕ) (s : State C) → AreIdle s → AreIdle (read_at cells side n s).state
   read-idle cells Master n s idle = record { master = idle.master; slave = idle.slave }
@@ -146,8 +147,8 @@ module _ {C : Type 0} where
 
   put_at-idle : (cells : Cells C) (side : Side) (prio : Prio) (control body : Option (List ℕ)) (s : State C) → AreIdle s → AreIdle (put_at cells side prio control body s).state
   put_at-idle cells side prio None None s idle = idle
-  put_at-idle cells side prio None (Some xs) s idle = booked-idle _ _ _ (delivered-idle (below side) (message_put cells side prio None (Some xs) s) s idle)
-  put_at-idle cells side prio (Some xs) body s idle = booked-idle _ _ _ (delivered-idle (below side) (message_put cells side prio (Some xs) body s) s idle)
+  put_at-idle cells side prio None (Some xs) s idle = booked-idle _ _ _ (delivered-idle cells (below side) (message_put cells side prio None (Some xs) s) s idle)
+  put_at-idle cells side prio (Some xs) body s idle = booked-idle _ _ _ (delivered-idle cells (below side) (message_put cells side prio (Some xs) body s) s idle)
 
   with-head-idle : (side : Side) (h : Head C) (s : State C) → AreIdle s → AreIdle (with_stream side (record (stream side s) { head = h }) s)
   with-head-idle Master h s idle = record { master = idle.master; slave = idle.slave }
@@ -173,7 +174,7 @@ module _ {C : Type 0} where
   call-idle cells caller (Push name) s idle = push-idle caller.side name s idle
   call-idle cells caller Pop s idle = pop-idle caller.side s idle
   call-idle cells caller Look s idle = idle
-  call-idle cells caller (Flush what band) s idle = delivered-idle (below caller.side) (flush_message (flush_bytes (asked_of what band))) s idle
+  call-idle cells caller (Flush what band) s idle = delivered-idle cells (below caller.side) (flush_message (flush_bytes (asked_of what band))) s idle
   call-idle cells caller (Write bytes) s idle = write-idle cells caller.side bytes s idle
   call-idle cells caller (Read n) s idle = read-idle cells caller.side n s idle
   call-idle cells caller (Put prio control body) s idle = put_at-idle cells caller.side prio control body s idle
@@ -181,8 +182,8 @@ module _ {C : Type 0} where
   call-idle cells caller (Mode mode) s idle = mode-idle caller.side mode s idle
   call-idle cells caller Nread s idle = idle
   call-idle cells caller (Ioctl command body) s idle =
-      told-idle caller.side (ioctl_sent caller.side command body s).state
-      (delivered-idle (below caller.side) (ioctl_message (asking command s.next_ioctl) body) (ioctl_begun caller.side command s) (begun-idle caller.side command s idle))
+      told-idle caller.side (ioctl_sent cells caller.side command body s).state
+      (delivered-idle cells (below caller.side) (ioctl_message (asking command s.next_ioctl) body) (ioctl_begun caller.side command s) (begun-idle caller.side command s idle))
   call-idle cells caller (IoctlResult number) s idle = told-idle caller.side s idle
   call-idle cells caller Signals s idle = with-head-idle caller.side (record (stream caller.side s).head { signals = [] }) s idle
 

@@ -8,6 +8,7 @@ use Rattle.strm_types.specs.declared.names.Side.{Side}
 use Rattle.strm_types.specs.declared.names.Side.TheVariants.{Master, Slave}
 use Rattle.strm_types.specs.declared.spots.Spot.{Spot}
 use Rattle.strm_types.specs.declared.names.Way.TheVariants.{Up}
+use Rattle.strm_types.specs.Cells.{AreCells, Cells, plain}
 use Rattle.strm_types.specs.Deliver.{Carried}
 use Rattle.strm_types.specs.Message.{Message, size_of, band_of, is_held, map_message}
 use Rattle.strm_types.specs.Earlier.{before_driver, driver_place}
@@ -101,15 +102,6 @@ module _ {C D : Type 0} (f : C → D) where
   across-forgets : (side : Side) (s : State C) → up_across side (map_state f s) ≡ up_across side s
   across-forgets side s = ap (λ (at : ℕ). up_spot (other side) at) (modules_on-forgets f (other side) s)
 
-  moved-forgets : (side : Side) (m : Message C) (rest : List (Message C)) (s : State C) → moved_across side (map_message f m) (map_messages f rest) (map_state f s) ≡ map_turn_outcome f (moved_across side m rest s)
-  moved-forgets side m rest s =
-      let from = with_driver side (left_with rest (stream side s).driver.queue) s in
-      ap (λ (x : State D). moved_made side (size_of (map_message f m)) (delivered (up_across side x) (map_message f m) x)) (taken-forgets side rest s)
-      ∙ ap (λ (to : Spot). moved_made side (size_of (map_message f m)) (delivered to (map_message f m) (map_state f from))) (across-forgets side from)
-      ∙ ap (λ (size : ℕ). moved_made side size (delivered (up_across side from) (map_message f m) (map_state f from))) (size-forgets f m)
-      ∙ ap (λ (t : Carried D (State D)). moved_made side (size_of m) t) (delivered-forgets f (up_across side from) m from)
-      ∙ moved_made-forgets side (size_of m) (delivered (up_across side from) m from)
-
   held-forgets : (side : Side) (s : State C) → with_driver side (held_back (stream side (map_state f s)).driver.queue) (map_state f s) ≡ map_state f (with_driver side (held_back (stream side s).driver.queue) s)
   held-forgets Master s = refl
   held-forgets Slave s = refl
@@ -127,31 +119,44 @@ module _ {C D : Type 0} (f : C → D) where
   served-forgets true true shut waits moves shut' waits' moves' one two three = two
   served-forgets true false shut waits moves shut' waits' moves' one two three = three
 
-  serves-some : (side : Side) (m : Message C) (rest : List (Message C)) (s : State C) → driver_serves side (map_message f m ∷ map_messages f rest) (map_state f s) ≡ map_turn_outcome f (driver_serves side (m ∷ rest) s)
+module _ {C : Type 0} (cells : Cells C) (are : AreCells cells) where
+  abbrev f : C → ℕ
+  f = cells.byte
+
+  moved-forgets : (side : Side) (m : Message C) (rest : List (Message C)) (s : State C) → moved_across plain side (map_message f m) (map_messages f rest) (map_state f s) ≡ map_turn_outcome f (moved_across cells side m rest s)
+  moved-forgets side m rest s =
+      let from = with_driver side (left_with rest (stream side s).driver.queue) s in
+      ap (λ (x : State ℕ). moved_made side (size_of (map_message f m)) (delivered plain (up_across side x) (map_message f m) x)) (taken-forgets f side rest s)
+      ∙ ap (λ (to : Spot). moved_made side (size_of (map_message f m)) (delivered plain to (map_message f m) (map_state f from))) (across-forgets f side from)
+      ∙ ap (λ (size : ℕ). moved_made side size (delivered plain (up_across side from) (map_message f m) (map_state f from))) (size-forgets f m)
+      ∙ ap (λ (t : Carried ℕ (State ℕ)). moved_made side (size_of m) t) (delivered-forgets cells are (up_across side from) m from)
+      ∙ moved_made-forgets f side (size_of m) (delivered cells (up_across side from) m from)
+
+  serves-some : (side : Side) (m : Message C) (rest : List (Message C)) (s : State C) → driver_serves plain side (map_message f m ∷ map_messages f rest) (map_state f s) ≡ map_turn_outcome f (driver_serves cells side (m ∷ rest) s)
   serves-some side m rest s =
       let above = stream (other side) s in
       let held = held_back (stream side (map_state f s)).driver.queue in
       let waits = with_driver side held (map_state f s) in
       let kept = with_driver side (held_back (stream side s).driver.queue) s in
-      let moves = moved_across side (map_message f m) (map_messages f rest) (map_state f s) in
+      let moves = moved_across plain side (map_message f m) (map_messages f rest) (map_state f s) in
       let shut = stayed_put Blocked waits in
       let blocked = stayed_put Blocked (blocked_across side (map_message f m) waits) in
       ap (λ t. served (is_open t.opened) (is_stopped_across side (map_message f m) (map_state f s)) shut blocked moves) (stream-forgets f (other side) s)
-      ∙ ap (λ (stopped : Bool). served (is_open above.opened) stopped shut blocked moves) (stopped-forgets side m s)
-      ∙ served-forgets (is_open above.opened) (is_stopped_across side m s) (stayed_put Blocked kept) (stayed_put Blocked (blocked_across side m kept)) (moved_across side m rest s) shut blocked moves
-      (ap (λ (x : State D). stayed_put Blocked x) (held-forgets side s))
-      (ap (λ (x : State D). stayed_put Blocked (blocked_across side (map_message f m) x)) (held-forgets side s) ∙ ap (λ (x : State D). stayed_put Blocked x) (blocked-forgets side m kept))
+      ∙ ap (λ (stopped : Bool). served (is_open above.opened) stopped shut blocked moves) (stopped-forgets f side m s)
+      ∙ served-forgets f (is_open above.opened) (is_stopped_across side m s) (stayed_put Blocked kept) (stayed_put Blocked (blocked_across side m kept)) (moved_across cells side m rest s) shut blocked moves
+      (ap (λ (x : State ℕ). stayed_put Blocked x) (held-forgets f side s))
+      (ap (λ (x : State ℕ). stayed_put Blocked (blocked_across side (map_message f m) x)) (held-forgets f side s) ∙ ap (λ (x : State ℕ). stayed_put Blocked x) (blocked-forgets f side m kept))
       (moved-forgets side m rest s)
 
-  pub driver_turned-forgets : (side : Side) (s : State C) → driver_turned side (map_state f s) ≡ map_turn_outcome f (driver_turned side s)
+  pub driver_turned-forgets : (side : Side) (s : State C) → driver_turned plain side (map_state f s) ≡ map_turn_outcome f (driver_turned cells side s)
   driver_turned-forgets side s = over side
     where
-      from : (side : Side) (ms : List (Message C)) → driver_serves side (map_messages f ms) (map_state f s) ≡ map_turn_outcome f (driver_serves side ms s)
+      from : (side : Side) (ms : List (Message C)) → driver_serves plain side (map_messages f ms) (map_state f s) ≡ map_turn_outcome f (driver_serves cells side ms s)
       from Master [] = refl
       from Slave [] = refl
       from Master (m ∷ rest) = serves-some Master m rest s
       from Slave (m ∷ rest) = serves-some Slave m rest s
 
-      over : (side : Side) → driver_turned side (map_state f s) ≡ map_turn_outcome f (driver_turned side s)
+      over : (side : Side) → driver_turned plain side (map_state f s) ≡ map_turn_outcome f (driver_turned cells side s)
       over Master = from Master s.master.driver.queue.messages
       over Slave = from Slave s.slave.driver.queue.messages

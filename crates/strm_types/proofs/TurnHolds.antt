@@ -10,7 +10,6 @@ use Rattle.strm_types.specs.declared.names.Side.{Side}
 use Rattle.strm_types.specs.declared.names.Way.{Way}
 use Rattle.strm_types.specs.declared.names.Way.TheVariants.{Up}
 use Rattle.strm_types.specs.declared.spots.Spot.{Spot}
-use Rattle.strm_types.specs.declared.limits.TheConstants.{HOPS}
 use Rattle.strm_types.specs.Cells.{Cells}
 use Rattle.strm_types.specs.Earlier.{driver_place}
 use Rattle.strm_types.specs.Message.{Message, band_of}
@@ -18,19 +17,19 @@ use Rattle.strm_types.specs.ModuleQueues.{place_past}
 use Rattle.strm_types.specs.ModuleTurns.{module_turned}
 use Rattle.strm_types.specs.Names.{is_open, other, without}
 use Rattle.strm_types.specs.Past.{writer_waits}
-use Rattle.strm_types.specs.Puts.{delivered, put_in}
+use Rattle.strm_types.specs.Puts.{delivered}
 use Rattle.strm_types.specs.Queue.{Queue, left_with}
 use Rattle.strm_types.specs.Stacked.{module_queue}
 use Rattle.strm_types.specs.State.{State, stream}
 use Rattle.strm_types.specs.TurnOutcomes.{TurnOutcome}
 use Rattle.strm_types.specs.Turns.{driver_serves, held_back, is_stopped_across, moved_across, turned, turned_at, up_across, with_driver}
-use Rattle.strm_types.proofs.DeliveryHolds.{carried-holds}
-use Rattle.strm_types.proofs.ModuleTurnEnds.{Stays, module_turned-holds, past-holds}
+use Rattle.strm_types.proofs.ModuleTurnEnds.{module_turned-holds, past-holds}
+use Rattle.strm_types.proofs.PutParts.{Stays, delivered-holds}
 
 pub record Turns {C : Type 0} (P : State C → Type 0) : Type 0 where
   pub drivers : (side : Side) (q : Queue C) (s : State C) → P s → P (with_driver side q s)
   pub named : (names : List QueueName) (s : State C) → P s → P (record s { enabled = names })
-  pub given : (to : Spot) (m : Message C) (s : State C) → P s → P (delivered to m s).state
+  pub given : (cells : Cells C) (to : Spot) (m : Message C) (s : State C) → P s → P (delivered cells to m s).state
   pub waits : (side : Side) (way : Way) (at band : ℕ) (s : State C) → P s → P (writer_waits side way at band s)
   pub modules : (cells : Cells C) (name : QueueName) (turn : Turn) (s : State C) → P s → P (module_turned cells name turn s).state
 
@@ -39,7 +38,7 @@ pub turns-stay : {C : Type 0} (P : State C → Type 0) → ((side : Side) (q : Q
 turns-stay P drivers stays = record {
   drivers = drivers;
   named = stays.names;
-  given = λ to m s holds. carried-holds P put_in stays.puts HOPS (record { to = to; message = m }) s holds;
+  given = delivered-holds P stays;
   waits = λ side way at band s holds. past-holds P stays side way band (place_past module_queue way at (stream side s).modules) s holds;
   modules = λ cells name turn s holds. module_turned-holds P stays cells name turn s holds;
 }
@@ -51,24 +50,24 @@ module _ {C : Type 0} where
   any-holds Holds true false shut waits moves one two three = three
 
 module _ {C : Type 0} (P : State C → Type 0) (turns : Turns P) where
-  moved-holds : (side : Side) (m : Message C) (rest : List (Message C)) (s : State C) → P s → P (moved_across side m rest s).state
-  moved-holds side m rest s holds =
+  moved-holds : (cells : Cells C) (side : Side) (m : Message C) (rest : List (Message C)) (s : State C) → P s → P (moved_across cells side m rest s).state
+  moved-holds cells side m rest s holds =
       let from = with_driver side (left_with rest (stream side s).driver.queue) s in
-      let went = (delivered (up_across side from) m from).state in
-      turns.named _ _ (turns.drivers side _ went (turns.given (up_across side from) m from (turns.drivers side (left_with rest (stream side s).driver.queue) s holds)))
+      let went = (delivered cells (up_across side from) m from).state in
+      turns.named _ _ (turns.drivers side _ went (turns.given cells (up_across side from) m from (turns.drivers side (left_with rest (stream side s).driver.queue) s holds)))
 
-  serves-hold : (side : Side) (ms : List (Message C)) (s : State C) → P s → P (driver_serves side ms s).state
-  serves-hold side [] s holds = turns.drivers side (record (stream side s).driver.queue { want_read = true }) s holds
-  serves-hold side (m ∷ rest) s holds =
+  serves-hold : (cells : Cells C) (side : Side) (ms : List (Message C)) (s : State C) → P s → P (driver_serves cells side ms s).state
+  serves-hold cells side [] s holds = turns.drivers side (record (stream side s).driver.queue { want_read = true }) s holds
+  serves-hold cells side (m ∷ rest) s holds =
       let kept = with_driver side (held_back (stream side s).driver.queue) s in
       let waits = turns.drivers side (held_back (stream side s).driver.queue) s holds in
       any-holds (λ t. P t.state) (is_open (stream (other side) s).opened) (is_stopped_across side m s) _ _ _
-      waits (turns.waits (other side) Up (driver_place (other side) kept) (band_of m) kept waits) (moved-holds side m rest s holds)
+      waits (turns.waits (other side) Up (driver_place (other side) kept) (band_of m) kept waits) (moved-holds cells side m rest s holds)
 
   pub turn-holds : (cells : Cells C) (name : QueueName) (turn : Turn) (s : State C) → P s → P (turned cells name turn s).state
   turn-holds cells name turn s holds = at name.place (record s { enabled = without name s.enabled }) (turns.named (without name s.enabled) s holds)
     where
       at : (place : Place) (s : State C) → P s → P (turned_at cells place name turn s).state
-      at Driver s holds = serves-hold name.side (stream name.side s).driver.queue.messages s holds
+      at Driver s holds = serves-hold cells name.side (stream name.side s).driver.queue.messages s holds
       at Head s holds = holds
       at Ldterm s holds = turns.modules cells name turn s holds

@@ -12,17 +12,16 @@ use Rattle.strm_types.proofs.LdtermKeeps.{way-up}
 use Rattle.strm_types.specs.Cells.{Cells}
 use Rattle.strm_types.specs.Kept.{AreIdle, NothingUnread, state_weight, tests_at}
 use Rattle.strm_types.specs.Message.{Message, size_of, band_of, weight_of}
-use Rattle.strm_types.specs.ModuleTurns.{SameButMade}
 use Rattle.strm_types.specs.Names.{is_open, other, without, direction_at, direction_from}
 use Rattle.strm_types.specs.Places.{weight_gone, weight_made, direction_to}
-use Rattle.strm_types.specs.Puts.{delivered}
+use Rattle.strm_types.specs.Puts.{SameButMade, delivered}
 use Rattle.strm_types.specs.Queue.{Queue, left_with, relieved, weight}
 use Rattle.strm_types.specs.State.{State, stream}
 use Rattle.strm_types.specs.TurnOutcomes.{TurnOutcome}
 use Rattle.strm_types.specs.Turns.{blocked_across, driver_serves, held_back, is_stopped_across, moved_across, turned, turned_at, turned_queue, turn_ended, up_across, with_driver}
 use Rattle.strm_types.proofs.TurnHolds.{any-holds, turn-holds, turns-stay}
 use Rattle.strm_types.proofs.Deliveries.{delivered-keeps}
-use Rattle.strm_types.proofs.ModuleTurnEnds.{same-stays, unread-stays}
+use Rattle.strm_types.proofs.PutsKeep.{same-itself, same-stays, unread-stays}
 use Rattle.strm_types.proofs.ModuleTurnKeeps.{module_turned-keeps}
 use Rattle.strm_types.proofs.PutsFall.{few-stand}
 use Rattle.strm_types.proofs.Weights.{weight-take}
@@ -51,7 +50,7 @@ module _ {C : Type 0} (s : State C) where
   pub turn-same : (cells : Cells C) (name : QueueName) (turn : Turn) → SameButMade s (turned cells name turn s).state
   turn-same cells name turn =
       turn-holds (SameButMade s) (turns-stay (SameButMade s) with-same (same-stays s)) cells name turn s
-      (record { master = refl; slave = refl; locked = refl; next_ioctl = refl; from_master = refl; from_slave = refl })
+      (same-itself s)
 
 module _ {C : Type 0} (p : Dir → C → Bool) where
   -- a turn in a pair that had so many cells
@@ -74,10 +73,10 @@ module _ {C : Type 0} (p : Dir → C → Bool) where
   across-weighs Master m at = ap (λ way. weight_of (p (direction_at way Slave)) m) (way-up at)
   across-weighs Slave m at = ap (λ way. weight_of (p (direction_at way Master)) m) (way-up at)
 
-  moved-keeps : (side : Side) (m : Message C) (rest : List (Message C)) (s : State C) → (stream side s).driver.queue.messages ≡ m ∷ rest → Keeps (moved_across side m rest s) (state_weight p s)
-  moved-keeps side m rest s is =
+  moved-keeps : (cells : Cells C) (side : Side) (m : Message C) (rest : List (Message C)) (s : State C) → (stream side s).driver.queue.messages ≡ m ∷ rest → Keeps (moved_across cells side m rest s) (state_weight p s)
+  moved-keeps cells side m rest s is =
       let from = with_driver side (left_with rest (stream side s).driver.queue) s in
-      omega (arith, ended-keeps side (size_of m) (delivered (up_across side from) m from).state, delivered-keeps p (up_across side from) m from (omega (arith, few-stand (length (stream (other side) from).modules))), taken-keeps side m rest s is, across-weighs side m (modules_on (other side) from))
+      omega (arith, ended-keeps side (size_of m) (delivered cells (up_across side from) m from).state, delivered-keeps cells p (up_across side from) m from (omega (arith, few-stand (length (stream (other side) from).modules))), taken-keeps side m rest s is, across-weighs side m (modules_on (other side) from))
 
   blocked-keeps : (side : Side) (m : Message C) (s : State C) → state_weight p (blocked_across side m s) ≡ state_weight p s
   blocked-keeps side m s = waits-keeps p (other side) Up (driver_place (other side) s) (band_of m) s
@@ -86,18 +85,18 @@ module _ {C : Type 0} (p : Dir → C → Bool) where
   held-keeps Master s want = refl
   held-keeps Slave s want = refl
 
-  serves-keeps : (side : Side) (ms : List (Message C)) (s : State C) → (stream side s).driver.queue.messages ≡ ms → Keeps (driver_serves side ms s) (state_weight p s)
-  serves-keeps side [] s is = omega (arith, held-keeps side s true)
-  serves-keeps side (m ∷ rest) s is =
+  serves-keeps : (cells : Cells C) (side : Side) (ms : List (Message C)) (s : State C) → (stream side s).driver.queue.messages ≡ ms → Keeps (driver_serves cells side ms s) (state_weight p s)
+  serves-keeps cells side [] s is = omega (arith, held-keeps side s true)
+  serves-keeps cells side (m ∷ rest) s is =
       any-holds (λ t. Keeps t (state_weight p s)) (is_open (stream (other side) s).opened) (is_stopped_across side m s) _ _ _
       (omega (arith, held-keeps side s false))
       (omega (arith, held-keeps side s false, blocked-keeps side m (with_driver side (held_back (stream side s).driver.queue) s)))
-      (moved-keeps side m rest s is)
+      (moved-keeps cells side m rest s is)
 
   pub turn-keeps : (cells : Cells C) (name : QueueName) → tests_at cells p name.place → (turn : Turn) (s : State C) → AreIdle s → Keeps (turned cells name turn s) (state_weight p s)
   turn-keeps cells name tests turn s idle = at name.place tests (record s { enabled = without name s.enabled }) (record { master = idle.master; slave = idle.slave })
     where
       at : (place : Place) → tests_at cells p place → (s : State C) → AreIdle s → Keeps (turned_at cells place name turn s) (state_weight p s)
-      at Driver tests s idle = serves-keeps name.side (stream name.side s).driver.queue.messages s refl
+      at Driver tests s idle = serves-keeps cells name.side (stream name.side s).driver.queue.messages s refl
       at Head tests s idle = omega arith
       at Ldterm ignores s idle = module_turned-keeps p cells ignores name turn s idle

@@ -1,6 +1,6 @@
 -- A call of a module's service procedure makes the next cells of the direction in which output goes, one after the other, and none of the other one.
-use Rattle.std.proofs.Common.{ℕ, zero, suc, ◌≡◌, ◌+◌, ◌-◌, ◌*◌, Bool, true, false, cond, List, [], ◌∷◌, ◌++◌, length, drop, refl, sym, ap, subst, ◌∙◌, arith}
-use Rattle.std.specs.Prelude.{not, ◌&&◌, count_by, is_some, replicate, take, Option, None, Some, unwrap_or}
+use Rattle.std.proofs.Common.{ℕ, zero, suc, ◌≡◌, ◌+◌, ◌-◌, ◌*◌, Bool, true, false, cond, List, [], ◌∷◌, ◌++◌, length, drop, refl, sym, subst, arith}
+use Rattle.std.specs.Prelude.{not, ◌&&◌, count_by, replicate, take, Option, Some, unwrap_or}
 use Rattle.strm_types.specs.declared.flushing.FlushAsked.{FlushAsked}
 use Rattle.strm_types.specs.declared.keys.Key.{Key}
 use Rattle.strm_types.specs.declared.keys.Key.TheVariants.{Stop, Start, Intr, Quit, Susp, Ignored, Eof, Erase, Kill, Werase, Reprint, Lnext, Delimiter, Ordinary}
@@ -11,7 +11,7 @@ use Rattle.strm_types.specs.declared.names.Way.TheVariants.{Up, Down}
 use Rattle.strm_types.specs.declared.output.Given.{Given}
 use Rattle.strm_types.specs.declared.output.Given.TheVariants.{Byte, Ended, Nothing, Spaces}
 use Rattle.strm_types.specs.declared.rules.Rule.{Rule}
-use Rattle.strm_types.specs.declared.rules.Rule.TheVariants.{Igncr, EraseKey, Erased, Killed, EofKey, SignalKey, FlowKey, LnextKey, ReprintKey, LineFull, LineOver, Flushed}
+use Rattle.strm_types.specs.declared.rules.Rule.TheVariants.{EraseKey, Erased, Killed, SignalKey, LineOver, Flushed}
 use Rattle.strm_types.specs.declared.spots.Spot.{Spot}
 use Rattle.strm_types.specs.declared.termios.Termios.{Termios}
 use Rattle.strm_types.specs.Cells.{Cells, cells_made}
@@ -19,19 +19,19 @@ use Rattle.strm_types.specs.Deliver.{Acted, Fate, Goes, Comes}
 use Rattle.strm_types.specs.Input.{begins_next, cells_left, input_begins, is_data, made_of, next_stage, passes, stage_at, stages, stages_done, then_on, to_treat, treats, with_left}
 use Rattle.strm_types.specs.Keys.{carriage_return, restarts}
 use Rattle.strm_types.specs.LdtermServes.{ldterm_serves}
-use Rattle.strm_types.specs.Ldterms.{Ldterm, Stage, Between, Begun, Answered, sends}
-use Rattle.strm_types.specs.Lines.{Types, ErasesByte, ErasesWord, edited, has_room}
+use Rattle.strm_types.specs.Ldterms.{Ldterm, Stage, Between, Begun, Answered}
+use Rattle.strm_types.specs.Lines.{ErasesByte, ErasesWord, edited, has_room}
 use Rattle.strm_types.specs.Message.{Message, cells_of}
 use Rattle.strm_types.specs.Names.{direction_at}
 use Rattle.strm_types.specs.Output.{made_for, post, posts, space, told_for}
 use Rattle.strm_types.specs.OutputTurns.{output_dir, output_serves, posted, unchanged}
 use Rattle.strm_types.specs.Places.{weight_made}
 use Rattle.strm_types.specs.Queue.{is_full, is_none_left, left_with}
-use Rattle.strm_types.specs.Stacked.{Module, OfLdterm, OfPtem, module_serves}
+use Rattle.strm_types.specs.Stacked.{Module, OfLdterm, OfPtem, OfPckt, module_serves}
 use Rattle.strm_types.specs.Termios.{icanon, imaxbel, noflsh, opost}
-use Rattle.strm_types.specs.Typing.{added, both_ways, begins, dropped, echo_dir, echo_grows, echo_lost, echo_stands, echoed, is_blank_cell, lost, sigint, signals, sigquit, sigtstp, is_lnext, strikes, stroke_at, struck, up_alone}
+use Rattle.strm_types.specs.Typing.{added, both_ways, begins, echo_dir, echo_grows, echo_lost, echo_stands, echoed, is_blank_cell, lost, sigint, signals, sigquit, sigtstp, is_lnext, strikes, stroke_at, struck, up_alone}
 use Rattle.strm_types.proofs.DeliveryKeeps.{made-append}
-use Rattle.strm_types.proofs.InOrder.{AreNext, InOrder, none-ordered, order-append}
+use Rattle.strm_types.proofs.InOrder.{InOrder, none-ordered, order-append}
 use Rattle.strm_types.proofs.LdtermKeeps.{lost-made}
 use Rattle.strm_types.proofs.MadeCells.{made-both, made-long}
 use Rattle.strm_types.proofs.Weights.{count-join}
@@ -70,7 +70,7 @@ module _ {C : Type 0} (cells : Cells C) (side : Side) where
 
 -- cells that are made, with what is told behind them
 module _ {C : Type 0} (cells : Cells C) where
-  order-next : (side : Side) (made : ℕ) (bytes : List ℕ) (told : List (Fate C)) → all_made told ≡ 0 → TurnOrder cells side made (Comes (direction_at Down side) (cells_made cells (direction_at Down side) made bytes) ∷ told)
+  pub order-next : (side : Side) (made : ℕ) (bytes : List ℕ) (told : List (Fate C)) → all_made told ≡ 0 → TurnOrder cells side made (Comes (direction_at Down side) (cells_made cells (direction_at Down side) made bytes) ∷ told)
   order-next Master made bytes told none = record {
     down = (record { bytes = bytes; is = refl }, subst (λ n. InOrder cells (direction_at Down Master) (made + length xs) told n) (more xs) (none-ordered cells (direction_at Down Master) (made + length xs) told none));
     up = λ n. none-ordered cells (direction_at Up Master) n told none;
@@ -233,3 +233,4 @@ module _ {C : Type 0} (cells : Cells C) where
   pub module-order : (here : Spot) (again : Bool) (made : ℕ) (stop : Option ℕ) (q : Module C) → TurnOrder cells here.side made (module_serves cells here made again stop q).acted.gone
   module-order here again made stop (OfLdterm l) = serves-at here.way here again made stop l
   module-order here again made stop (OfPtem q) = order-none cells here.side made [] refl
+  module-order here again made stop (OfPckt q) = order-none cells here.side made [] refl

@@ -1,12 +1,13 @@
 -- What a head keeps for its caller stays bounded: signals wait once each, and answers are cut.
 use Rattle.std.proofs.Common.{ℕ, ◌≤◌, Bool, true, false, cond, List, length, arith}
-use Rattle.std.specs.Prelude.{◌==◌, ◌&&◌, nat_le, suc, drop, Option, None, Some}
+use Rattle.std.specs.Prelude.{◌==◌, drop, Option, None, Some}
 use Rattle.std.proofs.lemmas.List.{length-take}
 use Rattle.strm_types.specs.declared.flushing.FlushAsked.{FlushAsked}
 use Rattle.strm_types.specs.declared.ioctls.Ioc.{Ioc}
 use Rattle.strm_types.specs.declared.kinds.MsgKind.{MsgKind}
 use Rattle.strm_types.specs.declared.kinds.MsgKind.TheVariants.{Flush, Sig, Pcsig, Iocack, Iocnak}
-use Rattle.strm_types.specs.declared.limits.TheConstants.{HOPS, IOCTL_MAX, MODULES}
+use Rattle.strm_types.specs.declared.limits.TheConstants.{IOCTL_MAX}
+use Rattle.strm_types.specs.declared.names.Dir.TheVariants.{MasterToSlave, SlaveToMaster}
 use Rattle.strm_types.specs.declared.names.Side.{Side}
 use Rattle.strm_types.specs.declared.names.Side.TheVariants.{Master, Slave}
 use Rattle.strm_types.specs.declared.names.Way.{Way}
@@ -14,18 +15,18 @@ use Rattle.strm_types.specs.declared.names.Way.TheVariants.{Up, Down}
 use Rattle.strm_types.specs.declared.slots.Slot.TheVariants.{Free, Waiting, Acked, Nacked}
 use Rattle.strm_types.specs.declared.spots.Spot.{Spot}
 use Rattle.strm_types.specs.Calls.{ioctl_begun}
-use Rattle.strm_types.specs.Deliver.{Acted, Took}
-use Rattle.strm_types.specs.Earlier.{modules_on}
-use Rattle.strm_types.specs.Flushing.{is_flush, asked_by}
+use Rattle.strm_types.specs.Deliver.{Acted}
+use Rattle.strm_types.specs.Flushing.{asked_by}
 use Rattle.strm_types.specs.Heads.{flush_up, head_flushed, head_put, is_doubled, obeyed, passed_by, turned_round, waits_for_readers}
 use Rattle.strm_types.specs.Ioctls.{read_ioc}
 use Rattle.strm_types.specs.Message.{Message, has_parts}
 use Rattle.strm_types.specs.Names.{is_open}
-use Rattle.strm_types.specs.Puts.{delivered, is_bare_flush, passed_up, put_at_driver, put_at_head, put_at_module, put_behind, put_below, put_in}
+use Rattle.strm_types.specs.Puts.{put_at_driver, put_at_head}
 use Rattle.strm_types.specs.Slots.{PlainSlot, ack_body, answer_bytes, slot_behind, slot_told, with_answer}
+use Rattle.strm_types.specs.Stacked.{Module}
 use Rattle.strm_types.specs.State.{Head, State, stream, with_stream}
 use Rattle.strm_types.specs.Within.{AreWithin, IsWithin}
-use Rattle.strm_types.proofs.DeliveryHolds.{carried-holds}
+use Rattle.strm_types.proofs.PutParts.{BookHolds, Stays, either-holds, waiting}
 use Rattle.strm_types.proofs.SignalRoom.{named-within}
 
 -- answers
@@ -84,34 +85,30 @@ module _ {C : Type 0} where
   put-within here m h within = either-within (has_parts m) (waits_for_readers here m h) (obeyed here m.kind m.plain h) (waits-within here m h within) (obeyed-within here m.kind m.plain h within)
 
   -- in a pair
-  either-are : (b : Bool) (one another : Took C (State C)) → AreWithin one.state → AreWithin another.state → AreWithin (cond b one another).state
-  either-are true one another first second = first
-  either-are false one another first second = second
+  pub head-within : (side : Side) (here : Spot) (m : Message C) (s : State C) → AreWithin s → AreWithin (put_at_head side here m s).state
+  head-within Master here m s within = either-holds AreWithin (is_open s.master.opened) _ _ (record { master = put-within here m s.master.head within.master; slave = within.slave }) within
+  head-within Slave here m s within = either-holds AreWithin (is_open s.slave.opened) _ _ (record { master = within.master; slave = put-within here m s.slave.head within.slave }) within
 
-  head-within : (side : Side) (here : Spot) (m : Message C) (s : State C) → AreWithin s → AreWithin (put_at_head side here m s).state
-  head-within Master here m s within = either-are (is_open s.master.opened) _ _ (record { master = put-within here m s.master.head within.master; slave = within.slave }) within
-  head-within Slave here m s within = either-are (is_open s.slave.opened) _ _ (record { master = within.master; slave = put-within here m s.slave.head within.slave }) within
+  pub within-stays : Stays {C = C} AreWithin
+  within-stays = record { head = head-within; driver = driver; modules = modules; names = λ names s within. record { master = within.master; slave = within.slave }; books = books; waits = waits }
+    where
+      driver : (side : Side) (here : Spot) (m : Message C) (s : State C) → AreWithin s → AreWithin (put_at_driver side here m s).state
+      driver Master here m s within = record { master = within.master; slave = within.slave }
+      driver Slave here m s within = record { master = within.master; slave = within.slave }
 
-  driver-within : (side : Side) (here : Spot) (m : Message C) (s : State C) → AreWithin s → AreWithin (put_at_driver side here m s).state
-  driver-within Master here m s within = record { master = within.master; slave = within.slave }
-  driver-within Slave here m s within = record { master = within.master; slave = within.slave }
+      modules : (side : Side) (ps : List (Module C)) (s : State C) → AreWithin s → AreWithin (with_stream side (record (stream side s) { modules = ps }) s)
+      modules Master ps s within = record { master = within.master; slave = within.slave }
+      modules Slave ps s within = record { master = within.master; slave = within.slave }
 
-  module-within : (side : Side) (here : Spot) (m : Message C) (s : State C) → AreWithin s → AreWithin (put_at_module side here m s).state
-  module-within Master here m s within = record { master = within.master; slave = within.slave }
-  module-within Slave here m s within = record { master = within.master; slave = within.slave }
+      books : BookHolds {C = C} AreWithin
+      books MasterToSlave n s within = record { master = within.master; slave = within.slave }
+      books SlaveToMaster n s within = record { master = within.master; slave = within.slave }
 
-  behind-within : (way : Way) (here : Spot) (m : Message C) (s : State C) → AreWithin s → AreWithin (put_behind way here m s).state
-  behind-within Down here m s within = driver-within here.side here m s within
-  behind-within Up here m s within = either-are (is_bare_flush m && here.at == suc MODULES) (put_at_driver here.side here m s) (passed_up here m s) (driver-within here.side here m s within) within
-
-  below-within : (way : Way) (here : Spot) (m : Message C) (s : State C) → AreWithin s → AreWithin (put_below way here m s).state
-  below-within way here m s within = either-are (nat_le here.at (modules_on here.side s)) (put_at_module here.side here m s) (put_behind way here m s) (module-within here.side here m s within) (behind-within way here m s within)
-
-  pub puts-within : (here : Spot) (m : Message C) (s : State C) → AreWithin s → AreWithin (put_in here m s).state
-  puts-within here m s within = either-are (here.at == 0) (put_at_head here.side here m s) (put_below here.way here m s) (head-within here.side here m s within) (below-within here.way here m s within)
-
-  pub delivered-within : (to : Spot) (m : Message C) (s : State C) → AreWithin s → AreWithin (delivered to m s).state
-  delivered-within to m s within = carried-holds AreWithin put_in puts-within HOPS (record { to = to; message = m }) s within
+      waits : (side : Side) (way : Way) (band : ℕ) (s : State C) → AreWithin s → AreWithin (waiting side way band s)
+      waits Master Up band s within = record { master = record { signals = within.master.signals; answer = within.master.answer }; slave = within.slave }
+      waits Master Down band s within = record { master = within.master; slave = within.slave }
+      waits Slave Up band s within = record { master = within.master; slave = record { signals = within.slave.signals; answer = within.slave.answer } }
+      waits Slave Down band s within = record { master = within.master; slave = within.slave }
 
   -- at a side
   pub side-within : (side : Side) (s : State C) → AreWithin s → IsWithin (stream side s).head

@@ -14,11 +14,9 @@ use Rattle.strm_types.specs.declared.names.Dir.TheVariants.{MasterToSlave, Slave
 use Rattle.strm_types.specs.declared.names.QueueName.{QueueName}
 use Rattle.strm_types.specs.declared.names.Side.{Side}
 use Rattle.strm_types.specs.declared.names.Side.TheVariants.{Master, Slave}
-use Rattle.strm_types.specs.declared.names.Way.{Way}
-use Rattle.strm_types.specs.declared.names.Way.TheVariants.{Up, Down}
+use Rattle.strm_types.specs.declared.names.Way.TheVariants.{Down}
 use Rattle.strm_types.specs.declared.rules.Rule.TheVariants.{EndClosed}
 use Rattle.strm_types.specs.declared.spots.Spot.{Spot}
-use Rattle.strm_types.specs.Books.{with_made}
 use Rattle.strm_types.specs.Calls.{Request, called, get_at, ioctl_begun, ioctl_sent, ioctl_told, message_put, mode_set, put_at, read_at, signals_told, wrote}
 use Rattle.strm_types.specs.Cells.{Cells, cells_written}
 use Rattle.strm_types.specs.Closes.{head_emptied, driver_emptied, ended, hung_up_at, closed_at, stream_emptied}
@@ -29,6 +27,7 @@ use Rattle.strm_types.specs.Journal.{PlainEntry}
 use Rattle.strm_types.specs.Message.{Message}
 use Rattle.strm_types.specs.Names.{is_open, direction_from}
 use Rattle.strm_types.specs.Pushes.{head_above, ioctl_dropped, named_by, popped, pushed_named, with_modules}
+use Rattle.strm_types.specs.Puts.{delivered}
 use Rattle.strm_types.specs.Queue.{Queue}
 use Rattle.strm_types.specs.Slots.{PlainSlot, answer_bytes, slot_behind}
 use Rattle.strm_types.specs.Stacked.{Module}
@@ -43,8 +42,8 @@ use Rattle.strm_types.specs.declared.refusals.Refusal.TheVariants.{Einval}
 use Rattle.strm_types.proofs.TurnHolds.{turn-holds, turns-stay}
 use Rattle.strm_types.proofs.PushHolds.{Survives, modules_emptied-holds, pop-holds, push-holds}
 use Rattle.strm_types.proofs.WriteSteps.{cells_sent-holds}
-use Rattle.strm_types.proofs.WithinHeads.{behind-fits, begun-within, delivered-within, puts-within, side-within, with-head-within}
-use Rattle.strm_types.proofs.ModuleTurnEnds.{Stays, waiting}
+use Rattle.strm_types.proofs.PutParts.{delivered-holds}
+use Rattle.strm_types.proofs.WithinHeads.{behind-fits, begun-within, head-within, side-within, with-head-within, within-stays}
 use Rattle.strm_types.specs.declared.limits.TheConstants.{IOCTL_MAX}
 
 -- the place below a side's head
@@ -64,22 +63,8 @@ module _ {C : Type 0} where
   driver-within Master q s within = record { master = within.master; slave = within.slave }
   driver-within Slave q s within = record { master = within.master; slave = within.slave }
 
-  within-stays : Stays {C = C} AreWithin
-  within-stays = record { puts = puts-within; modules = modules; names = λ names s within. record { master = within.master; slave = within.slave }; books = books; waits = waits }
-    where
-      modules : (side : Side) (ps : List (Module C)) (s : State C) → AreWithin s → AreWithin (with_modules side ps s)
-      modules Master ps s within = record { master = within.master; slave = within.slave }
-      modules Slave ps s within = record { master = within.master; slave = within.slave }
-
-      books : (dir : Dir) (n : ℕ) (s : State C) → AreWithin s → AreWithin (with_book dir (with_made n (book dir s)) s)
-      books MasterToSlave n s within = record { master = within.master; slave = within.slave }
-      books SlaveToMaster n s within = record { master = within.master; slave = within.slave }
-
-      waits : (side : Side) (way : Way) (band : ℕ) (s : State C) → AreWithin s → AreWithin (waiting side way band s)
-      waits Master Up band s within = record { master = record { signals = within.master.signals; answer = within.master.answer }; slave = within.slave }
-      waits Master Down band s within = record { master = within.master; slave = within.slave }
-      waits Slave Up band s within = record { master = within.master; slave = record { signals = within.slave.signals; answer = within.slave.answer } }
-      waits Slave Down band s within = record { master = within.master; slave = within.slave }
+  pub delivered-within : (cells : Cells C) (to : Spot) (m : Message C) (s : State C) → AreWithin s → AreWithin (delivered cells to m s).state
+  delivered-within cells to m s within = delivered-holds AreWithin within-stays cells to m s within
 
   turn-within : (cells : Cells C) (name : QueueName) (turn : Turn) (s : State C) → AreWithin s → AreWithin (turned cells name turn s).state
   turn-within cells name turn s within = turn-holds AreWithin (turns-stay AreWithin driver-within within-stays) cells name turn s within
@@ -100,7 +85,7 @@ module _ {C : Type 0} where
     named = λ names s within. record { master = within.master; slave = within.slave };
     dropped = dropped side;
     apart = apart side;
-    given = λ m s within. delivered-within (head_above side) m s within;
+    given = λ m s within. head-within side (head_above side) m s within;
     good = λ s within. tt;
     below = λ l ls good. tt;
   }
@@ -158,14 +143,14 @@ module _ {C : Type 0} where
 
   write-within : (cells : Cells C) (side : Side) (bytes : List ℕ) (s : State C) → AreWithin s → AreWithin (wrote cells side bytes s).state
   write-within cells side bytes s within =
-      booked-within _ _ _ (cells_sent-holds AreWithin delivered-within side (cells_written cells (direction_from side) (book (direction_from side) s).written bytes) s within)
+      booked-within _ _ _ (cells_sent-holds cells AreWithin (delivered-within cells) side (cells_written cells (direction_from side) (book (direction_from side) s).written bytes) s within)
 
   put_at-within : (cells : Cells C) (side : Side) (prio : Prio) (control body : Option (List ℕ)) (s : State C) → AreWithin s → AreWithin (put_at cells side prio control body s).state
   put_at-within cells side prio None None s within = within
   put_at-within cells side prio None (Some xs) s within =
-      booked-within _ _ _ (delivered-within (below side) (message_put cells side prio None (Some xs) s) s within)
+      booked-within _ _ _ (delivered-within cells (below side) (message_put cells side prio None (Some xs) s) s within)
   put_at-within cells side prio (Some xs) body s within =
-      booked-within _ _ _ (delivered-within (below side) (message_put cells side prio (Some xs) body s) s within)
+      booked-within _ _ _ (delivered-within cells (below side) (message_put cells side prio (Some xs) body s) s within)
 
   mode-within : (side : Side) (mode : modes.Mode) (s : State C) → AreWithin s → AreWithin (mode_set side mode s)
   mode-within side (chosen.Read mode) s within =
@@ -192,7 +177,7 @@ module _ {C : Type 0} where
   call-within cells caller (Push name) s within = push-within caller.side (named_by name) s within
   call-within cells caller Pop s within = pop-within caller.side s within
   call-within cells caller Look s within = within
-  call-within cells caller (Flush what band) s within = delivered-within (below caller.side) (flush_message (flush_bytes (asked_of what band))) s within
+  call-within cells caller (Flush what band) s within = delivered-within cells (below caller.side) (flush_message (flush_bytes (asked_of what band))) s within
   call-within cells caller (Write bytes) s within = write-within cells caller.side bytes s within
   call-within cells caller (Read n) s within = read-within cells caller.side n s within
   call-within cells caller (Put prio control body) s within = put_at-within cells caller.side prio control body s within
@@ -200,8 +185,8 @@ module _ {C : Type 0} where
   call-within cells caller (Mode mode) s within = mode-within caller.side mode s within
   call-within cells caller Nread s within = within
   call-within cells caller (Ioctl command body) s within =
-      told-within caller.side (ioctl_sent caller.side command body s).state
-      (delivered-within (below caller.side) (ioctl_message (asking command s.next_ioctl) body) (ioctl_begun caller.side command s) (begun-within caller.side command s within))
+      told-within caller.side (ioctl_sent cells caller.side command body s).state
+      (delivered-within cells (below caller.side) (ioctl_message (asking command s.next_ioctl) body) (ioctl_begun caller.side command s) (begun-within caller.side command s within))
   call-within cells caller (IoctlResult number) s within = told-within caller.side s within
   call-within cells caller Signals s within = signals-within caller.side s within
 

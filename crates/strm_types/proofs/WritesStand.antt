@@ -5,6 +5,7 @@ use Rattle.std.proofs.lemmas.List.Folds.{list_any-append}
 use Rattle.strm_types.specs.declared.names.QueueName.{QueueName}
 use Rattle.strm_types.specs.declared.names.Side.{Side}
 use Rattle.strm_types.specs.declared.names.Side.TheVariants.{Master, Slave}
+use Rattle.strm_types.specs.Cells.{Cells}
 use Rattle.strm_types.specs.Deliver.{Carried}
 use Rattle.strm_types.specs.Earlier.{NoModules}
 use Rattle.strm_types.specs.Message.{data_message, has_parts}
@@ -99,12 +100,12 @@ module _ {C : Type 0} where
   below-alone Master s none = ap (λ ps. not (may_pass Down 0 0 (record s.master { modules = ps }))) none.master ∙ not-not (is_full 0 s.master.driver.queue)
   below-alone Slave s none = ap (λ ps. not (may_pass Down 0 0 (record s.slave { modules = ps }))) none.slave ∙ not-not (is_full 0 s.slave.driver.queue)
 
-  pub chunks-stand : (side : Side) (chunks : List (List C)) (s : State C) → is_closed s.master.opened ≡ false → NoModules s → chunks_sent side chunks s ≡ write_effect side chunks s
-  chunks-stand side [] s stays none = none-stands side s
-  chunks-stand side (chunk ∷ chunks) s stays none =
+  pub chunks-stand : (cells : Cells C) (side : Side) (chunks : List (List C)) (s : State C) → is_closed s.master.opened ≡ false → NoModules s → chunks_sent cells side chunks s ≡ write_effect side chunks s
+  chunks-stand cells side [] s stays none = none-stands side s
+  chunks-stand cells side (chunk ∷ chunks) s stays none =
       let m = data_message chunk in
       let full = is_full 0 (stream side s).driver.queue in
-      ap (λ (b : Bool). went b (length chunk) s (delivered (below_head side) m s) (chunks_sent side chunks (delivered (below_head side) m s).state)) (below-alone side s none)
-      ∙ ap (λ (t : Carried C (State C)). went full (length chunk) s t (chunks_sent side chunks t.state)) (put-delivered side m s (data-parts chunk) stays none)
-      ∙ ap (λ (more : Wrote C). went full (length chunk) s (put_effect side m s) more) (chunks-stand side chunks (put_effect side m s).state (still-open side chunk s stays) (still-none side chunk s none))
+      ap (λ (b : Bool). went b (length chunk) s (delivered cells (below_head side) m s) (chunks_sent cells side chunks (delivered cells (below_head side) m s).state)) (below-alone side s none)
+      ∙ ap (λ (t : Carried C (State C)). went full (length chunk) s t (chunks_sent cells side chunks t.state)) (put-delivered cells side m s (data-parts chunk) stays none)
+      ∙ ap (λ (more : Wrote C). went full (length chunk) s (put_effect side m s) more) (chunks-stand cells side chunks (put_effect side m s).state (still-open side chunk s stays) (still-none side chunk s none))
       ∙ step-stands side full chunk chunks s

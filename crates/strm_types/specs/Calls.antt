@@ -1,5 +1,5 @@
 -- The calls on a pair: what each one does where nothing refuses it.
-use Rattle.std.specs.Prelude.{ℕ, suc, ◌+◌, false, not, min, if◌then◌else◌, List, [], ◌++◌, length, Option, None, Some, option_map}
+use Rattle.std.specs.Prelude.{ℕ, suc, ◌+◌, Bool, true, false, not, min, if◌then◌else◌, List, [], ◌++◌, length, Option, None, Some, option_map}
 use denote.Ref.{Bor}
 use Rattle.strm_types.specs.declared.limits.TheConstants.{READ_MAX}
 use Rattle.strm_types.specs.declared.answers.Answer.{Answer}
@@ -107,6 +107,14 @@ pub record Outcome (C : Type 0) : Type 0 where
 abbrev pub map_outcome : {C D : Type 0} → (C → D) → Outcome C → Outcome D
 map_outcome f outcome = record { answer = outcome.answer; state = map_state f outcome.state }
 
+-- whether a call delivers messages, which modules may make more of
+abbrev pub delivers : Request → Bool
+delivers (Write bytes) = true
+delivers (Put prio control body) = true
+delivers (Flush what band) = true
+delivers (Ioctl command body) = true
+delivers _ = false
+
 module _ {C : Type 0} where
   -- a call that has nothing to tell
   abbrev pub done : State C → Outcome C
@@ -127,14 +135,14 @@ module _ {C : Type 0} where
   abbrev pub write_sent : Cells C → Side → List ℕ → State C → Wrote C
   write_sent cells side bytes s =
       let dir = direction_from side in
-      cells_sent side (cells_written cells dir (book dir s).written bytes) s
+      cells_sent cells side (cells_written cells dir (book dir s).written bytes) s
 
   -- a write of these bytes: those that go down are booked as written
   abbrev pub wrote : Cells C → Side → List ℕ → State C → Outcome C
   wrote cells side bytes s =
       let dir = direction_from side in
       let t = write_sent cells side bytes s in
-      record { answer = Count t.taken; state = with_book dir (with_written t.taken (book dir s)) t.state }
+      record { answer = Count t.taken; state = with_book dir (with_written t.taken (book dir t.state)) t.state }
 
   -- a read of up to n bytes on a side's stream, in the modes of its head
   abbrev pub read_at : Cells C → Side → ℕ → State C → Outcome C
@@ -177,8 +185,8 @@ module _ {C : Type 0} where
   put_at cells side prio control body s =
       if no_parts control body then record { state = s; gone = [] }
       else (let dir = direction_from side in
-      let t = delivered (record { side = side; at = 1; way = Down }) (message_put cells side prio control body s) s in
-      record { state = with_book dir (with_written (length (part control) + length (part body)) (book dir s)) t.state; gone = t.gone })
+      let t = delivered cells (record { side = side; at = 1; way = Down }) (message_put cells side prio control body s) s in
+      record { state = with_book dir (with_written (length (part control) + length (part body)) (book dir t.state)) t.state; gone = t.gone })
 
   -- a mode of a side's head is set
   abbrev pub mode_set : Side → modes.Mode → State C → State C
@@ -193,9 +201,9 @@ module _ {C : Type 0} where
   ioctl_begun side command s = record (with_ioctl side (Waiting s.next_ioctl command) s) { next_ioctl = suc s.next_ioctl }
 
   -- its M_IOCTL goes down from the head
-  abbrev pub ioctl_sent : Side → ℕ → List ℕ → State C → Carried C (State C)
-  ioctl_sent side command body s =
-      delivered (record { side = side; at = 1; way = Down }) (ioctl_message (asking command s.next_ioctl) body) (ioctl_begun side command s)
+  abbrev pub ioctl_sent : Cells C → Side → ℕ → List ℕ → State C → Carried C (State C)
+  ioctl_sent cells side command body s =
+      delivered cells (record { side = side; at = 1; way = Down }) (ioctl_message (asking command s.next_ioctl) body) (ioctl_begun side command s)
 
   -- the caller is told what became of the ioctl under way
   abbrev pub ioctl_told : Side → State C → Outcome C
@@ -219,13 +227,13 @@ module _ {C : Type 0} where
   called cells caller (Push name) s = done (pushed_named caller.side (named_by name) s).state
   called cells caller Pop s = done (popped caller.side s).state
   called cells caller Look s = looked caller.side s
-  called cells caller (Flush what band) s = done (flushed_on band caller.side what s).state
+  called cells caller (Flush what band) s = done (flushed_on cells band caller.side what s).state
   called cells caller (Write bytes) s = wrote cells caller.side bytes s
   called cells caller (Read n) s = read_at cells caller.side n s
   called cells caller (Put prio control body) s = done (put_at cells caller.side prio control body s).state
   called cells caller (Get wanted cmax dmax) s = get_at cells caller.side wanted cmax dmax s
   called cells caller (Mode mode) s = done (mode_set caller.side mode s)
   called cells caller Nread s = sizes_at caller.side s
-  called cells caller (Ioctl command body) s = ioctl_told caller.side (ioctl_sent caller.side command body s).state
+  called cells caller (Ioctl command body) s = ioctl_told caller.side (ioctl_sent cells caller.side command body s).state
   called cells caller (IoctlResult number) s = ioctl_told caller.side s
   called cells caller events.Signals s = signals_told caller.side s

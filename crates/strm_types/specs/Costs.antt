@@ -1,15 +1,17 @@
 -- How many blocks of each kind a delivery takes at most: a driver makes two messages at most of an M_FLUSH, and one of what
 -- was sent across; a head makes one of an M_FLUSH that goes down again, or of an M_IOCTL. A message with parts that goes down
 -- behind the head takes none: it stands on a queue as it is, or goes on as it is (putq(9F), putnext(9F)). What modules make of an
--- M_IOCTL and of an M_IOCACK comes to it (ptem(7M), ldterm(7M)).
-use Rattle.std.specs.Prelude.{ℕ, suc, ◌+◌, ◌-◌, ◌*◌, min, Bool, ◌&&◌, ◌||◌, ◌==◌, if◌then◌else◌}
+-- M_IOCTL and of an M_IOCACK comes to it (ptem(7M), ldterm(7M)). What packets take comes to it where they are made (StackCosts).
+use Rattle.std.specs.Prelude.{ℕ, suc, ◌+◌, ◌-◌, ◌*◌, min, Bool, ◌&&◌, ◌||◌, ◌==◌, if◌then◌else◌, List, [], ◌∷◌}
 use Rattle.strm_types.specs.declared.kinds.MsgKind.{MsgKind}
 use Rattle.strm_types.specs.declared.kinds.MsgKind.TheVariants.{Ioctl, Iocack}
 use Rattle.strm_types.specs.declared.limits.TheConstants.{MODULES}
 use Rattle.strm_types.specs.declared.names.Way.{Way}
 use Rattle.strm_types.specs.declared.names.Way.TheVariants.{Up, Down}
 use Rattle.strm_types.specs.declared.spots.Spot.{Spot}
+use Rattle.strm_types.specs.Deliver.{Parcel}
 use Rattle.strm_types.specs.Message.{Message, has_parts}
+use Rattle.strm_types.specs.Pckts.{is_flush_passed, is_packed}
 use Rattle.strm_types.specs.Puts.{is_bare_flush, is_turned}
 
 -- with all that a message gives rise to, behind the head: what comes up may be turned round at the head, and then reaches a
@@ -56,3 +58,19 @@ abbrev pub takes : {C : Type 0} → Spot → Message C → ℕ
 takes here m =
     if here.at == 0 then head_takes m
     else below_takes here.way (has_parts m) (is_across here m)
+
+-- what pckt takes itself of what comes up: one block for a packet, and one more for what is passed of an M_FLUSH
+abbrev pub packet_blocks : MsgKind → List ℕ → ℕ
+packet_blocks kind bytes = if is_packed kind then (if is_flush_passed kind bytes then 2 else 1) else 0
+
+abbrev pub pckt_takes_on : Way → MsgKind → List ℕ → ℕ
+pckt_takes_on Down kind bytes = 0
+pckt_takes_on Up kind bytes = packet_blocks kind bytes
+
+abbrev pub pckt_takes : {C : Type 0} → Spot → Message C → ℕ
+pckt_takes here m = pckt_takes_on here.way m.kind m.plain
+
+-- how many blocks of each kind messages on their way take at most, by what each takes
+unfoldable pub cost_of : {C : Type 0} → (Spot → Message C → ℕ) → List (Parcel C) → ℕ
+cost_of cost [] = 0
+cost_of cost (p ∷ ps) = cost p.to p.message + cost_of cost ps

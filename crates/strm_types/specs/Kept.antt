@@ -89,8 +89,8 @@ module _ {C : Type 0} where
       get_gone (direction_of (head_of caller.side)) wanted (min cmax READ_MAX) (min dmax READ_MAX) (stream caller.side s).head.queue.messages
   gone cells s (Called caller (Write bytes) answer) = (write_sent cells caller.side bytes s).gone
   gone cells s (Called caller (Put prio control body) answer) = (put_at cells caller.side prio control body s).gone
-  gone cells s (Called caller (Ioctl command body) answer) = (ioctl_sent caller.side command body s).gone
-  gone cells s (Called caller (Flush what band) answer) = (flushed_on band caller.side what s).gone
+  gone cells s (Called caller (Ioctl command body) answer) = (ioctl_sent cells caller.side command body s).gone
+  gone cells s (Called caller (Flush what band) answer) = (flushed_on cells band caller.side what s).gone
   gone cells s (Called caller Shut answer) = (closed_at caller.side s).gone
   gone cells s (Called caller (Push name) answer) = (pushed_named caller.side (named_by name) s).gone
   gone cells s (Called caller Pop answer) = (popped caller.side s).gone

@@ -1,6 +1,6 @@
 -- The ledger of a direction: how many bytes were written and made there, how many stand on its queues and in its unfinished lines, and how
 -- many have gone by each rule; and in how many places a single byte is (STREAMS Programming Guide, "Message Queues"; termio(7I)).
-use Rattle.std.specs.Prelude.{ℕ, ◌+◌, ◌<◌, ◌^◌, ◌==◌, nat_lt, Bool, true, false, ◌&&◌, if◌then◌else◌, List, [], ◌∷◌, ◌++◌, length, sum_by}
+use Rattle.std.specs.Prelude.{ℕ, ◌+◌, ◌<◌, ◌^◌, ◌==◌, nat_lt, Bool, true, false, ◌&&◌, List, [], ◌∷◌, ◌++◌, length, sum_by}
 use Rattle.strm_types.specs.declared.ledger.Ledger.{Ledger}
 use Rattle.strm_types.specs.declared.names.Dir.{Dir}
 use Rattle.strm_types.specs.declared.names.Dir.TheVariants.{MasterToSlave, SlaveToMaster}

@@ -33,6 +33,8 @@ pub mod Dropped
 pub mod Heads
 pub mod Puts
 pub mod Costs
+pub mod Spares
+pub mod StackCosts
 pub mod FlushEffect
 pub mod PutEffect
 pub mod Calls
@@ -70,6 +72,7 @@ pub mod Past
 pub mod Winsizes
 pub mod Acks
 pub mod Ptems
+pub mod Pckts
 pub mod Output
 pub mod OutputTurns
 pub mod LdtermServes

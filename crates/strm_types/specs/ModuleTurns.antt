@@ -1,6 +1,6 @@
 -- Turns of the queues of modules (STREAMS Programming Guide, "Service Procedures", "Flow Control"; srv(9E), canputnext(9F),
 -- bcanput(9F), putbq(9F)). Places count from the head's, 0, over the modules from the top, to the driver's.
-use Rattle.std.specs.Prelude.{ℕ, ◌≡◌, zero, suc, ◌+◌, ◌-◌, ◌*◌, ◌==◌, min, Bool, true, false, not, if◌then◌else◌, List, [], ◌∷◌, ◌++◌, length, take, slice_index_or, Option, None, Some}
+use Rattle.std.specs.Prelude.{ℕ, zero, suc, ◌+◌, ◌-◌, ◌*◌, ◌==◌, min, Bool, true, false, not, if◌then◌else◌, List, [], ◌∷◌, ◌++◌, take, Option, None, Some}
 use Rattle.strm_types.specs.declared.answers.Turn.{Turn}
 use Rattle.strm_types.specs.declared.answers.Turn.TheVariants.{Moved, Blocked, Idle}
 use Rattle.strm_types.specs.declared.limits.TheConstants.{MODULES, HOPS}
@@ -12,17 +12,16 @@ use Rattle.strm_types.specs.declared.names.Way.TheVariants.{Down}
 use Rattle.strm_types.specs.declared.spots.Asks.{Asks}
 use Rattle.strm_types.specs.declared.spots.Asks.TheVariants as asked
 use Rattle.strm_types.specs.declared.spots.Spot.{Spot}
-use Rattle.strm_types.specs.Books.{with_made}
 use Rattle.strm_types.specs.Cells.{Cells}
-use Rattle.strm_types.specs.Deliver.{Acted, Fate, Goes, Comes, Took, carried, in_turn}
+use Rattle.strm_types.specs.Deliver.{Acted, Fate, Took, carried, in_turn}
 use Rattle.strm_types.specs.Earlier.{places_of}
 use Rattle.strm_types.specs.ModuleQueues.{at_place, messages_at, queue_changed}
 use Rattle.strm_types.specs.Modules.{act_among, change_among}
 use Rattle.strm_types.specs.Names.{direction_at, enable_if, enable_some, same_place}
-use Rattle.strm_types.specs.Puts.{earlier_at, noted, put_in}
+use Rattle.strm_types.specs.Puts.{earlier_at, module_acted, put_in}
 use Rattle.strm_types.specs.Service.{end_relieves, has_more, turn_ended}
 use Rattle.strm_types.specs.Stacked.{Module, module_asks, module_queue, module_rests, module_serves, with_module_queue}
-use Rattle.strm_types.specs.State.{State, Stream, book, stream, with_book, with_stream}
+use Rattle.strm_types.specs.State.{State, Stream, book, stream, with_stream}
 use Rattle.strm_types.specs.TurnOutcomes.{TurnOutcome, first_size, stayed_put}
 use Rattle.strm_types.specs.Past.{has_room_past, writer_waits}
 
@@ -74,27 +73,9 @@ module _ {C : Type 0} where
             (enable_some (at_place (end_relieves module_queue took here.way) false here.at on.modules) (earlier_at here.side here.at s here.way) s.enabled);
       }
 
-  -- the books with cells that are told as made
-  abbrev pub booked : List (Fate C) → State C → State C
-  booked [] s = s
-  booked (Goes dir rule cells ∷ told) s = booked told s
-  booked (Comes dir cells ∷ told) s = booked told (with_book dir (with_made (length cells) (book dir s)) s)
-
   -- how many cells were made so far in the direction of what a side's stream carries down
   abbrev pub made_below : Side → State C → ℕ
   made_below side s = (book (direction_at Down side) s).made
-
-  -- a module that has served a call: its queues are noted as enabled or with room, and what was made is booked
-  abbrev pub module_acted : Spot → Acted C (List (Module C)) → State C → Took C (State C)
-  module_acted here t s =
-      let on = stream here.side s in
-      record {
-        state = booked t.gone (record (with_stream here.side (record on { modules = t.state }) s) {
-          enabled = noted here.side (slice_index_or (places_of on.modules) (here.at - 1) None) (earlier_at here.side here.at s) t.notes s.enabled;
-        });
-        sent = t.sent;
-        gone = t.gone;
-      }
 
   module _ (cells : Cells C) (here : Spot) where
     -- One call of the service procedure of the module at a place, which goes as far as so many bytes: what it does, how many bytes
@@ -119,7 +100,7 @@ module _ {C : Type 0} where
         let ps = (stream here.side s).modules in
         let made = made_below here.side s in
         let t = module_called again left s in
-        let u = in_turn (carried put_in HOPS) t.sent t.state in
+        let u = in_turn (carried (put_in cells) HOPS) t.sent t.state in
         let bytes = bytes_at made again left ps in
         let v = calls more true (left - bytes) u.state in
         if again_at made again left ps
@@ -170,13 +151,3 @@ module _ {C : Type 0} where
       by : Option ℕ → Turn
       by None = Idle
       by (Some at) = Moved (at_place (λ p. first_size (messages_at module_queue way p)) 0 at on.modules)
-
--- Two states with the same ends: which sides are open, the lock, the number of the next ioctl, and what was written. Cells may have been
--- made.
-pub record SameButMade {C : Type 0} (s t : State C) : Type 0 where
-  pub master : t.master.opened ≡ s.master.opened
-  pub slave : t.slave.opened ≡ s.slave.opened
-  pub locked : t.locked ≡ s.locked
-  pub next_ioctl : t.next_ioctl ≡ s.next_ioctl
-  pub from_master : t.from_master.written ≡ s.from_master.written
-  pub from_slave : t.from_slave.written ≡ s.from_slave.written

@@ -23,11 +23,12 @@ use Rattle.strm_types.specs.ModuleQueues.{has_queue, messages_at}
 use Rattle.strm_types.specs.Modules.{may_push, top_name, without_module}
 use Rattle.strm_types.specs.Names.{enable_if, place_of, same_place}
 use Rattle.strm_types.specs.Options.{mode_message}
+use Rattle.strm_types.specs.Pckts.{new_pckt}
 use Rattle.strm_types.specs.Ptems.{new_ptem}
-use Rattle.strm_types.specs.Puts.{delivered, earlier_at, noted}
+use Rattle.strm_types.specs.Puts.{earlier_at, noted, put_at_head}
 use Rattle.strm_types.specs.Queue.{is_none_left}
 use Rattle.strm_types.specs.Service.{cleared}
-use Rattle.strm_types.specs.Stacked.{Module, OfLdterm, OfPtem, module_line, module_name, module_queue, with_module_queue, without_module_line}
+use Rattle.strm_types.specs.Stacked.{Module, OfLdterm, OfPtem, OfPckt, module_line, module_name, module_queue, with_module_queue, without_module_line}
 use Rattle.strm_types.specs.State.{State, Stream, stream, with_ioctl, with_stream}
 
 -- the read mode that a head is given where a module is pushed below it, and where one is taken off: ldterm makes lines
@@ -56,15 +57,15 @@ is_there place None = false
 is_there place (Some there) = same_place there place
 
 module _ {C : Type 0} where
-  -- the module that a name makes, as it is pushed; so far pckt isn't built
-  abbrev pub module_named : ModuleName → Option (Module C)
-  module_named names.Ldterm = Some (OfLdterm new_ldterm)
-  module_named names.Ptem = Some (OfPtem new_ptem)
-  module_named names.Pckt = None
+  -- the module that a name makes, as it is pushed
+  abbrev pub module_named : ModuleName → Module C
+  module_named names.Ldterm = OfLdterm new_ldterm
+  module_named names.Ptem = OfPtem new_ptem
+  module_named names.Pckt = OfPckt new_pckt
 
   abbrev pub named_by : Option ModuleName → Option (Module C)
   named_by None = None
-  named_by (Some name) = module_named name
+  named_by (Some name) = Some (module_named name)
 
   -- a module may be pushed on these: there is room, and none of its name stands there
   abbrev pub may_stand : Option (Module C) → List (Module C) → Bool
@@ -74,7 +75,9 @@ module _ {C : Type 0} where
   -- a side's head is told its read mode, where there is one to tell
   abbrev pub mode_put : Side → Option ReadMode → State C → Carried C (State C)
   mode_put side None s = record { state = s; gone = [] }
-  mode_put side (Some mode) s = delivered (head_above side) (mode_message mode) s
+  mode_put side (Some mode) s =
+      let t = put_at_head side (head_above side) (mode_message mode) s in
+      record { state = t.state; gone = t.gone }
 
   abbrev pub with_modules : Side → List (Module C) → State C → State C
   with_modules side ps s = with_stream side (record (stream side s) { modules = ps }) s

@@ -12,7 +12,6 @@ use Rattle.strm_types.specs.declared.modes.Wanted.TheVariants.{Any, High, Band}
 use Rattle.strm_types.specs.declared.names.Side.{Side}
 use Rattle.strm_types.specs.declared.names.Side.TheVariants.{Master, Slave}
 use Rattle.strm_types.specs.declared.names.ModuleName.{ModuleName}
-use Rattle.strm_types.specs.declared.names.ModuleName.TheVariants as names
 use Rattle.strm_types.specs.declared.names.Place.{Place}
 use Rattle.strm_types.specs.declared.names.Place.TheVariants as places
 use Rattle.std.specs.List.{list_any}
@@ -93,9 +92,7 @@ has_room entries limits bytes =
 -- the name of a module that may be pushed: so far pckt isn't built
 abbrev pub is_known : Option ModuleName → Bool
 is_known None = false
-is_known (Some names.Ldterm) = true
-is_known (Some names.Ptem) = true
-is_known (Some names.Pckt) = false
+is_known (Some name) = true
 
 -- a band, where one is named, is one of those that queues have
 abbrev pub is_a_band : Option bands.Band → Bool

@@ -11,10 +11,9 @@ use Rattle.strm_types.specs.Deliver.{Acted, Carried, carried, in_turn}
 use Rattle.strm_types.specs.Input.{stages_done, to_treat}
 use Rattle.strm_types.specs.Ldterms.{IsIdle, Ldterm, Stage, Answered, new_ldterm, queue_at}
 use Rattle.strm_types.specs.ModuleQueues.{at_place}
-use Rattle.strm_types.specs.ModuleTurns.{module_acted}
 use Rattle.strm_types.specs.Modules.{act_among}
-use Rattle.strm_types.specs.Puts.{put_in}
-use Rattle.strm_types.specs.Stacked.{Module, OfLdterm, OfPtem, module_serves}
+use Rattle.strm_types.specs.Puts.{module_acted, put_in}
+use Rattle.strm_types.specs.Stacked.{Module, OfLdterm, OfPtem, OfPckt, module_serves}
 use Rattle.strm_types.specs.State.{State, stream}
 use Rattle.strm_types.specs.TurnOutcomes.{first_size}
 
@@ -22,6 +21,7 @@ use Rattle.strm_types.specs.TurnOutcomes.{first_size}
 abbrev pub ldterm_of : Module ℕ → Ldterm ℕ
 ldterm_of (OfLdterm l) = l
 ldterm_of (OfPtem p) = new_ldterm
+ldterm_of (OfPckt p) = new_ldterm
 
 -- how many bytes a call may treat at most: those of the first message of its queue, or what is left of the one in work
 abbrev pub bytes_left : Way → Bool → Ldterm ℕ → ℕ
@@ -76,7 +76,7 @@ module _ (here : Spot) where
     abbrev pub led : State ℕ → Carried ℕ (State ℕ)
     led s =
         let t = module_acted here (called (stream here.side s).modules) s in
-        let u = in_turn (carried put_in HOPS) t.sent t.state in
+        let u = in_turn (carried (put_in plain) HOPS) t.sent t.state in
         record { state = u.state; gone = t.gone ++ u.gone }
 
   -- Where a call stops, it did so at what it treated, and what had begun is among that.

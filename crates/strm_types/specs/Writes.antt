@@ -4,6 +4,7 @@ use Rattle.std.specs.Prelude.{ℕ, ◌+◌, if◌then◌else◌, List, [], ◌�
 use Rattle.strm_types.specs.declared.names.Side.{Side}
 use Rattle.strm_types.specs.declared.names.Way.TheVariants.{Down}
 use Rattle.strm_types.specs.declared.spots.Spot.{Spot}
+use Rattle.strm_types.specs.Cells.{Cells}
 use Rattle.strm_types.specs.Deliver.{Fate}
 use Rattle.strm_types.specs.Message.{data_message}
 use Rattle.strm_types.specs.Origins.{map_fate}
@@ -28,17 +29,17 @@ module _ {C : Type 0} where
   is_full_below band side s = not (has_room_past side Down 0 band s)
 
   -- Each chunk in turn goes down as an ordinary message, while band 0 of the first queue below isn't full.
-  abbrev pub chunks_sent : Side → List (List C) → State C → Wrote C
-  chunks_sent side [] s = record { taken = 0; state = s; gone = [] }
-  chunks_sent side (chunk ∷ chunks) s =
+  abbrev pub chunks_sent : Cells C → Side → List (List C) → State C → Wrote C
+  chunks_sent cells side [] s = record { taken = 0; state = s; gone = [] }
+  chunks_sent cells side (chunk ∷ chunks) s =
       if is_full_below 0 side s then record { taken = 0; state = s; gone = [] }
-      else (let t = delivered (below_head side) (data_message chunk) s in
-      let more = chunks_sent side chunks t.state in
+      else (let t = delivered cells (below_head side) (data_message chunk) s in
+      let more = chunks_sent cells side chunks t.state in
       record { taken = length chunk + more.taken; state = more.state; gone = t.gone ++ more.gone })
 
   -- a write of these cells
-  abbrev pub cells_sent : Side → List C → State C → Wrote C
-  cells_sent side cells s = chunks_sent side (chunks_of (chunk_count (length cells)) cells) s
+  abbrev pub cells_sent : Cells C → Side → List C → State C → Wrote C
+  cells_sent cells side xs s = chunks_sent cells side (chunks_of (chunk_count (length xs)) xs) s
 
 -- the same of other cells
 abbrev pub map_wrote : {C D : Type 0} → (C → D) → Wrote C → Wrote D

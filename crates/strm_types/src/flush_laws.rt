@@ -5,6 +5,7 @@ ghost use Rattle.std.specs.Prelude.{◌≡◌, true, Option};
 ghost use Rattle.strm_types.specs.declared.events.FlushQueues.{FlushQueues};
 ghost use Rattle.strm_types.specs.declared.kinds.Band.{Band};
 ghost use Rattle.strm_types.specs.declared.names.Side.{Side};
+ghost use Rattle.strm_types.specs.Cells.{Cells};
 ghost use Rattle.strm_types.specs.Earlier.{NoModules};
 ghost use Rattle.strm_types.specs.Emptied.{of_data};
 ghost use Rattle.strm_types.specs.FlushEffect.{flush_effect};
@@ -18,6 +19,6 @@ ghost use Rattle.strm_types.specs.State.{State};
 /// With both, FLUSHW comes first. What goes is data (flushq(9F): FLUSHDATA), and with FLUSHBAND that of its band alone
 /// (flushband(9F)), which has to be one that queues have.
 pub fn flush_takes_from_heads_and_drivers<C>()
-    ensures { (band : Option Band) (side : Side) (what : FlushQueues) (s : State C) → is_a_band band ≡ true → NoModules s →
-        flushed_on band side what s ≡ flush_effect (of_data band) side what s }
+    ensures { (cells : Cells C) (band : Option Band) (side : Side) (what : FlushQueues) (s : State C) → is_a_band band ≡ true → NoModules s →
+        flushed_on cells band side what s ≡ flush_effect (of_data band) side what s }
 {}

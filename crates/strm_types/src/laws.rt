@@ -17,7 +17,7 @@ ghost use Rattle.strm_types.specs.State.{State, map_state, opening};
 ghost use Rattle.strm_types.specs.Kept.{AreIdle, MayTest, NothingUnread, state_weight, came, gone, count_came};
 ghost use Rattle.strm_types.specs.Cells.{Cells, AreCells, plain};
 ghost use Rattle.strm_types.specs.Calls.{Request, Reply, called, map_outcome, map_event, map_answer, payload_of, content_of};
-ghost use Rattle.strm_types.specs.ModuleTurns.{SameButMade};
+ghost use Rattle.strm_types.specs.Puts.{SameButMade};
 ghost use Rattle.strm_types.specs.TurnOutcomes.{map_turn_outcome};
 ghost use Rattle.strm_types.specs.Turns.{turned};
 ghost use Rattle.strm_types.specs.declared.spots.Spot.{Spot};

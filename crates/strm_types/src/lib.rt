@@ -1,7 +1,7 @@
 //! What every crate of the stack speaks of: sides, queues, kinds of message, the calls on a pair with their
 //! answers and refusals, and the entries of a pair's journal. `specs/` holds the definitions that every contract
-//! cites, one file for each subject; `laws`, `head_laws`, `put_laws`, `line_laws`, `ptem_laws` and `output_laws` hold what follows
-//! from them, each law the contract of a function.
+//! cites, one file for each subject; `laws`, `head_laws`, `put_laws`, `line_laws`, `ptem_laws`, `pckt_laws` and `output_laws` hold what
+//! follows from them, each law the contract of a function.
 #![tactic(auto)]
 
 mod answers;
@@ -24,6 +24,7 @@ mod names;
 mod options;
 mod output;
 pub mod output_laws;
+pub mod pckt_laws;
 pub mod ptem_laws;
 pub mod put_laws;
 mod refusals;

@@ -25,7 +25,9 @@ impl<B: Blocks> Stations<B> for Counter {
 
     ghost height = { upward };
 
-    ghost cost = { nothing };
+    ghost cost = { λ p. nothing };
+
+    ghost spare = { λ p. 0 };
 
     fn put_at(
         &mut self,
@@ -51,4 +53,6 @@ impl<B: Blocks> Stations<B> for Counter {
     }
 
     ghost frame = { λ s t x same held. (refl, held) };
+
+    ghost cost_stays = { λ to m p. refl };
 }

@@ -200,7 +200,7 @@ impl Rig {
 }
 
 impl<B: Blocks> Stations<B> for Rig {
-    ghost use Rattle.std.specs.Prelude.{List, map, length};
+    ghost use Rattle.std.specs.Prelude.{List, map, length, refl};
     ghost use Rattle.strm_frame.specs.Hands.{once};
     ghost use Rattle.strm_frame.specs.Stacks.{all_of};
     ghost use Rattle.strm_frame.specs.Toys.{far, nothing};
@@ -219,7 +219,9 @@ impl<B: Blocks> Stations<B> for Rig {
 
     ghost height = { far };
 
-    ghost cost = { nothing };
+    ghost cost = { λ p. nothing };
+
+    ghost spare = { λ p. 0 };
 
     fn put_at(
         &mut self,
@@ -240,4 +242,6 @@ impl<B: Blocks> Stations<B> for Rig {
     }
 
     ghost frame = { λ s t x same held. rig-frame (λ y. y.name) (λ y. y.queue) s t x.modules.modules.items same held };
+
+    ghost cost_stays = { λ to m p. refl };
 }

@@ -90,6 +90,10 @@ impl<B: Blocks> Module<B> for Stock {
 
     ghost height = { far };
 
+    ghost takes = { λ here m p. 0 };
+
+    ghost leaves = { λ here m p. 0 };
+
     ghost cost = { nothing };
 
     fn name(&self) -> ModuleName {

@@ -81,6 +81,10 @@ impl<B: Blocks> Module<B> for Turner {
 
     ghost height = { far };
 
+    ghost takes = { λ here m p. 0 };
+
+    ghost leaves = { λ here m p. 0 };
+
     ghost cost = { nothing };
 
     fn name(&self) -> ModuleName {

@@ -1,4 +1,4 @@
-//! A long walk of random calls and turns on a pair with a terminal's modules. Behind each, the ledgers are compared with a plain recount: of
+//! A long walk of random calls and turns on a pair with all three modules. Behind each, the ledgers are compared with a plain recount: of
 //! what calls were answered, and of what stands on the queues. No ioctl is among them: the bytes of an M_IOCTL are none of a direction, but
 //! count in the sizes of a queue.
 
@@ -84,10 +84,10 @@ fn side_of(x: u64) -> Side {
 }
 
 fn name_of(x: u64) -> ModuleName {
-    if (x >> 45) % 4 == 0 {
-        ModuleName::Ptem
-    } else {
-        ModuleName::Ldterm
+    match (x >> 45) % 6 {
+        0 => ModuleName::Ptem,
+        1 => ModuleName::Pckt,
+        _ => ModuleName::Ldterm,
     }
 }
 

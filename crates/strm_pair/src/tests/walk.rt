@@ -134,11 +134,10 @@ fn band_of(x: u64, fills: bool) -> Option<Band> {
     }
 }
 
-// A ptem, a module that isn't known, or a name that none has: no other module stands on the model's streams.
+// A ptem, or a name that none has: no other module stands on the model's streams.
 fn name_of(x: u64) -> Option<ModuleName> {
     match (x >> 45) % 4 {
-        0..=1 => Some(ModuleName::Ptem),
-        2 => Some(ModuleName::Pckt),
+        0..=2 => Some(ModuleName::Ptem),
         _ => None,
     }
 }

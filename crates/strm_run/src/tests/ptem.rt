@@ -200,8 +200,6 @@ push s ptem
   ok
 push s ldterm
   err EINVAL
-push s pckt
-  err EINVAL
 look s
   name ptem
 write m "ab"

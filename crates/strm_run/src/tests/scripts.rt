@@ -490,7 +490,7 @@ read s 5
 "#,
     ),
     (
-        "No module is pushed whose name isn't known, or not yet built",
+        "No module is pushed whose name isn't known",
         WELL,
         r#"open
   ok
@@ -503,8 +503,6 @@ look s
 pop s
   err EINVAL
 push s foo
-  err EINVAL
-push s pckt
   err EINVAL
 "#,
     ),

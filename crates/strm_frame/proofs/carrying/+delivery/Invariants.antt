@@ -1,7 +1,8 @@
 use Rattle.std.proofs.Common.{◌≡◌, ◌+◌, ◌*◌, length}
 use Rattle.strm_types.specs.Deliver.{in_turn, carried, tallied, AreLower}
-use Rattle.strm_frame.specs.Hands.{Handles, SamePool, Spends}
-use Rattle.strm_frame.specs.Outboxes.{sent_of, times_sent, parcels_in, AreChains, cost_of}
+use Rattle.strm_frame.specs.Hands.{Handles, SamePool, Takes}
+use Rattle.strm_types.specs.Costs.{cost_of}
+use Rattle.strm_frame.specs.Outboxes.{sent_of, times_sent, parcels_in, AreChains}
 use Rattle.strm_frame.proofs.carrying.+delivery.Given as goal
 
 abbrev pub decreases-deliver : goal.decreases-deliver
@@ -17,6 +18,7 @@ invariant-deliver_all-loop-next g l =
     let w = g.S.Stations in
     let rest = in_turn (carried w.puts l.hops) (parcels_in name (value l.store) (sent_of l.left)) (w.plain (value l.store) l.stations) in
     let all = in_turn (carried w.puts l.fn.hops) (parcels_in name (value l.fn.store) (sent_of l.fn.sent)) (w.plain (value l.fn.store) l.fn.stations) in
+    let first = w.cost (w.plain (value l.fn.store) l.fn.stations) in
     record {
       state : rest.state ≡ all.state;
       told : tallied rest.gone l.told ≡ tallied all.gone l.fn.told;
@@ -24,7 +26,9 @@ invariant-deliver_all-loop-next g l =
       chains : AreChains name (value l.store) (sent_of l.left);
       lower : AreLower w.height l.hops (parcels_in name (value l.store) (sent_of l.left));
       hands : Handles (value l.fn.store) (value l.store) (λ i. times_sent name i (sent_of l.fn.sent)) (w.keeps l.fn.stations) (w.keeps l.stations) (λ i. times_sent name i (sent_of l.left));
-      spends : Spends (value l.fn.store) (value l.store) (cost_of w.cost (parcels_in name (value l.fn.store) (sent_of l.fn.sent))) (cost_of w.cost (parcels_in name (value l.store) (sent_of l.left)));
+      costs : w.cost (w.plain (value l.store) l.stations) ≡ first;
+      takes : Takes (value l.fn.store) (value l.store) (w.spare (w.plain (value l.fn.store) l.fn.stations)) (w.spare (w.plain (value l.store) l.stations))
+          (cost_of first (parcels_in name (value l.fn.store) (sent_of l.fn.sent))) (cost_of first (parcels_in name (value l.store) (sent_of l.left)));
       pool : SamePool (value l.fn.store) (value l.store);
     }
 

@@ -1,10 +1,11 @@
 -- One module changes, and the others stand for the same.
-use Rattle.std.proofs.Common.{get_or, map, refl, sym, ap, ◌∙◌}
+use Rattle.std.proofs.Common.{ℕ, get_or, map, refl, sym, ap, subst, ◌∙◌}
+use Rattle.std.specs.Prelude.{slice_index_or}
 use Rattle.std.proofs.Math.ListN.{set}
 use Rattle.strm_types.specs.Deliver.{tallied}
-use Rattle.strm_frame.specs.Hands.{once}
+use Rattle.strm_frame.specs.Hands.{once, HasRoom, Spends}
 use Rattle.strm_frame.specs.Outboxes.{message_in, sent_of, times_sent}
-use Rattle.strm_frame.proofs.Beside.{act-state, act-sent, act-notes, act-gone, row-plain, row-held, own-all}
+use Rattle.strm_frame.proofs.Beside.{act-state, act-sent, act-notes, act-gone, row-plain, row-held, own-all, said-of}
 use Rattle.strm_frame.proofs.stack.put_among.Goals as goal
 
 pub returns-clause-state : goal.returns-clause-state
@@ -55,3 +56,24 @@ returns-clause-held g c =
 pub returns-clause-own : goal.returns-clause-own
 returns-clause-own g c =
     own-all g.M.Module.owns (g.B.Blocks.value c.args.store.now) (g.B.Blocks.value c.put.new.store) c.args.modules.now c.args.at (get_or c.args.modules.now c.args.at c.index-modules-at.result) c.index-modules-at.result c.put.new.self c.requires.within refl c.put.ensures.own
+
+pub put-requires-clause-room : goal.put-requires-clause-room
+put-requires-clause-room g c =
+    let s = g.B.Blocks.value c.args.store.now in
+    let w = g.M.Module in
+    let d = c.index-modules-at.result in
+    let xs = c.args.modules.now in
+    subst (HasRoom s) (said-of (w.plain s) (w.takes c.args.to (message_in s (g.B.Blocks.name c.args.message))) xs c.args.at (get_or xs c.args.at d) d 0 c.requires.within refl) c.requires.room
+
+pub returns-clause-spends : goal.returns-clause-spends
+returns-clause-spends g c =
+    let s = g.B.Blocks.value c.args.store.now in
+    let t = g.B.Blocks.value c.put.new.store in
+    let m = message_in s (g.B.Blocks.name c.args.message) in
+    let w = g.M.Module in
+    let d = c.index-modules-at.result in
+    let xs = c.args.modules.now in
+    let x = get_or xs c.args.at d in
+    let said = λ (say : w.Plain → ℕ). sym (said-of (w.plain s) say xs c.args.at x d 0 c.requires.within refl) in
+    subst (λ n. Spends s t n (slice_index_or (map (w.leaves c.args.to m) (map (w.plain s) xs)) c.args.at 0)) (said (w.takes c.args.to m))
+    (subst (λ n. Spends s t (w.takes c.args.to m (w.plain s x)) n) (said (w.leaves c.args.to m)) c.put.ensures.spends)

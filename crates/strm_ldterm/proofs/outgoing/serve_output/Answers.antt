@@ -8,7 +8,7 @@ use Rattle.strm_ldterm.specs.Stands.{ldterm_in}
 use Rattle.strm_ldterm.proofs.Calls.{kept-some}
 use Rattle.strm_ldterm.proofs.Joining.{still-kept}
 use Rattle.strm_ldterm.proofs.Outgone.{out-serves}
-use Rattle.strm_ldterm.proofs.Turned.{down-serves, whole-serves}
+use Rattle.strm_ldterm.proofs.Turned.{down≢up, down-serves, whole-serves}
 use Rattle.strm_ldterm.proofs.outgoing.serve_output.Goals as goal
 
 pub post_bytes-left-requires-clause-held : goal.post_bytes-left-requires-clause-held
@@ -52,7 +52,7 @@ returns-in-Whole g c = λ again.
     let whole = c.in-Whole.ensures in
     whole-serves name s s1 c.args.here x x1 again c.args.told.now c.of_whole.result c.in-Whole.passed.sent c.in-Whole.passed.bytes (output_of name s s1 c.args.here x x1 None)
     c.of_whole.ensures.notes c.of_whole.ensures.sent c.of_whole.ensures.bytes c.of_whole.ensures.stopped c.of_whole.ensures.again
-    (down-serves c.args.here again None (ldterm_in name s x) c.requires.way) (whole.passes None c.args.told.now) (whole.size None) (whole.again None)
+    (down-serves c.args.here again None (ldterm_in name s x) c.requires.way) (whole.passes None c.args.told.now) (whole.size None) (whole.again None) (λ up. absurd (down≢up (sym c.requires.way ∙ up)))
 
 pub returns-in-InWork : goal.returns-in-InWork
 returns-in-InWork g c = λ again.

@@ -1,10 +1,11 @@
-use Rattle.std.proofs.Common.{[], false, refl, sym, subst}
+use Rattle.std.proofs.Common.{[], false, refl, sym, ap, subst, ◌∙◌, arith}
 use Rattle.std.specs.Prelude.{None}
 use Rattle.strm_ldterm.specs.Began.{input_of}
 use Rattle.strm_ldterm.specs.Does.{Proceeds}
-use Rattle.strm_ldterm.specs.Stands.{ldterm_in}
+use Rattle.strm_ldterm.specs.Stands.{ldterm_in, stage_in}
+use Rattle.strm_ldterm.specs.Turns.{stages_left}
 use Rattle.strm_ldterm.proofs.Joining.{still-kept}
-use Rattle.strm_ldterm.proofs.Turned.{first-serves, whole-serves, work-in, work-treats}
+use Rattle.strm_ldterm.proofs.Turned.{between-needs, first-serves, whole-serves, work-in, work-treats}
 use Rattle.strm_ldterm.proofs.serving.serve_input.Goals as goal
 
 pub treat-requires-clause-held : goal.treat-requires-clause-held
@@ -14,6 +15,12 @@ pub treat-requires-clause-kept : goal.treat-requires-clause-kept
 treat-requires-clause-kept g c =
     still-kept g.B.Blocks.name (g.B.Blocks.value c.args.store.now) (g.B.Blocks.value c.begin_input.new.store) c.args.ldterm.now c.begin_input.new.ldterm 0 [] c.args.told.now c.args.told.now _ c.audit.ensures
     (c.in-InWork.ensures.works c.args.told.now) c.requires.kept
+
+pub treat-requires-clause-room : goal.treat-requires-clause-room
+treat-requires-clause-room g c =
+    let works = c.in-InWork.ensures.works c.args.told.now in
+    let few = between-needs (stage_in c.begin_input.new.ldterm.stage) (ap stages_left c.in-InWork.ensures.stage ∙ c.requires.stage) in
+    record { mblks = (let r = c.requires.room.mblks in let w = works.mblks in omega (arith, r, w, few)); dblks = (let r = c.requires.room.dblks in let w = works.dblks in omega (arith, r, w, few)) }
 
 pub treat-requires-clause-work : goal.treat-requires-clause-work
 treat-requires-clause-work g c =
@@ -31,7 +38,7 @@ returns-in-Empty g c =
     c.of_whole.ensures.notes c.of_whole.ensures.sent c.of_whole.ensures.bytes c.of_whole.ensures.stopped c.of_whole.ensures.again
     (first-serves c.args.here false None (ldterm_in name s x) c.requires.way refl)
     (subst (λ out. Proceeds name s s1 x x1 0 [] out c.args.told.now c.args.told.now (input_of name s s1 c.args.here x x1 None).acted) (sym c.none.ensures) (whole.passes None c.args.told.now))
-    (whole.size None) (whole.again None)
+    (whole.size None) (whole.again None) (λ up. c.requires.room)
 
 pub returns-in-Whole : goal.returns-in-Whole
 returns-in-Whole g c =
@@ -45,7 +52,7 @@ returns-in-Whole g c =
     whole-serves name s s1 c.args.here x x1 false c.args.told.now done.result c.in-Whole.passed.sent c.in-Whole.passed.bytes (input_of name s s1 c.args.here x x1 None)
     done.ensures.notes done.ensures.sent done.ensures.bytes done.ensures.stopped done.ensures.again
     (first-serves c.args.here false None (ldterm_in name s x) c.requires.way refl)
-    (whole.passes None c.args.told.now) (whole.size None) (whole.again None)
+    (whole.passes None c.args.told.now) (whole.size None) (whole.again None) (λ up. c.requires.room)
 
 pub returns-in-InWork : goal.returns-in-InWork
 returns-in-InWork g c =

@@ -3,7 +3,7 @@ use Rattle.strm_frame.specs.Outboxes.{sent_of}
 use Rattle.strm_types.specs.declared.limits.TheConstants.{STOP_BLOCKS}
 use Rattle.strm_frame.specs.Serves.{least_free}
 use Rattle.strm_ldterm.specs.Called.{RunsInto}
-use Rattle.strm_ldterm.proofs.Calls.{Ran, lower, notes-fit, ran-left, ran-next, ran-none, ran-run, ran-stage, runs-into}
+use Rattle.strm_ldterm.proofs.Calls.{Ran, are-many, lower, notes-fit, ran-left, ran-next, ran-none, ran-run, ran-stage, runs-into}
 use Rattle.strm_ldterm.proofs.Joining.{still-kept, stays-so}
 use Rattle.strm_ldterm.proofs.Struck.{some-left}
 use Rattle.strm_ldterm.proofs.serving.treat_bytes.Goals as goal
@@ -13,7 +13,7 @@ pub loop-left-init : goal.loop-left-init
 loop-left-init g c =
     let s = g.B.Blocks.value c.args.store.now in
     subst (λ notes. Ran g.B.Blocks.name s s c.args.here c.args.ldterm.now c.args.ldterm.now c.args.bytes c.args.bytes notes c.args.told.now c.args.told.now) (sym c.new-notes.ensures)
-    (ran-none g.B.Blocks.name s c.args.here c.args.ldterm.now c.args.bytes c.args.told.now (stays-so g.B.Blocks.name s c.args.ldterm.now c.args.told.now c.requires.held))
+    (ran-none g.B.Blocks.name s c.args.here c.args.ldterm.now c.args.bytes c.args.told.now (stays-so g.B.Blocks.name s c.args.ldterm.now c.args.told.now c.requires.held) c.requires.room)
 
 pub treat_run-ran-requires-clause-held : goal.treat_run-ran-requires-clause-held
 treat_run-ran-requires-clause-held g c = c.loop-left.invariant.does.held
@@ -48,10 +48,11 @@ pub returns-then-left-eq0 : goal.returns-then-left-eq0
 returns-then-left-eq0 g c =
     let r = (ran-run g.B.Blocks.name (g.B.Blocks.value c.args.store.now) (g.B.Blocks.value c.loop-left.store) c.args.ldterm.now c.loop-left.ldterm c.args.here c.args.bytes c.loop-left.left c.loop-left.notes.items c.args.told.now c.loop-left.told
     c.requires.stage c.requires.bytes c.loop-left.invariant (g.B.Blocks.value c.treat_run-ran.new.store) c.treat_run-ran.new.ldterm c.treat_run-ran.result.bytes c.treat_run-ran.result.notes.items c.join-notes.result.items c.treat_run-ran.new.told
-    c.audit.ensures c.treat_run-ran.ensures.within c.join-notes.ensures c.treat_run-ran.ensures.does) in
+    c.audit.ensures c.treat_run-ran.ensures.within c.join-notes.ensures c.treat_run-ran.ensures.does (are-many (g.B.Blocks.value c.loop-left.store) (sym c.are_few.ensures ∙ c.if-not-are_few.true))) in
     record {
       fewer = r.fewer;
       does = r.does;
+      room = r.room;
       stops = elim c.then-left-eq0.branch [
         | then-left-eq0-via-then-left-eq0 w ↦ λ some. absurd (let none = w.if-left-eq0.true in omega arith)
         | then-left-eq0-via-else-left-eq0+then-are_few w ↦ λ some. lower (least_free (g.B.Blocks.value c.treat_run-ran.new.store)) STOP_BLOCKS (sym w.are_few-else-left-eq0.ensures ∙ w.if-are_few.true)
@@ -62,14 +63,14 @@ pub treat_byte-more-requires-clause-held : goal.treat_byte-more-requires-clause-
 treat_byte-more-requires-clause-held g c =
     let r = (ran-run g.B.Blocks.name (g.B.Blocks.value c.args.store.now) (g.B.Blocks.value c.loop-left.store) c.args.ldterm.now c.loop-left.ldterm c.args.here c.args.bytes c.loop-left.left c.loop-left.notes.items c.args.told.now c.loop-left.told
     c.requires.stage c.requires.bytes c.loop-left.invariant (g.B.Blocks.value c.treat_run-ran.new.store) c.treat_run-ran.new.ldterm c.treat_run-ran.result.bytes c.treat_run-ran.result.notes.items c.join-notes.result.items c.treat_run-ran.new.told
-    c.audit.ensures c.treat_run-ran.ensures.within c.join-notes.ensures c.treat_run-ran.ensures.does) in
+    c.audit.ensures c.treat_run-ran.ensures.within c.join-notes.ensures c.treat_run-ran.ensures.does (are-many (g.B.Blocks.value c.loop-left.store) (sym c.are_few.ensures ∙ c.if-not-are_few.true))) in
     r.does.held
 
 pub treat_byte-more-requires-clause-kept : goal.treat_byte-more-requires-clause-kept
 treat_byte-more-requires-clause-kept g c =
     let r = (ran-run g.B.Blocks.name (g.B.Blocks.value c.args.store.now) (g.B.Blocks.value c.loop-left.store) c.args.ldterm.now c.loop-left.ldterm c.args.here c.args.bytes c.loop-left.left c.loop-left.notes.items c.args.told.now c.loop-left.told
     c.requires.stage c.requires.bytes c.loop-left.invariant (g.B.Blocks.value c.treat_run-ran.new.store) c.treat_run-ran.new.ldterm c.treat_run-ran.result.bytes c.treat_run-ran.result.notes.items c.join-notes.result.items c.treat_run-ran.new.told
-    c.audit.ensures c.treat_run-ran.ensures.within c.join-notes.ensures c.treat_run-ran.ensures.does) in
+    c.audit.ensures c.treat_run-ran.ensures.within c.join-notes.ensures c.treat_run-ran.ensures.does (are-many (g.B.Blocks.value c.loop-left.store) (sym c.are_few.ensures ∙ c.if-not-are_few.true))) in
     still-kept g.B.Blocks.name (g.B.Blocks.value c.args.store.now) (g.B.Blocks.value c.treat_run-ran.new.store) c.args.ldterm.now c.treat_run-ran.new.ldterm _ c.join-notes.result.items c.args.told.now c.treat_run-ran.new.told _ c.audit-in-loop-left.ensures
     r.does c.requires.kept
 
@@ -77,7 +78,7 @@ pub treat_byte-more-requires-clause-stage : goal.treat_byte-more-requires-clause
 treat_byte-more-requires-clause-stage g c =
     let r = (ran-run g.B.Blocks.name (g.B.Blocks.value c.args.store.now) (g.B.Blocks.value c.loop-left.store) c.args.ldterm.now c.loop-left.ldterm c.args.here c.args.bytes c.loop-left.left c.loop-left.notes.items c.args.told.now c.loop-left.told
     c.requires.stage c.requires.bytes c.loop-left.invariant (g.B.Blocks.value c.treat_run-ran.new.store) c.treat_run-ran.new.ldterm c.treat_run-ran.result.bytes c.treat_run-ran.result.notes.items c.join-notes.result.items c.treat_run-ran.new.told
-    c.audit.ensures c.treat_run-ran.ensures.within c.join-notes.ensures c.treat_run-ran.ensures.does) in
+    c.audit.ensures c.treat_run-ran.ensures.within c.join-notes.ensures c.treat_run-ran.ensures.does (are-many (g.B.Blocks.value c.loop-left.store) (sym c.are_few.ensures ∙ c.if-not-are_few.true))) in
     ran-stage g.B.Blocks.name (g.B.Blocks.value c.args.store.now) (g.B.Blocks.value c.treat_run-ran.new.store) c.args.ldterm.now c.treat_run-ran.new.ldterm c.args.here c.args.bytes (c.loop-left.left - c.treat_run-ran.result.bytes) c.join-notes.result.items c.args.told.now c.treat_run-ran.new.told
     c.requires.stage c.requires.bytes r
 
@@ -85,7 +86,7 @@ pub treat_byte-more-requires-clause-some : goal.treat_byte-more-requires-clause-
 treat_byte-more-requires-clause-some g c =
     let r = (ran-run g.B.Blocks.name (g.B.Blocks.value c.args.store.now) (g.B.Blocks.value c.loop-left.store) c.args.ldterm.now c.loop-left.ldterm c.args.here c.args.bytes c.loop-left.left c.loop-left.notes.items c.args.told.now c.loop-left.told
     c.requires.stage c.requires.bytes c.loop-left.invariant (g.B.Blocks.value c.treat_run-ran.new.store) c.treat_run-ran.new.ldterm c.treat_run-ran.result.bytes c.treat_run-ran.result.notes.items c.join-notes.result.items c.treat_run-ran.new.told
-    c.audit.ensures c.treat_run-ran.ensures.within c.join-notes.ensures c.treat_run-ran.ensures.does) in
+    c.audit.ensures c.treat_run-ran.ensures.within c.join-notes.ensures c.treat_run-ran.ensures.does (are-many (g.B.Blocks.value c.loop-left.store) (sym c.are_few.ensures ∙ c.if-not-are_few.true))) in
     let l = ran-left g.B.Blocks.name (g.B.Blocks.value c.args.store.now) (g.B.Blocks.value c.treat_run-ran.new.store) c.args.ldterm.now c.treat_run-ran.new.ldterm c.args.here c.args.bytes (c.loop-left.left - c.treat_run-ran.result.bytes) c.join-notes.result.items c.args.told.now c.treat_run-ran.new.told
     c.requires.stage c.requires.bytes r in
     let some = c.if-left-eq0.false in
@@ -95,7 +96,7 @@ pub join-notes-requires-in-loop-left : goal.join-notes-requires-in-loop-left
 join-notes-requires-in-loop-left g c =
     let r = (ran-run g.B.Blocks.name (g.B.Blocks.value c.args.store.now) (g.B.Blocks.value c.loop-left.store) c.args.ldterm.now c.loop-left.ldterm c.args.here c.args.bytes c.loop-left.left c.loop-left.notes.items c.args.told.now c.loop-left.told
     c.requires.stage c.requires.bytes c.loop-left.invariant (g.B.Blocks.value c.treat_run-ran.new.store) c.treat_run-ran.new.ldterm c.treat_run-ran.result.bytes c.treat_run-ran.result.notes.items c.join-notes.result.items c.treat_run-ran.new.told
-    c.audit.ensures c.treat_run-ran.ensures.within c.join-notes.ensures c.treat_run-ran.ensures.does) in
+    c.audit.ensures c.treat_run-ran.ensures.within c.join-notes.ensures c.treat_run-ran.ensures.does (are-many (g.B.Blocks.value c.loop-left.store) (sym c.are_few.ensures ∙ c.if-not-are_few.true))) in
     let some = c.if-left-eq0.false in
     notes-fit g.B.Blocks.name (g.B.Blocks.value c.args.store.now) (g.B.Blocks.value c.treat_run-ran.new.store) c.args.ldterm.now c.treat_run-ran.new.ldterm c.args.here c.args.bytes (c.loop-left.left - c.treat_run-ran.result.bytes) c.join-notes.result.items c.args.told.now c.treat_run-ran.new.told
     c.requires.stage c.requires.bytes r
@@ -105,7 +106,7 @@ pub returns-then-not-is_empty : goal.returns-then-not-is_empty
 returns-then-not-is_empty g c =
     let r = (ran-run g.B.Blocks.name (g.B.Blocks.value c.args.store.now) (g.B.Blocks.value c.loop-left.store) c.args.ldterm.now c.loop-left.ldterm c.args.here c.args.bytes c.loop-left.left c.loop-left.notes.items c.args.told.now c.loop-left.told
     c.requires.stage c.requires.bytes c.loop-left.invariant (g.B.Blocks.value c.treat_run-ran.new.store) c.treat_run-ran.new.ldterm c.treat_run-ran.result.bytes c.treat_run-ran.result.notes.items c.join-notes.result.items c.treat_run-ran.new.told
-    c.audit.ensures c.treat_run-ran.ensures.within c.join-notes.ensures c.treat_run-ran.ensures.does) in
+    c.audit.ensures c.treat_run-ran.ensures.within c.join-notes.ensures c.treat_run-ran.ensures.does (are-many (g.B.Blocks.value c.loop-left.store) (sym c.are_few.ensures ∙ c.if-not-are_few.true))) in
     let sent = sent_of c.treat_byte-more.result.sent in
     let some = some-left sent c.is_empty.result c.if-not-is_empty.true c.is_empty.ensures in
     let more = c.if-left-eq0.false in
@@ -119,19 +120,20 @@ pub loop-left-preserved : goal.loop-left-preserved
 loop-left-preserved g c =
     let r = (ran-run g.B.Blocks.name (g.B.Blocks.value c.args.store.now) (g.B.Blocks.value c.loop-left.store) c.args.ldterm.now c.loop-left.ldterm c.args.here c.args.bytes c.loop-left.left c.loop-left.notes.items c.args.told.now c.loop-left.told
     c.requires.stage c.requires.bytes c.loop-left.invariant (g.B.Blocks.value c.treat_run-ran.new.store) c.treat_run-ran.new.ldterm c.treat_run-ran.result.bytes c.treat_run-ran.result.notes.items c.join-notes.result.items c.treat_run-ran.new.told
-    c.audit.ensures c.treat_run-ran.ensures.within c.join-notes.ensures c.treat_run-ran.ensures.does) in
+    c.audit.ensures c.treat_run-ran.ensures.within c.join-notes.ensures c.treat_run-ran.ensures.does (are-many (g.B.Blocks.value c.loop-left.store) (sym c.are_few.ensures ∙ c.if-not-are_few.true))) in
     let more = c.if-left-eq0.false in
     subst (λ notes. Ran g.B.Blocks.name (g.B.Blocks.value c.args.store.now) (g.B.Blocks.value c.treat_byte-more.new.store) c.args.here c.args.ldterm.now c.treat_byte-more.new.ldterm c.args.bytes ((c.loop-left.left - c.treat_run-ran.result.bytes) - 1) notes c.args.told.now c.treat_byte-more.new.told)
     (sym c.join-notes-in-loop-left.ensures)
     (ran-next g.B.Blocks.name (g.B.Blocks.value c.args.store.now) (g.B.Blocks.value c.treat_run-ran.new.store) c.args.ldterm.now c.treat_run-ran.new.ldterm c.args.here c.args.bytes (c.loop-left.left - c.treat_run-ran.result.bytes) c.join-notes.result.items c.args.told.now c.treat_run-ran.new.told
     c.requires.stage c.requires.bytes r
     (g.B.Blocks.value c.treat_byte-more.new.store) c.treat_byte-more.new.ldterm 27 1 c.treat_byte-more.result.notes.items (sent_of c.treat_byte-more.result.sent) c.treat_byte-more.new.told (omega arith) c.treat_byte-more.ensures.does c.audit-in-loop-left.ensures
-    (c.if-not-is_empty.ensures.0 refl))
+    (c.if-not-is_empty.ensures.0 refl) (are-many (g.B.Blocks.value c.treat_run-ran.new.store) (sym c.are_few-else-left-eq0.ensures ∙ c.if-are_few.false)) (omega arith))
 
 pub returns : goal.returns
 returns g c = record {
   fewer = c.loop-left.invariant.fewer;
   does = c.loop-left.invariant.does;
+  room = c.loop-left.invariant.room;
   stops = elim c.loop-left-test.branch [
     | then-loop-left-test+else-not-are_few w ↦ λ some. lower (least_free (g.B.Blocks.value c.loop-left.store)) STOP_BLOCKS (sym w.are_few.ensures ∙ w.if-not-are_few.false)
     | else-loop-left-test w ↦ λ some. absurd (let none = w.loop-left-test.false in omega arith)

@@ -2,4 +2,4 @@ use Rattle.strm_types.proofs.WritesStand.{chunks-stand}
 use Rattle.strm_types.proofs.put_laws.writes_stand_at_the_driver.Goals as goal
 
 pub returns : goal.returns
-returns g c = λ side chunks s stays none. chunks-stand side chunks s stays none
+returns g c = λ cells side chunks s stays none. chunks-stand cells side chunks s stays none

@@ -1,8 +1,9 @@
 -- The modules are taken as a slice, and written back whole.
-use Rattle.std.proofs.Common.{ℕ, ◌-◌, ◌∙◌, ap, sym, subst, length, map, arith}
+use Rattle.std.proofs.Common.{ℕ, ◌-◌, ◌∙◌, List, ap, sym, subst, length, map, arith}
+use Rattle.std.specs.Prelude.{slice_index_or}
 use Rattle.strm_types.specs.Deliver.{tallied}
 use Rattle.strm_types.specs.Modules.{put_among}
-use Rattle.strm_frame.specs.Hands.{CanPut, Hands, OnlyOwn}
+use Rattle.strm_frame.specs.Hands.{CanPut, Hands, HasRoom, OnlyOwn, Spends}
 use Rattle.strm_frame.specs.Outboxes.{message_in, sent_of, times_sent}
 use Rattle.strm_frame.specs.Stacks.{all_of, AreHeld}
 use Rattle.strm_frame.proofs.Beside.{refilled}
@@ -84,3 +85,19 @@ returns-clause-own g c =
     subst (λ xs. OnlyOwn s t (all_of owns c.args.self.now.modules.items) (all_of owns xs))
     (sym (refilled c.args.self.now.modules.items c.put_among.new.modules (c.put_among.ensures.length ∙ ap length before)))
     (subst (λ xs. OnlyOwn s t (all_of owns xs) (all_of owns c.put_among.new.modules)) before c.put_among.ensures.own)
+
+pub put_among-requires-clause-room : goal.put_among-requires-clause-room
+put_among-requires-clause-room g c =
+    let w = g.M.Module in
+    let s = g.B.Blocks.value c.args.store.now in
+    let m = message_in s (g.B.Blocks.name c.args.message) in
+    subst (λ xs. HasRoom s (slice_index_or (map (w.takes c.args.to m) (map (w.plain s) xs)) (c.args.to.at - 1) 0)) (sym c.as_mut_slice.ensures.value) c.requires.room
+
+pub returns-clause-spends : goal.returns-clause-spends
+returns-clause-spends g c =
+    let w = g.M.Module in
+    let s = g.B.Blocks.value c.args.store.now in
+    let t = g.B.Blocks.value c.put_among.new.store in
+    let m = message_in s (g.B.Blocks.name c.args.message) in
+    let said = λ (say : w.Plain → ℕ) (xs : List _). slice_index_or (map say (map (w.plain s) xs)) (c.args.to.at - 1) 0 in
+    subst (λ xs. Spends s t (said (w.takes c.args.to m) xs) (said (w.leaves c.args.to m) xs)) c.as_mut_slice.ensures.value c.put_among.ensures.spends

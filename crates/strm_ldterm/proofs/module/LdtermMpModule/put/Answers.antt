@@ -1,10 +1,8 @@
 use Rattle.std.proofs.Common.{ℕ, List, sym, subst}
-use Rattle.strm_types.specs.Costs.{cost}
 use Rattle.strm_types.specs.Deliver.{AreLower, Parcel}
 use Rattle.strm_types.specs.Puts.{far}
 use Rattle.strm_types.proofs.ModulePuts.{ldterm-lower}
-use Rattle.strm_frame.specs.Hands.{Spends}
-use Rattle.strm_frame.specs.Outboxes.{cost_of, message_in}
+use Rattle.strm_frame.specs.Outboxes.{message_in}
 use Rattle.strm_ldterm.specs.Stands.{ldterm_in}
 use Rattle.strm_ldterm.proofs.module.LdtermMpModule.put.Goals as goal
 
@@ -16,7 +14,4 @@ returns-clause-falls g c =
     subst (λ (ps : List (Parcel ℕ)). AreLower far (far c.args.here m) ps) (sym c.put.ensures.sent) (ldterm-lower c.args.here m c.requires.inside c.requires.small p)
 
 pub returns-clause-spends : goal.returns-clause-spends
-returns-clause-spends g c =
-    let s = g.B.Blocks.value c.args.store.now in
-    let m = message_in s (g.B.Blocks.name c.args.message) in
-    subst (λ (ps : List (Parcel ℕ)). Spends s (g.B.Blocks.value c.put.new.store) (cost c.args.here m) (cost_of cost ps)) (sym c.put.ensures.sent) c.put.ensures.spends
+returns-clause-spends g c = c.put.ensures.spends

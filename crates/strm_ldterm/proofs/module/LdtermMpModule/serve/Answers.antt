@@ -28,10 +28,10 @@ returns-clause-room g c =
     let t = g.B.Blocks.value c.serve.new.store in
     let p = ldterm_in name s c.args.self.now in
     let q = ldterm_in name t c.serve.new.ldterm in
-    call-room c.args.here c.args.again (stop_of c.serve.result) p s t q c.serve.result.again (parcels_in name t (sent_of c.serve.result.acts.sent))
+    call-room c.args.here c.requires.inside c.args.again (stop_of c.serve.result) p s t q c.serve.result.again (parcels_in name t (sent_of c.serve.result.acts.sent))
     c.serve.ensures.does.state c.serve.ensures.does.parcels c.serve.ensures.again_is
     (λ up more. again-works c.args.here.way c.args.again p up more c.requires.turn)
-    c.requires.room c.serve.ensures.whole c.serve.ensures.room
+    c.requires.room c.serve.ensures.whole c.serve.ensures.room c.serve.ensures.over
 
 pub returns-clause-made : goal.returns-clause-made
 returns-clause-made g c =

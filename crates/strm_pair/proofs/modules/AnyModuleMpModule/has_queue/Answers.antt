@@ -10,3 +10,6 @@ returns-in-Ldterm g c = λ s. c.has_queue.ensures s ∙ ap (λ x. has_queue modu
 
 pub returns-in-Ptem : goal.returns-in-Ptem
 returns-in-Ptem g c = λ s. c.has_queue-in-Ptem.ensures s ∙ ap (λ x. has_queue module_queue c.args.way (module_in g.B.Blocks.name s x)) (sym c.in-Ptem.is)
+
+pub returns-in-Pckt : goal.returns-in-Pckt
+returns-in-Pckt g c = λ s. c.has_queue-in-Pckt.ensures s ∙ ap (λ x. has_queue module_queue c.args.way (module_in g.B.Blocks.name s x)) (sym c.in-Pckt.is)

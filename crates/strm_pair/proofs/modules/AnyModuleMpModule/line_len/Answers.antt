@@ -9,3 +9,6 @@ returns-in-Ldterm-clause-line g c = λ s. c.line_len.ensures.line s ∙ ap (λ x
 
 pub returns-in-Ptem-clause-line : goal.returns-in-Ptem-clause-line
 returns-in-Ptem-clause-line g c = λ s. c.line_len-in-Ptem.ensures.line s ∙ ap (λ x. length (module_line (module_in g.B.Blocks.name s x))) (sym c.in-Ptem.is)
+
+pub returns-in-Pckt-clause-line : goal.returns-in-Pckt-clause-line
+returns-in-Pckt-clause-line g c = λ s. c.line_len-in-Pckt.ensures.line s ∙ ap (λ x. length (module_line (module_in g.B.Blocks.name s x))) (sym c.in-Pckt.is)

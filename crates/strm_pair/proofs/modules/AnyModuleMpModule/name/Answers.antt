@@ -9,3 +9,6 @@ returns-in-Ldterm g c = λ s. c.name.ensures s ∙ ap (λ x. module_name (module
 
 pub returns-in-Ptem : goal.returns-in-Ptem
 returns-in-Ptem g c = λ s. c.name-in-Ptem.ensures s ∙ ap (λ x. module_name (module_in g.B.Blocks.name s x)) (sym c.in-Ptem.is)
+
+pub returns-in-Pckt : goal.returns-in-Pckt
+returns-in-Pckt g c = λ s. c.name-in-Pckt.ensures s ∙ ap (λ x. module_name (module_in g.B.Blocks.name s x)) (sym c.in-Pckt.is)

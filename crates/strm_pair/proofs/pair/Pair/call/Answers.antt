@@ -1,18 +1,21 @@
 -- A call that isn't refused is a step, and the journal gains it with its answer.
 use Rattle.std.proofs.Common.{ℕ, Bool, true, false, ◌≡◌, ◌≤◌, ◌+◌, ◌∙◌, ◌++◌, ◌∷◌, [], length, ap, sym, refl, subst, rules, arith}
+use Rattle.std.specs.Bool.{OnTrue}
 use Rattle.std.specs.Prelude.{◌&&◌, nat_le, None}
 use Rattle.std.proofs.lemmas.Bool.Decides.{nat_tests}
 use Rattle.strm_types.specs.declared.entries.Entry.TheVariants.{Called}
 use Rattle.strm_types.specs.Cells.{plain}
-use Rattle.strm_types.specs.Calls.{payload_of, request}
+use Rattle.strm_types.specs.Calls.{delivers, payload_of, request}
 use Rattle.strm_types.specs.Journal.{PlainEntry, content_max, reply_in}
 use Rattle.strm_types.specs.CutOff.{IsCutOff}
+use Rattle.strm_types.specs.Spares.{spare}
 use Rattle.strm_types.specs.State.{opening}
 use Rattle.strm_types.specs.Ledgers.{FewBooked}
 use Rattle.strm_types.specs.Step.{IsCall, after}
 use Rattle.strm_types.specs.Refused.{enough, blocks_asked, refused_at_once, refused_by_state}
 use Rattle.strm_types.specs.Pair.{PairState, AddsEntry, call_refused}
 use Rattle.strm_types.proofs.Balances.{call-few, written-by-blocks}
+use Rattle.strm_types.proofs.StackSpares.{call-low}
 use Rattle.strm_types.proofs.CutOff.{journal-cut, opening-cut}
 use Rattle.strm_types.proofs.Replay.{call-allowed, or_else-none}
 use Rattle.strm_blocks.specs.Blocks.{StoreValue, free_d, free_m}
@@ -45,7 +48,8 @@ invariant_of-self g c =
     let blocks : blocks_asked asked ≤ free_m s = asked-free (blocks_asked asked) s (call-allowed old (journal_of p.journal) p.limits (enough (blocks_asked asked) (free_in s)) c.args.caller asked allowed).2 in
     let store = c.audit.ensures in
     let less : blocks_asked asked ≤ 65536 = omega (arith, blocks, store.few_mblks, free_m-is s) in
-    let few = call-few plain c.args.caller asked old may (written-by-blocks asked 65536 (omega arith) less) c.self.invariant.few in
+    let left = subst (λ v. OnTrue (delivers asked) (spare old ≤ spare v + 30)) c.carry_out-answer.ensures.state c.carry_out-answer.ensures.left in
+    let few = call-few plain c.args.caller asked old may (written-by-blocks asked 65536 (omega arith) less) c.self.invariant.few (λ room. call-low plain c.args.caller asked old room left) in
     kept-step g.B.Stacks.view s new p.streams c.carry_out-answer.new.self p.journal c.add_call.new.self p.limits p.fates c.carry_out-answer.new.told entry c.self.invariant
     (record {
       allowed = (call-allowed old (journal_of p.journal) p.limits (enough (blocks_asked asked) (free_in s)) c.args.caller asked allowed).0;

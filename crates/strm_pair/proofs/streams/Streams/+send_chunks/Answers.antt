@@ -1,5 +1,6 @@
 -- A chunk goes, and the rest is a write of the other chunks.
 use Rattle.std.proofs.Common.{◌≡◌, ◌≤◌, ◌-◌, ◌+◌, ℕ, suc, length, sym, ap, subst, ◌∙◌, arith}
+use Rattle.strm_types.specs.Cells.{plain}
 use Rattle.strm_types.specs.Deliver.{tallied}
 use Rattle.strm_types.specs.Kept.{AreIdle}
 use Rattle.strm_types.specs.Message.{data_message}
@@ -47,7 +48,7 @@ pub send_chunks-more-requires : goal.send_chunks-more-requires
 send_chunks-more-requires g t c κs within =
     let old = state_in g.B.Stacks.view.modules (g.B.Blocks.value c.args.store.now) c.args.self.now in
     let some = c.if-chunks-eq0.false in
-    let idle = subst AreIdle (sym c.send_chunk.ensures.state) (delivered-idle (below_head c.args.side) (data_message c.split_at.result.0.now) old c.requires.idle) in
+    let idle = subst AreIdle (sym c.send_chunk.ensures.state) (delivered-idle plain (below_head c.args.side) (data_message c.split_at.result.0.now) old c.requires.idle) in
     let room_m : c.args.chunks - 1 ≤ free_m (g.B.Blocks.value c.send_chunk.new.store) = omega (arith, some, c.requires.room_m, c.send_chunk.ensures.takes_m) in
     let room_d : c.args.chunks - 1 ≤ free_d (g.B.Blocks.value c.send_chunk.new.store) = omega (arith, some, c.requires.room_d, c.send_chunk.ensures.takes_d) in
     (omega arith, (within.0, (within.1.0, (within.1.1, (c.send_chunk.ensures.held, (idle, (room_m, room_d)))))))
@@ -81,5 +82,8 @@ returns-clause-told g t c =
     let count : c.args.chunks ≡ suc (c.args.chunks - 1) = omega arith in
     let e = chunks-more c.args.side old c.args.chunks (c.args.chunks - 1) c.args.bytes.now chunk rest mid count (sym c.is_full_below.ensures ∙ c.if-is_full_below.false)
     (c.split_at.ensures.front ∙ front-256 _ _ c.min.ensures) (c.split_at.ensures.back ∙ back-256 _ _ c.min.ensures) c.send_chunk.ensures.state in
-    chunks-told c.args.side old chunk (chunks_sent c.args.side (chunks_of (c.args.chunks - 1) rest) mid) c.args.told.now c.send_chunk.new.told c.send_chunks-more.new.told c.send_chunk.ensures.told c.send_chunks-more.ensures.told
+    chunks-told c.args.side old chunk (chunks_sent plain c.args.side (chunks_of (c.args.chunks - 1) rest) mid) c.args.told.now c.send_chunk.new.told c.send_chunks-more.new.told c.send_chunk.ensures.told c.send_chunks-more.ensures.told
     ∙ sym (ap (λ (w : Wrote ℕ). tallied w.gone c.args.told.now) e)
+
+pub returns-clause-left : goal.returns-clause-left
+returns-clause-left g t c = omega (arith, c.send_chunk.ensures.left, c.send_chunks-more.ensures.left)

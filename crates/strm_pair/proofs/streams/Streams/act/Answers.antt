@@ -14,8 +14,8 @@ use Rattle.strm_pair.specs.declared.streams.Streams.{Streams}
 use Rattle.strm_pair.specs.ModuleServed.{between, call_of, stop_in}
 use Rattle.strm_pair.specs.Nearest.{earlier_of}
 use Rattle.strm_pair.specs.Pairs.{end_at, state_in, with_end}
-use Rattle.strm_pair.proofs.ModuleSteps.{modules-are}
-use Rattle.strm_pair.proofs.ServeSteps.{acts-by, books-same, made-fits, master-between, slave-between, tells-by, within-any}
+use Rattle.strm_pair.proofs.ModuleSteps.{books-same, modules-are}
+use Rattle.strm_pair.proofs.ServeSteps.{acts-by, made-fits, master-between, slave-between, tells-by, within-any}
 use Rattle.strm_pair.proofs.streams.Streams.act.Goals as goal
 
 pub place-place-requires-clause-within : goal.place-place-requires-clause-within
@@ -53,7 +53,7 @@ book_made-requires-clause-master g c =
     let made = ap (λ k. between k f'.made_from_master) before ∙ master-between here c.args.again call st tells c.requires.begins low c.requires.books f f' (omega (arith, few, before)) tallies in
     let book = ap (λ (y : Streams _). y.from_master.made) e.streams ∙ ap (λ b. b.made) (books-same here.side (record (end_at here.side p) { stack = x }) p).0 in
     let fits = made-fits here c.args.again call st tells c.requires.begins low c.requires.books MasterToSlave in
-    omega (arith, made, book, fits)
+    λ some. omega (arith, made, book, fits)
 
 pub book_made-requires-clause-slave : goal.book_made-requires-clause-slave
 book_made-requires-clause-slave g c =
@@ -78,7 +78,7 @@ book_made-requires-clause-slave g c =
     let made = ap (λ k. between k f'.made_from_slave) before ∙ slave-between here c.args.again call st tells c.requires.begins low c.requires.books f f' (omega (arith, few, before)) tallies in
     let book = ap (λ (y : Streams _). y.from_slave.made) e.streams ∙ ap (λ b. b.made) (books-same here.side (record (end_at here.side p) { stack = x }) p).1 in
     let fits = made-fits here c.args.again call st tells c.requires.begins low c.requires.books SlaveToMaster in
-    omega (arith, made, book, fits)
+    λ some. omega (arith, made, book, fits)
 
 pub returns : goal.returns
 returns g c =

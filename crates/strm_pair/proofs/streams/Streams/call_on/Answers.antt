@@ -3,7 +3,7 @@ use Rattle.std.proofs.Common.{◌≡◌, ◌<◌, ◌+◌, ◌-◌, false, true,
 use Rattle.strm_types.specs.State.{stream}
 use Rattle.strm_types.proofs.ModuleTurnCalls.{reached-first}
 use Rattle.strm_pair.specs.Pairs.{state_in}
-use Rattle.strm_pair.proofs.CallsOn.{Along, GoOn, along, comes-closer, first-begins, next-books, still_to_come}
+use Rattle.strm_pair.proofs.CallsOn.{Along, GoOn, along, comes-closer, first-begins, first-books, next-books, still_to_come}
 use Rattle.strm_pair.proofs.ServeSteps.{call-within}
 use Rattle.strm_pair.proofs.streams.Streams.call_on.Goals as goal
 
@@ -18,7 +18,7 @@ loop-call-init g c =
     let f = c.args.told.now in
     let low : here.at - 1 < length (stream here.side st0).modules = let inside = c.requires.inside in let within = c.requires.within in omega arith in
     let begins = first-begins here st0 c.requires.rests low in
-    let first = along here st0 false 0 [] st0 st (reached-first here st0 low begins) m.result e.itself e.state f f m.new.told refl e.tells 0 (omega arith) (λ d. omega arith) m.result.again refl in
+    let first = along here st0 false 0 [] st0 st (reached-first here st0 low begins) m.result e.itself e.state f f m.new.told refl e.tells e.left 0 (omega arith) (omega arith) m.result.again refl in
     record {
       along = subst (λ n. Along m.result.again here n st0 st f m.new.told) (let none : 0 + m.result.bytes ≡ m.result.bytes = omega arith in none) first;
       room = e.room;
@@ -26,6 +26,9 @@ loop-call-init g c =
       hand = e.hand;
       pool = record { mblks = e.pool.mblks; dblks = e.pool.dblks };
     }
+
+pub call_module-call-requires-clause-books : goal.call_module-call-requires-clause-books
+call_module-call-requires-clause-books g c = first-books c.args.here (state_in g.B.Stacks.view.modules (g.B.Blocks.value c.args.store.now) c.args.self.now) c.requires.range c.requires.few
 
 pub call_module-call-requires-in-loop-call-clause-books : goal.call_module-call-requires-in-loop-call-clause-books
 call_module-call-requires-in-loop-call-clause-books g c =
@@ -63,7 +66,7 @@ loop-call-smaller g c =
     let behind = state_in view (g.B.Blocks.value m.new.store) m.new.self in
     let f = c.args.told.now in
     let on : GoOn here l.bytes st0 st f l.told = subst (λ more. Along more here l.bytes st0 st f l.told) c.loop-call-test.true l.invariant.along in
-    let closer = comes-closer here st0 true l.bytes on.gone st behind on.reached m.result e.itself e.state f l.told m.new.told on.tells e.tells m.result.again refl in
+    let closer = comes-closer here st0 true l.bytes on.gone st behind on.reached m.result e.itself e.state f l.told m.new.told on.tells e.tells e.left m.result.again refl in
     subst (λ n. still_to_come m.result.again here behind < n) (sym (ap (λ more. still_to_come more here st) c.loop-call-test.true)) closer
 
 pub loop-call-preserved : goal.loop-call-preserved
@@ -79,7 +82,7 @@ loop-call-preserved g c =
     let f = c.args.told.now in
     let on : GoOn here l.bytes st0 st f l.told = subst (λ more. Along more here l.bytes st0 st f l.told) c.loop-call-test.true l.invariant.along in
     record {
-      along = along here st0 true l.bytes on.gone st behind on.reached m.result e.itself e.state f l.told m.new.told on.tells e.tells on.count on.few on.books m.result.again refl;
+      along = along here st0 true l.bytes on.gone st behind on.reached m.result e.itself e.state f l.told m.new.told on.tells e.tells e.left on.count on.few on.left m.result.again refl;
       room = e.room;
       beside = e.beside;
       hand = e.hand;

@@ -1,5 +1,5 @@
 -- Plain bytes have no origin: what goes down and what comes up are the bytes themselves. A write that isn't refused is one while the master isn't closed.
-use Rattle.std.proofs.Common.{ℕ, ◌≡◌, List, ◌∙◌, sym, ap, take}
+use Rattle.std.proofs.Common.{ℕ, ◌≡◌, List, ◌∙◌, sym, ap, take, arith}
 use Rattle.std.proofs.Math.Seq.{take-length}
 use denote.Ref.{Bor}
 use Rattle.std.specs.Prelude.{option_map}
@@ -66,3 +66,16 @@ push-requires-clause-may_stand g c =
 
 pub returns-in-Look-clause-answer : goal.returns-in-Look-clause-answer
 returns-in-Look-clause-answer g c = rw c.in-Look.is (c.look.ensures.answer (g.B.Blocks.value c.args.store.now) c.clear.new.self.items)
+
+-- what deliveries make of the books
+pub returns-in-Flush-clause-left : goal.returns-in-Flush-clause-left
+returns-in-Flush-clause-left g c = rw c.in-Flush.is (omega (arith, c.flush.ensures.left))
+
+pub returns-in-Write-clause-left : goal.returns-in-Write-clause-left
+returns-in-Write-clause-left g c = rw c.in-Write.is (omega (arith, c.write.ensures.left))
+
+pub returns-in-Put-clause-left : goal.returns-in-Put-clause-left
+returns-in-Put-clause-left g c = rw c.in-Put.is (omega (arith, c.putmsg.ensures.left))
+
+pub returns-in-Ioctl-clause-left : goal.returns-in-Ioctl-clause-left
+returns-in-Ioctl-clause-left g c = rw c.in-Ioctl.is c.ioctl.ensures.left

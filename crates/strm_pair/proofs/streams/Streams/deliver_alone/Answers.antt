@@ -1,12 +1,15 @@
 -- Nothing is in hand when all is delivered.
-use Rattle.std.proofs.Common.{sym, subst}
+use Rattle.std.proofs.Common.{sym, subst, arith}
+use Rattle.strm_types.specs.Cells.{plain}
 use Rattle.strm_types.specs.Kept.{AreIdle}
+use Rattle.strm_types.specs.StackCosts.{stands_of}
 use Rattle.strm_types.proofs.ModulesIdle.{delivered-idle}
 use Rattle.strm_blocks.specs.Blocks.{in_hand}
 use Rattle.strm_msg.specs.Messages.{message_of}
 use Rattle.strm_frame.proofs.Handing.{alone-can, none-left}
 use Rattle.strm_pair.specs.Framing.{rests}
 use Rattle.strm_pair.specs.Pairs.{kept_by, state_in}
+use Rattle.strm_pair.proofs.PlaceCosts.{once-stands, stack-most}
 use Rattle.strm_pair.proofs.streams.Streams.deliver_alone.Goals as goal
 
 pub deliver-requires-clause-can_put : goal.deliver-requires-clause-can_put
@@ -17,6 +20,30 @@ deliver-requires-clause-can_put g c =
     let is = c.requires.alone in
     alone-can s i (in_hand s i) (kept_by g.B.Stacks.view p) is.hand (rests g.B.Stacks.view s p is.beside is.idle)
 
+pub deliver-requires-clause-room : goal.deliver-requires-clause-room
+deliver-requires-clause-room g c =
+    let s = g.B.Blocks.value c.args.store.now in
+    let p = c.args.self.now in
+    let m = message_of (in_hand s (g.B.Blocks.name c.args.message)) in
+    let most = stack-most (stands_of (state_in g.B.Stacks.view.modules s p)) (once-stands g.B.Stacks.view s p c.requires.alone.beside) c.args.to m in
+    let may = c.requires.room in
+    record {
+      room = record { mblks = omega (arith, may.room.mblks, most); dblks = omega (arith, may.room.dblks, most) };
+      spare = omega (arith, may.spare, most);
+    }
+
+pub returns-clause-takes : goal.returns-clause-takes
+returns-clause-takes g c =
+    let s = g.B.Blocks.value c.args.store.now in
+    let p = c.args.self.now in
+    let m = message_of (in_hand s (g.B.Blocks.name c.args.message)) in
+    let most = stack-most (stands_of (state_in g.B.Stacks.view.modules s p)) (once-stands g.B.Stacks.view s p c.requires.alone.beside) c.args.to m in
+    let takes = c.deliver.ensures.takes in
+    record {
+      blocks = record { mblks = omega (arith, takes.blocks.mblks, most); dblks = omega (arith, takes.blocks.dblks, most) };
+      spare = omega (arith, takes.spare, most);
+    }
+
 pub returns-clause-held : goal.returns-clause-held
 returns-clause-held g c =
     let s = g.B.Blocks.value c.args.store.now in
@@ -25,7 +52,7 @@ returns-clause-held g c =
     let q = c.deliver.new.stations in
     let i = g.B.Blocks.name c.args.message in
     let is = c.requires.alone in
-    let idle = subst AreIdle (sym c.deliver.ensures.state) (delivered-idle c.args.to (message_of (in_hand s i)) (state_in g.B.Stacks.view.modules s p) is.idle) in
+    let idle = subst AreIdle (sym c.deliver.ensures.state) (delivered-idle plain c.args.to (message_of (in_hand s i)) (state_in g.B.Stacks.view.modules s p) is.idle) in
     record {
       hand = none-left s t i (in_hand s i) (kept_by g.B.Stacks.view p) (kept_by g.B.Stacks.view q) is.hand (rests g.B.Stacks.view t q c.deliver.ensures.held idle) c.deliver.ensures.hands;
       beside = c.deliver.ensures.held;

@@ -1,5 +1,17 @@
--- What was held stays held.
+-- What was held stays held, and what is told of an ioctl books nothing.
+use Rattle.std.proofs.Common.{ap, arith}
+use Rattle.strm_types.specs.Calls.{ioctl_told}
+use Rattle.strm_types.specs.Spares.{spare}
+use Rattle.strm_types.proofs.Balances.{told-books}
+use Rattle.strm_types.proofs.StackSpares.{same-spare}
+use Rattle.strm_pair.specs.Pairs.{state_in}
 use Rattle.strm_pair.proofs.streams.Streams.ioctl.Goals as goal
 
 pub returns-clause-held : goal.returns-clause-held
 returns-clause-held g c = c.tell_ioctl.ensures.held (g.B.Blocks.value c.send_ioctl.new.store) c.send_ioctl.ensures.held
+
+pub returns-clause-left : goal.returns-clause-left
+returns-clause-left g c =
+    let t = g.B.Blocks.value c.send_ioctl.new.store in
+    let sent = state_in g.B.Stacks.view.modules t c.send_ioctl.new.self in
+    omega (arith, c.send_ioctl.ensures.left, ap spare (c.tell_ioctl.ensures.state g.B.Stacks.view.modules t), same-spare sent (ioctl_told c.args.side sent).state (told-books c.args.side sent))

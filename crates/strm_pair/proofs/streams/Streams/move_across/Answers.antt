@@ -4,6 +4,7 @@ use Rattle.strm_types.specs.declared.answers.Turn.TheVariants.{Moved}
 use Rattle.strm_types.specs.declared.names.Side.{Side}
 use Rattle.strm_types.specs.declared.names.Way.TheVariants.{Up}
 use Rattle.strm_types.specs.declared.spots.Spot.{Spot}
+use Rattle.strm_types.specs.Cells.{plain}
 use Rattle.strm_types.specs.Deliver.{tallied}
 use Rattle.strm_types.specs.Kept.{AreIdle}
 use Rattle.strm_types.specs.Message.{size_of}
@@ -11,10 +12,14 @@ use Rattle.strm_types.specs.Names.{other}
 use Rattle.strm_types.specs.Puts.{delivered}
 use Rattle.strm_types.specs.Earlier.{modules_on}
 use Rattle.strm_types.specs.Puts.{is_turned}
+use Rattle.strm_types.specs.Queue.{left_with}
+use Rattle.strm_types.specs.Spares.{spare}
+use Rattle.strm_types.specs.State.{stream}
 use Rattle.strm_types.specs.Turns.{turn_ended}
+use Rattle.strm_types.proofs.StackSpares.{range-spare}
 use Rattle.strm_msg.specs.Messages.{message_of}
 use Rattle.strm_pair.specs.Pairs.{state_in}
-use Rattle.strm_pair.proofs.TurnSteps.{taken-idle, up-few, up-near}
+use Rattle.strm_pair.proofs.TurnSteps.{ended-spare, taken-idle, taken-spare, up-few, up-near}
 use Rattle.strm_blocks.specs.Blocks.{in_hand}
 use Rattle.strm_pair.proofs.streams.Streams.move_across.Goals as goal
 
@@ -37,11 +42,30 @@ deliver_alone-requires-clause-low g c =
 
 pub deliver_alone-requires-clause-room : goal.deliver_alone-requires-clause-room
 deliver_alone-requires-clause-room g c =
+    let old = state_in g.B.Stacks.view.modules (g.B.Blocks.value c.args.store.now) c.args.self.now in
     let m = message_of (in_hand (g.B.Blocks.value c.take_first.new.store) (g.B.Blocks.name c.in-Some.message)) in
     let few = up-few c.other-above.result c.modules_on-at.result m in
     let e = c.in-Some.ensures.frees in
     let room = c.requires.room in
-    record { mblks = omega (arith, few, e.mblks, room.mblks); dblks = omega (arith, few, e.dblks, room.dblks) }
+    record {
+      room = record { mblks = omega (arith, few, e.mblks, room.mblks); dblks = omega (arith, few, e.dblks, room.dblks) };
+      spare = omega (arith, few, range-spare old c.requires.range, ap spare c.in-Some.ensures.state, taken-spare c.args.side (left_with c.in-Some.ensures.rest (stream c.args.side old).driver.queue) old);
+    }
+
+pub returns-clause-left : goal.returns-clause-left
+returns-clause-left g c =
+    let old = state_in g.B.Stacks.view.modules (g.B.Blocks.value c.args.store.now) c.args.self.now in
+    let m = message_of (in_hand (g.B.Blocks.value c.take_first.new.store) (g.B.Blocks.name c.in-Some.message)) in
+    let sent = state_in g.B.Stacks.view.modules (g.B.Blocks.value c.deliver_alone.new.store) c.deliver_alone.new.self in
+    omega (
+      arith,
+      up-few c.other-above.result c.modules_on-at.result m,
+      ap spare c.in-Some.ensures.state,
+      taken-spare c.args.side (left_with c.in-Some.ensures.rest (stream c.args.side old).driver.queue) old,
+      c.deliver_alone.ensures.takes.spare,
+      ap spare c.end_turn.ensures.state,
+      ended-spare c.args.side c.message_size-size.result sent,
+    )
 
 pub returns-clause-moves : goal.returns-clause-moves
 returns-clause-moves g c =
@@ -61,11 +85,11 @@ returns-clause-moves g c =
       state = c.end_turn.ensures.state
           ∙ ap (λ n. turn_ended side n (state_in g.B.Stacks.view.modules t c.deliver_alone.new.self)) size_is
           ∙ ap (λ v. turn_ended side (size_of m) v) (c.deliver_alone.ensures.state
-          ∙ ap (λ n. (delivered (up c.other-above.result n) m got).state) place_is
-          ∙ ap (λ sd. (delivered (up sd (modules_on sd got)) m got).state) c.other-above.ensures
-          ∙ ap (λ v. (delivered (up (other side) (modules_on (other side) v)) m v).state) e.state);
+          ∙ ap (λ n. (delivered plain (up c.other-above.result n) m got).state) place_is
+          ∙ ap (λ sd. (delivered plain (up sd (modules_on sd got)) m got).state) c.other-above.ensures
+          ∙ ap (λ v. (delivered plain (up (other side) (modules_on (other side) v)) m v).state) e.state);
       tells = c.deliver_alone.ensures.told
-          ∙ ap (λ n. tallied (delivered (up c.other-above.result n) m got).gone c.args.told.now) place_is
-          ∙ ap (λ sd. tallied (delivered (up sd (modules_on sd got)) m got).gone c.args.told.now) c.other-above.ensures
-          ∙ ap (λ v. tallied (delivered (up (other side) (modules_on (other side) v)) m v).gone c.args.told.now) e.state;
+          ∙ ap (λ n. tallied (delivered plain (up c.other-above.result n) m got).gone c.args.told.now) place_is
+          ∙ ap (λ sd. tallied (delivered plain (up sd (modules_on sd got)) m got).gone c.args.told.now) c.other-above.ensures
+          ∙ ap (λ v. tallied (delivered plain (up (other side) (modules_on (other side) v)) m v).gone c.args.told.now) e.state;
     }

@@ -1,21 +1,29 @@
 -- What stands at a place takes the message: the head, a module, or behind the modules what is below them.
-use Rattle.std.proofs.Common.{ℕ, ◌≡◌, ◌≤◌, ◌<◌, true, false, sym, subst, arith}
+use Rattle.std.proofs.Common.{ℕ, zero, suc, ◌≡◌, ◌≤◌, ◌<◌, true, false, refl, sym, subst, arith}
 use Rattle.std.specs.Prelude.{nat_le}
 use Rattle.std.proofs.lemmas.Bool.Decides.{nat_tests}
 use Rattle.strm_types.specs.declared.names.Way.TheVariants.{Up, Down}
 use Rattle.strm_types.specs.Costs.{below_takes, cost, head_takes}
 use Rattle.strm_types.specs.Message.{has_parts}
+use Rattle.strm_types.specs.ModuleQueues.{at_place}
 use Rattle.strm_types.specs.Puts.{put_at_driver}
+use Rattle.strm_types.specs.StackCosts.{module_takes, stack_cost, stands_of}
+use Rattle.strm_types.specs.State.{stream}
 use Rattle.strm_frame.specs.Hands.{HasRoom}
 use Rattle.strm_frame.specs.Outboxes.{message_in, sent_of}
 use Rattle.strm_pair.specs.Pairs.{state_in}
 use Rattle.strm_pair.specs.PutBy.{PutBy}
 use Rattle.strm_pair.proofs.PutSteps.{behind-put, behind-room, head-put, module-put, room-for}
-use Rattle.strm_pair.proofs.PutsCost.{head-cost}
+use Rattle.strm_pair.proofs.PlaceCosts.{place-books, place-room}
+use Rattle.strm_pair.proofs.PutsCost.{head-stack}
 use Rattle.strm_pair.proofs.streams.Streams.put.Goals as goal
 
 stands-at : (at count : ℕ) → at ≤ count → nat_le at count ≡ true
 stands-at at count low = grind (arith, nat_tests)
+
+above-top : (at : ℕ) → (at ≡ 0 → ⊥) → 0 < at
+above-top zero not = absurd (not refl)
+above-top (suc n) not = omega arith
 
 stands-above : (at count : ℕ) → count < at → nat_le at count ≡ false
 stands-above at count past = grind (arith, nat_tests)
@@ -23,19 +31,44 @@ stands-above at count past = grind (arith, nat_tests)
 pub put_head-requires-clause-room : goal.put_head-requires-clause-room
 put_head-requires-clause-room g c =
     let s = g.B.Blocks.value c.args.store.now in
+    let st = state_in g.B.Stacks.view.modules s c.args.self.now in
     let m = message_in s (g.B.Blocks.name c.args.message) in
-    room-for s (cost c.args.to m) (head_takes m) (omega (arith, head-cost c.args.to m (state_in g.B.Stacks.view.modules s c.args.self.now) c.if-to-eq0.true)) c.requires.room
+    room-for s (stack_cost (stands_of st) c.args.to m) (head_takes m) (omega (arith, head-stack (stands_of st) c.args.to m st c.if-to-eq0.true)) c.requires.room.room
+
+pub put_module-requires-clause-room : goal.put_module-requires-clause-room
+put_module-requires-clause-room g c =
+    let s = g.B.Blocks.value c.args.store.now in
+    let st = state_in g.B.Stacks.view.modules s c.args.self.now in
+    let to = c.args.to in
+    let m = message_in s (g.B.Blocks.name c.args.message) in
+    room-for s (stack_cost (stands_of st) to m) (at_place (module_takes to m) 0 to.at (stream to.side st).modules)
+    (place-room to m st (above-top to.at c.if-to-eq0.false) (omega (arith, c.if-to-modules_on.true, c.modules_on.ensures.on s))) c.requires.room.room
+
+pub put_module-requires-clause-books : goal.put_module-requires-clause-books
+put_module-requires-clause-books g c =
+    let s = g.B.Blocks.value c.args.store.now in
+    let st = state_in g.B.Stacks.view.modules s c.args.self.now in
+    let to = c.args.to in
+    let m = message_in s (g.B.Blocks.name c.args.message) in
+    let books = place-books to m st (above-top to.at c.if-to-eq0.false) (omega (arith, c.if-to-modules_on.true, c.modules_on.ensures.on s)) in
+    omega (arith, books, c.requires.room.spare)
 
 pub put_driver-requires-clause-room : goal.put_driver-requires-clause-room
 put_driver-requires-clause-room g c =
     let s = g.B.Blocks.value c.args.store.now in
+    let st = state_in g.B.Stacks.view.modules s c.args.self.now in
     let i = g.B.Blocks.name c.args.message in
-    subst (λ way. HasRoom s (below_takes way (has_parts (message_in s i)) true)) (sym c.in-Down.is) (behind-room Down s i c.args.to c.in-Down.is c.if-to-eq0.false c.requires.room)
+    let m = message_in s i in
+    subst (λ way. HasRoom s (below_takes way (has_parts m) true)) (sym c.in-Down.is)
+    (behind-room Down s i c.args.to c.in-Down.is c.if-to-eq0.false (room-for s (stack_cost (stands_of st) c.args.to m) (cost c.args.to m) (omega arith) c.requires.room.room))
 
 pub put_up-requires-clause-room : goal.put_up-requires-clause-room
 put_up-requires-clause-room g c =
     let s = g.B.Blocks.value c.args.store.now in
-    behind-room Up s (g.B.Blocks.name c.args.message) c.args.to c.in-Up.is c.if-to-eq0.false c.requires.room
+    let st = state_in g.B.Stacks.view.modules s c.args.self.now in
+    let i = g.B.Blocks.name c.args.message in
+    let m = message_in s i in
+    behind-room Up s i c.args.to c.in-Up.is c.if-to-eq0.false (room-for s (stack_cost (stands_of st) c.args.to m) (cost c.args.to m) (omega arith) c.requires.room.room)
 
 pub returns-then-to-eq0 : goal.returns-then-to-eq0
 returns-then-to-eq0 g c =

@@ -1,45 +1,102 @@
--- The module takes the message, and what it says of its queues is done by how the stream was before.
-use Rattle.std.proofs.Common.{◌-◌, ap, ◌∙◌}
+-- The module takes the message, what it says of its queues is done by how the stream was before, and what it made is told, and fits the books.
+use Rattle.std.proofs.Common.{◌-◌, sym, ap, ◌∙◌, arith}
 use Rattle.std.specs.Prelude.{slice_index_or, None}
-use Rattle.strm_types.specs.declared.names.Side.TheVariants.{Master, Slave}
+use Rattle.strm_types.specs.declared.names.Dir.TheVariants.{MasterToSlave, SlaveToMaster}
+use Rattle.strm_types.specs.Books.{with_made}
+use Rattle.strm_types.specs.Deliver.{tallied}
 use Rattle.strm_types.specs.Earlier.{places_of}
 use Rattle.strm_types.specs.Puts.{noted}
 use Rattle.strm_types.specs.State as state
+use Rattle.strm_frame.specs.Outboxes.{message_in}
+use Rattle.strm_pair.specs.declared.calling.Made.{Made}
 use Rattle.strm_pair.specs.declared.streams.Streams.{Streams}
+use Rattle.strm_pair.specs.ModuleServed.{between}
 use Rattle.strm_pair.specs.Nearest.{earlier_of}
-use Rattle.strm_pair.proofs.ModuleSteps.{module-by}
+use Rattle.strm_pair.specs.Pairs.{end_at, state_in, with_end}
+use Rattle.strm_pair.specs.PutBy.{taken_at}
+use Rattle.strm_pair.proofs.ModuleSteps.{books-same, module-by, modules-are, put-between, put-fits}
+use Rattle.strm_pair.proofs.PlaceCosts.{plain-few}
 use Rattle.strm_pair.proofs.streams.Streams.put_module.Goals as goal
-use Rattle.strm_pair.proofs.streams.Streams.put_module.Goals.{in-Master, in-Slave}
 
-pub returns : goal.returns
-returns g c =
+pub book_made-requires-clause-master : goal.book_made-requires-clause-master
+book_made-requires-clause-master g c =
+    let view = g.B.Stacks.view in
     let s = g.B.Blocks.value c.args.store.now in
     let i = g.B.Blocks.name c.args.message in
     let p = c.args.self.now in
     let to = c.args.to in
-    let V = g.B.Stacks.view.modules in
+    let m = message_in s i in
+    let st = state_in view.modules s p in
+    let f = c.args.told.now in
+    let f' = c.put_on_stack-acts.new.told in
+    let e = c.put_on_stack-acts.ensures in
+    let x = (end_at to.side c.put_on_stack-acts.new.self).stack in
+    let small = plain-few s i c.audit.ensures in
+    let tells = e.takes.tells ∙ ap (λ ls. tallied (taken_at to m ls).gone f) (sym (modules-are view s p to.side)) in
+    let few = c.of-before.ensures.few in
+    let first = ap (λ (b : Made). b.from_master) c.of-before.ensures.counts in
+    let second = ap (λ (b : Made). b.from_slave) c.of-before.ensures.counts in
+    let made = ap (λ k. between k f'.made_from_master) first ∙ put-between to m st small MasterToSlave f f' (omega (arith, few.0, first)) (omega (arith, few.1, second)) tells in
+    let book = ap (λ (y : Streams _). y.from_master.made) e.streams ∙ ap (λ b. b.made) (books-same to.side (record (end_at to.side p) { stack = x }) p).0 in
+    λ some. (let fits = put-fits to m st small c.requires.books MasterToSlave (omega (arith, some, made)) in omega (arith, made, book, fits))
+
+pub book_made-requires-clause-slave : goal.book_made-requires-clause-slave
+book_made-requires-clause-slave g c =
+    let view = g.B.Stacks.view in
+    let s = g.B.Blocks.value c.args.store.now in
+    let i = g.B.Blocks.name c.args.message in
+    let p = c.args.self.now in
+    let to = c.args.to in
+    let m = message_in s i in
+    let st = state_in view.modules s p in
+    let f = c.args.told.now in
+    let f' = c.put_on_stack-acts.new.told in
+    let e = c.put_on_stack-acts.ensures in
+    let x = (end_at to.side c.put_on_stack-acts.new.self).stack in
+    let small = plain-few s i c.audit.ensures in
+    let tells = e.takes.tells ∙ ap (λ ls. tallied (taken_at to m ls).gone f) (sym (modules-are view s p to.side)) in
+    let few = c.of-before.ensures.few in
+    let first = ap (λ (b : Made). b.from_master) c.of-before.ensures.counts in
+    let second = ap (λ (b : Made). b.from_slave) c.of-before.ensures.counts in
+    let made = ap (λ k. between k f'.made_from_slave) second ∙ put-between to m st small SlaveToMaster f f' (omega (arith, few.0, first)) (omega (arith, few.1, second)) tells in
+    let book = ap (λ (y : Streams _). y.from_slave.made) e.streams ∙ ap (λ b. b.made) (books-same to.side (record (end_at to.side p) { stack = x }) p).1 in
+    λ some. (let fits = put-fits to m st small c.requires.books SlaveToMaster (omega (arith, some, made)) in omega (arith, made, book, fits))
+
+pub returns : goal.returns
+returns g c =
+    let view = g.B.Stacks.view in
+    let s = g.B.Blocks.value c.args.store.now in
+    let i = g.B.Blocks.name c.args.message in
+    let p = c.args.self.now in
+    let to = c.args.to in
+    let m = message_in s i in
+    let st = state_in view.modules s p in
+    let f = c.args.told.now in
+    let f' = c.put_on_stack-acts.new.told in
+    let y = c.put_on_stack-acts.new.self in
+    let acts = c.put_on_stack-acts.result in
+    let e = c.put_on_stack-acts.ensures in
+    let x = (end_at to.side y).stack in
     let place = c.place-place.result in
     let earlier = earlier_of c.earlier-earlier.result in
-    let place_is = c.place-place.ensures s ∙ ap (λ (on : state.Stream _). slice_index_or (places_of on.modules) (to.at - 1) None) (c.end.ensures.stream V s) in
-    elim c.match-to.branch [
-      | in-Master w ↦
-          (let e = w.put-acts.ensures in
-          let x = w.put-acts.new.stack in
-          rw (w.store-is, w.told-is, w.acts-is)
-          (module-by g.B.Blocks.name g.B.Stacks.view Master s (g.B.Blocks.value w.put-acts.new.store) p (record c.match-to.self { enabled = c.note.new.enabled }) x i to place earlier w.put-acts.result c.args.told.now w.put-acts.new.told
-          c.audit.ensures c.requires.can_put w.in-Master.is place_is (λ way. c.earlier-earlier.ensures s way) c.requires.beside
-          e.state e.notes e.sent e.told e.held e.own e.chains e.hands e.spends e.pool
-          (ap (λ ns. record c.match-to.self { enabled = ns }) c.note.ensures
-          ∙ ap (λ ns. record c.match-to.self { enabled = noted to.side place earlier ns c.match-to.self.enabled }) (c.as_slice.ensures.value ∙ ap (λ acts. acts.notes.items) w.acts-is)
-          ∙ ap (λ (y : Streams _). record y { enabled = noted to.side place earlier w.put-acts.result.notes.items y.enabled }) w.self-is)))
-      | in-Slave w ↦
-          (let e = w.put-acts-in-Slave.ensures in
-          let x = w.put-acts-in-Slave.new.stack in
-          rw (w.store-is, w.told-is, w.acts-is)
-          (module-by g.B.Blocks.name g.B.Stacks.view Slave s (g.B.Blocks.value w.put-acts-in-Slave.new.store) p (record c.match-to.self { enabled = c.note.new.enabled }) x i to place earlier w.put-acts-in-Slave.result c.args.told.now w.put-acts-in-Slave.new.told
-          c.audit.ensures c.requires.can_put w.in-Slave.is place_is (λ way. c.earlier-earlier.ensures s way) c.requires.beside
-          e.state e.notes e.sent e.told e.held e.own e.chains e.hands e.spends e.pool
-          (ap (λ ns. record c.match-to.self { enabled = ns }) c.note.ensures
-          ∙ ap (λ ns. record c.match-to.self { enabled = noted to.side place earlier ns c.match-to.self.enabled }) (c.as_slice.ensures.value ∙ ap (λ acts. acts.notes.items) w.acts-is)
-          ∙ ap (λ (y : Streams _). record y { enabled = noted to.side place earlier w.put-acts-in-Slave.result.notes.items y.enabled }) w.self-is)))
-    ]
+    let place_is = c.place-place.ensures s ∙ ap (λ (on : state.Stream _). slice_index_or (places_of on.modules) (to.at - 1) None) (c.end.ensures.stream view.modules s) in
+    let small = plain-few s i c.audit.ensures in
+    let tells = e.takes.tells ∙ ap (λ ls. tallied (taken_at to m ls).gone f) (sym (modules-are view s p to.side)) in
+    let few = c.of-before.ensures.few in
+    let first = ap (λ (b : Made). b.from_master) c.of-before.ensures.counts in
+    let second = ap (λ (b : Made). b.from_slave) c.of-before.ensures.counts in
+    let a = between c.of-before.result.from_master f'.made_from_master in
+    let b = between c.of-before.result.from_slave f'.made_from_slave in
+    let a_is = ap (λ k. between k f'.made_from_master) first ∙ put-between to m st small MasterToSlave f f' (omega (arith, few.0, first)) (omega (arith, few.1, second)) tells in
+    let b_is = ap (λ k. between k f'.made_from_slave) second ∙ put-between to m st small SlaveToMaster f f' (omega (arith, few.0, first)) (omega (arith, few.1, second)) tells in
+    let changed = with_end to.side (record (end_at to.side p) { stack = x }) p in
+    let same = books-same to.side (record (end_at to.side p) { stack = x }) p in
+    let at : Streams _ → Streams _ = λ z. record z { enabled = noted to.side place earlier acts.notes.items z.enabled; from_master = with_made a z.from_master; from_slave = with_made b z.from_slave } in
+    module-by g.B.Blocks.name view s (g.B.Blocks.value c.put_on_stack-acts.new.store) p c.book_made.new.self x i to place earlier acts f f' a b
+    c.audit.ensures c.requires.can_put place_is (λ way. c.earlier-earlier.ensures s way) c.requires.beside e.takes a_is b_is
+    (c.book_made.ensures
+    ∙ ap (λ ns. record y { enabled = ns; from_master = with_made a y.from_master; from_slave = with_made b y.from_slave }) (c.note.ensures ∙ ap (λ ns. noted to.side place earlier ns y.enabled) c.as_slice.ensures.value)
+    ∙ ap at e.streams
+    ∙ ap (λ k. record changed { enabled = noted to.side place earlier acts.notes.items changed.enabled; from_master = with_made a k; from_slave = with_made b changed.from_slave }) same.0
+    ∙ ap (λ k. record changed { enabled = noted to.side place earlier acts.notes.items changed.enabled; from_master = with_made a p.from_master; from_slave = with_made b k }) same.1
+    ∙ ap (λ ns. record changed { enabled = noted to.side place earlier acts.notes.items ns; from_master = with_made a p.from_master; from_slave = with_made b p.from_slave }) same.2)

@@ -1,8 +1,20 @@
 -- The message is alone in hand.
-use Rattle.std.proofs.Common.{ℕ, ◌+◌, length, List, Option, Bor, ap, ◌∙◌}
-use Rattle.std.specs.Prelude.{option_map}
+use Rattle.std.proofs.Common.{ℕ, ◌≡◌, ◌+◌, length, List, Option, Bor, false, refl, ap, ◌∙◌, arith}
+use Rattle.std.specs.Prelude.{None, Some, option_map}
+use Rattle.strm_types.specs.declared.books.Book.{Book}
+use Rattle.strm_types.specs.declared.modes.Prio.{Prio}
+use Rattle.strm_types.specs.declared.modes.Prio.TheVariants.{High, Band}
+use Rattle.strm_types.specs.declared.names.Side.{Side}
+use Rattle.strm_types.specs.Books.{with_written}
+use Rattle.strm_types.specs.Names.{direction_from}
+use Rattle.strm_types.specs.PutMsg.{no_parts, put_message}
+use Rattle.strm_types.specs.Spares.{spare}
+use Rattle.strm_types.specs.StackCosts.{most_cost}
+use Rattle.strm_types.specs.State.{State, book, with_book}
+use Rattle.strm_types.proofs.Balances.{parts-few}
 use Rattle.strm_blocks.specs.Blocks.{in_hand}
 use Rattle.strm_msg.specs.Messages.{message_of}
+use Rattle.strm_types.specs.Cells.{plain}
 use Rattle.strm_types.specs.Deliver.{tallied}
 use Rattle.strm_types.specs.Message.{part}
 use Rattle.strm_types.specs.Puts.{delivered}
@@ -10,7 +22,8 @@ use Rattle.strm_types.specs.declared.names.Way.TheVariants.{Down}
 use Rattle.strm_types.specs.declared.spots.Spot.{Spot}
 use Rattle.strm_pair.specs.Pairs.{state_in}
 use Rattle.strm_pair.proofs.InHand.{made-alone, made-state}
-use Rattle.strm_pair.proofs.PutBooks.{put-state, put-told}
+use Rattle.strm_pair.proofs.PlaceCosts.{may-by}
+use Rattle.strm_pair.proofs.PutBooks.{book-low, put-state, put-told, sent-written, written-spare}
 use Rattle.strm_pair.proofs.streams.Streams.putmsg.Goals as goal
 
 -- a part's bytes
@@ -21,6 +34,53 @@ pub deliver_alone-requires-clause-alone : goal.deliver_alone-requires-clause-alo
 deliver_alone-requires-clause-alone g c =
     let sends = c.in-Some.ensures.made in
     made-alone g.B.Stacks.view (g.B.Blocks.value c.args.store.now) (g.B.Blocks.value c.make_message.new.store) c.args.self.now c.requires.held c.requires.idle (g.B.Blocks.name c.in-Some.message) sends.after sends.chain
+
+-- a message of parts takes no block on its way down, and no packet comes of it
+parts-free : (side : Side) (prio : Prio) (control body : Option (List ℕ)) → no_parts control body ≡ false → most_cost (record { side = side; at = 1; way = Down }) (put_message prio control body) ≡ 0
+parts-free side prio None None some = absurd (cc)
+parts-free side High (Some xs) body some = refl
+parts-free side (Band band) (Some xs) body some = refl
+parts-free side High None (Some ys) some = refl
+parts-free side (Band band) None (Some ys) some = refl
+
+pub deliver_alone-requires-clause-room : goal.deliver_alone-requires-clause-room
+deliver_alone-requires-clause-room g c =
+    let made = g.B.Blocks.value c.make_message.new.store in
+    let free = parts-free c.args.side c.args.prio (shown c.args.control) (shown c.args.body) c.in-Some.ensures.none in
+    may-by made (spare (state_in g.B.Stacks.view.modules made c.args.self.now)) (record { side = c.args.side; at = 1; way = Down }) (message_of (in_hand made (g.B.Blocks.name c.in-Some.message)))
+    (put_message c.args.prio (shown c.args.control) (shown c.args.body)) 0 c.in-Some.ensures.made.shows (omega (arith, free)) (record { mblks = omega arith; dblks = omega arith }) (omega arith)
+
+pub with_written-book-requires : goal.with_written-book-requires
+with_written-book-requires g c =
+    let s = g.B.Blocks.value c.args.store.now in
+    let made = g.B.Blocks.value c.make_message.new.store in
+    let t = g.B.Blocks.value c.deliver_alone.new.store in
+    let i = g.B.Blocks.name c.in-Some.message in
+    let old = state_in g.B.Stacks.view.modules s c.args.self.now in
+    let dir = direction_from c.args.side in
+    let to : Spot = record { side = c.args.side; at = 1; way = Down } in
+    let is = ap (λ (b : Book). b.written) (c.book_of.ensures g.B.Stacks.view.modules t) in
+    let sent = ap (λ (v : State ℕ). (book dir v).written) c.deliver_alone.ensures.state in
+    let stays = sent-written to (message_of (in_hand made i)) dir (state_in g.B.Stacks.view.modules made c.args.self.now) in
+    let same = ap (λ (v : State ℕ). (book dir v).written) (made-state g.B.Stacks.view s made c.args.self.now c.requires.held c.requires.idle i c.in-Some.ensures.made.after) in
+    let few = parts-few c.args.prio (shown c.args.control) (shown c.args.body) c.requires.allowed in
+    omega (arith, book-low c.args.side old c.requires.in_range, is, sent, stays, same, few, c.len_of.ensures.value, c.len_of-2.ensures.value)
+
+pub returns-clause-left : goal.returns-clause-left
+returns-clause-left g c =
+    let s = g.B.Blocks.value c.args.store.now in
+    let made = g.B.Blocks.value c.make_message.new.store in
+    let t = g.B.Blocks.value c.deliver_alone.new.store in
+    let i = g.B.Blocks.name c.in-Some.message in
+    let dir = direction_from c.args.side in
+    let to : Spot = record { side = c.args.side; at = 1; way = Down } in
+    let sent = state_in g.B.Stacks.view.modules t c.deliver_alone.new.self in
+    let n = c.len_of.result + c.len_of-2.result in
+    let kept = c.keep_book.ensures.state g.B.Stacks.view.modules t
+    ∙ ap (λ (b : Book). with_book dir b sent) (c.with_written-book.ensures ∙ ap (with_written n) (c.book_of.ensures g.B.Stacks.view.modules t)) in
+    let free = ap (most_cost to) c.in-Some.ensures.made.shows ∙ parts-free c.args.side c.args.prio (shown c.args.control) (shown c.args.body) c.in-Some.ensures.none in
+    let same = ap spare (made-state g.B.Stacks.view s made c.args.self.now c.requires.held c.requires.idle i c.in-Some.ensures.made.after) in
+    omega (arith, c.deliver_alone.ensures.takes.spare, free, same, ap spare kept, written-spare dir n sent)
 
 pub returns-clause-state : goal.returns-clause-state
 returns-clause-state g c =
@@ -33,10 +93,10 @@ returns-clause-state g c =
     let same = made-state g.B.Stacks.view s made p c.requires.held c.requires.idle i c.in-Some.ensures.made.after in
     let to : Spot = record { side = c.args.side; at = 1; way = Down } in
     put-state c.args.side c.args.prio (shown c.args.control) (shown c.args.body) (state_in g.B.Stacks.view.modules s p) c.in-Some.ensures.none m c.in-Some.ensures.made.shows
-    (state_in g.B.Stacks.view.modules t c.deliver_alone.new.self) (state_in g.B.Stacks.view.modules t c.keep_book.new.self) c.book_with-book.result (c.len_of.result + c.len_of-2.result)
-    (c.deliver_alone.ensures.state ∙ ap (λ v. (delivered to m v).state) same)
+    (state_in g.B.Stacks.view.modules t c.deliver_alone.new.self) (state_in g.B.Stacks.view.modules t c.keep_book.new.self) c.with_written-book.result (c.len_of.result + c.len_of-2.result)
+    (c.deliver_alone.ensures.state ∙ ap (λ v. (delivered plain to m v).state) same)
     (c.keep_book.ensures.state g.B.Stacks.view.modules t)
-    (c.book_with-book.ensures g.B.Stacks.view.modules s)
+    (c.with_written-book.ensures ∙ ap (with_written (c.len_of.result + c.len_of-2.result)) (c.book_of.ensures g.B.Stacks.view.modules t))
     (ap (λ n. n + c.len_of-2.result) c.len_of.ensures.value ∙ ap (λ n. length (part (shown c.args.control)) + n) c.len_of-2.ensures.value)
 
 pub returns-clause-told : goal.returns-clause-told
@@ -49,4 +109,4 @@ returns-clause-told g c =
     let same = made-state g.B.Stacks.view s made p c.requires.held c.requires.idle i c.in-Some.ensures.made.after in
     let to : Spot = record { side = c.args.side; at = 1; way = Down } in
     put-told c.args.side c.args.prio (shown c.args.control) (shown c.args.body) (state_in g.B.Stacks.view.modules s p) c.in-Some.ensures.none m c.in-Some.ensures.made.shows
-    c.args.told.now c.deliver_alone.new.told (c.deliver_alone.ensures.told ∙ ap (λ v. tallied (delivered to m v).gone c.args.told.now) same)
+    c.args.told.now c.deliver_alone.new.told (c.deliver_alone.ensures.told ∙ ap (λ v. tallied (delivered plain to m v).gone c.args.told.now) same)

@@ -1,17 +1,20 @@
 -- The chunk is alone in hand.
-use Rattle.std.proofs.Common.{ℕ, sym, ap, subst, ◌∙◌, arith}
+use Rattle.std.proofs.Common.{ℕ, ◌≡◌, List, ap, ◌∙◌, arith}
+use Rattle.strm_types.specs.declared.names.Side.{Side}
 use Rattle.strm_types.specs.declared.spots.Spot.{Spot}
-use Rattle.strm_types.specs.Costs.{cost}
+use Rattle.strm_types.specs.Cells.{plain}
 use Rattle.strm_types.specs.Deliver.{tallied}
-use Rattle.strm_types.specs.Message.{Message}
+use Rattle.strm_types.specs.Message.{Message, data_message}
 use Rattle.strm_types.specs.Puts.{delivered}
+use Rattle.strm_types.specs.Spares.{spare}
+use Rattle.strm_types.specs.StackCosts.{most_cost}
 use Rattle.strm_types.specs.Writes.{below_head}
 use Rattle.strm_blocks.specs.Blocks.{in_hand}
 use Rattle.strm_msg.specs.Messages.{message_of}
-use Rattle.strm_frame.specs.Hands.{HasRoom, Spends}
 use Rattle.strm_pair.specs.Pairs.{state_in}
 use Rattle.strm_pair.proofs.ChunkSteps.{chunk-free}
 use Rattle.strm_pair.proofs.InHand.{made-alone, made-state}
+use Rattle.strm_pair.proofs.PlaceCosts.{may-by}
 use Rattle.strm_pair.proofs.streams.Streams.send_chunk.Goals as goal
 
 pub deliver_alone-requires-clause-alone : goal.deliver_alone-requires-clause-alone
@@ -22,8 +25,9 @@ deliver_alone-requires-clause-alone g c =
 pub deliver_alone-requires-clause-room : goal.deliver_alone-requires-clause-room
 deliver_alone-requires-clause-room g c =
     let made = g.B.Blocks.value c.write.new.store in
-    let free = ap (λ (m : Message ℕ). cost (below_head c.args.side) m) c.in-Ok.ensures.made.shows ∙ chunk-free c.args.side c.args.chunk.now in
-    subst (λ n. HasRoom made n) (sym free) (record { mblks = omega arith; dblks = omega arith })
+    let free = chunk-free c.args.side c.args.chunk.now in
+    may-by made (spare (state_in g.B.Stacks.view.modules made c.args.self.now)) (below_head c.args.side) (message_of (in_hand made (g.B.Blocks.name c.in-Ok.message))) (data_message c.args.chunk.now) 0 c.in-Ok.ensures.made.shows (omega (arith, free))
+    (record { mblks = omega arith; dblks = omega arith }) (omega arith)
 
 pub returns-clause-state : goal.returns-clause-state
 returns-clause-state g c =
@@ -34,8 +38,8 @@ returns-clause-state g c =
     let m = message_of (in_hand made i) in
     let to : Spot = below_head c.args.side in
     c.deliver_alone.ensures.state
-    ∙ ap (λ v. (delivered to m v).state) (made-state g.B.Stacks.view s made p c.requires.held c.requires.idle i c.in-Ok.ensures.made.after)
-    ∙ ap (λ (x : Message ℕ). (delivered to x (state_in g.B.Stacks.view.modules s p)).state) c.in-Ok.ensures.made.shows
+    ∙ ap (λ v. (delivered plain to m v).state) (made-state g.B.Stacks.view s made p c.requires.held c.requires.idle i c.in-Ok.ensures.made.after)
+    ∙ ap (λ (x : Message ℕ). (delivered plain to x (state_in g.B.Stacks.view.modules s p)).state) c.in-Ok.ensures.made.shows
 
 pub returns-clause-told : goal.returns-clause-told
 returns-clause-told g c =
@@ -46,21 +50,27 @@ returns-clause-told g c =
     let m = message_of (in_hand made i) in
     let to : Spot = below_head c.args.side in
     c.deliver_alone.ensures.told
-    ∙ ap (λ v. tallied (delivered to m v).gone c.args.told.now) (made-state g.B.Stacks.view s made p c.requires.held c.requires.idle i c.in-Ok.ensures.made.after)
-    ∙ ap (λ (x : Message ℕ). tallied (delivered to x (state_in g.B.Stacks.view.modules s p)).gone c.args.told.now) c.in-Ok.ensures.made.shows
+    ∙ ap (λ v. tallied (delivered plain to m v).gone c.args.told.now) (made-state g.B.Stacks.view s made p c.requires.held c.requires.idle i c.in-Ok.ensures.made.after)
+    ∙ ap (λ (x : Message ℕ). tallied (delivered plain to x (state_in g.B.Stacks.view.modules s p)).gone c.args.told.now) c.in-Ok.ensures.made.shows
+
+-- it takes none
+free-of : (side : Side) (chunk : List ℕ) (m : Message ℕ) → m ≡ data_message chunk → most_cost (below_head side) m ≡ 0
+free-of side chunk m shows = ap (most_cost (below_head side)) shows ∙ chunk-free side chunk
 
 pub returns-clause-takes_m : goal.returns-clause-takes_m
 returns-clause-takes_m g c =
-    let made = g.B.Blocks.value c.write.new.store in
-    let t = g.B.Blocks.value c.deliver_alone.new.store in
-    let free = ap (λ (m : Message ℕ). cost (below_head c.args.side) m) c.in-Ok.ensures.made.shows ∙ chunk-free c.args.side c.args.chunk.now in
-    let spent : Spends made t 0 0 = subst (λ n. Spends made t n 0) free c.deliver_alone.ensures.spends in
-    omega (arith, spent.mblks, c.in-Ok.ensures.made.room_m)
+    let free = free-of c.args.side c.args.chunk.now (message_of (in_hand (g.B.Blocks.value c.write.new.store) (g.B.Blocks.name c.in-Ok.message))) c.in-Ok.ensures.made.shows in
+    omega (arith, free, c.deliver_alone.ensures.takes.blocks.mblks, c.in-Ok.ensures.made.room_m)
 
 pub returns-clause-takes_d : goal.returns-clause-takes_d
 returns-clause-takes_d g c =
+    let free = free-of c.args.side c.args.chunk.now (message_of (in_hand (g.B.Blocks.value c.write.new.store) (g.B.Blocks.name c.in-Ok.message))) c.in-Ok.ensures.made.shows in
+    omega (arith, free, c.deliver_alone.ensures.takes.blocks.dblks, c.in-Ok.ensures.made.room_d)
+
+pub returns-clause-left : goal.returns-clause-left
+returns-clause-left g c =
+    let i = g.B.Blocks.name c.in-Ok.message in
     let made = g.B.Blocks.value c.write.new.store in
-    let t = g.B.Blocks.value c.deliver_alone.new.store in
-    let free = ap (λ (m : Message ℕ). cost (below_head c.args.side) m) c.in-Ok.ensures.made.shows ∙ chunk-free c.args.side c.args.chunk.now in
-    let spent : Spends made t 0 0 = subst (λ n. Spends made t n 0) free c.deliver_alone.ensures.spends in
-    omega (arith, spent.dblks, c.in-Ok.ensures.made.room_d)
+    let free = free-of c.args.side c.args.chunk.now (message_of (in_hand made i)) c.in-Ok.ensures.made.shows in
+    let same = made-state g.B.Stacks.view (g.B.Blocks.value c.args.store.now) made c.args.self.now c.requires.held c.requires.idle i c.in-Ok.ensures.made.after in
+    omega (arith, free, c.deliver_alone.ensures.takes.spare, ap spare same)

@@ -1,14 +1,22 @@
--- A driver's turn books nothing.
-use Rattle.std.proofs.Common.{sym, subst}
+-- A driver's turn makes little: what becomes packets of its message.
+use Rattle.std.proofs.Common.{ap, sym, subst, arith}
 use Rattle.strm_types.specs.Cells.{plain}
 use Rattle.strm_types.specs.Ledgers.{FewBooked}
+use Rattle.strm_types.specs.Spares.{spare}
+use Rattle.strm_types.specs.State.{stream}
 use Rattle.strm_types.specs.Turns.{driver_turned}
-use Rattle.strm_types.proofs.Balances.{range-few}
-use Rattle.strm_types.proofs.StepBooks.{driver-same}
+use Rattle.strm_types.proofs.Balances.{turn-few}
+use Rattle.strm_types.proofs.StackSpares.{range-spare, spare-low}
+use Rattle.strm_types.proofs.StepBooks.{serves-books}
 use Rattle.strm_pair.specs.Pairs.{state_in}
 use Rattle.strm_pair.proofs.streams.Streams.turn.Goals as goal
 
 pub returns-in-Driver-clause-few : goal.returns-in-Driver-clause-few
 returns-in-Driver-clause-few g c =
+    let side = c.args.name.side in
     let from = state_in g.B.Stacks.view.modules (g.B.Blocks.value c.args.store.now) (record c.args.self.now { enabled = c.remove.new.self }) in
-    subst FewBooked (sym c.turn_driver.ensures.state) (range-few from (driver_turned c.args.name.side from).state c.requires.range (driver-same plain c.args.name.side from))
+    let behind = driver_turned plain side from in
+    let e = c.turn_driver.ensures in
+    subst FewBooked (sym e.state)
+    (turn-few plain from behind.state behind.gone c.requires.range (serves-books plain side (stream side from).driver.queue.messages from)
+    (spare-low behind.state (omega (arith, e.left, ap spare e.state, range-spare from c.requires.range))))

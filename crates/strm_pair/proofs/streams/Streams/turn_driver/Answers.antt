@@ -1,5 +1,5 @@
 -- What is seen of the first message says what becomes of it.
-use Rattle.std.proofs.Common.{ℕ, ap, sym, ◌∙◌}
+use Rattle.std.proofs.Common.{ℕ, true, false, ap, sym, ◌∙◌, arith}
 use Rattle.std.specs.Prelude.{not, ◌&&◌}
 use Rattle.strm_types.specs.declared.names.Way.TheVariants.{Up}
 use Rattle.strm_types.specs.Deliver.{tallied}
@@ -7,9 +7,11 @@ use Rattle.strm_types.specs.Earlier.{driver_place}
 use Rattle.strm_types.specs.Message.{is_held}
 use Rattle.strm_types.specs.Names.{other}
 use Rattle.strm_types.specs.Past.{has_room_past, writer_waits}
+use Rattle.strm_types.specs.Spares.{spare}
+use Rattle.strm_types.specs.State.{stream}
 use Rattle.strm_types.specs.TurnOutcomes.{TurnOutcome}
 use Rattle.strm_pair.specs.Pairs.{state_in, end_at}
-use Rattle.strm_pair.proofs.TurnSteps.{turned-stopped, turned-moved}
+use Rattle.strm_pair.proofs.TurnSteps.{taken-spare, turned-stopped, turned-moved, waits-spare}
 use Rattle.strm_pair.proofs.streams.Streams.turn_driver.Goals as goal
 
 pub returns-then-is_stopped-clause-turn : goal.returns-then-is_stopped-clause-turn
@@ -103,3 +105,29 @@ pub returns-then-is_stopped-clause-held : goal.returns-then-is_stopped-clause-he
 returns-then-is_stopped-clause-held g c =
     let s = g.B.Blocks.value c.args.store.now in
     c.wait_past.ensures.held s (c.keep-then-is_stopped.ensures.held s c.requires.held)
+
+-- the books stay where nothing moves
+pub returns-in_default-clause-left : goal.returns-in_default-clause-left
+returns-in_default-clause-left g c =
+    let s = g.B.Blocks.value c.args.store.now in
+    let old = state_in g.B.Stacks.view.modules s c.args.self.now in
+    omega (arith, ap spare (c.keep.ensures.state g.B.Stacks.view.modules s), taken-spare c.args.side (record (stream c.args.side old).driver.queue { want_read = true }) old)
+
+pub returns-then-not-is_open-clause-left : goal.returns-then-not-is_open-clause-left
+returns-then-not-is_open-clause-left g c =
+    let s = g.B.Blocks.value c.args.store.now in
+    let old = state_in g.B.Stacks.view.modules s c.args.self.now in
+    omega (arith, ap spare (c.keep-then-not-is_open.ensures.state g.B.Stacks.view.modules s), taken-spare c.args.side (record (stream c.args.side old).driver.queue { want_read = false }) old)
+
+pub returns-then-is_stopped-clause-left : goal.returns-then-is_stopped-clause-left
+returns-then-is_stopped-clause-left g c =
+    let s = g.B.Blocks.value c.args.store.now in
+    let old = state_in g.B.Stacks.view.modules s c.args.self.now in
+    let kept = state_in g.B.Stacks.view.modules s c.keep-then-is_stopped.new.self in
+    omega (
+      arith,
+      ap spare (c.wait_past.ensures.state s),
+      waits-spare c.other-above.result Up c.driver_place-at.result c.in-Some.first.band.0 kept,
+      ap spare (c.keep-then-is_stopped.ensures.state g.B.Stacks.view.modules s),
+      taken-spare c.args.side (record (stream c.args.side old).driver.queue { want_read = false }) old,
+    )

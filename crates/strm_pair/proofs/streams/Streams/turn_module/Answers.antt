@@ -7,12 +7,14 @@ use Rattle.strm_types.specs.Deliver.{tallied}
 use Rattle.strm_types.specs.Kept.{AreIdle}
 use Rattle.strm_types.specs.ModuleTurns.{module_turn_ended, module_turned}
 use Rattle.strm_types.specs.Ledgers.{FewBooked}
+use Rattle.strm_types.specs.Spares.{spare}
 use Rattle.strm_types.specs.State.{State, book}
 use Rattle.strm_types.specs.TurnCalls.{bytes_left, ldterm_of, module_at}
 use Rattle.strm_types.specs.TurnOutcomes.{TurnOutcome}
 use Rattle.strm_types.proofs.Balances.{range-low, turn-few}
 use Rattle.strm_types.proofs.InOrder.{BooksMade}
-use Rattle.strm_types.proofs.StepBooks.{books-are, ended-books, module-books}
+use Rattle.strm_types.proofs.StackSpares.{range-spare, same-spare, spare-low}
+use Rattle.strm_types.proofs.StepBooks.{ended-books, module-books}
 use Rattle.strm_types.proofs.ModuleTurnKeeps.{module_turned-rests}
 use Rattle.strm_frame.proofs.Handing.{no-hand}
 use Rattle.strm_pair.specs.Framing.{rests}
@@ -101,13 +103,12 @@ returns-in-Serves-clause-few g c =
     let shows : new ≡ (module_turned plain c.args.name (Moved on.result) old).state =
     c.end_module_turn.ensures.state ∙ ap (λ took. module_turn_ended c.args.name c.in-Serves.here took st) (some-taken on.result) ∙ sym (ap (λ (t : TurnOutcome ℕ). t.state) is) in
     let ended = ended-books plain c.in-Serves.here c.args.name (not (on.result == 0)) st in
-    let made = on.ensures.treats.made in
     let within = on.ensures.treats.within in
     let few = c.in-Serves.ensures.begins.few in
-    subst FewBooked (sym shows)
-    (turn-few plain old (module_turned plain c.args.name (Moved on.result) old).state (module_turned plain c.args.name (Moved on.result) old).gone c.requires.range (module-books plain c.args.name (Moved on.result) old) (λ dir.
-    let low = range-low dir old c.requires.range in
-    let stays = ap (λ (v : State ℕ). (book dir v).made) c.in-Serves.ensures.begins.stays in
-    let behind = ap (λ (t : TurnOutcome ℕ). (book dir t.state).made) is ∙ ap (λ b. b.made) (books-are st (module_turn_ended c.args.name c.in-Serves.here (not (on.result == 0)) st) ended dir) in
+    let stays = ap spare c.in-Serves.ensures.begins.stays in
+    let behind = ap (λ (t : TurnOutcome ℕ). spare t.state) is in
+    let same = same-spare st (module_turn_ended c.args.name c.in-Serves.here (not (on.result == 0)) st) ended in
     let left = ap (λ v. bytes_left c.in-Serves.here.way false (ldterm_of (module_at c.in-Serves.here v))) c.in-Serves.ensures.begins.stays in
-    omega (arith, low.1, made dir, within, few, stays, behind, left)))
+    subst FewBooked (sym shows)
+    (turn-few plain old (module_turned plain c.args.name (Moved on.result) old).state (module_turned plain c.args.name (Moved on.result) old).gone c.requires.range (module-books plain c.args.name (Moved on.result) old)
+    (spare-low (module_turned plain c.args.name (Moved on.result) old).state (omega (arith, range-spare old c.requires.range, stays, behind, same, on.ensures.treats.left, within, few, left))))

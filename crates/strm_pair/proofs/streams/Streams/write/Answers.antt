@@ -1,16 +1,23 @@
 -- A write by whether a module stands.
-use Rattle.std.proofs.Common.{ℕ, List, sym, ap, ◌∙◌, arith}
+use Rattle.std.proofs.Common.{ℕ, ◌≡◌, List, refl, sym, ap, ◌∙◌, arith}
 use Rattle.strm_types.specs.declared.answers.Answer.TheVariants.{Count}
 use Rattle.strm_types.specs.declared.books.Book.{Book}
+use Rattle.strm_types.specs.declared.names.Side.{Side}
+use Rattle.strm_types.specs.declared.names.Side.TheVariants.{Master, Slave}
 use Rattle.strm_types.specs.Books.{with_written}
 use Rattle.strm_types.specs.Calls.{Outcome}
+use Rattle.strm_types.specs.Cells.{plain}
 use Rattle.strm_types.specs.Deliver.{Fate, tallied}
 use Rattle.strm_types.specs.Names.{direction_from}
+use Rattle.strm_types.specs.Spares.{spare}
 use Rattle.strm_types.specs.State.{State, book, with_book}
+use Rattle.strm_types.specs.Write.{chunks_of}
 use Rattle.strm_types.specs.Writes.{Wrote}
+use Rattle.strm_types.proofs.Balances.{chunks-book}
+use Rattle.strm_pair.specs.PlainCalls.{wrote_plain}
 use Rattle.strm_pair.specs.Pairs.{state_in}
 use Rattle.strm_pair.proofs.PlainWrites.{none-counted, wrote-is, wrote-none, chunks-are, chunks-written, wrote-chunks}
-use Rattle.strm_pair.proofs.PutBooks.{book-low}
+use Rattle.strm_pair.proofs.PutBooks.{book-low, written-spare}
 use Rattle.strm_pair.proofs.streams.Streams.write.Goals as goal
 
 pub returns-then-modules-eq0-clause-answer : goal.returns-then-modules-eq0-clause-answer
@@ -37,9 +44,13 @@ returns-then-modules-eq0-clause-told g c =
 pub with_written-book-requires : goal.with_written-book-requires
 with_written-book-requires g c =
     let s = g.B.Blocks.value c.args.store.now in
+    let t = g.B.Blocks.value c.send_chunks-taken.new.store in
     let old = state_in g.B.Stacks.view.modules s c.args.self.now in
-    let is = ap (λ (b : Book). b.written) (c.book_of-old.ensures g.B.Stacks.view.modules s) in
-    omega (arith, book-low c.args.side old c.requires.in_range, is, c.send_chunks-taken.ensures.fits)
+    let dir = direction_from c.args.side in
+    let is = ap (λ (b : Book). b.written) (c.book_of.ensures g.B.Stacks.view.modules t) in
+    let sent = ap (λ (v : State ℕ). (book dir v).written) c.send_chunks-taken.ensures.state in
+    let stays = (chunks-book plain c.args.side (chunks_of c.chunk_count-chunks.result c.args.bytes.now) old).written dir in
+    omega (arith, book-low c.args.side old c.requires.in_range, is, sent, stays, c.send_chunks-taken.ensures.fits)
 
 pub returns-clause-answer : goal.returns-clause-answer
 returns-clause-answer g c =
@@ -58,10 +69,9 @@ returns-clause-state g c =
     let dir = direction_from side in
     let e = wrote-chunks side c.args.bytes.now old c.chunk_count-chunks.result c.chunk_count-chunks.ensures.value in
     c.keep_book.ensures.state g.B.Stacks.view.modules t
-    ∙ ap (λ (b : Book). with_book dir b sent) c.with_written-book.ensures
-    ∙ ap (λ (b : Book). with_book dir (with_written c.send_chunks-taken.result b) sent) (c.book_of-old.ensures g.B.Stacks.view.modules s)
-    ∙ ap (λ n. with_book dir (with_written n (book dir old)) sent) c.send_chunks-taken.ensures.taken
-    ∙ ap (λ (v : State ℕ). with_book dir (with_written (chunks-written side c.chunk_count-chunks.result c.args.bytes.now old).taken (book dir old)) v) c.send_chunks-taken.ensures.state
+    ∙ ap (λ (b : Book). with_book dir b sent) (c.with_written-book.ensures ∙ ap (with_written c.send_chunks-taken.result) (c.book_of.ensures g.B.Stacks.view.modules t))
+    ∙ ap (λ n. with_book dir (with_written n (book dir sent)) sent) c.send_chunks-taken.ensures.taken
+    ∙ ap (λ (v : State ℕ). with_book dir (with_written (chunks-written side c.chunk_count-chunks.result c.args.bytes.now old).taken (book dir v)) v) c.send_chunks-taken.ensures.state
     ∙ ap (λ (o : Outcome ℕ). o.state) (sym e)
 
 pub returns-clause-told : goal.returns-clause-told
@@ -72,3 +82,22 @@ returns-clause-told g c =
 
 pub returns-clause-held : goal.returns-clause-held
 returns-clause-held g c = c.keep_book.ensures.held (g.B.Blocks.value c.send_chunks-taken.new.store) c.send_chunks-taken.ensures.held
+
+-- what is written isn't made
+plain-spare : (side : Side) (bytes : List ℕ) (s : State ℕ) → spare (wrote_plain side bytes s).state ≡ spare s
+plain-spare Master bytes s = refl
+plain-spare Slave bytes s = refl
+
+pub returns-then-modules-eq0-clause-left : goal.returns-then-modules-eq0-clause-left
+returns-then-modules-eq0-clause-left g c =
+    let old = state_in g.B.Stacks.view.modules (g.B.Blocks.value c.args.store.now) c.args.self.now in
+    omega (arith, ap spare c.write_alone.ensures.state, plain-spare c.args.side c.args.bytes.now old)
+
+pub returns-clause-left : goal.returns-clause-left
+returns-clause-left g c =
+    let t = g.B.Blocks.value c.send_chunks-taken.new.store in
+    let dir = direction_from c.args.side in
+    let sent = state_in g.B.Stacks.view.modules t c.send_chunks-taken.new.self in
+    let kept = c.keep_book.ensures.state g.B.Stacks.view.modules t
+    ∙ ap (λ (b : Book). with_book dir b sent) (c.with_written-book.ensures ∙ ap (with_written c.send_chunks-taken.result) (c.book_of.ensures g.B.Stacks.view.modules t)) in
+    omega (arith, c.send_chunks-taken.ensures.left, ap spare kept, written-spare dir c.send_chunks-taken.result sent)

@@ -6,7 +6,7 @@ use Rattle.strm_frame.specs.Hands.{once}
 use Rattle.strm_frame.specs.Outboxes.{message_in}
 use Rattle.strm_frame.specs.Toys.{upward, nothing}
 use Rattle.strm_frame.proofs.Handing.{can-in_hand, freed-hands, freed-spends, none-hands, none-spends, none-chains, none-lower, no-parts, one-parts, one-chains, one-lower, one-hands, one-spends}
-use Rattle.strm_frame.proofs.ToySteps.{counts-top, counts-on}
+use Rattle.strm_frame.proofs.ToySteps.{counts-top, counts-on, free-takes}
 use Rattle.strm_frame.proofs.tests.counter.CounterStations.put_at.Goals as goal
 
 pub free-requires : goal.free-requires
@@ -29,11 +29,11 @@ returns-then-to-eq0-clause-hands g c =
     let n = g.B.Blocks.name c.args.message in
     none-hands g.B.Blocks.name _ _ (once n) (λ _. 0) _ _ c.none.ensures (rw c.free.ensures (freed-hands s n (λ _. 0) c.audit.ensures c.requires.can_put))
 
-pub returns-then-to-eq0-clause-spends : goal.returns-then-to-eq0-clause-spends
-returns-then-to-eq0-clause-spends g c =
+pub returns-then-to-eq0-clause-takes : goal.returns-then-to-eq0-clause-takes
+returns-then-to-eq0-clause-takes g c =
     let s = g.B.Blocks.value c.args.store.now in
     let n = g.B.Blocks.name c.args.message in
-    none-spends g.B.Blocks.name _ _ nothing _ _ c.none.ensures (rw c.free.ensures (freed-spends s n (λ _. 0) 0 c.audit.ensures c.requires.can_put))
+    free-takes _ _ _ (none-spends g.B.Blocks.name _ _ nothing _ _ c.none.ensures (rw c.free.ensures (freed-spends s n (λ _. 0) 0 c.audit.ensures c.requires.can_put)))
 
 pub returns-clause-sent : goal.returns-clause-sent
 returns-clause-sent g c =
@@ -51,5 +51,6 @@ returns-clause-falls g c =
 pub returns-clause-hands : goal.returns-clause-hands
 returns-clause-hands g c = one-hands g.B.Blocks.name (g.B.Blocks.value c.args.store.now) (record { to = record c.args.to { at = c.args.to.at - 1; way = Up }; message = c.args.message }) (λ _. 0) _ c.one.ensures
 
-pub returns-clause-spends : goal.returns-clause-spends
-returns-clause-spends g c = one-spends g.B.Blocks.name (g.B.Blocks.value c.args.store.now) (record { to = record c.args.to { at = c.args.to.at - 1; way = Up }; message = c.args.message }) nothing _ _ c.one.ensures (omega arith)
+pub returns-clause-takes : goal.returns-clause-takes
+returns-clause-takes g c =
+    free-takes _ _ _ (one-spends g.B.Blocks.name (g.B.Blocks.value c.args.store.now) (record { to = record c.args.to { at = c.args.to.at - 1; way = Up }; message = c.args.message }) nothing _ _ c.one.ensures (omega arith))

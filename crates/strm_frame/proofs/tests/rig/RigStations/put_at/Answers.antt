@@ -1,13 +1,15 @@
 -- Past both modules the message is freed, and else it is put at one.
-use Rattle.std.proofs.Common.{sym, ap, ◌∙◌}
+use Rattle.std.proofs.Common.{◌-◌, map, sym, ap, ◌∙◌, arith}
 use Rattle.strm_blocks.specs.Blocks.{dropped}
 use Rattle.strm_frame.specs.Hands.{once}
-use Rattle.strm_frame.specs.Outboxes.{message_in}
+use Rattle.strm_frame.specs.Outboxes.{message_in, parcels_in, sent_of}
 use Rattle.strm_frame.specs.Stacks.{all_of}
 use Rattle.strm_frame.specs.Toys.{far, nothing}
 use Rattle.strm_frame.specs.Rigs.{rig-frame}
 use Rattle.strm_frame.proofs.Handing.{can-in_hand, freed-same, freed-hands, freed-spends, none-hands, none-spends, none-chains, none-lower, no-parts}
-use Rattle.strm_frame.proofs.RigSteps.{rig-ends}
+use Rattle.strm_frame.proofs.RigSteps.{none-taken, rig-ends}
+use Rattle.strm_frame.proofs.ToySteps.{free-takes, nothing-free}
+use Rattle.strm_frame.specs.ToyLaws.{stock_in}
 use Rattle.strm_frame.proofs.tests.rig.RigStations.put_at.Goals as goal
 
 pub free-requires : goal.free-requires
@@ -38,11 +40,28 @@ returns-then-is_end-clause-hands g c =
     none-hands g.B.Blocks.name _ _ (once n) (all_of (λ y i. 0) xs) (all_of (λ y i. 0) c.leave.new.self.modules.modules.items) _ c.none.ensures
     (rw (c.free.ensures, c.leave.ensures) (freed-hands s n (all_of (λ y i. 0) xs) c.audit.ensures c.requires.can_put))
 
-pub returns-then-is_end-clause-spends : goal.returns-then-is_end-clause-spends
-returns-then-is_end-clause-spends g c =
+pub returns-then-is_end-clause-takes : goal.returns-then-is_end-clause-takes
+returns-then-is_end-clause-takes g c =
     let s = g.B.Blocks.value c.args.store.now in
     let n = g.B.Blocks.name c.args.message in
-    none-spends g.B.Blocks.name _ _ nothing _ _ c.none.ensures (rw c.free.ensures (freed-spends s n (all_of (λ y i. 0) c.args.self.now.modules.modules.items) 0 c.audit.ensures c.requires.can_put))
+    free-takes _ _ _ (none-spends g.B.Blocks.name _ _ nothing _ _ c.none.ensures (rw c.free.ensures (freed-spends s n (all_of (λ y i. 0) c.args.self.now.modules.modules.items) 0 c.audit.ensures c.requires.can_put)))
 
 pub returns-clause-held : goal.returns-clause-held
 returns-clause-held g c = rw c.note_all.ensures (record { held = c.put-acts.ensures.held; two = c.put-acts.ensures.length ∙ c.requires.held.two })
+
+pub put-acts-requires-clause-room : goal.put-acts-requires-clause-room
+put-acts-requires-clause-room g c =
+    let xs = c.args.self.now.modules.modules.items in
+    let s = g.B.Blocks.value c.args.store.now in
+    let none = none-taken (map (λ y. stock_in s y.name y.queue) xs) (c.args.to.at - 1) in
+    record { mblks = omega arith; dblks = omega arith }
+
+pub returns-clause-takes : goal.returns-clause-takes
+returns-clause-takes g c =
+    let xs = c.args.self.now.modules.modules.items in
+    let s = g.B.Blocks.value c.args.store.now in
+    let t = g.B.Blocks.value c.put-acts.new.store in
+    let none = none-taken (map (λ y. stock_in s y.name y.queue) xs) (c.args.to.at - 1) in
+    let spends = c.put-acts.ensures.spends in
+    let free = nothing-free (parcels_in g.B.Blocks.name t (sent_of c.put-acts.result.sent)) in
+    free-takes s t _ (record { mblks = omega arith; dblks = omega arith })

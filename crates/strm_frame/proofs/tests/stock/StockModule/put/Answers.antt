@@ -12,7 +12,7 @@ use Rattle.strm_frame.specs.Hands.{once}
 use Rattle.strm_frame.specs.Outboxes.{message_in}
 use Rattle.strm_frame.specs.Toys.{Stock, far, nothing, onward}
 use Rattle.strm_frame.specs.ToyLaws.{stock_in}
-use Rattle.strm_frame.proofs.Handing.{can-in_hand, no-parts, none-chains, none-lower, none-hands, none-spends, one-parts, one-chains, one-lower, one-hands, one-spends}
+use Rattle.strm_frame.proofs.Handing.{can-in_hand, no-parts, none-chains, none-lower, none-hands, one-parts, one-chains, one-lower, one-hands}
 use Rattle.strm_frame.proofs.ToySteps.{onward-falls, kind-stays, stocks-stay, stocks-on, joined-hands, frees-spends, own-list}
 use Rattle.strm_frame.proofs.tests.stock.StockModule.put.Goals as goal
 
@@ -71,7 +71,7 @@ returns-then-stays-clause-hands g c =
     none-hands g.B.Blocks.name _ _ (once n) (λ _. 0) (λ _. 0) _ c.none.ensures (joined-hands s _ n _ _ c.audit.ensures c.requires.can_put e.changes e.frees)
 
 pub returns-then-stays-clause-spends : goal.returns-then-stays-clause-spends
-returns-then-stays-clause-spends g c = none-spends g.B.Blocks.name _ _ nothing _ _ c.none.ensures (frees-spends _ _ _ c.enqueue-enables.ensures.frees)
+returns-then-stays-clause-spends g c = frees-spends _ _ _ c.enqueue-enables.ensures.frees
 
 pub returns-clause-state : goal.returns-clause-state
 returns-clause-state g c =
@@ -123,4 +123,4 @@ pub returns-clause-hands : goal.returns-clause-hands
 returns-clause-hands g c = one-hands g.B.Blocks.name (g.B.Blocks.value c.args.store.now) (record { to = c.toward.result; message = c.args.message }) (λ _. 0) _ c.one.ensures
 
 pub returns-clause-spends : goal.returns-clause-spends
-returns-clause-spends g c = one-spends g.B.Blocks.name (g.B.Blocks.value c.args.store.now) (record { to = c.toward.result; message = c.args.message }) nothing 0 _ c.one.ensures (omega arith)
+returns-clause-spends g c = record { mblks = omega arith; dblks = omega arith }

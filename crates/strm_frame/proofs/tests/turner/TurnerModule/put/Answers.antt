@@ -6,7 +6,7 @@ use Rattle.strm_blocks.specs.Blocks.{in_hand}
 use Rattle.strm_msg.proofs.Chains.{kind-is}
 use Rattle.strm_frame.specs.Outboxes.{message_in}
 use Rattle.strm_frame.specs.Toys.{far, nothing, onward}
-use Rattle.strm_frame.proofs.Handing.{can-in_hand, one-parts, one-chains, one-lower, one-hands, one-spends}
+use Rattle.strm_frame.proofs.Handing.{can-in_hand, one-parts, one-chains, one-lower, one-hands}
 use Rattle.strm_frame.proofs.ToySteps.{onward-falls}
 use Rattle.strm_frame.proofs.tests.turner.TurnerModule.put.Goals as goal
 
@@ -35,4 +35,4 @@ pub returns-clause-hands : goal.returns-clause-hands
 returns-clause-hands g c = one-hands g.B.Blocks.name (g.B.Blocks.value c.args.store.now) (record { to = c.toward.result; message = c.args.message }) (λ _. 0) _ c.one.ensures
 
 pub returns-clause-spends : goal.returns-clause-spends
-returns-clause-spends g c = one-spends g.B.Blocks.name (g.B.Blocks.value c.args.store.now) (record { to = c.toward.result; message = c.args.message }) nothing 0 _ c.one.ensures (omega arith)
+returns-clause-spends g c = record { mblks = omega arith; dblks = omega arith }

@@ -1,0 +1,40 @@
+-- The module pckt beside a store: what it stands for, and what a put at it did (pckt(7M)).
+use Rattle.std.specs.Prelude.{ℕ, ◌≡◌}
+use Rattle.strm_types.specs.declared.rules.Fates.{Fates}
+use Rattle.strm_types.specs.declared.spots.Spot.{Spot}
+use Rattle.strm_types.specs.Cells as cells
+use Rattle.strm_types.specs.Deliver.{Acted, tallied}
+use Rattle.strm_types.specs.Message.{Message}
+use Rattle.strm_types.specs.Pckts as plain
+use Rattle.strm_blocks.specs.Blocks.{StoreValue, in_hand}
+use Rattle.strm_msg.specs.Messages.{message_of, IsChain}
+use Rattle.strm_frame.specs.declared.modules.Acts.{Acts}
+use Rattle.strm_frame.specs.Hands.{once, Shifts}
+use Rattle.strm_frame.specs.Outboxes.{sent_of}
+use Rattle.strm_pty.specs.Does.{Swaps}
+
+-- it stands for one that is set to nothing, whatever the store holds
+abbrev pub pckt_in : plain.Pckt
+pckt_in = record {}
+
+-- the packet of a message of plain bytes, whatever was made before
+abbrev pub packet_of : Spot → Message ℕ → Message ℕ
+packet_of here m = plain.packet cells.plain 0 here m
+
+-- what a put does over plain bytes
+abbrev pub puts : Spot → Message ℕ → plain.Pckt → Acted ℕ plain.Pckt
+puts here m p = plain.pckt_puts cells.plain 0 here m
+
+-- A message in hand became another one, which takes one block of each kind more at most.
+pub record Becomes (old new : StoreValue) (message packet : ℕ) (is : Message ℕ) : Type 0 where
+  pub lists : new.lists ≡ old.lists
+  pub hands : Shifts old new (once message) (once packet) 1
+  pub chain : IsChain (in_hand new packet)
+  pub shows : message_of (in_hand new packet) ≡ is
+
+-- A put did what a definition says: `message` has gone, and what is sent on has come in hand. No list of the store changed, and no more than so many
+-- blocks of each kind were taken.
+pub record Packs {M : Type 0} (name : M → ℕ) (old new : StoreValue) (message takes : ℕ) (acts : Acts M) (t t' : Fates) (is : Acted ℕ plain.Pckt) : Type 0 where
+  pub notes : acts.notes.items ≡ is.notes
+  pub told : t' ≡ tallied is.gone t
+  pub swaps : Swaps name old new message takes (sent_of acts.sent) is.sent
