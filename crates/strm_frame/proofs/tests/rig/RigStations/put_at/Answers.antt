@@ -1,5 +1,5 @@
 -- Past both modules the message is freed, and else it is put at one.
-use Rattle.std.proofs.Common.{◌-◌, map, sym, ap, ◌∙◌, arith}
+use Rattle.std.proofs.Common.{◌<◌, ◌≤◌, ◌-◌, length, map, sym, ap, ◌∙◌, arith}
 use Rattle.strm_blocks.specs.Blocks.{dropped}
 use Rattle.strm_frame.specs.Hands.{once}
 use Rattle.strm_frame.specs.Outboxes.{message_in, parcels_in, sent_of}
@@ -49,12 +49,16 @@ returns-then-is_end-clause-takes g c =
 pub returns-clause-held : goal.returns-clause-held
 returns-clause-held g c = rw c.note_all.ensures (record { held = c.put-acts.ensures.held; two = c.put-acts.ensures.length ∙ c.requires.held.two })
 
-pub put-acts-requires-clause-room : goal.put-acts-requires-clause-room
-put-acts-requires-clause-room g c =
+pub put-acts-requires : goal.put-acts-requires
+put-acts-requires g c =
+    let inside = c.is_end.ensures.inside c.if-is_end.false in
+    let two = c.requires.held.two in
     let xs = c.args.self.now.modules.modules.items in
     let s = g.B.Blocks.value c.args.store.now in
     let none = none-taken (map (λ y. stock_in s y.name y.queue) xs) (c.args.to.at - 1) in
-    record { mblks = omega arith; dblks = omega arith }
+    let low : 0 < c.args.to.at = omega (arith, inside) in
+    let few : c.args.to.at ≤ length xs = omega (arith, inside, two) in
+    (omega arith, (low, (few, (c.requires.held.held, (c.requires.can_put, (c.requires.chain, record { mblks = omega (arith, none); dblks = omega (arith, none) }))))))
 
 pub returns-clause-takes : goal.returns-clause-takes
 returns-clause-takes g c =
