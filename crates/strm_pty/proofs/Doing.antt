@@ -48,7 +48,7 @@ only-both s t u q q' q'' first second = record {
 }
 
 -- a message in hand, where nothing is kept
-once-none : (i j : ℕ) → i ≢ j → once i j ≡ 0
+pub once-none : (i j : ℕ) → i ≢ j → once i j ≡ 0
 unfolding once
 once-none i j ne = ap (λ v. cond {A = ℕ} v 1 0) (other-name i j ne)
 
@@ -74,17 +74,17 @@ module _ {M : Type 0} (name : M → ℕ) where
   unfolding times_sent
   times-one i x made one = ap (times_sent name i) one
 
-  times-append : (i : ℕ) (a b : List (Sent M)) → times_sent name i (a ++ b) ≡ times_sent name i a + times_sent name i b
+  pub times-append : (i : ℕ) (a b : List (Sent M)) → times_sent name i (a ++ b) ≡ times_sent name i a + times_sent name i b
   unfolding times_sent
   times-append i [] b = omega arith
   times-append i (x ∷ a) b = let ih = times-append i a b in omega arith
 
-  parcels-append : (s : StoreValue) (a b : List (Sent M)) → parcels_in name s (a ++ b) ≡ parcels_in name s a ++ parcels_in name s b
+  pub parcels-append : (s : StoreValue) (a b : List (Sent M)) → parcels_in name s (a ++ b) ≡ parcels_in name s a ++ parcels_in name s b
   unfolding parcels_in
   parcels-append s [] b = refl
   parcels-append s (x ∷ a) b = ap (λ ps. parcel_in name s x ∷ ps) (parcels-append s a b)
 
-  chains-append : (s : StoreValue) (a b : List (Sent M)) → AreChains name s a → AreChains name s b → AreChains name s (a ++ b)
+  pub chains-append : (s : StoreValue) (a b : List (Sent M)) → AreChains name s a → AreChains name s b → AreChains name s (a ++ b)
   unfolding AreChains
   chains-append s [] b first second = second
   chains-append s (x ∷ a) b first second = (first.0, chains-append s a b first.1 second)

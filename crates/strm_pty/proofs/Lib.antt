@@ -6,6 +6,8 @@ pub mod Made
 pub mod Packed
 pub mod Packing
 pub mod PacketCosts
+pub mod Parting
+pub mod Hanging
 pub mod Putting
 pub mod Taken
 pub mod Tested

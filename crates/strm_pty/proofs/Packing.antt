@@ -87,15 +87,15 @@ module _ (s t : StoreValue) (i f : ℕ) (b : Block) (is : IsInHand s i) (st : Is
   pub alone-is : in_hand (dropped t i) f ≡ front ∷ []
   alone-is = in_hand-dropped t i f (λ e. apart (sym e)) ∙ front-is
 
-  -- or it is hung behind the block, with other kinds
-  module _ (kind : MsgKind) where
+  -- or it is hung behind the block, so many of its blocks with another kind
+  module _ (n : ℕ) (kind : MsgKind) where
     abbrev left : StoreValue
     left = dropped t i
 
     abbrev behind : List Block
-    behind = retyped (length (in_hand s i)) kind (in_hand s i)
+    behind = retyped n kind (in_hand s i)
 
-    abbrev joined : StoreValue
+    abbrev pub joined : StoreValue
     joined = changed left f (front ∷ behind)
 
     left-there : IsInHand left f
@@ -115,14 +115,14 @@ module _ (s t : StoreValue) (i f : ℕ) (b : Block) (is : IsInHand s i) (st : Is
 
     used-same : used joined ≡ used t
     used-same =
-        let long = retyped-length (length (in_hand s i)) kind (in_hand s i) in
+        let long = retyped-length n kind (in_hand s i) in
         used-is joined ∙ sum-same (λ c. length c) (omega arith) long ∙ sym (used-is t)
 
     references-same : (d : ℕ) → references joined d ≡ references t d
     references-same d =
         let all = sum_by-cons (λ (x : Block). cond (x.number == d) 1 0) front behind in
         let one = sum_by-cons (λ (x : Block). cond (x.number == d) 1 0) front [] in
-        references-is joined d ∙ sum-same (names_of d) (omega arith) (names-retyped (length (in_hand s i)) kind (in_hand s i) d) ∙ sym (references-is t d)
+        references-is joined d ∙ sum-same (names_of d) (omega arith) (names-retyped n kind (in_hand s i) d) ∙ sym (references-is t d)
 
     pub shifts-joined : Shifts s joined (once i) (once f) 1
     shifts-joined = record {
@@ -136,9 +136,9 @@ module _ (s t : StoreValue) (i f : ℕ) (b : Block) (is : IsInHand s i) (st : Is
     }
 
     -- that is what the calls lead to
-    pub joined-after : (u v : StoreValue) (n : ℕ) → n ≡ length (in_hand t i) → u ≡ changed t i (retyped n kind (in_hand t i)) → v ≡ changed (dropped u i) f (in_hand u f ++ in_hand u i) → v ≡ joined
-    joined-after u v n long typed linked =
-        let now : u ≡ changed t i behind = typed ∙ ap (λ k. changed t i (retyped k kind (in_hand t i))) long ∙ ap (λ c. changed t i (retyped (length c) kind c)) still-chain in
+    pub joined-after : (u v : StoreValue) → u ≡ changed t i (retyped n kind (in_hand t i)) → v ≡ changed (dropped u i) f (in_hand u f ++ in_hand u i) → v ≡ joined
+    joined-after u v typed linked =
+        let now : u ≡ changed t i behind = typed ∙ ap (λ c. changed t i (retyped n kind c)) still-chain in
         let first : in_hand u f ≡ front ∷ [] = ap (λ w. in_hand w f) now ∙ in_hand-changed_other t i f behind (λ e. apart (sym e)) ∙ front-is in
         let second : in_hand u i ≡ behind = ap (λ w. in_hand w i) now ∙ in_hand-changed t i behind still-there in
         linked ∙ ap (λ c. changed (dropped u i) f (c ++ in_hand u i)) first ∙ ap (λ c. changed (dropped u i) f (front ∷ c)) second
@@ -180,10 +180,12 @@ module _ (s t : StoreValue) (i f : ℕ) (is : IsInHand s i) (one : IsChain (in_h
       → v ≡ changed (dropped u i) f (in_hand u f ++ in_hand u i) → Becomes s v i f (packet_of here (message_in s i))
   became-full u v n here other long typed linked =
       let b = filled_block kinds.Proto first.band (kind_number first.kind ∷ []) in
-      let all : in_hand (joined s t i f b is st copied kinds.Data) f ≡ copy_of copied.number b ∷ retyped (length (in_hand s i)) kinds.Data (in_hand s i) = joined-is s t i f b is st copied kinds.Data in
-      subst (λ w. Becomes s w i f (packet_of here (message_in s i))) (sym (joined-after s t i f b is st copied kinds.Data u v n long typed linked)) (record {
+      let whole : n ≡ length (in_hand s i) = long ∙ ap (λ c. length c) (still-chain s t i f b is st copied) in
+      let all : in_hand (joined s t i f b is st copied n kinds.Data) f ≡ copy_of copied.number b ∷ retyped (length (in_hand s i)) kinds.Data (in_hand s i) =
+      joined-is s t i f b is st copied n kinds.Data ∙ ap (λ k. copy_of copied.number b ∷ retyped k kinds.Data (in_hand s i)) whole in
+      subst (λ w. Becomes s w i f (packet_of here (message_in s i))) (sym (joined-after s t i f b is st copied n kinds.Data u v typed linked)) (record {
         lists = ap (λ v. v.lists) copied.after;
-        hands = shifts-joined s t i f b is st copied kinds.Data;
+        hands = shifts-joined s t i f b is st copied n kinds.Data;
         chain = subst IsChain (sym all) (full-chain (in_hand s i) one here copied.number);
         shows = ap message_of all ∙ full-shown (in_hand s i) one here copied.number (ap is_stop_or_start (sym kind_is) ∙ other);
       })

@@ -10,6 +10,7 @@ mod module;
 pub mod pckt;
 pub mod ptem;
 mod replies;
+mod sharing;
 mod taking;
 
 pub use drivers::put;
@@ -19,5 +20,7 @@ pub use ptem::Ptem;
 
 #[cfg(test)]
 mod packet_tests;
+#[cfg(test)]
+mod sharing_tests;
 #[cfg(test)]
 mod tests;

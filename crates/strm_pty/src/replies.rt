@@ -4,18 +4,19 @@
 ghost use Rattle.std.specs.Prelude.{◌≡◌, ◌<◌, ◌≤◌, ◌^◌, ◌++◌, false, length, [], ◌∷◌};
 ghost use Rattle.std.specs.Option.{option_to_list};
 ghost use Rattle.strm_types.specs.declared.names.Way.TheVariants.{Up, Down};
-ghost use Rattle.strm_types.specs.Acks.{ack_message, telling_message};
+ghost use Rattle.strm_types.specs.Acks.{ack_message, payload, telling_message};
 ghost use Rattle.strm_types.specs.Flush.{is_data_kind};
 ghost use Rattle.strm_types.specs.Ioctls.{ioc_bytes, nak_message};
 ghost use Rattle.strm_types.specs.Ldterms.{onward};
 ghost use Rattle.strm_types.specs.Ptems.{signals_up, window_signal};
 ghost use Rattle.strm_types.specs.Typing.{bare};
-ghost use Rattle.strm_blocks.specs.Blocks.{IsInHand};
+ghost use Rattle.strm_blocks.specs.Blocks.{IsInHand, block_at, in_hand};
 ghost use Rattle.strm_frame.specs.Hands.{HasRoom};
-ghost use Rattle.strm_frame.specs.Outboxes.{sent_of};
+ghost use Rattle.strm_frame.specs.Outboxes.{message_in, sent_of};
 ghost use Rattle.strm_pty.specs.Does.{Makes, Swaps};
 
 use crate::making::make;
+use crate::sharing::{part, share};
 use arrayvec::ArrayVec;
 use strm_blocks::Blocks;
 use strm_frame::{Acts, Outbox, Sent};
@@ -153,7 +154,60 @@ pub(crate) fn nak<B: Blocks>(
     }
 }
 
-/// Frees an M_IOCTL by which something was set from above. It is answered with what was set, then the other side is told of it by an
+// Frees an M_IOCTL, and makes its answer and what tells the other side of it, each with a copy of its payload.
+fn copy_both<B: Blocks>(
+    store: &mut B,
+    here: Spot,
+    ioc: Ioc,
+    given: &[u8],
+    message: B::Mp,
+) -> (Sent<B::Mp>, Sent<B::Mp>)
+    requires in_hand { IsInHand (B.value store.old) (B.name message) }
+    requires few { length given.now ≤ 35 }
+    requires room { HasRoom (B.value store.old) 2 }
+    requires inside { 0 < here.at }
+    requires small { here.at < 2 ^ 63 }
+    ensures { Swaps B.name (B.value store.old) (B.value store.new) (B.name message) 2 (result.0 ∷ result.1 ∷ [])
+        (onward Up here (ack_message ioc given.now) ∷ onward Down here (telling_message ioc given.now) ∷ []) }
+{
+    store.audit();
+    store.free(message);
+    let answer = framed(ioc.acked(), given);
+    let first = send(store, here, Way::Up, MsgKind::Iocack, answer.as_slice());
+    let telling = framed(Ioc::asking(ioc.command, 0), given);
+    let second = send(store, here, Way::Down, MsgKind::Ioctl, telling.as_slice());
+    (first, second)
+}
+
+// Answers an M_IOCTL with its payload, and tells the other side of it. Where the payload has a block of its own both share it, and else each has a
+// copy.
+fn tell_both<B: Blocks>(
+    store: &mut B,
+    here: Spot,
+    ioc: Ioc,
+    given: &[u8],
+    message: B::Mp,
+) -> (Sent<B::Mp>, Sent<B::Mp>)
+    requires in_hand { IsInHand (B.value store.old) (B.name message) }
+    requires kind { is_data_kind (block_at 0 (in_hand (B.value store.old) (B.name message))).kind ≡ false }
+    requires given { given.now ≡ payload (message_in (B.value store.old) (B.name message)).plain }
+    requires few { length given.now ≤ 35 }
+    requires room { HasRoom (B.value store.old) 2 }
+    requires inside { 0 < here.at }
+    requires small { here.at < 2 ^ 63 }
+    ensures { Swaps B.name (B.value store.old) (B.value store.new) (B.name message) 2 (result.0 ∷ result.1 ∷ [])
+        (onward Up here (ack_message ioc given.now) ∷ onward Down here (telling_message ioc given.now) ∷ []) }
+{
+    match part(store, message) {
+        Ok(both) => {
+            store.audit();
+            share(store, here, ioc, both)
+        }
+        Err(message) => copy_both(store, here, ioc, given, message),
+    }
+}
+
+/// Lets an M_IOCTL go by which something was set from above. It is answered with what was set, then the other side is told of it by an
 /// M_IOCTL of number 0, and then those who read here hear of a window that changed. It takes at most three blocks of each kind.
 pub(crate) fn confirm<B: Blocks>(
     store: &mut B,
@@ -164,6 +218,8 @@ pub(crate) fn confirm<B: Blocks>(
     message: B::Mp,
 ) -> Acts<B::Mp>
     requires in_hand { IsInHand (B.value store.old) (B.name message) }
+    requires kind { is_data_kind (block_at 0 (in_hand (B.value store.old) (B.name message))).kind ≡ false }
+    requires given { given.now ≡ payload (message_in (B.value store.old) (B.name message)).plain }
     requires few { length given.now ≤ 35 }
     requires room { HasRoom (B.value store.old) 3 }
     requires inside { 0 < here.at }
@@ -173,12 +229,7 @@ pub(crate) fn confirm<B: Blocks>(
         (onward Up here (ack_message ioc given.now) ∷ onward Down here (telling_message ioc given.now)
         ∷ window_signal here windows.0 windows.1) }
 {
-    store.audit();
-    store.free(message);
-    let answer = framed(ioc.acked(), given);
-    let first = send(store, here, Way::Up, MsgKind::Iocack, answer.as_slice());
-    let telling = framed(Ioc::asking(ioc.command, 0), given);
-    let second = send(store, here, Way::Down, MsgKind::Ioctl, telling.as_slice());
+    let (first, second) = tell_both(store, here, ioc, given, message);
     let third = signal_change(store, here, windows.0, windows.1);
     Acts {
         notes: ArrayVec::new(),

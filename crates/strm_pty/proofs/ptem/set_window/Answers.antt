@@ -15,6 +15,15 @@ use Rattle.strm_pty.proofs.ptem.set_window.Goals as goal
 pub payload_of-given-requires-clause-kind : goal.payload_of-given-requires-clause-kind
 payload_of-given-requires-clause-kind g c = asked-plain (g.B.Blocks.value c.args.store.now) (g.B.Blocks.name c.args.message) c.requires.asked
 
+pub confirm-requires-clause-kind : goal.confirm-requires-clause-kind
+confirm-requires-clause-kind g c = asked-plain (g.B.Blocks.value c.args.store.now) (g.B.Blocks.name c.args.message) c.requires.asked
+
+pub confirm-requires-clause-given : goal.confirm-requires-clause-given
+confirm-requires-clause-given g c =
+    let p = payload (message_in (g.B.Blocks.value c.args.store.now) (g.B.Blocks.name c.args.message)).plain in
+    c.as_slice-2.ensures.value ∙ sym c.as_slice.ensures.value
+    ∙ read-whole window_read 8 p _ _ (omega arith) c.read.ensures (c.as_slice.ensures.value ∙ c.payload_of-given.ensures) c.in-Some.window c.in-Some.is
+
 pub returns-in_default : goal.returns-in_default
 returns-in_default g c =
     let name = g.B.Blocks.name in

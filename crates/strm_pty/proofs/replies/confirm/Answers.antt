@@ -1,62 +1,34 @@
--- The M_IOCTL is freed; its answer is made, then what tells of it, and then the signal of a change.
-use Rattle.std.proofs.Common.{[], ◌∷◌, ◌++◌, refl, ap, ◌∙◌, append-nil, arith}
+-- The answer and what tells of it are made, and then the signal of a change.
+use Rattle.std.proofs.Common.{[], ◌∷◌, sym, subst, append-nil, arith}
 use Rattle.std.specs.Option.{option_to_list}
-use Rattle.strm_types.specs.declared.ioctls.Ioc.{Ioc}
-use Rattle.strm_types.specs.declared.kinds.MsgKind.TheVariants.{Ioctl, Iocack}
 use Rattle.strm_types.specs.declared.names.Way.TheVariants.{Up, Down}
-use Rattle.strm_types.specs.Ioctls.{ioc_bytes}
+use Rattle.strm_types.specs.Acks.{ack_message, telling_message}
 use Rattle.strm_types.specs.Ldterms.{onward}
-use Rattle.strm_types.specs.Typing.{bare}
-use Rattle.strm_pty.proofs.Replied.{ack-plain, ioctl-plain, makes-as}
-use Rattle.strm_pty.proofs.Doing.{freed-then, makes-both, room-freed, room-left, room-less}
+use Rattle.strm_types.specs.Ptems.{window_signal}
+use Rattle.strm_pty.specs.Does.{Swaps}
+use Rattle.strm_pty.proofs.Doing.{room-left, room-less, swaps-both}
 use Rattle.strm_pty.proofs.replies.confirm.Goals as goal
 
-pub send-first-requires-clause-kind : goal.send-first-requires-clause-kind
-send-first-requires-clause-kind g c = ack-plain
-
-pub send-second-requires-clause-kind : goal.send-second-requires-clause-kind
-send-second-requires-clause-kind g c = ioctl-plain
-
-pub send-first-requires-clause-room : goal.send-first-requires-clause-room
-send-first-requires-clause-room g c =
-    let s = g.B.Blocks.value c.args.store.now in
-    let t = g.B.Blocks.value c.free.new.self in
-    room-freed s t (g.B.Blocks.name c.args.message) 3 1 c.audit.ensures c.requires.in_hand c.free.ensures (omega arith) c.requires.room
-
-pub send-second-requires-clause-room : goal.send-second-requires-clause-room
-send-second-requires-clause-room g c =
-    let s = g.B.Blocks.value c.args.store.now in
-    let t = g.B.Blocks.value c.free.new.self in
-    let u = g.B.Blocks.value c.send-first.new.store in
-    room-less u 2 1 (omega arith) (room-left t u _ _ 1 2 c.send-first.ensures.hands (room-freed s t (g.B.Blocks.name c.args.message) 3 3 c.audit.ensures c.requires.in_hand c.free.ensures (omega arith) c.requires.room))
+pub tell_both-first-requires-clause-room : goal.tell_both-first-requires-clause-room
+tell_both-first-requires-clause-room g c = room-less (g.B.Blocks.value c.args.store.now) 3 2 (omega arith) c.requires.room
 
 pub signal_change-third-requires-clause-room : goal.signal_change-third-requires-clause-room
 signal_change-third-requires-clause-room g c =
     let s = g.B.Blocks.value c.args.store.now in
-    let t = g.B.Blocks.value c.free.new.self in
-    let u = g.B.Blocks.value c.send-first.new.store in
-    let v = g.B.Blocks.value c.send-second.new.store in
-    room-left u v _ _ 1 1 c.send-second.ensures.hands (room-left t u _ _ 1 2 c.send-first.ensures.hands (room-freed s t (g.B.Blocks.name c.args.message) 3 3 c.audit.ensures c.requires.in_hand c.free.ensures (omega arith) c.requires.room))
+    let t = g.B.Blocks.value c.tell_both-first.new.store in
+    room-left s t _ _ 2 1 c.tell_both-first.ensures.hands c.requires.room
 
 pub returns-clause-swaps : goal.returns-clause-swaps
 returns-clause-swaps g c =
     let name = g.B.Blocks.name in
     let s = g.B.Blocks.value c.args.store.now in
-    let t = g.B.Blocks.value c.free.new.self in
-    let u = g.B.Blocks.value c.send-first.new.store in
-    let v = g.B.Blocks.value c.send-second.new.store in
-    let w = g.B.Blocks.value c.signal_change-third.new.store in
-    let i = name c.args.message in
+    let t = g.B.Blocks.value c.tell_both-first.new.store in
+    let u = g.B.Blocks.value c.signal_change-third.new.store in
+    let first = c.tell_both-first.result.0 in
+    let second = c.tell_both-first.result.1 in
+    let third = option_to_list c.signal_change-third.result in
     let here = c.args.here in
     let given = c.args.given.now in
-    let first = c.send-first.result in
-    let second = c.send-second.result in
-    let third = option_to_list c.signal_change-third.result in
-    let answer = c.as_slice.ensures.value ∙ c.framed-answer.ensures.bytes ∙ ap (λ (header : Ioc). ioc_bytes header ++ given) c.acked.ensures in
-    let telling = c.as_slice-2.ensures.value ∙ c.framed-telling.ensures.bytes ∙ ap (λ (header : Ioc). ioc_bytes header ++ given) c.asking.ensures in
-    let one = makes-as name t u 1 _ _ _ _ c.send-first.ensures refl (ap (λ xs. onward Up here (bare Iocack xs) ∷ []) answer) in
-    let two = makes-as name u v 1 _ _ _ _ c.send-second.ensures refl (ap (λ xs. onward Down here (bare Ioctl xs) ∷ []) telling) in
-    let both = makes-both name t u v 1 1 (first ∷ []) (second ∷ []) _ _ one two in
-    let all = makes-both name t v w 2 1 (first ∷ second ∷ []) third _ _ both c.signal_change-third.ensures in
-    freed-then name s t w i 3 _ _ c.audit.ensures c.requires.in_hand c.free.ensures
-    (makes-as name t w 3 _ _ _ _ all (ap (λ xs. first ∷ second ∷ xs) (append-nil third)) refl)
+    let ps = onward Up here (ack_message c.args.ioc given) ∷ onward Down here (telling_message c.args.ioc given) ∷ window_signal here c.args.windows.0 c.args.windows.1 in
+    let all = swaps-both name s t u (name c.args.message) 2 1 (first ∷ second ∷ []) third _ _ c.requires.in_hand c.tell_both-first.ensures c.signal_change-third.ensures in
+    subst (λ xs. Swaps name s u (name c.args.message) 3 (first ∷ second ∷ xs) ps) (sym (append-nil third)) all

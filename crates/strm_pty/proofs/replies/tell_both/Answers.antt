@@ -1,0 +1,53 @@
+-- What was parted is shared; what wasn't is as it was, and is copied.
+use Rattle.std.proofs.Common.{ℕ, List, [], ◌∷◌, sym, ap, subst, ◌∙◌, arith}
+use Rattle.strm_types.specs.declared.names.Way.TheVariants.{Up, Down}
+use Rattle.strm_types.specs.Acks.{ack_message, telling_message}
+use Rattle.strm_types.specs.Ldterms.{onward}
+use Rattle.strm_blocks.specs.Blocks.{IsInHand}
+use Rattle.strm_frame.specs.Hands.{HasRoom}
+use Rattle.strm_pty.specs.Does.{Swaps}
+use Rattle.strm_pty.proofs.Doing.{room-left}
+use Rattle.strm_pty.proofs.Hanging.{parted-sends, payload-is}
+use Rattle.strm_pty.proofs.replies.tell_both.Goals as goal
+
+pub share-requires-clause-shared : goal.share-requires-clause-shared
+share-requires-clause-shared g c = c.in-Ok.ensures.shared
+
+pub share-requires-clause-room : goal.share-requires-clause-room
+share-requires-clause-room g c =
+    let s = g.B.Blocks.value c.args.store.now in
+    let t = g.B.Blocks.value c.part.new.store in
+    room-left s t _ _ 0 2 c.in-Ok.ensures.hands c.requires.room
+
+pub copy_both-requires-clause-in_hand : goal.copy_both-requires-clause-in_hand
+copy_both-requires-clause-in_hand g c =
+    subst (λ v. IsInHand v (g.B.Blocks.name c.in-Err.message)) (sym c.in-Err.ensures.0) (subst (IsInHand (g.B.Blocks.value c.args.store.now)) (sym c.in-Err.ensures.1) c.requires.in_hand)
+
+pub copy_both-requires-clause-room : goal.copy_both-requires-clause-room
+copy_both-requires-clause-room g c = subst (λ v. HasRoom v 2) (sym c.in-Err.ensures.0) c.requires.room
+
+pub returns-in-Ok : goal.returns-in-Ok
+returns-in-Ok g c =
+    let name = g.B.Blocks.name in
+    let s = g.B.Blocks.value c.args.store.now in
+    let t = g.B.Blocks.value c.part.new.store in
+    let w = g.B.Blocks.value c.share.new.store in
+    let i = name c.args.message in
+    let here = c.args.here in
+    let ioc = c.args.ioc in
+    let parts = c.in-Ok.ensures in
+    let r = name c.in-Ok.both.0 in
+    let k = name c.in-Ok.both.1 in
+    let given : List ℕ → List _ = λ xs. onward Up here (ack_message ioc xs) ∷ onward Down here (telling_message ioc xs) ∷ [] in
+    parted-sends name s t w i r k (c.share.result.0 ∷ c.share.result.1 ∷ []) _ _ parts c.audit.ensures c.share.ensures (ap given (payload-is s t i r k parts c.requires.kind ∙ sym c.requires.given))
+
+pub returns-in-Err : goal.returns-in-Err
+returns-in-Err g c =
+    let name = g.B.Blocks.name in
+    let w = g.B.Blocks.value c.copy_both.new.store in
+    let here = c.args.here in
+    let ioc = c.args.ioc in
+    let given = c.args.given.now in
+    let made = c.copy_both.result.0 ∷ c.copy_both.result.1 ∷ [] in
+    let ps = onward Up here (ack_message ioc given) ∷ onward Down here (telling_message ioc given) ∷ [] in
+    subst (λ v. Swaps name v w (name c.args.message) 2 made ps) c.in-Err.ensures.0 (subst (λ k. Swaps name (g.B.Blocks.value c.part.new.store) w k 2 made ps) c.in-Err.ensures.1 c.copy_both.ensures)

@@ -1,0 +1,94 @@
+//! A payload that two messages show over one data block (dupb(9F); STREAMS Programming Guide, "Message Structure").
+
+ghost use Rattle.std.specs.Prelude.{◌≡◌, ◌<◌, ◌≤◌, ◌^◌, ◌++◌, MatchResult, false, length, [], ◌∷◌};
+ghost use Rattle.strm_types.specs.declared.names.Way.TheVariants.{Up, Down};
+ghost use Rattle.strm_types.specs.Acks.{ack_message, telling_message};
+ghost use Rattle.strm_types.specs.Flush.{is_data_kind};
+ghost use Rattle.strm_types.specs.Ldterms.{onward};
+ghost use Rattle.strm_types.specs.Typing.{bare};
+ghost use Rattle.strm_blocks.specs.Blocks.{IsInHand, in_hand};
+ghost use Rattle.strm_msg.specs.Bytes.{bytes_of};
+ghost use Rattle.strm_frame.specs.Hands.{HasRoom};
+ghost use Rattle.strm_pty.specs.Does.{Swaps};
+ghost use Rattle.strm_pty.specs.Shares.{AreShared, Parts, SendsBoth};
+
+use strm_blocks::Blocks;
+use strm_frame::Sent;
+use strm_types::{Band, Ioc, MsgKind, Spot, Way};
+
+const HEADER_SIZE: usize = 16;
+
+/// Parts a message of two blocks whose first one has 16 bytes, as the header of an ioctl: that block goes, and the other one is there twice,
+/// over one data block. A message of another shape comes back as it is, and so does one of whose payload no more message blocks may be made.
+pub(crate) fn part<B: Blocks>(store: &mut B, message: B::Mp) -> Result<(B::Mp, B::Mp), B::Mp>
+    requires { IsInHand (B.value store.old) (B.name message) }
+    ensures { let s = B.value store.old in MatchResult result
+        (λ both. Parts s (B.value store.new) (B.name message) (B.name both.0) (B.name both.1))
+        (λ same. (B.value store.new ≡ s) × (B.name same ≡ B.name message)) }
+{
+    store.audit();
+    if store.blocks(&message) != 2 || store.block_len(&message, 0) != HEADER_SIZE {
+        return Err(message);
+    }
+    let Ok(copy) = store.dup(&message, 1) else {
+        return Err(message);
+    };
+    let (header, behind) = store.unlink(message);
+    let Some(payload) = behind else {
+        unreachable!()
+    };
+    store.audit();
+    store.free(header);
+    Ok((payload, copy))
+}
+
+/// Sends a message in hand on, behind a block of a kind without parts, whose kind it has then.
+pub(crate) fn send_behind<B: Blocks>(
+    store: &mut B,
+    here: Spot,
+    way: Way,
+    kind: MsgKind,
+    header: &[u8],
+    message: B::Mp,
+) -> Sent<B::Mp>
+    requires in_hand { IsInHand (B.value store.old) (B.name message) }
+    requires kind { is_data_kind kind ≡ false }
+    requires few { length header.now ≤ 256 }
+    requires room { HasRoom (B.value store.old) 1 }
+    requires inside { 0 < here.at }
+    requires small { here.at < 2 ^ 63 }
+    ensures { let s = B.value store.old in Swaps B.name s (B.value store.new) (B.name message) 1 (result ∷ [])
+        (onward way here (bare kind (header.now ++ bytes_of (in_hand s (B.name message)))) ∷ []) }
+{
+    let Ok(front) = store.alloc_with(kind, Band(0), header) else {
+        unreachable!()
+    };
+    store.audit();
+    let message = store.link(front, message);
+    Sent {
+        to: here.toward(way),
+        message,
+    }
+}
+
+/// Answers an M_IOCTL with its payload, and tells the other side of it by an M_IOCTL of number 0 with the same payload, which is in hand twice.
+pub(crate) fn share<B: Blocks>(
+    store: &mut B,
+    here: Spot,
+    ioc: Ioc,
+    both: (B::Mp, B::Mp),
+) -> (Sent<B::Mp>, Sent<B::Mp>)
+    requires shared { AreShared (B.value store.old) (B.name both.0) (B.name both.1) }
+    requires room { HasRoom (B.value store.old) 2 }
+    requires inside { 0 < here.at }
+    requires small { here.at < 2 ^ 63 }
+    ensures { SendsBoth B.name (B.value store.old) (B.value store.new) (B.name both.0) (B.name both.1) (result.0 ∷ result.1 ∷ []) (let given = bytes_of (in_hand (B.value store.old) (B.name both.0)) in
+        onward Up here (ack_message ioc given) ∷ onward Down here (telling_message ioc given) ∷ []) }
+{
+    let answer = ioc.acked().bytes();
+    let first = send_behind(store, here, Way::Up, MsgKind::Iocack, &answer, both.0);
+    store.audit();
+    let telling = Ioc::asking(ioc.command, 0).bytes();
+    let second = send_behind(store, here, Way::Down, MsgKind::Ioctl, &telling, both.1);
+    (first, second)
+}
