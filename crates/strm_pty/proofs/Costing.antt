@@ -13,7 +13,6 @@ use Rattle.strm_types.specs.Acks.{ack_message, telling_message}
 use Rattle.strm_types.specs.Commands.{is_asked, is_ioctl}
 use Rattle.strm_types.specs.Costs.{across_at, asking_at, cost, cost_of}
 use Rattle.strm_types.specs.Deliver.{Parcel, toward}
-use Rattle.strm_types.specs.Flushing.{is_flush}
 use Rattle.strm_types.specs.Ioctls.{nak_message}
 use Rattle.strm_types.specs.Ldterms.{onward}
 use Rattle.strm_types.specs.Message.{Message, has_parts}

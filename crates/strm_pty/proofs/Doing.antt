@@ -143,10 +143,13 @@ module _ {M : Type 0} (name : M → ℕ) where
       }
 
   -- what was made of a message stays, and others were made behind it
+  pub stays-behind : (s t u : StoreValue) (m n k : ℕ) (a b : List (Sent M)) (ps qs : List (Parcel ℕ)) → IsInHand s m → Swaps name s t m n a ps → Makes name t u k b qs
+      → (i : ℕ) → 0 < times_sent name i a → in_hand u i ≡ in_hand t i
+  stays-behind s t u m n k a b ps qs is first second i some = second.hands.others i refl (let c = first.hands.counts i in let there = (can-of s m is).apart i in omega arith)
+
   pub swaps-both : (s t u : StoreValue) (m n k : ℕ) (a b : List (Sent M)) (ps qs : List (Parcel ℕ)) → IsInHand s m → Swaps name s t m n a ps → Makes name t u k b qs → Swaps name s u m (n + k) (a ++ b) (ps ++ qs)
   swaps-both s t u m n k a b ps qs is first second =
-      let stays : (i : ℕ) → 0 < times_sent name i a → in_hand u i ≡ in_hand t i =
-      λ i some. second.hands.others i refl (let c = first.hands.counts i in let there = (can-of s m is).apart i in omega arith) in
+      let stays = stays-behind s t u m n k a b ps qs is first second in
       record {
         lists = second.lists ∙ first.lists;
         hands = shifts-as s u (λ i. once m i + 0) (λ i. times_sent name i a + times_sent name i b) (once m) (λ i. times_sent name i (a ++ b)) (n + k) (n + k)

@@ -1,5 +1,5 @@
 -- A message in hand is sent on behind a header, and two of one payload are, one after the other.
-use Rattle.std.proofs.Common.{ℕ, ◌≡◌, ◌≢◌, ◌≤◌, ◌<◌, ◌+◌, false, true, cond, eqb, List, [], ◌∷◌, ◌++◌, refl, sym, ap, subst, ◌∙◌, drop, length, append-nil, arith, inl, inr}
+use Rattle.std.proofs.Common.{ℕ, ◌≡◌, ◌≢◌, ◌≤◌, ◌<◌, ◌+◌, false, true, cond, eqb, List, [], ◌∷◌, ◌++◌, refl, sym, ap, subst, ◌∙◌, drop, length, arith, inl, inr}
 use Rattle.std.proofs.lemmas.Bool.{cases_eq}
 use Rattle.strm_types.specs.declared.kinds.MsgKind.{MsgKind}
 use Rattle.strm_types.specs.declared.kinds.MsgKind.TheVariants as kinds
@@ -16,13 +16,13 @@ use Rattle.strm_msg.specs.Messages.{message_of, IsChain}
 use Rattle.strm_msg.proofs.Hands.{changed-same}
 use Rattle.strm_msg.proofs.MadePlain.{plain-is}
 use Rattle.strm_frame.specs.declared.parcels.Sent.{Sent}
-use Rattle.strm_frame.specs.Hands.{once, Shifts}
-use Rattle.strm_frame.specs.Outboxes.{message_in, times_sent, parcels_in, AreChains}
+use Rattle.strm_frame.specs.Hands.{once}
+use Rattle.strm_frame.specs.Outboxes.{message_in, times_sent, parcels_in}
 use Rattle.strm_frame.proofs.Handing.{chains-same, once-self, parcels-same}
 use Rattle.strm_frame.proofs.Shifting.{shifts-as, shifts-both}
 use Rattle.strm_pty.specs.Does.{Swaps}
 use Rattle.strm_pty.specs.Packs.{Becomes}
-use Rattle.strm_pty.specs.Shares.{AreShared, Parts, SendsBoth}
+use Rattle.strm_pty.specs.Shares.{AreShared, BothCarry, Parts, SendsBoth}
 use Rattle.strm_pty.proofs.Doing.{can-of, chains-append, once-none, parcels-append, times-append}
 use Rattle.strm_pty.proofs.Packing.{joined-after, joined-is, shifts-joined}
 
@@ -66,6 +66,12 @@ module _ (s t v : StoreValue) (i f : ℕ) (kind : MsgKind) (bytes : List ℕ) (i
         shows = ap message_of there ∙ headed-shown kind bytes copied.number (in_hand s i) plain;
       })
 
+  -- behind it stand the blocks of the message
+  pub headed-carries : v ≡ changed (dropped t i) f (in_hand t f ++ in_hand t i) → drop 1 (in_hand v f) ≡ in_hand s i
+  headed-carries linked =
+      let b = filled_block kind 0 bytes in
+      ap (λ w. drop 1 (in_hand w f)) (joined-after s t i f b is st copied 0 kind t v (sym (changed-same t i)) linked) ∙ ap (drop 1) (joined-is s t i f b is st copied 0 kind)
+
 -- two names are no third one
 once-most : (b j : ℕ) → once b j ≤ 1
 unfolding once
@@ -89,9 +95,11 @@ module _ {M : Type 0} (name : M → ℕ) (t u w : StoreValue) (r c : ℕ) (share
       let both = once-two r c j shared.apart in
       (omega (arith, came, one, here, there, both, some), omega (arith, came, here, some))
 
+  stays : (j : ℕ) → 0 < times_sent name j (x ∷ []) → in_hand w j ≡ in_hand u j
+  stays j some = (let o = other j some in second.hands.others j o.0 o.1)
+
   pub sends-both : SendsBoth name t w r c (x ∷ y ∷ []) (p ∷ q ∷ [])
   sends-both =
-      let stays : (j : ℕ) → 0 < times_sent name j (x ∷ []) → in_hand w j ≡ in_hand u j = λ j some. (let o = other j some in second.hands.others j o.0 o.1) in
       record {
         lists = second.lists ∙ first.lists;
         hands = shifts-as t w (λ j. once r j + once c j) (λ j. times_sent name j (x ∷ []) + times_sent name j (y ∷ [])) (λ j. once r j + once c j) (λ j. times_sent name j (x ∷ y ∷ [])) 2 2
@@ -99,6 +107,14 @@ module _ {M : Type 0} (name : M → ℕ) (t u w : StoreValue) (r c : ℕ) (share
         sent = parcels-append name w (x ∷ []) (y ∷ []) ∙ ap (λ xs. xs ++ parcels_in name w (y ∷ [])) (parcels-same name u w (x ∷ []) stays ∙ first.sent) ∙ ap (λ xs. (p ∷ []) ++ xs) second.sent;
         chains = chains-append name w (x ∷ []) (y ∷ []) (chains-same name u w (x ∷ []) stays first.chains) second.chains;
       }
+
+  -- behind both stands the payload
+  pub both-carry : drop 1 (in_hand u (name x.message)) ≡ in_hand t r → drop 1 (in_hand w (name y.message)) ≡ in_hand u c → BothCarry name w (in_hand t r) (x ∷ y ∷ [])
+  unfolding times_sent
+  both-carry one two =
+      let o = once-self (name x.message) in
+      let there : 0 < times_in c t.hand = (let is = shared.second_in in omega (arith, is)) in
+      (ap (drop 1) (stays (name x.message) (omega (arith, o))) ∙ one, two ∙ first.hands.others c (once-none r c shared.apart) there ∙ shared.second_is ∙ sym shared.first_is)
 
 -- an M_IOCTL that was parted has gone, and both others were made
 pub parted-sends : {M : Type 0} (name : M → ℕ) (s t w : StoreValue) (i r c : ℕ) (made : List (Sent M)) (ps qs : List (Parcel ℕ)) → Parts s t i r c → IsStore t → SendsBoth name t w r c made ps → ps ≡ qs → Swaps name s w i 2 made qs

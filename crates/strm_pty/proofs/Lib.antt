@@ -1,4 +1,5 @@
 pub mod Replied
+pub mod Carried
 pub mod Costing
 pub mod Doing
 pub mod Flushed

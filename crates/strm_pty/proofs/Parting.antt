@@ -1,7 +1,7 @@
 -- A message of two blocks, parted: its first block goes, and the second one is there twice.
-use Rattle.std.proofs.Common.{ℕ, ◌≡◌, ◌≢◌, ◌≤◌, ◌<◌, ◌+◌, cond, eqb, List, [], ◌∷◌, length, refl, sym, ap, subst, ◌∙◌, drop, arith}
+use Rattle.std.proofs.Common.{ℕ, ◌≡◌, ◌≢◌, ◌≤◌, ◌+◌, cond, eqb, List, [], ◌∷◌, length, refl, sym, ap, subst, ◌∙◌, drop, arith}
 use Rattle.std.proofs.lemmas.List.Sums.{sum_by-cons}
-use Rattle.strm_blocks.specs.Blocks.{Block, StoreValue, IsStore, IsInHand, IsFreshName, block_at, in_hand, held, dropped, changed, times_in, names_of, references, total, used, free_m, free_d}
+use Rattle.strm_blocks.specs.Blocks.{Block, StoreValue, IsStore, IsInHand, IsFreshName, block_at, in_hand, held, dropped, changed, times_in, names_of, references, total, used, free_d}
 use Rattle.strm_blocks.specs.Outcomes.{Duplicated, Unlinked}
 use Rattle.strm_blocks.proofs.Laws.{IsInHand-dropped, in_hand-changed, in_hand-changed_other, in_hand-dropped, total-changed, total-dropped, total-held, used-is, references-is, free_m-is, free_d-more}
 use Rattle.strm_msg.proofs.Counts.{free_d-shared, named-in_hand}

@@ -1,10 +1,32 @@
 -- A payload that two messages show over one data block (dupb(9F)).
-use Rattle.std.specs.Prelude.{ℕ, ◌≡◌, ◌≢◌, ◌+◌, List, [], ◌∷◌, length}
+use Rattle.std.specs.Prelude.{ℕ, ◌≡◌, ◌≢◌, ◌<◌, ◌+◌, List, [], ◌∷◌, length, drop}
 use Rattle.strm_types.specs.Deliver.{Parcel}
-use Rattle.strm_blocks.specs.Blocks.{Block, StoreValue, IsInHand, in_hand}
+use Rattle.strm_blocks.specs.Blocks.{Block, StoreValue, IsInHand, block_at, free_m, in_hand, references}
 use Rattle.strm_frame.specs.declared.parcels.Sent.{Sent}
 use Rattle.strm_frame.specs.Hands.{once, Shifts}
 use Rattle.strm_frame.specs.Outboxes.{times_sent, parcels_in, AreChains}
+
+-- A message may be parted: its payload is one block behind a header of 16 bytes, another message block may name the payload's data block (datab(9S):
+-- db_ref is a byte), and one is free for it.
+pub record CanPart (s : StoreValue) (message : ℕ) : Type 0 where
+  pub two : length (in_hand s message) ≡ 2
+  pub sixteen : length (block_at 0 (in_hand s message)).bytes ≡ 16
+  pub few : references s (block_at 1 (in_hand s message)).number < 255
+  pub some : 0 < free_m s
+
+-- One that may not be is as it was, and so is all else.
+pub record Unparted (old new : StoreValue) (message same : ℕ) : Type 0 where
+  pub never : CanPart old message → ⊥
+  pub kept : new ≡ old
+  pub name : same ≡ message
+
+-- Where two messages are sent, or more, the first two have these blocks behind their first one: the same message blocks by what they show and by the
+-- data blocks that they name, and no copies.
+abbrev pub BothCarry : {M : Type 0} → (M → ℕ) → StoreValue → List Block → List (Sent M) → Type 0
+BothCarry name s blocks [] = Unit {0}
+BothCarry name s blocks (only ∷ []) = Unit {0}
+BothCarry name s blocks (first ∷ second ∷ more) =
+    (drop 1 (in_hand s (name first.message)) ≡ blocks) × (drop 1 (in_hand s (name second.message)) ≡ blocks)
 
 -- two messages in hand of one block each, the same one
 pub record AreShared (s : StoreValue) (first second : ℕ) : Type 0 where

@@ -1,6 +1,6 @@
 //! The module ptem: the ioctls of a terminal on a pseudoterminal (ptem(7M), termio(7I)).
 
-ghost use Rattle.std.specs.Prelude.{◌≡◌, ◌<◌, ◌≤◌};
+ghost use Rattle.std.specs.Prelude.{◌≡◌, ◌<◌, ◌≤◌, drop};
 ghost use Rattle.strm_types.specs.declared.limits.TheConstants.{MODULES};
 ghost use Rattle.strm_types.specs.declared.names.Way.TheVariants.{Up, Down};
 ghost use Rattle.strm_types.specs.Acks.{payload};
@@ -13,8 +13,9 @@ ghost use Rattle.strm_types.specs.Winsizes.{read_winsize, winsize_bytes};
 ghost use Rattle.strm_blocks.specs.Blocks.{IsInHand, in_hand};
 ghost use Rattle.strm_msg.specs.Messages.{IsChain};
 ghost use Rattle.strm_frame.specs.Hands.{HasRoom};
-ghost use Rattle.strm_frame.specs.Outboxes.{message_in};
+ghost use Rattle.strm_frame.specs.Outboxes.{message_in, sent_of};
 ghost use Rattle.strm_pty.specs.Beside.{MayAnswer, MayPass, Puts, ptem_in};
+ghost use Rattle.strm_pty.specs.Shares.{BothCarry, CanPart};
 
 use crate::replies::{ack, confirm, hear, nak, raise};
 use arrayvec::ArrayVec;
@@ -102,8 +103,10 @@ fn set_termios<B: Blocks>(
     message: B::Mp,
 ) -> Acts<B::Mp>
     requires { MayAnswer (B.value store.old) (B.name message) here Down }
-    ensures { Puts B.name (B.value store.old) (B.value store.new) ptem.old ptem.new (B.name message) here result
+    ensures does { Puts B.name (B.value store.old) (B.value store.new) ptem.old ptem.new (B.name message) here result
         (λ m. let given = payload m.plain in termios_set here ioc given (read_termios given)) }
+    ensures shared { let s = B.value store.old in CanPart s (B.name message) →
+        BothCarry B.name (B.value store.new) (drop 1 (in_hand s (B.name message))) (sent_of result.sent) }
 {
     let given = payload_of(store, &message);
     let Some(termios) = Termios::read(given.as_slice()) else {
@@ -123,8 +126,10 @@ fn set_window<B: Blocks>(
     message: B::Mp,
 ) -> Acts<B::Mp>
     requires { MayAnswer (B.value store.old) (B.name message) here Down }
-    ensures { Puts B.name (B.value store.old) (B.value store.new) ptem.old ptem.new (B.name message) here result
+    ensures does { Puts B.name (B.value store.old) (B.value store.new) ptem.old ptem.new (B.name message) here result
         (λ m. let given = payload m.plain in window_set here ioc given (read_winsize given)) }
+    ensures shared { let s = B.value store.old in CanPart s (B.name message) →
+        BothCarry B.name (B.value store.new) (drop 1 (in_hand s (B.name message))) (sent_of result.sent) }
 {
     let given = payload_of(store, &message);
     let Some(window) = Winsize::read(given.as_slice()) else {
@@ -184,8 +189,10 @@ fn put_above<B: Blocks>(
     message: B::Mp,
 ) -> Acts<B::Mp>
     requires { MayAnswer (B.value store.old) (B.name message) here Down }
-    ensures { Puts B.name (B.value store.old) (B.value store.new) ptem.old ptem.new (B.name message) here result
+    ensures does { Puts B.name (B.value store.old) (B.value store.new) ptem.old ptem.new (B.name message) here result
         (λ m. asked_above here ioc (payload m.plain) m) }
+    ensures shared { let s = B.value store.old in CanPart s (B.name message) →
+        BothCarry B.name (B.value store.new) (drop 1 (in_hand s (B.name message))) (sent_of result.sent) }
 {
     if ioc.command == TCGETS {
         return tell_termios(ptem, store, here, ioc, message);
@@ -238,8 +245,10 @@ pub fn put<B: Blocks>(ptem: &mut Ptem, store: &mut B, here: Spot, message: B::Mp
     requires room { let s = B.value store.old in HasRoom s (cost here (message_in s (B.name message))) }
     requires inside { 0 < here.at }
     requires small { here.at ≤ MODULES }
-    ensures { Puts B.name (B.value store.old) (B.value store.new) ptem.old ptem.new (B.name message) here result
+    ensures does { Puts B.name (B.value store.old) (B.value store.new) ptem.old ptem.new (B.name message) here result
         (ptem_puts here) }
+    ensures shared { let s = B.value store.old in here.way ≡ Down → CanPart s (B.name message) →
+        BothCarry B.name (B.value store.new) (drop 1 (in_hand s (B.name message))) (sent_of result.sent) }
 {
     store.audit();
     let kind = store.kind(&message, 0);

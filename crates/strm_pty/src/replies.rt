@@ -1,7 +1,7 @@
 //! Answers to ioctls, ioctls that tell of a change, and signals (streamio(7I): I_STR; STREAMS Programming Guide: M_IOCACK, M_IOCNAK,
 //! M_IOCTL, M_PCSIG).
 
-ghost use Rattle.std.specs.Prelude.{◌≡◌, ◌<◌, ◌≤◌, ◌^◌, ◌++◌, false, length, [], ◌∷◌};
+ghost use Rattle.std.specs.Prelude.{◌≡◌, ◌<◌, ◌≤◌, ◌^◌, ◌++◌, drop, false, length, [], ◌∷◌};
 ghost use Rattle.std.specs.Option.{option_to_list};
 ghost use Rattle.strm_types.specs.declared.names.Way.TheVariants.{Up, Down};
 ghost use Rattle.strm_types.specs.Acks.{ack_message, payload, telling_message};
@@ -14,6 +14,7 @@ ghost use Rattle.strm_blocks.specs.Blocks.{IsInHand, block_at, in_hand};
 ghost use Rattle.strm_frame.specs.Hands.{HasRoom};
 ghost use Rattle.strm_frame.specs.Outboxes.{message_in, sent_of};
 ghost use Rattle.strm_pty.specs.Does.{Makes, Swaps};
+ghost use Rattle.strm_pty.specs.Shares.{BothCarry, CanPart};
 
 use crate::making::make;
 use crate::sharing::{part, share};
@@ -195,8 +196,10 @@ fn tell_both<B: Blocks>(
     requires room { HasRoom (B.value store.old) 2 }
     requires inside { 0 < here.at }
     requires small { here.at < 2 ^ 63 }
-    ensures { Swaps B.name (B.value store.old) (B.value store.new) (B.name message) 2 (result.0 ∷ result.1 ∷ [])
+    ensures swaps { Swaps B.name (B.value store.old) (B.value store.new) (B.name message) 2 (result.0 ∷ result.1 ∷ [])
         (onward Up here (ack_message ioc given.now) ∷ onward Down here (telling_message ioc given.now) ∷ []) }
+    ensures shared { let s = B.value store.old in CanPart s (B.name message) →
+        BothCarry B.name (B.value store.new) (drop 1 (in_hand s (B.name message))) (result.0 ∷ result.1 ∷ []) }
 {
     match part(store, message) {
         Ok(both) => {
@@ -228,6 +231,8 @@ pub(crate) fn confirm<B: Blocks>(
     ensures swaps { Swaps B.name (B.value store.old) (B.value store.new) (B.name message) 3 (sent_of result.sent)
         (onward Up here (ack_message ioc given.now) ∷ onward Down here (telling_message ioc given.now)
         ∷ window_signal here windows.0 windows.1) }
+    ensures shared { let s = B.value store.old in CanPart s (B.name message) →
+        BothCarry B.name (B.value store.new) (drop 1 (in_hand s (B.name message))) (sent_of result.sent) }
 {
     let (first, second) = tell_both(store, here, ioc, given, message);
     let third = signal_change(store, here, windows.0, windows.1);

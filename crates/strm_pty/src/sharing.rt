@@ -1,6 +1,6 @@
 //! A payload that two messages show over one data block (dupb(9F); STREAMS Programming Guide, "Message Structure").
 
-ghost use Rattle.std.specs.Prelude.{◌≡◌, ◌<◌, ◌≤◌, ◌^◌, ◌++◌, MatchResult, false, length, [], ◌∷◌};
+ghost use Rattle.std.specs.Prelude.{◌≡◌, ◌<◌, ◌≤◌, ◌^◌, ◌++◌, MatchResult, drop, false, length, [], ◌∷◌};
 ghost use Rattle.strm_types.specs.declared.names.Way.TheVariants.{Up, Down};
 ghost use Rattle.strm_types.specs.Acks.{ack_message, telling_message};
 ghost use Rattle.strm_types.specs.Flush.{is_data_kind};
@@ -10,7 +10,7 @@ ghost use Rattle.strm_blocks.specs.Blocks.{IsInHand, in_hand};
 ghost use Rattle.strm_msg.specs.Bytes.{bytes_of};
 ghost use Rattle.strm_frame.specs.Hands.{HasRoom};
 ghost use Rattle.strm_pty.specs.Does.{Swaps};
-ghost use Rattle.strm_pty.specs.Shares.{AreShared, Parts, SendsBoth};
+ghost use Rattle.strm_pty.specs.Shares.{AreShared, BothCarry, Parts, SendsBoth, Unparted};
 
 use strm_blocks::Blocks;
 use strm_frame::Sent;
@@ -24,7 +24,7 @@ pub(crate) fn part<B: Blocks>(store: &mut B, message: B::Mp) -> Result<(B::Mp, B
     requires { IsInHand (B.value store.old) (B.name message) }
     ensures { let s = B.value store.old in MatchResult result
         (λ both. Parts s (B.value store.new) (B.name message) (B.name both.0) (B.name both.1))
-        (λ same. (B.value store.new ≡ s) × (B.name same ≡ B.name message)) }
+        (λ same. Unparted s (B.value store.new) (B.name message) (B.name same)) }
 {
     store.audit();
     if store.blocks(&message) != 2 || store.block_len(&message, 0) != HEADER_SIZE {
@@ -57,8 +57,9 @@ pub(crate) fn send_behind<B: Blocks>(
     requires room { HasRoom (B.value store.old) 1 }
     requires inside { 0 < here.at }
     requires small { here.at < 2 ^ 63 }
-    ensures { let s = B.value store.old in Swaps B.name s (B.value store.new) (B.name message) 1 (result ∷ [])
+    ensures swaps { let s = B.value store.old in Swaps B.name s (B.value store.new) (B.name message) 1 (result ∷ [])
         (onward way here (bare kind (header.now ++ bytes_of (in_hand s (B.name message)))) ∷ []) }
+    ensures carries { drop 1 (in_hand (B.value store.new) (B.name result.message)) ≡ in_hand (B.value store.old) (B.name message) }
 {
     let Ok(front) = store.alloc_with(kind, Band(0), header) else {
         unreachable!()
@@ -82,8 +83,9 @@ pub(crate) fn share<B: Blocks>(
     requires room { HasRoom (B.value store.old) 2 }
     requires inside { 0 < here.at }
     requires small { here.at < 2 ^ 63 }
-    ensures { SendsBoth B.name (B.value store.old) (B.value store.new) (B.name both.0) (B.name both.1) (result.0 ∷ result.1 ∷ []) (let given = bytes_of (in_hand (B.value store.old) (B.name both.0)) in
+    ensures sends { SendsBoth B.name (B.value store.old) (B.value store.new) (B.name both.0) (B.name both.1) (result.0 ∷ result.1 ∷ []) (let given = bytes_of (in_hand (B.value store.old) (B.name both.0)) in
         onward Up here (ack_message ioc given) ∷ onward Down here (telling_message ioc given) ∷ []) }
+    ensures carries { BothCarry B.name (B.value store.new) (in_hand (B.value store.old) (B.name both.0)) (result.0 ∷ result.1 ∷ []) }
 {
     let answer = ioc.acked().bytes();
     let first = send_behind(store, here, Way::Up, MsgKind::Iocack, &answer, both.0);

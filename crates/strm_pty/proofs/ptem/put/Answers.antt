@@ -3,14 +3,15 @@ use Rattle.std.proofs.Common.{◌≡◌, sym, subst, ◌∙◌}
 use Rattle.std.specs.Prelude.{Some}
 use Rattle.strm_types.specs.Ioctls.{read_ioc}
 use Rattle.strm_types.specs.Costs.{cost}
-use Rattle.strm_frame.specs.Outboxes.{message_in}
+use Rattle.strm_frame.specs.Outboxes.{message_in, sent_of}
 use Rattle.strm_pty.specs.Beside.{Answers, MayPass, ptem_in}
 use Rattle.strm_frame.proofs.Asked.{asked-is, asked-not, asked-plain}
+use Rattle.strm_pty.proofs.Carried.{lone-carries}
 use Rattle.strm_pty.proofs.Replied.{may-above, may-below, puts-above, puts-below, puts-other}
 use Rattle.strm_pty.proofs.ptem.put.Goals as goal
 
-pub returns-then-not-is_ioctl : goal.returns-then-not-is_ioctl
-returns-then-not-is_ioctl g c =
+pub returns-then-not-is_ioctl-clause-does : goal.returns-then-not-is_ioctl-clause-does
+returns-then-not-is_ioctl-clause-does g c =
     let name = g.B.Blocks.name in
     let s = g.B.Blocks.value c.args.store.now in
     let i = name c.args.message in
@@ -39,8 +40,8 @@ put_below-requires g c =
     let passes : MayPass s i c.args.here = record { held = c.requires.in_hand; chain = c.requires.chain; inside = c.requires.inside; small = c.requires.small } in
     may-below s i c.args.here passes c.requires.room (asked-is s i c.kind-kind.result c.requires.chain c.kind-kind.ensures (sym c.is_ioctl.ensures ∙ c.if-not-is_ioctl.false)) c.in-Up.is
 
-pub returns-in-Down : goal.returns-in-Down
-returns-in-Down g c =
+pub returns-in-Down-clause-does : goal.returns-in-Down-clause-does
+returns-in-Down-clause-does g c =
     let name = g.B.Blocks.name in
     let s = g.B.Blocks.value c.args.store.now in
     let i = name c.args.message in
@@ -48,10 +49,10 @@ returns-in-Down g c =
     let asked = asked-is s i c.kind-kind.result c.requires.chain c.kind-kind.ensures (sym c.is_ioctl.ensures ∙ c.if-not-is_ioctl.false) in
     let header : read_ioc m.plain ≡ Some c.in-Some.ioc = sym c.header_of.ensures ∙ c.in-Some.is in
     subst (λ is. Answers name s (g.B.Blocks.value c.put_above.new.store) c.put_above.new.ptem i (cost c.args.here m) c.put_above.result is)
-    (sym (puts-above c.args.here m (ptem_in c.args.ptem.now) c.in-Some.ioc asked header c.in-Down.is)) c.put_above.ensures
+    (sym (puts-above c.args.here m (ptem_in c.args.ptem.now) c.in-Some.ioc asked header c.in-Down.is)) c.put_above.ensures.does
 
-pub returns-in-Up : goal.returns-in-Up
-returns-in-Up g c =
+pub returns-in-Up-clause-does : goal.returns-in-Up-clause-does
+returns-in-Up-clause-does g c =
     let name = g.B.Blocks.name in
     let s = g.B.Blocks.value c.args.store.now in
     let i = name c.args.message in
@@ -60,3 +61,15 @@ returns-in-Up g c =
     let header : read_ioc m.plain ≡ Some c.in-Some.ioc = sym c.header_of.ensures ∙ c.in-Some.is in
     subst (λ is. Answers name s (g.B.Blocks.value c.put_below.new.store) c.put_below.new.ptem i (cost c.args.here m) c.put_below.result is)
     (sym (puts-below c.args.here m (ptem_in c.args.ptem.now) c.in-Some.ioc asked header c.in-Up.is)) c.put_below.ensures
+
+pub returns-then-not-is_ioctl-clause-shared : goal.returns-then-not-is_ioctl-clause-shared
+returns-then-not-is_ioctl-clause-shared g c = λ way can. lone-carries g.B.Blocks.name (g.B.Blocks.value c.args.store.now) _ (sent_of c.pass_on.result.sent) _ c.pass_on.ensures.sent
+
+pub returns-in-Down-clause-shared : goal.returns-in-Down-clause-shared
+returns-in-Down-clause-shared g c = λ way can. c.put_above.ensures.shared can
+
+pub returns-in-Up-clause-shared : goal.returns-in-Up-clause-shared
+returns-in-Up-clause-shared g c = λ way can. absurd (let up = c.in-Up.is in cc)
+
+pub returns-in_default-clause-shared : goal.returns-in_default-clause-shared
+returns-in_default-clause-shared g c = λ way can. lone-carries g.B.Blocks.name (g.B.Blocks.value c.args.store.now) _ (sent_of c.pass_on-in_default.result.sent) _ c.pass_on-in_default.ensures.sent

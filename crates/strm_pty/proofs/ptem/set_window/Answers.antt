@@ -5,10 +5,11 @@ use Rattle.strm_types.specs.Acks.{payload}
 use Rattle.strm_types.specs.Costs.{cost}
 use Rattle.strm_types.specs.Ptems.{window_set}
 use Rattle.strm_types.specs.Winsizes.{read_winsize}
-use Rattle.strm_frame.specs.Outboxes.{message_in}
+use Rattle.strm_frame.specs.Outboxes.{message_in, sent_of}
 use Rattle.strm_pty.specs.Beside.{Answers, ptem_in}
 use Rattle.strm_frame.proofs.Asked.{asked-plain}
 use Rattle.strm_frame.proofs.Behind.{window_read}
+use Rattle.strm_pty.proofs.Carried.{lone-carries}
 use Rattle.strm_pty.proofs.Replied.{read-all, read-whole, refuse-above, set-answers}
 use Rattle.strm_pty.proofs.ptem.set_window.Goals as goal
 
@@ -24,8 +25,8 @@ confirm-requires-clause-given g c =
     c.as_slice-2.ensures.value ∙ sym c.as_slice.ensures.value
     ∙ read-whole window_read 8 p _ _ (omega arith) c.read.ensures (c.as_slice.ensures.value ∙ c.payload_of-given.ensures) c.in-Some.window c.in-Some.is
 
-pub returns-in_default : goal.returns-in_default
-returns-in_default g c =
+pub returns-in_default-clause-does : goal.returns-in_default-clause-does
+returns-in_default-clause-does g c =
     let name = g.B.Blocks.name in
     let s = g.B.Blocks.value c.args.store.now in
     let t = g.B.Blocks.value c.nak.new.store in
@@ -37,8 +38,8 @@ returns-in_default g c =
     subst (λ o. Answers name s t x i (cost here (message_in s i)) c.nak.result (window_set here c.args.ioc p o (ptem_in x))) (sym none)
     (refuse-above name s t i here c.args.ioc c.nak.result c.nak.ensures.notes x c.requires c.nak.ensures.swaps)
 
-pub returns : goal.returns
-returns g c =
+pub returns-clause-does : goal.returns-clause-does
+returns-clause-does g c =
     let name = g.B.Blocks.name in
     let s = g.B.Blocks.value c.args.store.now in
     let t = g.B.Blocks.value c.confirm.new.store in
@@ -52,3 +53,9 @@ returns g c =
     let whole = read-whole window_read 8 p _ _ (omega arith) c.read.ensures (c.as_slice.ensures.value ∙ c.payload_of-given.ensures) v c.in-Some.is in
     subst (λ o. Answers name s t x' i (cost here (message_in s i)) c.confirm.result (window_set here c.args.ioc p o (ptem_in x))) (sym said)
     (set-answers name s t i here c.args.ioc c.confirm.result c.confirm.ensures.notes x x' c.as_slice-2.result.now p c.requires (c.as_slice-2.ensures.value ∙ sym c.as_slice.ensures.value ∙ whole) c.confirm.ensures.swaps)
+
+pub returns-in_default-clause-shared : goal.returns-in_default-clause-shared
+returns-in_default-clause-shared g c = λ can. lone-carries g.B.Blocks.name (g.B.Blocks.value c.nak.new.store) _ (sent_of c.nak.result.sent) _ c.nak.ensures.swaps.sent
+
+pub returns-clause-shared : goal.returns-clause-shared
+returns-clause-shared g c = c.confirm.ensures.shared

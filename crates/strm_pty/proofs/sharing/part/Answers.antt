@@ -1,5 +1,5 @@
 -- A message of two blocks has one behind its first one, which goes.
-use Rattle.std.proofs.Common.{ℕ, MatchOption, Option, ◌≡◌, ◌∙◌, length, sym, subst, arith}
+use Rattle.std.proofs.Common.{MatchOption, ◌≡◌, length, sym, subst, arith}
 use Rattle.strm_blocks.specs.Blocks.{IsInHand, block_at, in_hand}
 use Rattle.strm_blocks.specs.Outcomes.{Unlinked, UnlinkedLast}
 use Rattle.strm_pty.proofs.Parting.{first-there, parts}

@@ -13,8 +13,8 @@ pub put-acts-requires-clause-in_hand : goal.put-acts-requires-clause-in_hand
 put-acts-requires-clause-in_hand g c =
     let s = g.B.Blocks.value c.from_bytes.new.store in
     first-there g.B.Blocks.name s (g.B.Blocks.value c.send_behind-asked.new.store) (g.B.Blocks.name c.in_ok-payload.payload) 1 c.send_behind-asked.result _ [] _
-    (made-here _ _ _ _ c.in_ok-payload.ensures.made) c.audit.ensures c.send_behind-asked.ensures refl
+    (made-here _ _ _ _ c.in_ok-payload.ensures.made) c.audit.ensures c.send_behind-asked.ensures.swaps refl
 
 pub put-acts-requires-clause-chain : goal.put-acts-requires-clause-chain
 unfolding AreChains
-put-acts-requires-clause-chain g c = c.send_behind-asked.ensures.chains.0
+put-acts-requires-clause-chain g c = c.send_behind-asked.ensures.swaps.chains.0
