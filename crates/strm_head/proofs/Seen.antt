@@ -11,7 +11,7 @@ use Rattle.strm_types.specs.Gets.{is_wanted, get_refusal}
 use Rattle.strm_types.specs.declared.refusals.Refusal.TheVariants.{Eagain}
 use Rattle.strm_types.specs.Flush.{is_data_kind}
 use Rattle.strm_types.specs.Message.{Message, part, cells_of, is_high_priority}
-use Rattle.strm_types.specs.Reads.{is_there, is_passed, is_refused, no_cells, offered, finds_none, starts_refused}
+use Rattle.strm_types.specs.Reads.{is_there, is_passed, is_refused, no_cells, offered, finds_none, starts_refused, takes_none}
 use Rattle.strm_blocks.specs.Blocks.{Block, block_at}
 use Rattle.strm_blocks.specs.Outcomes.{Peeked, peek_of, part_len, control_len, body_len, told}
 use Rattle.strm_blocks.specs.declared.asked.Peek.{Peek}
@@ -119,44 +119,58 @@ module _ (chain : List Block) (readable : is_data_kind (block_at 0 chain).kind �
   empty-seen Data = both-empty
   empty-seen Discard = body-empty
 
-  goes-seen : (control : ControlMode) (begun : Bool) → peek_goes control begun (peek_of chain) ≡ goes control begun (message_of chain)
-  goes-seen control begun =
-      ap (λ b. not b && not (begun && peek_empty control (peek_of chain))) (refused-seen chain readable control (peek_of chain) refl)
-      ∙ ap (λ b. not (is_refused control (message_of chain)) && not (begun && b)) (empty-seen control)
+  goes-seen : (control : ControlMode) → peek_goes control (peek_of chain) ≡ goes control true (message_of chain)
+  goes-seen control =
+      ap (λ b. not b && not (peek_empty control (peek_of chain))) (refused-seen chain readable control (peek_of chain) refl)
+      ∙ ap (λ b. not (is_refused control (message_of chain)) && not b) (empty-seen control)
 
--- a visitor that sees whether a read takes the first message that it doesn't pass over
+-- a visitor that sees whether a read that has begun to give takes the first message that it doesn't pass over
 abbrev reach : Reaching → Peek → Reaching
-reach v p = record { control = v.control; begun = v.begun; passing = peek_passed v.control p; goes = not (peek_passed v.control p) && peek_goes v.control v.begun p }
+reach v p = record { control = v.control; passing = peek_passed v.control p; goes = not (peek_passed v.control p) && peek_goes v.control p }
 
-pub reaching-one : (control : ControlMode) (begun : Bool) (q : List (List Block)) → AllByRecursion (λ chain. is_data_kind (block_at 0 chain).kind ≡ true) q
-    → (told reach (λ v. v.passing) (record { control = control; begun = begun; passing = true; goes = false }) (map peek_of q)).goes ≡ first_goes control begun (behind_passed control (map message_of q))
-reaching-one control begun [] all = refl
-reaching-one control begun (chain ∷ q) all =
-    at (peek_passed control (peek_of chain)) (is_passed control (message_of chain)) (passed-seen chain all.0 control) refl (reaching-one control begun q all.1)
+pub reaching-one : (control : ControlMode) (q : List (List Block)) → AllByRecursion (λ chain. is_data_kind (block_at 0 chain).kind ≡ true) q
+    → (told reach (λ v. v.passing) (record { control = control; passing = true; goes = false }) (map peek_of q)).goes ≡ first_goes control true (behind_passed control (map message_of q))
+reaching-one control [] all = refl
+reaching-one control (chain ∷ q) all =
+    at (peek_passed control (peek_of chain)) (is_passed control (message_of chain)) (passed-seen chain all.0 control) refl (reaching-one control q all.1)
   where
     at : (b c : Bool) → b ≡ c → is_passed control (message_of chain) ≡ c
-        → (told reach (λ v. v.passing) (record { control = control; begun = begun; passing = true; goes = false }) (map peek_of q)).goes ≡ first_goes control begun (behind_passed control (map message_of q))
-        → (cond b (told reach (λ v. v.passing) (record { control = control; begun = begun; passing = b; goes = not b && peek_goes control begun (peek_of chain) }) (map peek_of q)) (record { control = control; begun = begun; passing = b; goes = not b && peek_goes control begun (peek_of chain) })).goes
-        ≡ first_goes control begun (cond c (behind_passed control (map message_of q)) (message_of chain ∷ map message_of q))
+        → (told reach (λ v. v.passing) (record { control = control; passing = true; goes = false }) (map peek_of q)).goes ≡ first_goes control true (behind_passed control (map message_of q))
+        → (cond b (told reach (λ v. v.passing) (record { control = control; passing = b; goes = not b && peek_goes control (peek_of chain) }) (map peek_of q)) (record { control = control; passing = b; goes = not b && peek_goes control (peek_of chain) })).goes
+        ≡ first_goes control true (cond c (behind_passed control (map message_of q)) (message_of chain ∷ map message_of q))
     at true true same is ih = ih
-    at false false same is ih = goes-seen chain all.0 control begun ∙ ap (λ b. not b && goes control begun (message_of chain)) (sym is)
+    at false false same is ih = goes-seen chain all.0 control ∙ ap (λ b. not b && goes control true (message_of chain)) (sym is)
     at true false same is ih = absurd (cc)
     at false true same is ih = absurd (cc)
 
--- where nothing stands a read takes none
-pub none-goes : (control : ControlMode) (begun : Bool) (q : List (List Block)) → is_none_left q ≡ true → false ≡ first_goes control begun (behind_passed control (map message_of q))
-none-goes control begun [] is = refl
-none-goes control begun (chain ∷ q) is = absurd (cc)
+-- where none is passed over a read finds none only where none is left
+pub quick-none : (control : ControlMode) (q : List (List Block)) → drops_control control ≡ false → is_none_left q ≡ finds_none control (map message_of q)
+quick-none Refuse [] none = refl
+quick-none Refuse (chain ∷ q) none = refl
+quick-none Data [] none = refl
+quick-none Data (chain ∷ q) none = refl
+quick-none Discard q none = absurd (cc)
 
-and-true : (b : Bool) → b ≡ (b && true)
-and-true true = refl
-and-true false = refl
+-- a read that finds a message, and doesn't fail at the first one, takes one
+pub goes-first : (control : ControlMode) (q : List (Message ℕ)) → finds_none control q ≡ false → starts_refused control q ≡ false → first_goes control false (behind_passed control q) ≡ true
+goes-first control [] some goes_on = absurd (cc)
+goes-first Refuse (m ∷ q) some goes_on = ap (λ b. not b && true) goes_on
+goes-first Data (m ∷ q) some goes_on = refl
+goes-first Discard (m ∷ q) some goes_on = at (is_passed Discard m) refl (λ more. goes-first Discard q more (passed-on q)) some
+  where
+    passed-on : (l : List (Message ℕ)) → starts_refused Discard l ≡ false
+    passed-on [] = refl
+    passed-on (x ∷ l) = refl
 
--- a read that has given nothing yet, and passes none over, takes the first message but for a control part under RPROTNORM
-pub quick-goes : (control : ControlMode) (begun : Bool) (q : List (List Block)) → begun ≡ false → drops_control control ≡ false → is_none_left q ≡ false
-    → not (starts_refused control (map message_of q)) ≡ first_goes control begun (behind_passed control (map message_of q))
-quick-goes control true q fresh none some = absurd (cc)
-quick-goes control false [] fresh none some = absurd (cc)
-quick-goes Refuse false (chain ∷ q) fresh none some = and-true (not (is_refused Refuse (message_of chain)))
-quick-goes Data false (chain ∷ q) fresh none some = refl
-quick-goes Discard false (chain ∷ q) fresh none some = absurd (cc)
+    at : (b : Bool) → is_passed Discard m ≡ b → (finds_none Discard q ≡ false → first_goes Discard false (behind_passed Discard q) ≡ true) → (b && finds_none Discard q) ≡ false → first_goes Discard false (cond b (behind_passed Discard q) (m ∷ q)) ≡ true
+    at true is more some = more some
+    at false is more some = ap (λ b. not b && goes Discard false m) is
+
+-- so does one that has something to take
+pub takes-first : (control : ControlMode) (n : ℕ) (q : List (Message ℕ)) → takes_none control n q ≡ false → first_goes control false (behind_passed control q) ≡ true
+takes-first control n q is = (let both = neither (n == 0) (finds_none control q) (starts_refused control q) is in goes-first control q both.0 both.1)
+  where
+    neither : (a b c : Bool) → (a || (b || c)) ≡ false → (b ≡ false) × (c ≡ false)
+    neither true b c is = absurd (cc)
+    neither false true c is = absurd (cc)
+    neither false false c is = (refl, is)

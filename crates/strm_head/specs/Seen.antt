@@ -27,9 +27,9 @@ peek_empty Refuse p = unwrap_or p.control 0 == 0 && unwrap_or p.body 0 == 0
 peek_empty Data p = unwrap_or p.control 0 == 0 && unwrap_or p.body 0 == 0
 peek_empty Discard p = unwrap_or p.body 0 == 0
 
--- whether a read takes it, where it doesn't pass it over
-abbrev pub peek_goes : ControlMode → Bool → Peek → Bool
-peek_goes control begun p = not (peek_refused control p) && not (begun && peek_empty control p)
+-- whether a read that has begun to give takes it, where it doesn't pass it over
+abbrev pub peek_goes : ControlMode → Peek → Bool
+peek_goes control p = not (peek_refused control p) && not (peek_empty control p)
 
 -- whether a message that is seen is the one that a get asks for
 abbrev pub peek_wanted : Wanted → Peek → Bool

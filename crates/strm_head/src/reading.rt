@@ -172,7 +172,8 @@ fn take_first<B: Blocks>(
     step_behind(read, wanted, len)
 }
 
-// Adds up to `wanted` bytes of the first message that isn't passed over to `out`. Where the read doesn't take it, all stay.
+// Adds up to `wanted` bytes of the first message that isn't passed over to `out`. Where a read that has begun to give doesn't take it, all
+// stay; one that hasn't finds one that it takes.
 fn draw_first<B: Blocks>(
     store: &mut B,
     queue: &mut Queue,
@@ -185,6 +186,7 @@ fn draw_first<B: Blocks>(
     requires ready { IsHeadQueue (B.value store.old) queue.old }
     requires some { 0 < wanted }
     requires room { length out.old.items + wanted ≤ 4096 }
+    requires goes { begun ≡ false → first_goes control false (behind_passed control (messages_on (B.value store.old) queue.old.list)) ≡ true }
     ensures took { let old = messages_on (B.value store.old) queue.old.list in
         let new = messages_on (B.value store.new) queue.old.list in
         Stepped read control begun wanted result.more result.discarded old new out.old.items out.new.items }
@@ -198,7 +200,7 @@ fn draw_first<B: Blocks>(
     take_first(store, queue, read, control, wanted, out)
 }
 
-// Adds up to `wanted` bytes of the first messages to `out`, and says how many were discarded.
+// Adds up to `wanted` bytes of the first messages to `out`, of which there is one that the read takes, and says how many were discarded.
 fn gather<B: Blocks>(
     store: &mut B,
     queue: &mut Queue,
@@ -209,6 +211,7 @@ fn gather<B: Blocks>(
 ) -> usize
     requires ready { IsHeadQueue (B.value store.old) queue.old }
     requires room { length out.old.items + wanted ≤ 4096 }
+    requires goes { first_goes control false (behind_passed control (messages_on (B.value store.old) queue.old.list)) ≡ true }
     ensures given { let d = drawn_on read control false wanted (messages_on (B.value store.old) queue.old.list) in
         out.new.items ≡ out.old.items ++ d.given }
     ensures discarded { let d = drawn_on read control false wanted (messages_on (B.value store.old) queue.old.list) in

@@ -1,6 +1,6 @@
 //! What stands on a head's queue.
 
-ghost use Rattle.std.specs.Prelude.{◌≡◌, ◌+◌, ◌-◌, ◌^◌, ◌&&◌, min, length, not, true, List};
+ghost use Rattle.std.specs.Prelude.{◌≡◌, ◌+◌, ◌-◌, ◌^◌, ◌&&◌, min, length, not, false, true, List};
 ghost use Rattle.strm_types.specs.Queue.{relieved, relieves};
 ghost use Rattle.strm_types.specs.Reads.{finds_none, starts_refused, takes_none};
 ghost use Rattle.strm_types.specs.Gets.{get_refusal, first_data};
@@ -71,12 +71,15 @@ impl Visitor for Passing {
     }
 }
 
-/// Whether a read finds nothing: no message, or under RPROTDIS none that has a data part. The cost is a step for each block
-/// of the messages that are passed over, and of the next.
+/// Whether a read finds nothing: no message, or under RPROTDIS none that has a data part. The cost under RPROTDIS is a step for each
+/// block of the messages that are passed over, and of the next.
 pub(crate) fn finds_none<B: Blocks>(store: &B, queue: &Queue, control: ControlMode) -> bool
     requires { IsHeadQueue (B.value store.now) queue.now }
     ensures { result ≡ finds_none control (messages_on (B.value store.now) queue.now.list) }
 {
+    if !drops_control(control) {
+        return queue.is_empty(store);
+    }
     let mut passing = Passing { control, all: true };
     store.visit(queue.list, &mut passing);
     passing.all
@@ -127,19 +130,18 @@ fn offers_none(control: ControlMode, message: Peek) -> bool
     }
 }
 
-// Whether a read takes a message that it doesn't pass over. It fails at a control part under RPROTNORM, and once it has begun
-// to give it stops at a message without bytes.
-fn goes(control: ControlMode, begun: bool, message: Peek) -> bool
-    ensures { result ≡ peek_goes control begun message }
+// Whether a read that has begun to give takes a message that it doesn't pass over. It stops at a control part under RPROTNORM, and at a
+// message without bytes.
+fn goes(control: ControlMode, message: Peek) -> bool
+    ensures { result ≡ peek_goes control message }
 {
-    !refuses(control, message) && !(begun && offers_none(control, message))
+    !refuses(control, message) && !offers_none(control, message)
 }
 
-// Sees whether a read takes the first message that it doesn't pass over.
+// Sees whether a read that has begun to give takes the first message that it doesn't pass over.
 #[derive(Drop)]
 struct Reaching {
     control: ControlMode,
-    begun: bool,
     passing: bool,
     goes: bool,
 }
@@ -147,28 +149,26 @@ struct Reaching {
 impl Visitor for Reaching {
     ghost after = { λ v p. record {
       control = v.control;
-      begun = v.begun;
       passing = peek_passed v.control p;
-      goes = not (peek_passed v.control p) && peek_goes v.control v.begun p;
+      goes = not (peek_passed v.control p) && peek_goes v.control p;
     } };
 
     ghost goes_on = { λ v. v.passing };
 
     fn see(&mut self, message: Peek) -> bool {
         self.passing = passes(self.control, message);
-        self.goes = !self.passing && goes(self.control, self.begun, message);
+        self.goes = !self.passing && goes(self.control, message);
         self.passing
     }
 }
 
-// Whether there is a message that a read takes, behind those that it passes over.
-fn reaches_one<B: Blocks>(store: &B, queue: &Queue, control: ControlMode, begun: bool) -> bool
+// Whether there is a message that a read takes which has begun to give, behind those that it passes over.
+fn reaches_one<B: Blocks>(store: &B, queue: &Queue, control: ControlMode) -> bool
     requires { IsHeadQueue (B.value store.now) queue.now }
-    ensures { result ≡ first_goes control begun (behind_passed control (messages_on (B.value store.now) queue.now.list)) }
+    ensures { result ≡ first_goes control true (behind_passed control (messages_on (B.value store.now) queue.now.list)) }
 {
     let mut reaching = Reaching {
         control,
-        begun,
         passing: true,
         goes: false,
     };
@@ -176,24 +176,22 @@ fn reaches_one<B: Blocks>(store: &B, queue: &Queue, control: ControlMode, begun:
     reaching.goes
 }
 
-/// Whether there is a message that a read takes, behind those that it passes over. The cost is a step for each block of
-/// these, and of the next.
+/// Whether there is a message that a read takes, behind those that it passes over. Before it has begun to give there is one, which isn't
+/// looked for again; then the cost is a step for each block of these, and of the next.
 pub(crate) fn takes_one<B: Blocks>(
     store: &B,
     queue: &Queue,
     control: ControlMode,
     begun: bool,
 ) -> bool
-    requires { IsHeadQueue (B.value store.now) queue.now }
+    requires readable { IsHeadQueue (B.value store.now) queue.now }
+    requires goes { begun ≡ false → first_goes control false (behind_passed control (messages_on (B.value store.now) queue.now.list)) ≡ true }
     ensures { result ≡ first_goes control begun (behind_passed control (messages_on (B.value store.now) queue.now.list)) }
 {
-    if begun || drops_control(control) {
-        return reaches_one(store, queue, control, begun);
+    if !begun {
+        return true;
     }
-    if queue.is_empty(store) {
-        return false;
-    }
-    !starts_refused(store, queue, control)
+    reaches_one(store, queue, control)
 }
 
 // Whether a message is the one that a get asks for.

@@ -29,6 +29,7 @@ loop-wanted-preserved g c =
       given = next-given c.args.read c.args.control l.begun l.wanted step.result.more step.result.discarded old new l.out.items step.new.out.items took (c.args.out.now.items ++ all.given) l.invariant.given;
       discarded = next-discarded c.args.read c.args.control l.begun l.wanted step.result.more step.result.discarded old new l.out.items step.new.out.items took l.discarded (length all.discarded) (l.invariant.none some) l.invariant.discarded;
       left = next-left c.args.read c.args.control l.begun l.wanted step.result.more step.result.discarded old new l.out.items step.new.out.items took all.left l.invariant.left;
+      goes = λ fresh. absurd (cc);
       none = next-none c.args.read c.args.control l.begun l.wanted step.result.more step.result.discarded old new l.out.items step.new.out.items took;
       fits = omega (arith, l.invariant.fits, took.most, ap length took.given, length-append l.out.items took.piece);
       flags = flags-both q l.queue step.new.queue l.invariant.flags step.ensures.flags;

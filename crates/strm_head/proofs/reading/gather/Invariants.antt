@@ -1,5 +1,5 @@
-use Rattle.std.proofs.Common.{◌≡◌, ◌≤◌, ◌<◌, ◌+◌, ◌++◌, length}
-use Rattle.strm_head.specs.Drawing.{drawn_on}
+use Rattle.std.proofs.Common.{◌≡◌, ◌≤◌, ◌<◌, ◌+◌, ◌++◌, Bool, true, false, length}
+use Rattle.strm_head.specs.Drawing.{behind_passed, drawn_on, first_goes}
 use Rattle.strm_queue.specs.Stored.{messages_on, SameFlags, Keeps}
 use Rattle.strm_head.proofs.reading.gather.Given as goal
 
@@ -11,6 +11,7 @@ invariant-loop-wanted g l =
       given : l.out.items ++ now.given ≡ l.initial.out.items ++ all.given;
       discarded : l.discarded + length now.discarded ≡ length all.discarded;
       left : now.left ≡ all.left;
+      goes : l.begun ≡ false → first_goes l.initial.control false (behind_passed l.initial.control (messages_on (g.B.Blocks.value l.store) l.initial.queue.list)) ≡ true;
       none : 0 < l.wanted → l.discarded ≡ 0;
       fits : length l.out.items + l.wanted ≤ length l.initial.out.items + l.initial.wanted;
       flags : SameFlags l.initial.queue l.queue;

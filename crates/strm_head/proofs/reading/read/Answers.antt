@@ -6,6 +6,7 @@ use Rattle.strm_types.proofs.ReadRefuses.{takes-none}
 use Rattle.strm_blocks.specs.Blocks.{list_at}
 use Rattle.strm_queue.specs.Stored.{messages_on, queue_in}
 use Rattle.strm_queue.proofs.Kept.{keeps-none, keeps-counted, keeps-from}
+use Rattle.strm_head.proofs.Seen.{takes-first}
 use Rattle.strm_head.proofs.Told.{told-none, told-some, queue-none, queue-some, goes-none, goes-some, queue-left, dropped-is}
 use Rattle.strm_head.proofs.reading.read.Goals as goal
 
@@ -31,6 +32,9 @@ returns-then-takes_none-clause-told g c =
 
 pub returns-then-takes_none-clause-keeps : goal.returns-then-takes_none-clause-keeps
 returns-then-takes_none-clause-keeps g c = keeps-none (g.B.Blocks.value c.args.store.now) c.args.queue.now c.requires.ready.ready
+
+pub gather-discarded-requires-clause-goes : goal.gather-discarded-requires-clause-goes
+gather-discarded-requires-clause-goes g c = takes-first c.args.control c.args.n (messages_on (g.B.Blocks.value c.args.store.now) c.args.queue.now.list) (sym c.takes_none.ensures ∙ c.if-takes_none.false)
 
 pub returns-then-went-clause-queue : goal.returns-then-went-clause-queue
 returns-then-went-clause-queue g c =

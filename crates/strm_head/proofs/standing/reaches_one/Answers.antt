@@ -7,4 +7,4 @@ use Rattle.strm_head.proofs.standing.reaches_one.Goals as goal
 pub returns : goal.returns
 returns g c =
     ap (λ v. v.goes) c.visit.ensures
-    ∙ reaching-one c.args.control c.args.begun (list_at (g.B.Blocks.value c.args.store.now) c.args.queue.now.list) c.requires.readable.each
+    ∙ reaching-one c.args.control (list_at (g.B.Blocks.value c.args.store.now) c.args.queue.now.list) c.requires.readable.each
