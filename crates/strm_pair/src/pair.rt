@@ -232,6 +232,7 @@ impl<B: Stacks + Drop> Pair<B> {
     }
 
     // The refusal of a call, if any.
+    #[inline(always)]
     fn refusal(&self, caller: Caller, event: &Event<&[u8]>) -> Option<Refusal>
         ensures { result ≡ call_refused self.now caller (request event.now) }
     {
@@ -283,14 +284,9 @@ impl<B: Stacks + Drop> Pair<B> {
         }
     }
 
-    /// Makes a call. It is refused for the first of: its side isn't open, or is hung up where the call sends something down
-    /// (ENXIO); an argument is wrong (EINVAL); a book is full (ERANGE); the journal is full; too few blocks are free (ENOSR);
-    /// the state doesn't allow it (EAGAIN, EINVAL). A refused call changes nothing, and `out` stays. Else the call is carried out, and the journal gains it with its answer;
-    /// `out` has the bytes that it gives, which are none for any call but a read and a get: a get gives those of the control part
-    /// first. No part has more than 4096 bytes.
-    ///
-    /// The cost is in proportion to the bytes that the call moves. No memory is taken.
-    pub fn call(
+    // Makes a call as `call` says. Inlined, so that where the kind of the call is known nothing asks for it again.
+    #[inline(always)]
+    fn make(
         &mut self,
         caller: Caller,
         event: &Event<&[u8]>,
@@ -313,6 +309,33 @@ impl<B: Stacks + Drop> Pair<B> {
             .carry_out(&mut self.store, caller, event, out, told);
         self.journal.add_call(caller, event, answer, out.as_slice());
         Ok(answer)
+    }
+
+    /// Makes a call. It is refused for the first of: its side isn't open, or is hung up where the call sends something down
+    /// (ENXIO); an argument is wrong (EINVAL); a book is full (ERANGE); the journal is full; too few blocks are free (ENOSR);
+    /// the state doesn't allow it (EAGAIN, EINVAL). A refused call changes nothing, and `out` stays. Else the call is carried out, and the journal gains it with its answer;
+    /// `out` has the bytes that it gives, which are none for any call but a read and a get: a get gives those of the control part
+    /// first. No part has more than 4096 bytes.
+    ///
+    /// The cost is in proportion to the bytes that the call moves. No memory is taken.
+    pub fn call(
+        &mut self,
+        caller: Caller,
+        event: &Event<&[u8]>,
+        out: &mut Content,
+    ) -> Result<Answer<usize>, Refusal>
+        ensures refused { MatchOption (call_refused self.old caller (request event.now)) (IsOk result)
+            (λ r. (result ≡ Err r) × ((self.new ≡ self.old) × (out.new ≡ out.old))) }
+        ensures adds { IfOk result (λ answer.
+            AddsEntry self.old self.new (Called caller (request event.now) (reply_in answer out.new.items))) }
+        ensures filled { IfOk result (λ answer. answer_len answer ≡ length out.new.items) }
+        ensures parts { IfOk result (λ answer. longest_part answer ≤ READ_MAX) }
+    {
+        match event {
+            Event::Write { bytes } => self.make(caller, &Event::Write { bytes }, out),
+            Event::Read { n } => self.make(caller, &Event::Read { n: *n }, out),
+            _ => self.make(caller, event, out),
+        }
     }
 
     /// Makes a turn of an enabled queue's service procedure. It is refused where the queue isn't enabled (EINVAL), a book is

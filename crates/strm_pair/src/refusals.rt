@@ -217,6 +217,7 @@ impl<S: Drop> Streams<S> {
     }
 
     /// What a call is refused for before all else: its side, and then its arguments.
+    #[inline(always)]
     pub fn refused_at_once(&self, caller: Caller, event: &Event<&[u8]>) -> Option<Refusal>
         ensures { (modules : Modules S) (s : StoreValue) →
             result ≡ refused_at_once (state_in modules s self.now) caller (request event.now) }
@@ -267,6 +268,7 @@ impl<S: Drop> Streams<S> {
     }
 
     /// What a call that isn't refused at once is refused for after all else: what the state says.
+    #[inline(always)]
     pub fn refused_by_state<B: Stacks<Stack = S>>(
         &self,
         store: &B,

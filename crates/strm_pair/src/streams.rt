@@ -155,6 +155,7 @@ impl<S: Drop> Streams<S> {
     }
 
     /// Carries out a call that nothing refuses. What a read or a get gives stands in `out`, which is empty else.
+    #[inline(always)]
     pub fn carry_out<B: Stacks<Stack = S>>(
         &mut self,
         store: &mut B,

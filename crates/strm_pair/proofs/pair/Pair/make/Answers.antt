@@ -24,7 +24,7 @@ use Rattle.strm_pair.specs.Pairs.{state_in, journal_of, free_in}
 use Rattle.strm_pair.specs.PairViews.{pair_of}
 use Rattle.strm_pair.proofs.JournalLemmas.{room-less}
 use Rattle.strm_pair.proofs.Steps.{kept-step, led-idle, step-shown}
-use Rattle.strm_pair.proofs.pair.Pair.call.Goals as goal
+use Rattle.strm_pair.proofs.pair.Pair.make.Goals as goal
 
 first-true : (a b : Bool) → (a && b) ≡ true → a ≡ true
 first-true true b is = refl
