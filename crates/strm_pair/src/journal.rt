@@ -87,6 +87,7 @@ impl Journal {
     }
 
     /// Adds a call with its answer, whose bytes are `content`.
+    #[inline(always)]
     pub fn add_call(
         &mut self,
         caller: Caller,

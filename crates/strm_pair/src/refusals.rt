@@ -79,6 +79,7 @@ fn part_blocks(part: Option<&[u8]>) -> usize
 }
 
 /// How many blocks of each kind have to be free for a call.
+#[inline(always)]
 pub(crate) fn blocks_asked(event: &Event<&[u8]>) -> usize
     ensures { result ≡ blocks_asked (request event.now) }
 {
@@ -95,6 +96,7 @@ pub(crate) fn blocks_asked(event: &Event<&[u8]>) -> usize
 }
 
 /// The most bytes that the answer of a call can have.
+#[inline(always)]
 pub(crate) fn content_most(event: &Event<&[u8]>) -> usize
     ensures value { result ≡ content_max (request event.now) }
     ensures small { result ≤ 8192 }
