@@ -127,6 +127,7 @@ impl<S: Drop> Streams<S> {
     }
 
     /// Reads up to `n` bytes from a side's head into `out`, as its modes say.
+    #[inline(always)]
     pub fn read<B: Stacks<Stack = S>>(
         &mut self,
         store: &mut B,

@@ -160,6 +160,7 @@ impl<S: Drop> Streams<S> {
 
     /// Writes bytes down a side's stream, and answers how many were taken: they go down from the head in chunks of at most 256,
     /// each an ordinary message, while band 0 of the first queue below has room.
+    #[inline(always)]
     pub fn write<B: Stacks<Stack = S>>(
         &mut self,
         store: &mut B,
