@@ -1,16 +1,11 @@
 -- The calls of a turn of a module's queue, one after the other, up to the one that asks for no other.
 use Rattle.std.proofs.Common.{ℕ, zero, suc, ◌≡◌, ◌≤◌, ◌<◌, ◌+◌, ◌-◌, ◌*◌, Bool, true, false, List, [], ◌∷◌, ◌++◌, length, map, refl, sym, ap, subst, ◌∙◌, arith}
-use Rattle.std.specs.Prelude.{◌==◌, ◌&&◌, not, nat_lt, slice_index_or, None}
+use Rattle.std.specs.Prelude.{◌==◌, not, nat_lt, slice_index_or, None}
 use Rattle.std.specs.Bool.{OnTrue}
 use Rattle.std.specs.List.{AllByRecursion}
 use Rattle.std.proofs.lemmas.Bool.{false≢true}
 use Rattle.std.proofs.lemmas.Bool.Decides.{nat_tests}
 use Rattle.strm_types.specs.declared.answers.Turn.TheVariants.{Moved}
-use Rattle.strm_types.specs.declared.books.Book.{Book}
-use Rattle.strm_types.specs.declared.books.TheConstants.{BOOK_MAX}
-use Rattle.strm_types.specs.declared.limits.TheConstants.{HOPS}
-use Rattle.strm_types.specs.declared.names.Dir.{Dir}
-use Rattle.strm_types.specs.declared.names.Dir.TheVariants.{MasterToSlave, SlaveToMaster}
 use Rattle.strm_types.specs.declared.names.Place.TheVariants.{Driver}
 use Rattle.strm_types.specs.declared.names.QueueName.{QueueName}
 use Rattle.strm_types.specs.declared.names.Side.{Side}
@@ -19,18 +14,17 @@ use Rattle.strm_types.specs.declared.names.Way.{Way}
 use Rattle.strm_types.specs.declared.names.Way.TheVariants.{Up, Down}
 use Rattle.strm_types.specs.declared.rules.Fates.{Fates}
 use Rattle.strm_types.specs.declared.spots.Spot.{Spot}
-use Rattle.strm_types.specs.Books as books
 use Rattle.strm_types.specs.Cells.{plain}
-use Rattle.strm_types.specs.Deliver.{Acted, Fate, Parcel, carried, in_turn, tallied}
-use Rattle.strm_types.specs.Input.{made_of, stages_done, to_treat}
+use Rattle.strm_types.specs.Deliver.{Fate, tallied}
+use Rattle.strm_types.specs.Input.{stages_done, to_treat}
 use Rattle.strm_types.specs.Kept.{AreIdle}
 use Rattle.strm_types.specs.Ldterms.{Ldterm, Stage, Between, Begun, Answered}
 use Rattle.strm_types.specs.ModuleTurns.{module_turn_ended, module_turned, moved_on}
 use Rattle.strm_types.specs.Refused.{in_range}
 use Rattle.strm_types.specs.Spares.{spare}
 use Rattle.strm_types.specs.Stacked.{IsAtRest, Module, OfLdterm, OfPtem, OfPckt, module_serves}
-use Rattle.strm_types.specs.State.{State, Stream, book, stream, with_stream}
-use Rattle.strm_types.specs.TurnCalls.{Begins, Ends, Stopped, asks_on, bytes_left, called, echo_most, ldterm_of, led, module_at, most_made, treated}
+use Rattle.strm_types.specs.State.{State, stream}
+use Rattle.strm_types.specs.TurnCalls.{Begins, Ends, Stopped, asks_on, bytes_left, ldterm_of, led, module_at, treated}
 use Rattle.strm_types.specs.TurnOutcomes.{TurnOutcome}
 use Rattle.strm_types.proofs.ModuleTurnCalls.{Reached, UnderWay, index-map, led-at, led-length, moves-within, none_there, reached-last, reached-next, under_way}
 use Rattle.strm_types.proofs.StackSpares.{range-spare}

@@ -28,6 +28,7 @@ pub mod Shown
 pub mod DataLemmas
 pub mod Sends
 pub mod JournalLemmas
+pub mod ReadBack
 mod PlainWrites
 pub mod ChunkSteps
 mod Refusing

@@ -34,8 +34,8 @@ use Rattle.strm_blocks.specs.Blocks.{IsStore, StoreValue, list_at}
 use Rattle.strm_queue.specs.Stored.{queue_in, HoldsReadable}
 use Rattle.strm_queue.proofs.Placed.{ready-same}
 use Rattle.strm_frame.specs.declared.modules.Acts.{Acts}
-use Rattle.strm_frame.specs.Hands.{AreIn, CanPut, Handles, Hands, OnlyOwn, SamePool, Spends, once}
-use Rattle.strm_frame.specs.Outboxes.{AreChains, message_in, parcels_in, sent_of, times_sent}
+use Rattle.strm_frame.specs.Hands.{AreIn, CanPut, Handles, OnlyOwn, SamePool, Spends, once}
+use Rattle.strm_frame.specs.Outboxes.{message_in, sent_of, times_sent}
 use Rattle.strm_pair.specs.declared.ends.End.{End}
 use Rattle.strm_pair.specs.declared.streams.Streams.{Streams}
 use Rattle.strm_pair.specs.Pairs.{state_in, end_at, with_end, AreBeside, Stays, kept_by}

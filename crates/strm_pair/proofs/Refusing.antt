@@ -19,7 +19,7 @@ and-first true b is = refl
 and-first false b is = is
 
 -- an ioctl that isn't refused at once sends few bytes
-few-asked : (s : State ℕ) (caller : Caller) (command : ℕ) (body : List ℕ) → refused_at_once s caller (Ioctl command body) ≡ None → length body ≤ IOCTL_MAX
+pub few-asked : (s : State ℕ) (caller : Caller) (command : ℕ) (body : List ℕ) → refused_at_once s caller (Ioctl command body) ≡ None → length body ≤ IOCTL_MAX
 few-asked s caller command body at_once =
     let may = unless-none (may_ask body s && in_range s) Erange (or_else-none (unless (goes_down caller.side s) Enxio) _ at_once).1 in
     let few : nat_le (length body) IOCTL_MAX ≡ true = and-first _ _ (and-first _ _ may) in

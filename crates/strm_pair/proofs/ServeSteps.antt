@@ -3,7 +3,6 @@ use Rattle.std.proofs.Common.{ℕ, zero, suc, ◌≡◌, ◌≤◌, ◌<◌, ◌
 use Rattle.std.specs.Prelude.{◌*◌, ◌^◌, slice_index_or, HoldsAt, Option, None, is_some}
 use Rattle.std.specs.Bool.{OnTrue}
 use Rattle.std.proofs.lemmas.Bool.{false≢true}
-use Rattle.strm_types.specs.declared.books.Book.{Book}
 use Rattle.strm_types.specs.declared.names.Dir.{Dir}
 use Rattle.strm_types.specs.declared.names.Dir.TheVariants.{MasterToSlave, SlaveToMaster}
 use Rattle.strm_types.specs.declared.names.Place.{Place}
@@ -25,10 +24,10 @@ use Rattle.strm_types.specs.Ldterms.{Ldterm}
 use Rattle.strm_types.specs.ModuleQueues.{at_place}
 use Rattle.strm_types.specs.Modules.{act_among}
 use Rattle.strm_types.specs.Puts.{earlier_at, module_acted, noted, put_in}
-use Rattle.strm_types.specs.Spares.{packet_most, spare, spare_behind}
+use Rattle.strm_types.specs.Spares.{spare, spare_behind}
 use Rattle.strm_types.specs.StackCosts.{most_cost, stack_cost, stands_of}
 use Rattle.strm_types.specs.Stacked.{Module, OfLdterm, OfPtem, OfPckt, module_serves}
-use Rattle.strm_types.specs.State.{State, Stream, book, stream, with_stream}
+use Rattle.strm_types.specs.State.{State, book, stream}
 use Rattle.strm_types.specs.TurnCalls.{Begins, Ends, asks_on, bytes_left, called, ldterm_of, module_at, most_made, treated}
 use Rattle.strm_types.proofs.CostSums.{none-few}
 use Rattle.strm_types.proofs.StackSpares.{acted-falls, units-fit}
@@ -44,7 +43,6 @@ use Rattle.strm_frame.specs.Outboxes.{sent_of, times_sent, parcels_in}
 use Rattle.strm_frame.specs.Serves.{later_cost, stop_at}
 use Rattle.strm_ldterm.specs.Turns.{needs}
 use Rattle.strm_pair.specs.AnyModules.{MayServe, turn_cost}
-use Rattle.strm_pair.specs.declared.ends.End.{End}
 use Rattle.strm_pair.specs.declared.calling.Call.{Call}
 use Rattle.strm_pair.specs.declared.streams.Streams.{Streams}
 use Rattle.strm_pair.specs.ModuleServed.{ActsAs, CallsAs, IsKeptAll, MayBook, StackServes, TellsAs, acts_in, between, call_of, call_units, next_cost, stop_in}

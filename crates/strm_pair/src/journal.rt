@@ -1,11 +1,12 @@
 //! The journal of a pair.
 
-ghost use Rattle.std.specs.Prelude.{◌≡◌, ◌+◌, ◌≤◌, ◌<◌, [], ◌∷◌, ◌++◌, length, vec_capacity, true, IfOk};
+ghost use Rattle.std.specs.Prelude.{◌≡◌, ◌+◌, ◌≤◌, ◌<◌, ◌^◌, [], ◌∷◌, ◌++◌, length, vec_capacity, true, IfOk};
 ghost use Rattle.strm_types.specs.declared.entries.Entry.TheVariants.{Called, Turned};
 ghost use Rattle.strm_types.specs.Calls.{request, payload_of};
 ghost use Rattle.strm_types.specs.Journal.{entry_in, entry_len, answer_len, reply_in};
 ghost use Rattle.strm_pair.specs.Journals.{IsStored, has_room_for};
 
+use crate::stored::{stored_answer, stored_event};
 use std::alloc::{AllocError, Global};
 use strm_types::{Answer, Caller, Entry, Event, QueueName, Turn};
 
@@ -13,7 +14,7 @@ use strm_types::{Answer, Caller, Entry, Event, QueueName, Turn};
 /// the beginning.
 #[derive(Drop)]
 pub(crate) struct Journal {
-    pub entries: Vec<Entry<usize>>,
+    pub entries: Vec<Entry<u32>>,
     pub bytes: Vec<u8>,
     pub most_entries: usize,
     pub most_bytes: usize,
@@ -70,7 +71,7 @@ impl Journal {
     // Adds an entry with its bytes: those of its call, in two parts, and those of its answer. Inlined, so that an entry is
     // written once, where it stays.
     #[inline(always)]
-    fn add(&mut self, entry: Entry<usize>, first: &[u8], second: &[u8], content: &[u8])
+    fn add(&mut self, entry: Entry<u32>, first: &[u8], second: &[u8], content: &[u8])
         requires lengths { entry_len entry ≡ length first.now + length second.now + length content.now }
         requires room_entries { length self.old.entries.items < self.old.most_entries }
         requires room_bytes { length self.old.bytes.items + (length first.now + length second.now + length content.now)
@@ -96,6 +97,8 @@ impl Journal {
         content: &[u8],
     )
         requires filled { answer_len answer ≡ length content.now }
+        requires small { length (payload_of (request event.now)) < 2 ^ 32 }
+        requires few { length content.now < 2 ^ 32 }
         requires room { has_room_for (journal_of self.old) self.old.most_entries self.old.most_bytes
             (length (payload_of (request event.now)) + length content.now) ≡ true }
         ensures added { journal_of self.new
@@ -105,8 +108,8 @@ impl Journal {
     {
         let entry = Entry::Called {
             caller,
-            event: event.shape(),
-            answer,
+            event: stored_event(event.shape()),
+            answer: stored_answer(answer),
         };
         let (first, second) = event.payload();
         self.add(entry, first, second, content);

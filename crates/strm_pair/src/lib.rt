@@ -23,6 +23,7 @@ mod room;
 mod sending;
 mod serving;
 mod stacks;
+mod stored;
 mod streams;
 mod turning;
 mod writing;

@@ -47,7 +47,7 @@ pub struct Pair<B: Stacks + Drop> {
 /// What a pair's journal holds: its entries, and their bytes in order.
 #[derive(Clone, Copy)]
 pub struct Recorded<'a> {
-    pub entries: &'a [Entry<usize>],
+    pub entries: &'a [Entry<u32>],
     pub bytes: &'a [u8],
 }
 

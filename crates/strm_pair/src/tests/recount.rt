@@ -3,6 +3,7 @@
 
 use crate::Recorded;
 use crate::pair::kept::Kept;
+use crate::stored::stored_answer;
 use std::alloc::{AllocError, Global};
 use std::collections::VecDeque;
 use strm_types::{
@@ -176,16 +177,16 @@ impl PlainEnd {
 }
 
 // How many of the journal's bytes belong to an entry.
-fn entry_len(entry: &Entry<usize>) -> usize {
+fn entry_len(entry: &Entry<u32>) -> usize {
     match entry {
         Entry::Called {
             event: Event::Write { bytes },
             ..
-        } => *bytes,
+        } => *bytes as usize,
         Entry::Called {
             answer: Answer::Bytes(len),
             ..
-        } => *len,
+        } => *len as usize,
         _ => 0,
     }
 }
@@ -296,7 +297,7 @@ impl PlainPair {
     }
 
     /// The next entry of a journal with its bytes, if there is one.
-    pub fn next_of<'a>(&self, journal: Recorded<'a>) -> Option<(Entry<usize>, &'a [u8])> {
+    pub fn next_of<'a>(&self, journal: Recorded<'a>) -> Option<(Entry<u32>, &'a [u8])> {
         let entry = journal.entries.get(self.entries)?;
         let end = self.bytes.saturating_add(entry_len(entry));
         let bytes = journal.bytes.get(self.bytes..end)?;
@@ -309,7 +310,7 @@ impl PlainPair {
     }
 
     /// Goes on by an entry with its bytes, and says whether the answer there is this pair's.
-    pub fn replay(&mut self, entry: &Entry<usize>, bytes: &[u8]) -> Result<bool, AllocError> {
+    pub fn replay(&mut self, entry: &Entry<u32>, bytes: &[u8]) -> Result<bool, AllocError> {
         self.entries = self.entries.saturating_add(1);
         self.bytes = self.bytes.saturating_add(bytes.len());
         match *entry {
@@ -325,8 +326,8 @@ impl PlainPair {
     fn replay_call(
         &mut self,
         side: Side,
-        event: Event<usize>,
-        answer: Answer<usize>,
+        event: Event<u32>,
+        answer: Answer<u32>,
         bytes: &[u8],
     ) -> Result<bool, AllocError> {
         match event {
@@ -341,7 +342,7 @@ impl PlainPair {
     }
 
     // A call that has nothing to tell.
-    fn changes(&mut self, side: Side, event: Event<usize>) -> Result<(), AllocError> {
+    fn changes(&mut self, side: Side, event: Event<u32>) -> Result<(), AllocError> {
         match event {
             Event::OpenMaster => self.master.opened = Openness::Open,
             Event::Unlock => self.locked = false,
@@ -438,10 +439,10 @@ impl PlainPair {
         &mut self,
         side: Side,
         n: usize,
-        answer: Answer<usize>,
+        answer: Answer<u32>,
         bytes: &[u8],
     ) -> Result<bool, AllocError> {
-        let told = answer == Answer::Bytes(bytes.len());
+        let told = answer == stored_answer(Answer::Bytes(bytes.len()));
         let head = &mut self.end_mut(side).head;
         if n == 0 || head.sizes.is_empty() {
             return Ok(told && bytes.is_empty());

@@ -3,6 +3,7 @@
 
 use crate::Pair;
 use crate::stacks::Stacks;
+use crate::stored::{stored_answer, stored_event};
 use crate::tests::over_tables;
 use crate::tests::recount::PlainPair;
 use std::alloc::{AllocError, Global};
@@ -177,7 +178,7 @@ impl<B: Stacks + Drop> Walk<B> {
     }
 
     // Whether the journal's next entry is this one, with these bytes.
-    fn is_told(&self, told: &Entry<usize>, content: &[u8]) -> bool {
+    fn is_told(&self, told: &Entry<u32>, content: &[u8]) -> bool {
         match self.model.next_of(self.pair.journal()) {
             Some((entry, bytes)) => entry == *told && bytes == content,
             None => false,
@@ -197,7 +198,7 @@ impl<B: Stacks + Drop> Walk<B> {
     fn gains(
         &mut self,
         wanted: Option<Refusal>,
-        told: &Entry<usize>,
+        told: &Entry<u32>,
         payload: &[u8],
     ) -> Result<bool, AllocError> {
         let content = if payload.is_empty() {
@@ -218,11 +219,10 @@ impl<B: Stacks + Drop> Walk<B> {
             Err(met) => Ok(self.is_refused(wanted, met)),
             Ok(answer) => {
                 self.met.note_call(event);
-                let event_told = event.shape();
                 let told = Entry::Called {
                     caller,
-                    event: event_told,
-                    answer,
+                    event: stored_event(event.shape()),
+                    answer: stored_answer(answer),
                 };
                 self.gains(wanted, &told, event.payload().0)
             }

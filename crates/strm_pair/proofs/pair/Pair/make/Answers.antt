@@ -23,6 +23,7 @@ use Rattle.strm_blocks.proofs.Laws.{free_m-is}
 use Rattle.strm_pair.specs.Pairs.{state_in, journal_of, free_in}
 use Rattle.strm_pair.specs.PairViews.{pair_of}
 use Rattle.strm_pair.proofs.JournalLemmas.{room-less}
+use Rattle.strm_pair.proofs.ReadBack.{content-few, few-kept}
 use Rattle.strm_pair.proofs.Steps.{kept-step, led-idle, step-shown}
 use Rattle.strm_pair.proofs.pair.Pair.make.Goals as goal
 
@@ -125,6 +126,24 @@ as_slice-requires g c = search rules steps 30000
 
 pub add_call-requires-clause-filled : goal.add_call-requires-clause-filled
 add_call-requires-clause-filled g c = c.carry_out-answer.ensures.filled ∙ ap length (sym c.as_slice.ensures.value)
+
+pub add_call-requires-clause-small : goal.add_call-requires-clause-small
+add_call-requires-clause-small g c =
+    let p = c.self.inside in
+    let s = g.B.Blocks.value p.store in
+    let asked = request c.args.event.now in
+    let old = state_in g.B.Stacks.view.modules s p.streams in
+    let allowed : call_refused (pair_of g.B.Stacks.view s p.streams p.journal p.limits p.fates) c.args.caller asked ≡ None = ap (λ (v : PairState). call_refused v c.args.caller asked) c.self.view_is ∙ sym c.refusal.ensures ∙ c.in_default.is in
+    let parts = call-allowed old (journal_of p.journal) p.limits (enough (blocks_asked asked) (free_in s)) c.args.caller asked allowed in
+    let at_once = (or_else-none (refused_at_once old c.args.caller asked) (refused_by_state old c.args.caller asked) parts.0).0 in
+    let blocks : blocks_asked asked ≤ free_m s = asked-free (blocks_asked asked) s parts.2 in
+    few-kept old c.args.caller asked at_once (omega (arith, blocks, c.audit.ensures.few_mblks, free_m-is s))
+
+pub add_call-requires-clause-few : goal.add_call-requires-clause-few
+add_call-requires-clause-few g c =
+    let long = ap length c.as_slice.ensures.value in
+    let most = c.carry_out-answer.ensures.content in
+    omega (arith, long, most, content-few (request c.args.event.now))
 
 pub add_call-requires-clause-room : goal.add_call-requires-clause-room
 add_call-requires-clause-room g c =

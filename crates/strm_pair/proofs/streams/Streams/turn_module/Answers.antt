@@ -8,7 +8,6 @@ use Rattle.strm_types.specs.Kept.{AreIdle}
 use Rattle.strm_types.specs.ModuleTurns.{module_turn_ended, module_turned}
 use Rattle.strm_types.specs.Ledgers.{FewBooked}
 use Rattle.strm_types.specs.Spares.{spare}
-use Rattle.strm_types.specs.State.{State, book}
 use Rattle.strm_types.specs.TurnCalls.{bytes_left, ldterm_of, module_at}
 use Rattle.strm_types.specs.TurnOutcomes.{TurnOutcome}
 use Rattle.strm_types.proofs.Balances.{range-low, turn-few}
