@@ -6,7 +6,7 @@ ghost use Rattle.strm_bench.specs.declared.plans.Typed.TheVariants.{Lines};
 /// What the bytes that the master writes go through on the slave's stream: nothing, a line discipline that makes lines of them and echoes
 /// them, or one in raw mode, which takes them as they come. Or what the slave writes goes out through a line discipline to the master, by the
 /// first modes of a terminal or in raw mode. Below a line discipline stands a ptem.
-#[derive(Clone, Copy, PartialEq, Eq)]
+#[derive(Clone, Copy)]
 pub enum Typed {
     Nothing,
     Lines,

@@ -45,7 +45,7 @@ impl Model for TableStore {
 }
 
 /// The name of a message in hand of a [`TableStore`].
-#[derive(Debug, Drop)]
+#[derive(Drop)]
 pub struct InHand {
     name: usize,
 }

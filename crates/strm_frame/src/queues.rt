@@ -43,7 +43,7 @@ pub fn end_queue_turn<B: Blocks>(store: &B, queue: &mut Queue, took: bool) -> Tu
 
 /// What became of a queue that was emptied: whether queues before it have room again, and whether the M_IOCTL that is sought
 /// went with its messages.
-#[derive(Clone, Copy, Debug, PartialEq, Eq)]
+#[derive(Clone, Copy)]
 pub struct Emptied {
     pub room: bool,
     pub met: bool,

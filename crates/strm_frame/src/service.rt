@@ -15,7 +15,7 @@ pub struct Served<Mp> {
 }
 
 /// What the end of a turn leaves: whether queues before this one have room again, and whether messages stand there still.
-#[derive(Clone, Copy, Debug, PartialEq, Eq)]
+#[derive(Clone, Copy)]
 pub struct TurnEnd {
     pub room: bool,
     pub more: bool,

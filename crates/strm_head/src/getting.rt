@@ -24,7 +24,7 @@ use strm_queue::standing::relieve;
 use strm_types::{BANDS, Band, Content, Dir, Fates, MsgKind, Prio, Rule, Wanted};
 
 /// What a getmsg(2) gave of the first message.
-#[derive(Clone, Copy, Debug, PartialEq, Eq)]
+#[derive(Clone, Copy, Debug, PartialEq)]
 pub struct Gotten {
     /// How many bytes of the control part it gave; none where the message has no control part, or there is no message.
     pub control: Option<usize>,

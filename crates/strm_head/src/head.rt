@@ -32,7 +32,7 @@ pub struct Head {
 
 /// What waits for readers (streamio(7I): I_NREAD): how many bytes the data part of the first message has, and how many
 /// messages there are.
-#[derive(Clone, Copy, Debug, PartialEq, Eq)]
+#[derive(Clone, Copy, Debug, PartialEq)]
 pub struct Waiting {
     pub first: usize,
     pub messages: usize,

@@ -30,7 +30,7 @@ use strm_queue::standing::{enqueue, mark_all};
 use strm_types::{Fates, FlushAsked, IOCTL_MAX, Ioc, Marks, MsgKind, Options, Rule, Spot};
 
 /// A message that goes down from a head for one that came up.
-#[derive(Clone, Copy, Debug, PartialEq, Eq)]
+#[derive(Clone, Copy, Debug, PartialEq)]
 pub enum Down {
     /// An M_FLUSH, which asks for this.
     Flush(FlushAsked),
@@ -39,7 +39,7 @@ pub enum Down {
 }
 
 /// What a put at a head hands back: whether a waiting writer is let go, and what goes down, if anything does.
-#[derive(Clone, Copy, Debug, PartialEq, Eq)]
+#[derive(Clone, Copy, Debug, PartialEq)]
 pub struct Came {
     pub lets_go: bool,
     pub down: Option<Down>,

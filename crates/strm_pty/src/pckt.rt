@@ -26,7 +26,7 @@ use strm_msg::{message_size, set_kinds};
 use strm_types::{Fates, FlushAsked, MsgKind, Spot, Way};
 
 /// It is set to nothing. It keeps no messages, and no lists of a store are its own.
-#[derive(Clone, Copy, Debug, Drop, PartialEq, Eq)]
+#[derive(Clone, Copy, Drop)]
 pub struct Pckt;
 
 // Whether packets are made of messages of a kind.

@@ -27,7 +27,7 @@ use strm_types::{
 };
 
 /// What the terminal is set to. It keeps no messages, and no lists of a store are its own.
-#[derive(Clone, Copy, Debug, Drop, PartialEq, Eq)]
+#[derive(Clone, Copy, Drop)]
 pub struct Ptem {
     pub termios: Termios,
     /// The size of the terminal's window.

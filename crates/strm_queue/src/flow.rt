@@ -10,7 +10,7 @@ use crate::share::Share;
 /// The flow control of one band: how many bytes stand there, in messages of data (M_DATA, M_PROTO, M_PCPROTO) and in
 /// others; the high-water and the low-water mark; whether the band is full, which it is from its high-water mark on;
 /// and whether a writer waits for it.
-#[derive(Clone, Copy, Debug, PartialEq, Eq)]
+#[derive(Clone, Copy)]
 pub struct Flow {
     pub data_bytes: usize,
     pub other_bytes: usize,

@@ -4,7 +4,7 @@ ghost use Rattle.std.specs.Prelude.{◌≡◌};
 ghost use Rattle.strm_queue.specs.Flushes.{takes_all};
 
 /// Which messages a flush of a queue takes: `flushq(9F)`.
-#[derive(Clone, Copy, Debug, PartialEq, Eq)]
+#[derive(Clone, Copy)]
 pub enum Flush {
     /// Those of data alone, M_DATA, M_PROTO and M_PCPROTO: FLUSHDATA.
     Data,

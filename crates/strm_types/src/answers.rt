@@ -18,7 +18,7 @@ pub type Content = ArrayVec<u8, CONTENT_MAX>;
 
 /// What a call answers that isn't refused, over what stands for its bytes: the bytes themselves, or how many they are
 /// (`Answer<usize>`), where they stand apart.
-#[derive(Clone, Copy, Debug, Drop, PartialEq, Eq)]
+#[derive(Clone, Copy, Drop, PartialEq)]
 pub enum Answer<T> {
     /// The call is done, and there is nothing to tell.
     Done,
@@ -94,7 +94,7 @@ impl Answer<usize> {
 }
 
 /// What a turn of a queue's service procedure answers.
-#[derive(Clone, Copy, Debug, PartialEq, Eq)]
+#[derive(Clone, Copy, PartialEq)]
 pub enum Turn {
     /// So many bytes of the first message were treated.
     Moved(usize),

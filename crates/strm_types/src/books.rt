@@ -8,7 +8,7 @@ ghost use Rattle.strm_types.specs.Books.{has_room};
 pub const BOOK_MAX: u64 = 4611686018427387904;
 
 /// How many bytes of a direction were written so far, and how many were made on the way, as an echo is.
-#[derive(Clone, Copy, Debug, PartialEq, Eq)]
+#[derive(Clone, Copy)]
 pub struct Book {
     pub written: u64,
     pub made: u64,

@@ -10,14 +10,14 @@ use crate::modes::{Mode, Prio, Wanted};
 use crate::names::{ModuleName, Side};
 
 /// Who makes a call: the side whose stream the call is on.
-#[derive(Clone, Copy, Debug, PartialEq, Eq)]
+#[derive(Clone, Copy, PartialEq)]
 pub struct Caller {
     pub side: Side,
 }
 
 /// Which queues a flush is for: those of the read side, which bring bytes to the caller (FLUSHR), those of the write side
 /// (FLUSHW), or both (FLUSHRW): `I_FLUSH` of `streamio(7I)`.
-#[derive(Clone, Copy, Debug, PartialEq, Eq)]
+#[derive(Clone, Copy, PartialEq)]
 pub enum FlushQueues {
     Read,
     Write,
@@ -26,7 +26,7 @@ pub enum FlushQueues {
 
 /// A call on a pair, over what stands for its bytes: a caller lends them (`Event<&[u8]>`), a journal's entry has how many
 /// they are (`Event<usize>`), and definitions have them as lists.
-#[derive(Clone, Copy, Debug, PartialEq, Eq)]
+#[derive(Clone, Copy, PartialEq)]
 pub enum Event<T> {
     /// Opens the master, once in a pair's life: `open(2)` of the master device.
     OpenMaster,

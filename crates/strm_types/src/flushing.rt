@@ -12,7 +12,7 @@ use arrayvec::ArrayVec;
 
 /// What an M_FLUSH asks for: whether queues of the read side (FLUSHR) and of the write side (FLUSHW) are to be emptied, and of
 /// which band (FLUSHBAND), where not of all.
-#[derive(Clone, Copy, Debug, PartialEq, Eq)]
+#[derive(Clone, Copy, Debug, PartialEq)]
 pub struct FlushAsked {
     pub for_read: bool,
     pub for_write: bool,

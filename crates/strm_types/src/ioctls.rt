@@ -8,7 +8,7 @@ use crate::refusals::Refusal;
 
 /// The header of an M_IOCTL, M_IOCACK or M_IOCNAK: 16 bytes in front of its payload. The command, the number by which the
 /// answer is told from others (0 where none is wanted), the number of a refusal in an answer, and the result.
-#[derive(Clone, Copy, Debug, PartialEq, Eq)]
+#[derive(Clone, Copy, Debug, PartialEq)]
 pub struct Ioc {
     pub command: u32,
     pub number: u32,

@@ -4,7 +4,7 @@
 pub const LINE_MAX: usize = 255;
 
 /// What a byte is to the line discipline, by what the terminal is set to (termio(7I): "Special Characters").
-#[derive(Clone, Copy, Debug, PartialEq, Eq)]
+#[derive(Clone, Copy, Debug)]
 pub enum Key {
     /// Output stops.
     Stop,
@@ -38,7 +38,7 @@ pub enum Key {
 
 /// A byte that was typed: which key it is, and as which byte it is taken, once case and line ends are mapped. It is literal
 /// where it stands behind LNEXT.
-#[derive(Clone, Copy, Debug, PartialEq, Eq)]
+#[derive(Clone, Copy)]
 pub struct Stroke {
     pub key: Key,
     pub byte: u8,

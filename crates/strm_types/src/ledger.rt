@@ -2,7 +2,7 @@
 
 /// Where the bytes of a direction are: each was written or made once, and stands on a queue, in an unfinished line, or has gone by
 /// one rule. So `written + made` is `queued + inline` and the sum of `fates`.
-#[derive(Clone, Copy, Debug, PartialEq, Eq)]
+#[derive(Clone, Copy)]
 pub struct Ledger {
     /// How many bytes write(2) and putmsg(2) brought, those of control parts too.
     pub written: u64,

@@ -67,7 +67,7 @@ pub const CHANGE_BLOCKS: usize = 8;
 pub const CLOSE_BLOCKS: usize = 2;
 
 /// The sizes of a pair. All of it is reserved when the pair is made.
-#[derive(Clone, Copy, Debug, PartialEq, Eq)]
+#[derive(Clone, Copy)]
 pub struct Config {
     /// How many message blocks the pair has.
     pub mblks: usize,

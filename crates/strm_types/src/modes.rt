@@ -3,7 +3,7 @@
 use crate::kinds::Band;
 
 /// How a read treats the ends of messages (streamio(7I): I_SRDOPT).
-#[derive(Clone, Copy, Debug, PartialEq, Eq)]
+#[derive(Clone, Copy, PartialEq)]
 pub enum ReadMode {
     /// RNORM: bytes are taken across messages.
     ByteStream,
@@ -14,7 +14,7 @@ pub enum ReadMode {
 }
 
 /// How a read treats control parts (streamio(7I): I_SRDOPT).
-#[derive(Clone, Copy, Debug, PartialEq, Eq)]
+#[derive(Clone, Copy, PartialEq)]
 pub enum ControlMode {
     /// RPROTNORM: a read of a message that has one fails with EBADMSG.
     Refuse,
@@ -26,14 +26,14 @@ pub enum ControlMode {
 
 /// One mode of a stream head that I_SRDOPT of streamio(7I) sets: how reads end, or what they do with control parts. The other
 /// one stays.
-#[derive(Clone, Copy, Debug, PartialEq, Eq)]
+#[derive(Clone, Copy, PartialEq)]
 pub enum Mode {
     Read(ReadMode),
     Control(ControlMode),
 }
 
 /// Which message a getmsg(2) or getpmsg(2) takes: the first one, if it is of this kind.
-#[derive(Clone, Copy, Debug, PartialEq, Eq)]
+#[derive(Clone, Copy, PartialEq)]
 pub enum Wanted {
     /// Any message.
     Any,
@@ -45,7 +45,7 @@ pub enum Wanted {
 
 /// The priority of a message that a putmsg(2) or putpmsg(2) sends, or that a getmsg(2) or getpmsg(2) gives: high (RS_HIPRI,
 /// MSG_HIPRI), or a band from 0 to 7 (MSG_BAND).
-#[derive(Clone, Copy, Debug, PartialEq, Eq)]
+#[derive(Clone, Copy, Debug, PartialEq)]
 pub enum Prio {
     High,
     Band(Band),

@@ -4,7 +4,7 @@ ghost use Rattle.std.specs.Prelude.{◌≡◌};
 ghost use Rattle.strm_types.specs.Names as names;
 
 /// An end of a pair: the master, which a terminal emulator holds, or the slave, which a shell has as its terminal.
-#[derive(Clone, Copy, Debug, Default, PartialEq, Eq)]
+#[derive(Clone, Copy, Debug, Default, PartialEq)]
 pub enum Side {
     #[default]
     Master,
@@ -56,7 +56,7 @@ impl Side {
 }
 
 /// Whether a side of a pair was opened. A closed master is never opened again, a closed slave may be.
-#[derive(Clone, Copy, Debug, Default, PartialEq, Eq)]
+#[derive(Clone, Copy, Default)]
 pub enum Openness {
     #[default]
     Never,
@@ -82,14 +82,14 @@ impl Openness {
 
 /// A direction of a pair: from the master to the slave, as what is typed goes, or from the slave to the master, as
 /// what is printed goes.
-#[derive(Clone, Copy, Debug, PartialEq, Eq)]
+#[derive(Clone, Copy)]
 pub enum Dir {
     MasterToSlave,
     SlaveToMaster,
 }
 
 /// Which way a message travels in one stream: up the read side to the head, or down the write side to the driver.
-#[derive(Clone, Copy, Debug, Default, PartialEq, Eq)]
+#[derive(Clone, Copy, Debug, Default, PartialEq)]
 pub enum Way {
     #[default]
     Up,
@@ -97,7 +97,7 @@ pub enum Way {
 }
 
 /// What a queue belongs to: the stream head, the line discipline `ldterm` where it stands, or the driver.
-#[derive(Clone, Copy, Debug, Default, PartialEq, Eq)]
+#[derive(Clone, Copy, Debug, Default, PartialEq)]
 pub enum Place {
     #[default]
     Head,
@@ -107,7 +107,7 @@ pub enum Place {
 
 /// The name of a queue, as `m.drv.w`. A head has a read queue alone and a driver a write queue alone; `ldterm` has
 /// both. A name may be of a queue that doesn't exist.
-#[derive(Clone, Copy, Debug, Default, PartialEq, Eq)]
+#[derive(Clone, Copy, Debug, Default, PartialEq)]
 pub struct QueueName {
     pub side: Side,
     pub place: Place,
@@ -116,7 +116,7 @@ pub struct QueueName {
 
 /// A module that may be pushed on a stream: the line discipline `ldterm(7M)`, the terminal emulation `ptem(7M)`, or the
 /// packet mode `pckt(7M)`.
-#[derive(Clone, Copy, Debug, PartialEq, Eq)]
+#[derive(Clone, Copy, PartialEq)]
 pub enum ModuleName {
     Ldterm,
     Ptem,

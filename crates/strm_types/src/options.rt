@@ -8,7 +8,7 @@ use crate::modes::ReadMode;
 
 /// The marks of a queue: the high-water mark, from which on a band is full, and the low-water mark, down to which its count has
 /// to come until writers go on.
-#[derive(Clone, Copy, Debug, PartialEq, Eq)]
+#[derive(Clone, Copy)]
 pub struct Marks {
     pub high: usize,
     pub low: usize,
@@ -16,7 +16,7 @@ pub struct Marks {
 
 /// What an M_SETOPTS sets at a stream head (STREAMS Programming Guide: `struct stroptions`): the read mode and the marks of all
 /// bands, each where it is given.
-#[derive(Clone, Copy, Debug, PartialEq, Eq)]
+#[derive(Clone, Copy)]
 pub struct Options {
     pub mode: Option<ReadMode>,
     pub marks: Option<Marks>,

@@ -5,7 +5,7 @@
 pub const COLUMN_MAX: u16 = 65_535;
 
 /// What a byte gives that goes out under OPOST (termio(7I): "Output Modes").
-#[derive(Clone, Copy, Debug, PartialEq, Eq)]
+#[derive(Clone, Copy)]
 pub enum Given {
     /// This byte, which stands for it: the same one, or another one.
     Byte(u8),
@@ -18,7 +18,7 @@ pub enum Given {
 }
 
 /// What a byte gives that goes out, and the column of the terminal's carriage behind it, from 0.
-#[derive(Clone, Copy, Debug, PartialEq, Eq)]
+#[derive(Clone, Copy)]
 pub struct Posted {
     pub given: Given,
     pub column: u16,

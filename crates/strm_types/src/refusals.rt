@@ -6,7 +6,7 @@ ghost use Rattle.strm_types.specs.Numbers.{number_of, refusal_numbered};
 use thiserror::Error;
 
 /// Why a call is refused. A refused call changes nothing. Each refusal has a number, from 1.
-#[derive(Clone, Copy, Debug, Error, PartialEq, Eq)]
+#[derive(Clone, Copy, Debug, Error, PartialEq)]
 pub enum Refusal {
     #[error("EINVAL: an argument is out of range, or the call doesn't fit what is there")]
     Einval = 1,
@@ -31,7 +31,7 @@ pub enum Refusal {
 }
 
 /// Memory was refused: the [`Refusal::NoMemory`] of a call that takes memory and has no other refusal.
-#[derive(Clone, Copy, Debug, Error, PartialEq, Eq)]
+#[derive(Clone, Copy, Debug, Error)]
 #[error("memory was refused")]
 pub struct NoMemory;
 

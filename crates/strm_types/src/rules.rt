@@ -10,7 +10,7 @@ pub const RULES: usize = 21;
 
 /// By which rule bytes go: those of a message of M_DATA, M_PROTO or M_PCPROTO, each of which was written or made once and
 /// goes once. They have the order of a ledger (termio(7I), ldterm(7M), streamio(7I)).
-#[derive(Clone, Copy, Debug, PartialEq, Eq)]
+#[derive(Clone, Copy)]
 pub enum Rule {
     /// A reader has them.
     Read = 0,
@@ -68,7 +68,7 @@ impl Rule {
 
 /// How many bytes have gone by each rule, in each direction, and how many were made on the way, as an echo is. What a
 /// write(2) or a putmsg(2) brings isn't made. All are counted modulo 2^64.
-#[derive(Clone, Copy, Debug, PartialEq, Eq)]
+#[derive(Clone, Copy)]
 pub struct Fates {
     pub from_master: [u64; 21],
     pub from_slave: [u64; 21],

@@ -4,7 +4,7 @@ use crate::refusals::Refusal;
 
 /// The slot of a stream head for the ioctl that is under way (streamio(7I): I_STR), over what stands for the bytes of its
 /// answer. It is taken from the call until the answer was given, so a stream has one ioctl at a time.
-#[derive(Clone, Copy, Debug, Drop, PartialEq, Eq)]
+#[derive(Clone, Copy, Drop)]
 pub enum Slot<T> {
     /// None is under way.
     Free,

@@ -9,7 +9,7 @@ use crate::names::{Dir, Side, Way};
 
 /// Where a message is put: on which side's stream, at which place of it, and which way it goes there. Places count from
 /// the head, which is 0, over the modules from the top, to the driver.
-#[derive(Clone, Copy, Debug, PartialEq, Eq)]
+#[derive(Clone, Copy, PartialEq)]
 pub struct Spot {
     pub side: Side,
     pub at: usize,
@@ -50,7 +50,7 @@ impl Spot {
 
 /// What a driver is told of the other side: whether its stream is open, how many modules stand there, so that its lowest place
 /// above its driver has that number, and whether the master is closed, so that nothing crosses any more.
-#[derive(Clone, Copy, Debug, PartialEq, Eq)]
+#[derive(Clone, Copy)]
 pub struct Across {
     pub is_open: bool,
     pub bottom: usize,
@@ -59,7 +59,7 @@ pub struct Across {
 
 /// What a put does to the enabled list beside sending: a queue of the module's own is enabled, or has room again, so that
 /// the nearest earlier queue with service is. `Up` is its read queue, `Down` its write queue.
-#[derive(Clone, Copy, Debug, PartialEq, Eq)]
+#[derive(Clone, Copy, Debug, PartialEq)]
 pub enum Note {
     Enable(Way),
     Room(Way),
@@ -73,7 +73,7 @@ impl Default for Note {
 
 /// What the first message of a queue asks before it goes on, where its service procedure looks at it (srv(9E); STREAMS
 /// Programming Guide, "Flow Control").
-#[derive(Clone, Copy, Debug, PartialEq, Eq)]
+#[derive(Clone, Copy)]
 pub enum Asks {
     /// No message stands there.
     Empty,

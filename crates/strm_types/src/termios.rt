@@ -7,15 +7,15 @@ use crate::ioctls::word_at;
 use bitflags::{Flag, Flags, bitflag_items};
 
 /// What is done to the bytes that come in. Bits without a name are kept.
-#[derive(Clone, Copy, Debug, PartialEq, Eq)]
+#[derive(Clone, Copy)]
 pub struct InputModes(pub u32);
 
 /// What is done to the bytes that go out. Bits without a name are kept.
-#[derive(Clone, Copy, Debug, PartialEq, Eq)]
+#[derive(Clone, Copy)]
 pub struct OutputModes(pub u32);
 
 /// How lines are edited, echoed and handed up, and which bytes are signals. Bits without a name are kept.
-#[derive(Clone, Copy, Debug, PartialEq, Eq)]
+#[derive(Clone, Copy)]
 pub struct LocalModes(pub u32);
 
 bitflag_items! {
@@ -120,7 +120,7 @@ impl Flags for LocalModes {
 }
 
 /// The control bytes that have a name, each at a place of its own.
-#[derive(Clone, Copy, Debug, PartialEq, Eq)]
+#[derive(Clone, Copy)]
 pub enum ControlChar {
     Intr = 0,
     Quit = 1,
@@ -148,7 +148,7 @@ impl ControlChar {
 
 /// What a terminal is set to: the modes of its input, of its output, of its hardware (which nothing here reads) and of its lines, and
 /// its control bytes.
-#[derive(Clone, Copy, Debug, PartialEq, Eq)]
+#[derive(Clone, Copy)]
 pub struct Termios {
     pub iflag: InputModes,
     pub oflag: OutputModes,

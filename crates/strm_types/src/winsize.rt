@@ -4,7 +4,7 @@ ghost use Rattle.std.specs.Prelude.{◌≡◌, ◌≤◌, ◌+◌, length, Some}
 ghost use Rattle.strm_types.specs.Winsizes.{first_winsize, half_at, read_winsize, same_winsize, winsize_bytes};
 
 /// How large a terminal's window is: in rows and columns of characters, and in pixels. 0 where it isn't known.
-#[derive(Clone, Copy, Debug, PartialEq, Eq)]
+#[derive(Clone, Copy)]
 pub struct Winsize {
     pub rows: u16,
     pub columns: u16,

@@ -7,7 +7,7 @@ use strm_types::Band;
 
 /// What a queue keeps: how many bytes count in band 0, whether the band is full, whether a writer waits for it, and
 /// want-read.
-#[derive(Clone, Copy, PartialEq, Eq)]
+#[derive(Clone, Copy, PartialEq)]
 pub(crate) struct Kept {
     pub bytes: usize,
     pub is_full: bool,
