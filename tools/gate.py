@@ -1,19 +1,19 @@
 #!/usr/bin/env python3
-"""Runs the gate and says what it cost: the table of docs/GATE.md.
+"""Runs the gate and writes the table of docs/GATE.md: what each part of it costs.
 
-    tools/gate.py [--table FILE] [--log FILE]
+    tools/gate.py [--log FILE]
 
-Run it at the top of the repository, with nothing else at work on the machine. It runs `rt ci`, whose output goes to
-FILE (default: /tmp/rt-ci.log), and looks every tenth of a second at the processes of the checker: what each has used of
-the processor counts for the proof, the tests or an edit of its crate. An edit's process is known by its place, since
-`rt ci` tries a crate's edits in the order of their names. The table goes to standard output, and to the other FILE.
-The status is that of `rt ci`.
+Run it at the top of the repository, with nothing else at work on the machine. It runs `.ci/run`, whose output goes to FILE
+(default: /tmp/gate.log), and looks every tenth of a second at the checker's processes below it: what each has used of the
+processor counts for the proof, the tests or an edit of its crate. A crate's edits are tried in the order of their names: the
+first one pays for the crate's check from nothing too, and behind the last one the crate is checked once more as it is; these
+two are told apart as further checks. The status is that of the gate.
 """
 import argparse
 import collections
-import datetime
 import glob
 import os
+import re
 import resource
 import statistics
 import subprocess
@@ -21,6 +21,7 @@ import sys
 import time
 
 TICKS = os.sysconf("SC_CLK_TCK")
+PAGE, HEADING = "docs/GATE.md", "## What it costs"
 
 
 def text_of(path):
@@ -37,7 +38,9 @@ def crates():
 
 
 def lines_of(crate):
-    return sum(text_of(path).count("\n") for path in glob.glob(f"crates/{crate}/src/**/*.rt", recursive=True))
+    """How many lines its source has, tests left out."""
+    paths = glob.glob(f"crates/{crate}/src/**/*.rt", recursive=True)
+    return sum(text_of(path).count("\n") for path in paths if not re.search(r"/tests/|tests\.rt$", path))
 
 
 def edits_of(crate):
@@ -71,90 +74,93 @@ def parent_of(number):
     return words[1] if len(words) > 1 else ""
 
 
+def is_below(number, above):
+    """Whether a process was started by another one, or by one that this started."""
+    while number not in ("", "0", above):
+        number = parent_of(number)
+    return number == above
+
+
 def is_checker(words):
     return words[0].endswith("/rattle") and len(words) > 1 and words[1] in ("check", "build")
 
 
-def look_around(known, seen):
-    """Adds the checker's new processes, in order of their start, and takes what each has used."""
+def look_around(gate, known, seen):
+    """Adds the gate's new processes of the checker, in order of their start, and takes what each has used."""
     for number in sorted((name for name in os.listdir("/proc") if name.isdigit()), key=int):
         if number in known:
             known[number].look()
             continue
         words = text_of(f"/proc/{number}/cmdline").split("\0")
-        if is_checker(words) and not is_checker(text_of(f"/proc/{parent_of(number)}/cmdline").split("\0")):
+        is_first = is_checker(words) and not is_checker(text_of(f"/proc/{parent_of(number)}/cmdline").split("\0"))
+        if is_first and is_below(number, gate):
             known[number] = Process(number, words)
             known[number].look()
             seen.append(known[number])
 
 
 def run_gate(log):
-    """The status of `rt ci`, its processes, and its seconds by the clock and of the processor."""
+    """The status of the gate, its processes, and its seconds by the clock and of the processor."""
     known, seen, began = {}, [], time.monotonic()
     with open(log, "wb") as out:
-        gate = subprocess.Popen(["rt", "ci"], stdin=subprocess.DEVNULL, stdout=out, stderr=subprocess.STDOUT)
+        gate = subprocess.Popen(["bash", ".ci/run"], stdin=subprocess.DEVNULL, stdout=out, stderr=subprocess.STDOUT)
         while gate.poll() is None:
-            look_around(known, seen)
+            look_around(str(gate.pid), known, seen)
             time.sleep(0.1)
     used = resource.getrusage(resource.RUSAGE_CHILDREN)
     return gate.returncode, seen, time.monotonic() - began, used.ru_utime + used.ru_stime
 
 
-def minutes(seconds):
-    return f"{int(seconds) // 60}:{int(seconds) % 60:02}"
+def edits_cost(crate, seconds):
+    """What a crate's edits took, and what its two further checks did, of the seconds of its processes in order."""
+    count = len(edits_of(crate))
+    if count < 2 or len(seconds) < 2:
+        return sum(seconds), 0
+    seed = max(seconds[0] - statistics.median(seconds[1:count]), 0)
+    last = seconds[count] if len(seconds) > count else 0
+    return sum(seconds) - seed - last, seed + last
 
 
-def named_edits(crate, processes):
-    """Each edit with its seconds; the crate's own check behind them, and tries from nothing, have names of their own."""
-    names = edits_of(crate)
-    names += ["(the crate unchanged)"] if len(names) > 1 else []
-    return [(names[i] if i < len(names) else "(once more, from nothing)", p.seconds) for i, p in enumerate(processes)]
-
-
-def row_of(name, lines, proof, tests, tried, edits, count):
+def row_of(name, lines, proof, tests, count, edits, further):
     rate = (proof + tests) / 60 / max(lines, 1) * 1000
-    half = statistics.median(edits) if edits else 0
-    return f"| {name} | {lines} | {proof:.0f} | {tests:.0f} | {rate:.1f} | {count} | {tried:.0f} | {tried / max(count, 1):.0f} | {half:.0f} |"
+    each = edits / count if count else 0
+    return f"| {name} | {lines} | {proof:.0f} | {tests:.0f} | {rate:.1f} | {count} | {edits:.0f} | {each:.0f} | {further:.0f} |"
 
 
-def table(status, seen, wall, used, closing):
+def table(seen, wall, used, closing):
     parts = collections.defaultdict(list)
     for process in seen:
-        parts[process.crate, process.part].append(process)
-    commit = subprocess.run(["git", "rev-parse", "--short", "HEAD"], capture_output=True, text=True).stdout.strip()
-    yield f"`rt ci` on {commit}, {datetime.date.today()}, {os.cpu_count()} cores: {closing}; {minutes(wall)} of wall, {minutes(used)} of CPU (min:s)."
-    yield ""
-    yield "| Crate | Lines of source | Proof, CPU s | Tests, CPU s | a 1000 lines, CPU min | Edits | CPU s | an edit | the middle one |"
-    yield "|---|---|---|---|---|---|---|---|---|"
-    dearest, rows = [], []
+        parts[process.crate, process.part].append(process.seconds)
+    rows = []
     for crate in crates():
-        edits = named_edits(crate, parts[crate, "edits"])
-        used_by = [sum(p.seconds for p in parts[crate, part]) for part in ("proof", "tests", "edits")]
-        rows.append((crate, lines_of(crate), *used_by, [seconds for _, seconds in edits], len(edits_of(crate))))
-        dearest += [(seconds, crate, name) for name, seconds in edits]
-    sums = [sum(row[at] for row in rows) for at in (1, 2, 3, 4)]
-    rows.append(("all", *sums, [seconds for row in rows for seconds in row[5]], sum(row[6] for row in rows)))
-    for row in rows:
-        yield row_of(*row)
+        edits, further = edits_cost(crate, parts[crate, "edits"])
+        proof, tests = (sum(parts[crate, part]) for part in ("proof", "tests"))
+        rows.append((crate, lines_of(crate), proof, tests, len(edits_of(crate)), edits, further))
+    rows.append(("all", *(sum(row[at] for row in rows) for at in range(1, 7))))
+    yield "| Crate | Lines without tests | Proof, CPU s | Tests, CPU s | 1000 lines, CPU min | Edits | CPU s | an edit | Further checks, CPU s |"
+    yield "|---|---|---|---|---|---|---|---|---|"
+    yield from (row_of(*row) for row in rows)
     yield ""
-    yield "The five dearest edits (a crate's first edit also pays for its first check):"
-    yield ""
-    for seconds, crate, name in sorted(dearest, reverse=True)[:5]:
-        yield f"- {crate}/{name}: {seconds:.0f} s"
+    share = 100 * rows[-1][5] / max(used, 1)
+    yield f"`{closing}`: {wall / 60:.0f} minutes by the clock on {os.cpu_count()} cores, {used / 60:.0f} of the processor; edits are {share:.0f} % of it."
+
+
+def write_table(lines):
+    """Puts the table into docs/GATE.md, whose last section it is."""
+    head = text_of(PAGE).partition(HEADING)[0]
+    with open(PAGE, "w", encoding="utf-8") as out:
+        out.write("\n".join([head + HEADING, "", *lines, ""]))
 
 
 def main():
     parser = argparse.ArgumentParser(description=__doc__, formatter_class=argparse.RawDescriptionHelpFormatter)
-    parser.add_argument("--table")
-    parser.add_argument("--log", default="/tmp/rt-ci.log")
+    parser.add_argument("--log", default="/tmp/gate.log")
     asked = parser.parse_args()
     status, seen, wall, used = run_gate(asked.log)
     closing = (text_of(asked.log).rstrip("\n").splitlines() or [""])[-1]
-    lines = list(table(status, seen, wall, used, closing))
+    lines = [*table(seen, wall, used, closing)]
     print("\n".join(lines))
-    if asked.table:
-        with open(asked.table, "w", encoding="utf-8") as out:
-            out.write("\n".join(lines) + "\n")
+    write_table(lines)
     sys.exit(status)
 
 

@@ -1,0 +1,42 @@
+//! A first session on a pair: what the master writes is carried to the slave, and read there.
+#![tactic(auto)]
+
+use strm_blocks::TableStore;
+use strm_pair::Pair;
+use strm_types::{Caller, Config, Content, Event, Refusal, Side};
+
+const MASTER: Caller = Caller { side: Side::Master };
+
+const SLAVE: Caller = Caller { side: Side::Slave };
+
+const SIZES: Config = Config {
+    mblks: 256,
+    dblks: 256,
+    journal_events: 8192,
+    journal_bytes: 262_144,
+};
+
+// Opens both sides, writes, makes the turns, and reads. Each refusal has a name, and leaves the pair as it was.
+fn session(pair: &mut Pair<TableStore>, out: &mut Content) -> Result<(), Refusal> {
+    pair.call(MASTER, &Event::OpenMaster, out)?;
+    pair.call(MASTER, &Event::Unlock, out)?;
+    pair.call(SLAVE, &Event::OpenSlave, out)?;
+    pair.call(MASTER, &Event::Write { bytes: b"abc" }, out)?; // Answer::Count(3)
+    for _ in 0..16 {
+        let Some(queue) = pair.first_enabled() else {
+            break;
+        };
+        pair.turn(queue)?; // Turn::Moved(3): the driver carries them to the slave's head
+    }
+    pair.call(SLAVE, &Event::Read { n: 10 }, out)?; // Answer::Bytes(3), and out holds them
+    Ok(())
+}
+
+fn main(rt: HostRuntime) -> anyhow::Result<()> {
+    let store = TableStore::new(rt.alloc(), SIZES.mblks, SIZES.dblks)?;
+    let mut pair = Pair::new(rt.alloc(), SIZES, store).map_err(|(why, _store)| why)?;
+    let mut out = Content::new();
+    session(&mut pair, &mut out)?;
+    println!(rt; "{}", str::from_utf8(out.as_slice())?)?;
+    Ok(())
+}
