@@ -12,7 +12,7 @@ use std::alloc::Global;
 use std::io::{ErrorKind, Read, Write};
 
 /// How a run of a script ended.
-#[derive(Clone, Copy)]
+#[derive(Clone, Copy, Debug, PartialEq)]
 pub enum ScriptStatus {
     /// The input ended, and all was written.
     Whole,
@@ -36,7 +36,7 @@ impl ScriptStatus {
 }
 
 /// What a run of a script came to.
-#[derive(Clone, Copy)]
+#[derive(Clone, Copy, Debug, PartialEq)]
 pub struct ScriptEnd {
     pub status: ScriptStatus,
     /// The first line in which a call or a turn got ENOSR, or a turn of a module's queue moved something, which may have stopped within its
