@@ -3,20 +3,13 @@ use Rattle.std.proofs.Common.{ℕ, zero, suc, ◌≡◌, ◌≢◌, ◌≤◌, �
 use Rattle.std.specs.Prelude.{sum_by, ◌==◌, nat_lt}
 use Rattle.std.proofs.lemmas.Bool.Decides.{nat_tests}
 use Rattle.std.proofs.lemmas.List.Sums.{sum_by-cons, sum_by-set}
-use Rattle.strm_blocks.specs.Blocks.{Block, Held, StoreValue, chain_in, times_in, without, with_chain, in_hand, IsInHand, IsFreshName, list_at, held, dropped, changed, placed, total, names_of, used, references, free_m, free_d, zeros_below, IsStore, missing}
-
--- two names, of which one is in hand and the other isn't, are two
-pub apart-fresh : (s : StoreValue) (i j : ℕ) → IsInHand s i → IsFreshName s j → i ≢ j
-apart-fresh s i j here fresh same = absurd (let e = ap (λ (n : ℕ). times_in n s.hand) same in omega arith)
+use Rattle.strm_blocks.specs.Blocks.{Block, Held, StoreValue, chain_in, times_in, without, with_chain, in_hand, IsInHand, list_at, held, dropped, changed, placed, total, names_of, used, references, free_m, free_d, zeros_below, IsStore, missing}
 
 -- how many messages of a name are in hand, with one more
 times-held : (i : ℕ) (chain : List Block) (hand : List Held) (j : ℕ) → times_in j (record { name = i; chain = chain } ∷ hand) ≡ cond (eqb i j) 1 0 + times_in j hand
 times-held i chain hand j = sum_by-cons (λ (h : Held). cond (h.name == j) 1 0) (record { name = i; chain = chain }) hand
 
--- a new message is in hand, and the others still are
-pub IsInHand-held : (s : StoreValue) (i : ℕ) (chain : List Block) → IsFreshName s i → IsInHand (held s i chain) i
-IsInHand-held s i chain fresh = let t = times-held i chain s.hand i in grind (arith, nat_tests)
-
+-- where a new message comes in hand, the others still are
 pub IsInHand-held_other : (s : StoreValue) (i j : ℕ) (chain : List Block) → i ≢ j → IsInHand s j → IsInHand (held s i chain) j
 IsInHand-held_other s i j chain apart here = let t = times-held i chain s.hand j in grind (arith, nat_tests)
 

@@ -9,8 +9,6 @@ mod message;
 mod parts;
 mod release;
 mod table;
-#[cfg(test)]
-mod tests;
 mod visitor;
 
 pub use asked::{FlushWhat, NoBlocks, Peek, Summary};

@@ -11,9 +11,10 @@ use Rattle.strm_types.specs.declared.spots.Spot.{Spot}
 use Rattle.strm_frame.specs.declared.parcels.Sent.{Sent}
 use Rattle.strm_types.specs.Deliver.{Parcel, AreLower}
 use Rattle.strm_msg.specs.Messages.{IsChain}
-use Rattle.strm_frame.specs.Hands.{once, AreIn, CanPut, Handles, Hands, SameFor, HasRoom, MayTake, Spends, Takes}
+use Rattle.strm_frame.specs.Hands.{once, AreIn, CanPut, Handles, Hands, HasRoom, MayTake, Spends, Takes}
 use Rattle.strm_types.specs.Costs.{cost_of}
 use Rattle.strm_frame.specs.Outboxes.{times_sent, parcels_in, parcel_in, AreChains}
+use Rattle.strm_frame.specs.Serves.{later_cost}
 
 same-name : (i : ℕ) → eqb i i ≡ true
 same-name i = grind (arith, nat_tests)
@@ -60,15 +61,6 @@ freed-hands s i keeps st can =
     record {
       counts = λ j. let is = can-in_hand s i keeps st can in let t = times-without i j s.hand (omega arith) in omega arith;
       others = λ j apart kept some. in_hand-dropped s i j (once-apart i j apart);
-    }
-
-pub freed-same : (s : StoreValue) (i : ℕ) (keeps : ℕ → ℕ) → IsStore s → CanPut s i keeps → SameFor s (dropped s i) keeps
-freed-same s i keeps st can =
-    record {
-      lists = refl;
-      mblks = refl;
-      dblks = refl;
-      kept = λ j some. let a = can.apart j in let few = st.apart j in in_hand-dropped s i j (once-apart i j (omega arith));
     }
 
 -- no fewer blocks are free
@@ -211,16 +203,19 @@ module _ {M : Type 0} (name : M → ℕ) where
     others = put.others;
   }
 
-  pub none-spends : (s0 s : StoreValue) (cost : Spot → Message ℕ → ℕ) (most : ℕ) (all : List (Sent M)) → all ≡ [] → Spends s0 s most 0 → Spends s0 s most (cost_of cost (parcels_in name s all))
-  unfolding cost_of parcels_in
-  none-spends s0 s cost most all none spends = let e = ap (λ xs. cost_of cost (parcels_in name s xs)) none in record { mblks = omega arith; dblks = omega arith }
-
   pub none-chains : (s : StoreValue) (all : List (Sent M)) → all ≡ [] → AreChains name s all
   unfolding AreChains
   none-chains s all none = subst (AreChains name s) (sym none) tt
 
   pub none-lower : (s : StoreValue) (height : Spot → Message ℕ → ℕ) (top : ℕ) (all : List (Sent M)) → all ≡ [] → AreLower height top (parcels_in name s all)
   none-lower s height top all none = subst (AreLower height top) (sym (no-parts s all none)) tt
+
+  -- no call follows
+  pub no-room : (s : StoreValue) (cost : Spot → Message ℕ → ℕ) (next : ℕ) (all : List (Sent M)) → all ≡ [] → HasRoom s (later_cost cost false next (parcels_in name s all))
+  unfolding cost_of parcels_in
+  no-room s cost next all none =
+      let e = ap (λ xs. cost_of cost (parcels_in name s xs)) none in
+      record { mblks = omega arith; dblks = omega arith }
 
   -- one message is sent on, and it is the one that was put
   pub one-parts : (s : StoreValue) (x : Sent M) (all : List (Sent M)) → all ≡ x ∷ [] → parcels_in name s all ≡ parcel_in name s x ∷ []
@@ -234,16 +229,9 @@ module _ {M : Type 0} (name : M → ℕ) where
     others = λ i apart kept some. refl;
   }
 
-  pub one-spends : (s : StoreValue) (x : Sent M) (cost : Spot → Message ℕ → ℕ) (most : ℕ) (all : List (Sent M)) → all ≡ x ∷ [] → cost x.to (parcel_in name s x).message ≤ most → Spends s s most (cost_of cost (parcels_in name s all))
-  unfolding cost_of
-  one-spends s x cost most all one few = let e = ap (cost_of cost) (one-parts s x all one) in record { mblks = omega arith; dblks = omega arith }
-
   pub one-chains : (s : StoreValue) (x : Sent M) (all : List (Sent M)) → all ≡ x ∷ [] → IsChain (in_hand s (name x.message)) → AreChains name s all
   unfolding AreChains
   one-chains s x all one chain = subst (AreChains name s) (sym one) (chain, tt)
-
-  pub one-lower : (s : StoreValue) (x : Sent M) (height : Spot → Message ℕ → ℕ) (top : ℕ) (all : List (Sent M)) → all ≡ x ∷ [] → height x.to (parcel_in name s x).message < top → AreLower height top (parcels_in name s all)
-  one-lower s x height top all one low = subst (AreLower height top) (sym (one-parts s x all one)) (low, tt)
 
 -- what is lower than something is lower than what is no less
 pub lower-more : (height : Spot → Message ℕ → ℕ) (top more : ℕ) (ps : List (Parcel ℕ)) → top ≤ more → AreLower height top ps → AreLower height more ps

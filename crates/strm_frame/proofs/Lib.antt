@@ -4,8 +4,6 @@ pub mod Turns
 pub mod Beside
 pub mod Nearest
 pub mod Emptiness
-pub mod ToySteps
-pub mod RigSteps
 pub mod FirstSizes
 pub mod Read
 pub mod Behind

@@ -3,8 +3,8 @@ use Rattle.std.specs.Prelude.{ℕ, ◌≡◌, List, [], ◌∷◌, map}
 use Rattle.std.specs.List.{AllByRecursion}
 use Rattle.std.proofs.Common.{refl, ap, ◌∙◌, arith}
 use Rattle.std.proofs.lemmas.List.Sums.{sum_by-cons}
-use Rattle.strm_blocks.specs.Blocks.{StoreValue, list_at}
-use Rattle.strm_frame.specs.Hands.{SameFor, SameOwn}
+use Rattle.strm_blocks.specs.Blocks.{StoreValue}
+use Rattle.strm_frame.specs.Hands.{SameOwn}
 use Rattle.strm_frame.specs.Stacks.{all_of, AreHeld}
 
 module _ {X P : Type 0} (plain : StoreValue → X → P) (IsHeld : StoreValue → X → Type 0) (owns keeps : X → ℕ → ℕ)
@@ -32,12 +32,3 @@ module _ {X P : Type 0} (plain : StoreValue → X → P) (IsHeld : StoreValue �
   pub stack-stays : (s t : StoreValue) (xs : List X) → SameOwn s t (all_of owns xs) (all_of keeps xs) → AreHeld IsHeld owns s xs →
       (map (plain t) xs ≡ map (plain s) xs) × AreHeld IsHeld owns t xs
   stack-stays s t xs same held = let r = each-frame s t xs same held.each in (r.0, record { each = r.1; apart = held.apart })
-
-  pub stack-frame : (s t : StoreValue) (xs : List X) → SameFor s t (all_of keeps xs) → AreHeld IsHeld owns s xs →
-      (map (plain t) xs ≡ map (plain s) xs) × AreHeld IsHeld owns t xs
-  stack-frame s t xs same held = stack-stays s t xs (record {
-    lists = λ k some. ap (λ ls. list_at (record s { lists = ls }) k) same.lists;
-    mblks = same.mblks;
-    dblks = same.dblks;
-    kept = same.kept;
-  }) held

@@ -22,6 +22,3 @@ pub use places::Stations;
 pub use queues::{Emptied, clear_queue, end_queue_turn};
 pub use service::{Served, TurnEnd};
 pub use stack::Stream;
-
-#[cfg(test)]
-mod tests;

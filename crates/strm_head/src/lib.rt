@@ -21,6 +21,3 @@ pub use reading::read;
 pub use sending::{make_flush, make_message, put_refusal, write};
 pub use signals::Signals;
 pub use vectors::Vectored;
-
-#[cfg(test)]
-mod tests;

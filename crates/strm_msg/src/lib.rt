@@ -20,6 +20,3 @@ pub use data::take_data;
 pub use kinds::set_kinds;
 pub use pulls::{NotPulled, pullup};
 pub use sizes::{booked_size, control_len, data_len, message_size, msgdsize};
-
-#[cfg(test)]
-mod tests;

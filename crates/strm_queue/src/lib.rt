@@ -16,6 +16,3 @@ pub use flush::Flush;
 pub use limits::{HEAD_HIGH, HEAD_LOW, OTHER_HIGH, OTHER_LOW, are_marks, is_band, is_list};
 pub use order::serves_in_order;
 pub use queue::Queue;
-
-#[cfg(test)]
-mod tests;

@@ -4,7 +4,7 @@ use Rattle.std.specs.Prelude.{◌||◌}
 use Rattle.strm_blocks.specs.Blocks.{list_at}
 use Rattle.strm_queue.specs.Stored.{Dequeued}
 use Rattle.strm_frame.proofs.Seeking.{going-on, gone-queue}
-use Rattle.strm_frame.proofs.ToySteps.{none-listed}
+use Rattle.strm_frame.proofs.Emptiness.{none-listed}
 use Rattle.strm_frame.proofs.queues.take_all.Goals as goal
 
 pub loop-store-preserved : goal.loop-store-preserved

@@ -1,5 +1,0 @@
-use Rattle.strm_blocks.specs.Blocks.{IsInHand}
-use Rattle.strm_blocks.proofs.tests.piled.Given as goal
-
-abbrev pub invariant-loop : goal.invariant-loop
-invariant-loop g l = IsInHand (g.B.Blocks.value l.store) (g.B.Blocks.name l.pile)

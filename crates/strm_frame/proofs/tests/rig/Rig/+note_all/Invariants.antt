@@ -1,5 +1,0 @@
-use Rattle.std.proofs.Common.{length}
-use Rattle.strm_frame.proofs.tests.rig.Rig.+note_all.Given as goal
-
-abbrev pub decreases-note_all : goal.decreases-note_all
-decreases-note_all g l = length l.notes.now

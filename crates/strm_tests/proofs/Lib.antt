@@ -1,0 +1,2 @@
+pub mod ToySteps
+pub mod RigSteps

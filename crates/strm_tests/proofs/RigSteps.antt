@@ -1,0 +1,129 @@
+-- A turn of a stream of two modules, step by step.
+use Rattle.std.proofs.Common.{ℕ, zero, suc, ◌≡◌, ◌≢◌, ◌≤◌, ◌<◌, ◌+◌, true, cond, Bool, Option, List, [], ◌∷◌, length, get_or, map, refl, sym, ap, subst, ◌∙◌, arith}
+use Rattle.std.proofs.lemmas.List.Sums.{sum_by-cons}
+use Rattle.strm_types.specs.declared.names.Way.{Way}
+use Rattle.strm_types.specs.declared.names.Way.TheVariants.{Up, Down}
+use Rattle.strm_types.specs.declared.spots.Spot.{Spot}
+use Rattle.strm_types.specs.Message.{Message}
+use Rattle.strm_types.specs.Deliver.{Acted, AreLower}
+use Rattle.strm_types.specs.Modules.{act_among}
+use Rattle.strm_blocks.specs.Blocks.{StoreValue, empty_store, in_hand, list_at, times_in}
+use Rattle.strm_msg.specs.Messages.{IsChain, AreMessages}
+use Rattle.strm_queue.specs.declared.queue.Queue.{Queue}
+use Rattle.strm_queue.specs.Kept.{AreCounted}
+use Rattle.strm_queue.specs.Stored.{IsReady}
+use Rattle.strm_frame.specs.declared.parcels.Sent.{Sent}
+use Rattle.strm_frame.specs.Hands.{once, CanPut, Handles, Hands}
+use Rattle.strm_frame.specs.Outboxes.{times_sent, parcels_in, AreChains}
+use Rattle.strm_frame.specs.Stacks.{all_of}
+use Rattle.strm_tests.specs.Toys.{Stock, far, far_at, stock_serves, serves_of}
+use Rattle.strm_tests.specs.Rigs.{is_end, took_at, left_at, rig_puts, AtRest}
+use Rattle.strm_frame.proofs.Handing.{once-self, no-hand}
+use Rattle.strm_msg.proofs.Hands.{other-name}
+
+-- nor is a block taken
+pub none-taken : {P : Type 0} (ps : List P) (i : ℕ) → get_or (map {B = ℕ} (λ p. 0) ps) i 0 ≡ 0
+none-taken [] i = refl
+none-taken (p ∷ ps) zero = refl
+none-taken (p ∷ ps) (suc i) = none-taken ps i
+
+-- nothing is kept
+pub kept-none : {X : Type 0} (xs : List X) (i : ℕ) → all_of (λ x j. 0) xs i ≡ 0
+kept-none [] i = refl
+kept-none (x ∷ xs) i = let c = sum_by-cons (λ y. 0) x xs in let ih = kept-none xs i in omega arith
+
+-- a message has not far to go
+pub near-low : (to : Spot) (m : Message ℕ) → to.at ≤ 3 → far to m < 16
+near-low to m near = by-way to.way
+  where
+    by-way : (way : Way) → far_at way to.at < 16
+    by-way Up = omega arith
+    by-way Down = omega arith
+
+-- one message at most is sent by a service procedure
+few-of : (here : Spot) (p : Stock) (all : List (Message ℕ)) → length (serves_of here p all).acted.sent ≤ 1
+few-of here p [] = omega arith
+few-of here p (m ∷ rest) = omega arith
+
+act-few : (acts : Stock → Acted ℕ Stock) → ((p : Stock) → length (acts p).sent ≤ 1) → (i : ℕ) (ps : List Stock) → length (act_among acts i ps).sent ≤ 1
+act-few acts few i [] = omega arith
+act-few acts few zero (p ∷ ps) = few p
+act-few acts few (suc i) (p ∷ ps) = act-few acts few i ps
+
+module _ {M : Type 0} (name : M → ℕ) (s t : StoreValue) (kept keeps : ℕ → ℕ) (all : List (Sent M)) (empty : s.hand ≡ []) (kept_none : (i : ℕ) → kept i ≡ 0) (keeps_none : (i : ℕ) → keeps i ≡ 0)
+    (hands : Handles s t (λ _. 0) kept keeps (λ i. times_sent name i all)) where
+  times-now : (i : ℕ) → times_in i t.hand ≡ times_sent name i all
+  times-now i = let c = hands.counts i in let e = ap (times_in i) empty in let k = kept_none i in let z = keeps_none i in omega arith
+
+  -- nothing was sent
+  pub none-rest : all ≡ [] → t.hand ≡ []
+  unfolding times_sent
+  none-rest none = no-hand t.hand (λ i. times-now i ∙ ap (times_sent name i) none)
+
+  module _ (x : Sent M) (more : List (Sent M)) (split : all ≡ x ∷ more) where
+    -- one was, and may be put
+    pub sent-can : CanPut t (name x.message) keeps
+    unfolding times_sent
+    sent-can = record { apart = λ i. let c = times-now i in let e = ap (times_sent name i) split in let z = keeps_none i in omega arith }
+
+    pub sent-chain : AreChains name t all → IsChain (in_hand t (name x.message))
+    unfolding AreChains
+    sent-chain chains = (subst (AreChains name t) split chains).0
+
+    pub sent-low : (here : Spot) → AreLower (far {C = ℕ}) (far_at Down here.at) (parcels_in name t all) → far_at x.to.way x.to.at < 16
+    unfolding parcels_in
+    sent-low here lower = let low = (subst (λ ps. AreLower (far {C = ℕ}) (far_at Down here.at) ps) (ap (parcels_in name t) split) lower).0 in omega arith
+
+    only-one : (more : List (Sent M)) → length (parcels_in name t (x ∷ more)) ≤ 1 → more ≡ []
+    unfolding parcels_in
+    only-one [] few = refl
+    only-one (y ∷ ys) few = absurd (omega arith)
+
+    -- and nothing is left when it is delivered
+    pub sent-rest : (here : Spot) (again : Bool) (stop : Option ℕ) (i : ℕ) (ps : List Stock) (u : StoreValue) (keeps' : ℕ → ℕ) → parcels_in name t all ≡ (act_among (λ p. (stock_serves here again stop p).acted) i ps).sent
+        → ((j : ℕ) → keeps' j ≡ 0) → Hands t u (name x.message) keeps keeps' (λ _. 0) → u.hand ≡ []
+    unfolding times_sent
+    sent-rest here again stop i ps u keeps' sent keeps_none' carried =
+        let few = act-few (λ p. (stock_serves here again stop p).acted) (λ p. few-of here p p.queue.messages) i ps in
+        let one = only-one more (subst (λ xs. length (parcels_in name t xs) ≤ 1) split (subst (λ ps. length ps ≤ 1) (sym sent) few)) in
+        no-hand u.hand (λ j.
+        let c = carried.counts j in let a = times-now j in let e = ap (times_sent name j) split in let n = ap (times_sent name j) one in
+        let k = keeps_none j in let z = keeps_none' j in omega arith)
+
+-- a message that has left
+pub rig-ends : (to : Spot) (m : Message ℕ) (ps : List Stock) (answer : Bool) → answer ≡ is_end to.at → answer ≡ true → rig_puts to m ps ≡ left_at ps
+rig-ends to m ps answer asked is = ap (λ v. cond v (left_at ps) (took_at to m ps)) (sym asked ∙ is)
+
+-- nothing stands on a list of a new store
+ready-none : (s : StoreValue) (q : Queue) → list_at s q.list ≡ [] → AreCounted q.flows [] → IsReady s q
+ready-none s q none counted = record {
+  messages = subst AreMessages (sym none) (record { chains = tt; ordered = tt });
+  counted = subst (AreCounted q.flows) (sym none) counted;
+}
+
+miss : (i j : ℕ) → i ≢ j → once i j ≡ 0
+unfolding once
+miss i j ne = ap (λ v. cond {A = ℕ} v 1 0) (other-name i j ne)
+
+two-lists : (k : ℕ) → once 0 k + once 1 k ≤ 1
+two-lists zero = let a = once-self 0 in let b = miss 1 0 (λ e. absurd (omega arith)) in omega arith
+two-lists (suc zero) = let a = miss 0 1 (λ e. absurd (omega arith)) in let b = once-self 1 in omega arith
+two-lists (suc (suc k)) = let a = miss 0 (suc (suc k)) (λ e. absurd (omega arith)) in let b = miss 1 (suc (suc k)) (λ e. absurd (omega arith)) in omega arith
+
+pub two-new : {X : Type 0} (queue : X → Queue) (mblks dblks : ℕ) (x y : X) (all : List X) → all ≡ x ∷ y ∷ [] → (queue x).list ≡ 0 → (queue y).list ≡ 1 → AreCounted (queue x).flows [] → AreCounted (queue y).flows [] → AtRest queue (empty_store mblks dblks) all
+two-new queue mblks dblks x y all is first second upper lower =
+    let s = empty_store mblks dblks in
+    rw is (record {
+      are = record {
+        held = record {
+          each = (ready-none s (queue x) (ap (list_at s) first) upper, (ready-none s (queue y) (ap (list_at s) second) lower, tt));
+          apart = λ k.
+              let a = sum_by-cons (λ z. once (queue z).list k) x (y ∷ []) in
+              let b = sum_by-cons (λ z. once (queue z).list k) y [] in
+              let c = two-lists k in let d = ap (λ l. once l k) first in let e = ap (λ l. once l k) second in
+              omega arith;
+        };
+        two = refl;
+      };
+      hand = refl;
+    })

@@ -1,0 +1,159 @@
+-- What toys do, step by step.
+use Rattle.std.proofs.Common.{ℕ, ◌≡◌, ◌<◌, ◌≤◌, ◌==◌, eqb, true, false, Bool, List, [], ◌∷◌, Option, ◌∙◌, cond, ap, refl, subst, sym, arith}
+use Rattle.strm_types.specs.declared.limits.TheConstants.{MODULES}
+use Rattle.strm_types.specs.declared.kinds.MsgKind.{MsgKind}
+use Rattle.strm_types.specs.declared.names.Way.{Way}
+use Rattle.strm_types.specs.declared.names.Way.TheVariants.{Up, Down}
+use Rattle.strm_types.specs.declared.spots.Spot.{Spot}
+use Rattle.strm_types.specs.Deliver.{Parcel, AreLower, toward}
+use Rattle.std.proofs.lemmas.Bool.Decides.{nat_tests}
+use Rattle.strm_types.specs.Message.{Message}
+use Rattle.strm_types.specs.declared.kinds.MsgKind.TheVariants as kinds
+use Rattle.strm_blocks.specs.Blocks.{Held, StoreValue, IsStore, in_hand, block_at, dropped, times_in}
+use Rattle.strm_blocks.proofs.Laws.{in_hand-dropped}
+use Rattle.strm_queue.specs.declared.queue.Queue.{Queue}
+use Rattle.strm_queue.specs.Stored.{Changes, FreesBlocks, Dequeued}
+use Rattle.strm_msg.specs.Made.{MadeOf, copies_of, pieces}
+use Rattle.strm_msg.proofs.Chains.{kind-is}
+use Rattle.strm_msg.proofs.Hands.{stays-chain}
+use Rattle.std.proofs.lemmas.List.Sums.{sum_by-cons}
+use Rattle.strm_frame.specs.declared.parcels.Sent.{Sent}
+use Rattle.strm_types.specs.Costs.{cost_of}
+use Rattle.strm_frame.specs.Outboxes.{message_in, times_sent, parcels_in, parcel_in}
+use Rattle.strm_frame.specs.Serves.{later_cost}
+use Rattle.strm_frame.specs.Hands.{once, OnlyOwn, CanPut, Handles, Hands, SameFor, HasRoom, Spends, Takes}
+use Rattle.strm_frame.proofs.Handing.{alone-can, once-apart, one-parts}
+use Rattle.strm_frame.proofs.Shifting.{shifts-joined}
+use Rattle.strm_tests.specs.Toys.{Stock, is_flush, onward, far_at, counts, nothing, stays, stocked, stocks, turns, idle, stock_sends, serves_of, stock_serves}
+
+-- a message that comes up, turned or not
+up-falls : (turned : Bool) (here : Spot) → 0 < here.at → here.at ≤ 3 →
+    far_at (cond {A = Way} turned Down Up) (toward (cond {A = Way} turned Down Up) here).at < far_at Up here.at
+up-falls true here some few = omega arith
+up-falls false here some few = omega arith
+
+falls-by : (way : Way) (kind : MsgKind) (here : Spot) → 0 < here.at → here.at ≤ 3 → far_at (onward kind way) (toward (onward kind way) here).at < far_at way here.at
+falls-by Up kind here some few = up-falls (is_flush kind) here some few
+falls-by Down kind here some few = omega arith
+
+far-way : (way : Way) (here : Spot) → (toward way here).way ≡ way
+far-way Up here = refl
+far-way Down here = refl
+
+pub onward-falls : (kind : MsgKind) (here to : Spot) → 0 < here.at → here.at ≤ MODULES → to ≡ toward (onward kind here.way) here → far_at to.way to.at < far_at here.way here.at
+onward-falls kind here to some few is =
+    subst (λ (t : Spot). far_at t.way t.at < far_at here.way here.at) (sym is)
+    (subst (λ w. far_at w (toward (onward kind here.way) here).at < far_at here.way here.at) (sym (far-way (onward kind here.way) here)) (falls-by here.way kind here some few))
+
+-- at the top nothing is sent on, and before it the message goes up
+pub counts-top : (to : Spot) (m : Message ℕ) (n : ℕ) → to.at ≡ 0 → (counts to m n).sent ≡ []
+counts-top to m n top =
+    let yes : (to.at == 0) ≡ true = grind (arith, nat_tests) in
+    rw yes refl
+
+pub counts-on : (to : Spot) (m : Message ℕ) (n : ℕ) → (to.at ≡ 0 → ⊥) → (counts to m n).sent ≡ record { to = toward Up to; message = m } ∷ []
+counts-on to m n below =
+    let no : (to.at == 0) ≡ false = grind (arith, nat_tests) in
+    rw no refl
+
+-- the only message of a store may be put
+pub made-alone : (s t : StoreValue) (i : ℕ) (bytes : List ℕ) → s.hand ≡ [] → MadeOf s t i kinds.Data 0 bytes → CanPut t i (λ _. 0)
+made-alone s t i bytes none m =
+    let chain = copies_of m.made.numbers (pieces kinds.Data 0 bytes) in
+    alone-can t i chain (λ _. 0) (ap (λ v. v.hand) m.made.after ∙ ap (λ h. record { name = i; chain = chain } ∷ h) none) (λ j. refl)
+
+-- the message is freed, and the others stay
+pub freed-same : (s : StoreValue) (i : ℕ) (keeps : ℕ → ℕ) → IsStore s → CanPut s i keeps → SameFor s (dropped s i) keeps
+freed-same s i keeps st can =
+    record {
+      lists = refl;
+      mblks = refl;
+      dblks = refl;
+      kept = λ j some. let a = can.apart j in let few = st.apart j in in_hand-dropped s i j (once-apart i j (omega arith));
+    }
+
+-- how much is spent, and how far it is, where nothing is sent or one message
+module _ {M : Type 0} (name : M → ℕ) where
+  pub none-spends : (s0 s : StoreValue) (cost : Spot → Message ℕ → ℕ) (most : ℕ) (all : List (Sent M)) → all ≡ [] → Spends s0 s most 0 → Spends s0 s most (cost_of cost (parcels_in name s all))
+  unfolding cost_of parcels_in
+  none-spends s0 s cost most all none spends = let e = ap (λ xs. cost_of cost (parcels_in name s xs)) none in record { mblks = omega arith; dblks = omega arith }
+
+  pub one-spends : (s : StoreValue) (x : Sent M) (cost : Spot → Message ℕ → ℕ) (most : ℕ) (all : List (Sent M)) → all ≡ x ∷ [] → cost x.to (parcel_in name s x).message ≤ most → Spends s s most (cost_of cost (parcels_in name s all))
+  unfolding cost_of
+  one-spends s x cost most all one few = let e = ap (cost_of cost) (one-parts name s x all one) in record { mblks = omega arith; dblks = omega arith }
+
+  pub one-lower : (s : StoreValue) (x : Sent M) (height : Spot → Message ℕ → ℕ) (top : ℕ) (all : List (Sent M)) → all ≡ x ∷ [] → height x.to (parcel_in name s x).message < top → AreLower height top (parcels_in name s all)
+  one-lower s x height top all one low = subst (AreLower height top) (sym (one-parts name s x all one)) (low, tt)
+
+-- nothing but the queue's own list changes
+pub own-list : (s t : StoreValue) (q q' : Queue) → Changes s t q q' → OnlyOwn s t (once q.list) (once q'.list)
+own-list s t q q' is = record {
+  lists = λ k none. is.others k (λ e. once-apart q.list k none (sym e));
+  owns_same = λ k. ap (λ l. once l k) is.list;
+}
+
+pub down-falls : (here to : Spot) → 0 < here.at → here.at ≤ MODULES → to ≡ toward Down here → far_at to.way to.at < far_at Down here.at
+down-falls here to some few is = subst (λ (t : Spot). far_at t.way t.at < far_at Down here.at) (sym is) (omega arith)
+
+-- a message that stays, and one that doesn't
+pub kind-stays : (s : StoreValue) (i : ℕ) (way : Way) (kind : MsgKind) (answer is : Bool) → kind ≡ (block_at 0 (in_hand s i)).kind → answer ≡ stays kind way → answer ≡ is → stays (message_in s i).kind way ≡ is
+kind-stays s i way kind answer is seen asked so = ap (λ k. stays k way) (kind-is (in_hand s i) ∙ sym seen) ∙ sym asked ∙ so
+
+pub stocks-stay : (here : Spot) (m : Message ℕ) (p : Stock) → stays m.kind here.way ≡ true → stocks here m p ≡ stocked m p
+stocks-stay here m p is = ap (λ v. cond v (stocked m p) (turns here m p)) is
+
+pub stocks-on : (here : Spot) (m : Message ℕ) (p : Stock) → stays m.kind here.way ≡ false → stocks here m p ≡ turns here m p
+stocks-on here m p is = ap (λ v. cond v (stocked m p) (turns here m p)) is
+
+pub joined-hands : (s t : StoreValue) (i : ℕ) (q q' : Queue) → IsStore s → CanPut s i (λ _. 0) → Changes (dropped s i) t q q' → FreesBlocks s t → Hands s t i (λ _. 0) (λ _. 0) (λ _. 0)
+joined-hands s t i q q' st can is frees =
+    let h = shifts-joined s t i q q' st can is frees in
+    record { counts = λ j. let c = h.counts j in omega arith; others = λ j apart kept some. h.others j apart some }
+
+pub frees-spends : (s t : StoreValue) (most : ℕ) → FreesBlocks s t → Spends s t most 0
+frees-spends s t most frees = record { mblks = (let m = frees.mblks in omega arith); dblks = (let d = frees.dblks in omega arith) }
+
+-- a service procedure with nothing before it, and one with a message
+pub serves-none : (here : Spot) (again : Bool) (stop : Option ℕ) (p : Stock) → p.queue.messages ≡ [] → stock_serves here again stop p ≡ idle p
+serves-none here again stop p none = ap (serves_of here p) none
+
+pub serves-first : (here : Spot) (again : Bool) (stop : Option ℕ) (p : Stock) (m : Message ℕ) (rest : List (Message ℕ)) → p.queue.messages ≡ m ∷ rest → stock_serves here again stop p ≡ stock_sends here p m rest
+serves-first here again stop p m rest first = ap (serves_of here p) first
+
+-- the first message came in hand, and nothing else changed there
+pub took-own : (s t : StoreValue) (q q' : Queue) (i : ℕ) → Dequeued s t q q' i → OnlyOwn s t (once q.list) (once q'.list)
+took-own s t q q' i d = record {
+  lists = λ k none. d.others k (λ e. once-apart q.list k none (sym e));
+  owns_same = λ k. ap (λ l. once l k) d.list;
+}
+
+pub took-hands : {M : Type 0} (name : M → ℕ) (s t : StoreValue) (q q' : Queue) (x : Sent M) (all : List (Sent M)) → all ≡ x ∷ [] → Dequeued s t q q' (name x.message)
+    → Handles s t (λ _. 0) (λ _. 0) (λ _. 0) (λ i. times_sent name i all)
+unfolding times_sent once
+took-hands name s t q q' x all one d =
+    let n = name x.message in
+    record {
+      counts = λ j.
+          let a = ap (times_in j) d.hand in
+          let h = sum_by-cons (λ (y : Held). cond {A = ℕ} (eqb y.name j) 1 0) (record { name = n; chain = in_hand t n }) s.hand in
+          let o = ap (times_sent name j) one in
+          omega arith;
+      others = λ j none kept some.
+          ap (λ hs. in_hand (record s { hand = hs }) j) d.hand
+          ∙ stays-chain s n (in_hand t n) j (λ e. (let f = d.fresh in let w = ap (λ k. times_in k s.hand) e in absurd (omega arith)));
+    }
+
+pub one-room : {M : Type 0} (name : M → ℕ) (s : StoreValue) (next : ℕ) (x : Sent M) (all : List (Sent M)) → all ≡ x ∷ [] → HasRoom s (later_cost nothing false next (parcels_in name s all))
+unfolding cost_of parcels_in
+one-room name s next x all one =
+    let e = ap (λ xs. cost_of (nothing {C = ℕ}) (parcels_in name s xs)) one in
+    record { mblks = omega arith; dblks = omega arith }
+
+-- what costs nothing
+pub nothing-free : (ps : List (Parcel ℕ)) → cost_of nothing ps ≡ 0
+unfolding cost_of
+nothing-free [] = refl
+nothing-free (p ∷ ps) = let rest = nothing-free ps in omega arith
+
+pub free-takes : (s t : StoreValue) (ps : List (Parcel ℕ)) → Spends s t 0 (cost_of nothing ps) → Takes s t 0 0 0 (cost_of nothing ps)
+free-takes s t ps spends = let none = nothing-free ps in record { blocks = spends; spare = omega arith }

@@ -1,0 +1,28 @@
+-- The message is the only one in hand, and none is when all is delivered.
+use Rattle.strm_blocks.specs.Blocks.{in_hand}
+use Rattle.strm_frame.specs.Outboxes.{message_in}
+use Rattle.strm_frame.specs.Stacks.{all_of}
+use Rattle.strm_frame.proofs.Handing.{alone-can, none-left}
+use Rattle.strm_tests.proofs.RigSteps.{kept-none, near-low}
+use Rattle.strm_tests.proofs.frame.rig.Rig.put.Goals as goal
+
+pub deliver-requires-clause-can_put : goal.deliver-requires-clause-can_put
+deliver-requires-clause-can_put g c =
+    let s = g.B.Blocks.value c.args.store.now in
+    let n = g.B.Blocks.name c.args.message in
+    let xs = c.args.self.now.modules.modules.items in
+    alone-can s n (in_hand s n) (all_of (λ y i. 0) xs) c.requires.alone (kept-none xs)
+
+pub deliver-requires-clause-low : goal.deliver-requires-clause-low
+deliver-requires-clause-low g c = near-low c.args.to (message_in (g.B.Blocks.value c.args.store.now) (g.B.Blocks.name c.args.message)) c.requires.near
+
+pub returns : goal.returns
+returns g c =
+    let s = g.B.Blocks.value c.args.store.now in
+    let n = g.B.Blocks.name c.args.message in
+    let xs = c.args.self.now.modules.modules.items in
+    let ys = c.deliver.new.stations.modules.modules.items in
+    record {
+      are = c.deliver.ensures.held;
+      hand = none-left s (g.B.Blocks.value c.deliver.new.store) n (in_hand s n) (all_of (λ y i. 0) xs) (all_of (λ y i. 0) ys) c.requires.alone (kept-none ys) c.deliver.ensures.hands;
+    }

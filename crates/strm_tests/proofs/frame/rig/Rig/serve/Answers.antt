@@ -1,0 +1,79 @@
+-- What was sent is delivered, and nothing is left in hand.
+use Rattle.std.proofs.Common.{◌∙◌, ◌-◌, map, false, refl, subst, arith}
+use Rattle.strm_types.specs.declared.names.Side.TheVariants.{Slave}
+use Rattle.strm_types.specs.declared.names.Way.TheVariants.{Down}
+use Rattle.strm_types.specs.declared.spots.Spot.{Spot}
+use Rattle.strm_frame.specs.Hands.{Hands}
+use Rattle.strm_frame.specs.declared.stack.Stream.{Stream}
+use Rattle.strm_tests.specs.declared.frame.stock.Stock as toy
+use Rattle.strm_frame.specs.Serves.{stop_of}
+use Rattle.strm_frame.specs.Stacks.{all_of}
+use Rattle.strm_tests.specs.ToyLaws.{stock_in}
+use Rattle.strm_frame.proofs.Beside.{rest-in}
+use Rattle.strm_tests.proofs.RigSteps.{none-taken, kept-none, sent-can, sent-chain, sent-low, sent-rest, none-rest}
+use Rattle.strm_tests.proofs.frame.rig.Rig.serve.Goals as goal
+
+pub serve-served-requires : goal.serve-served-requires
+serve-served-requires g c =
+    let xs = c.args.self.now.modules.modules.items in
+    let two = c.requires.rest.are.two in
+    let within = c.requires.within in
+    let s = g.B.Blocks.value c.args.store.now in
+    let none = none-taken (map (λ y. stock_in s y.name y.queue) xs) (c.args.at - 1) in
+    (omega arith, (c.requires.inside, (omega arith, (c.requires.rest.are.held, ((λ d. refl), (rest-in s (all_of (λ y i. 0) xs) (kept-none xs), record { mblks = omega arith; dblks = omega arith }))))))
+
+pub deliver-requires-clause-held : goal.deliver-requires-clause-held
+deliver-requires-clause-held g c = rw c.note_all.ensures (record { held = c.serve-served.ensures.held; two = c.serve-served.ensures.length ∙ c.requires.rest.are.two })
+
+pub deliver-requires-clause-can_put : goal.deliver-requires-clause-can_put
+deliver-requires-clause-can_put g c =
+    let s = g.B.Blocks.value c.args.store.now in
+    let t = g.B.Blocks.value c.serve-served.new.store in
+    let xs = c.args.self.now.modules.modules.items in
+    let ys = c.serve-served.new.self.modules.items in
+    rw c.note_all.ensures (sent-can g.B.Blocks.name s t (all_of (λ y i. 0) xs) (all_of (λ y i. 0) ys) _ c.requires.rest.hand (kept-none xs) (kept-none ys) c.serve-served.ensures.hands c.in-Some.next _ c.in-Some.ensures)
+
+pub deliver-requires-clause-chain : goal.deliver-requires-clause-chain
+deliver-requires-clause-chain g c =
+    let s = g.B.Blocks.value c.args.store.now in
+    let t = g.B.Blocks.value c.serve-served.new.store in
+    let xs = c.args.self.now.modules.modules.items in
+    let ys = c.serve-served.new.self.modules.items in
+    sent-chain g.B.Blocks.name s t (all_of (λ y i. 0) xs) (all_of (λ y i. 0) ys) _ c.requires.rest.hand (kept-none xs) (kept-none ys) c.serve-served.ensures.hands c.in-Some.next _ c.in-Some.ensures c.serve-served.ensures.chains
+
+pub deliver-requires-clause-low : goal.deliver-requires-clause-low
+deliver-requires-clause-low g c =
+    let s = g.B.Blocks.value c.args.store.now in
+    let t = g.B.Blocks.value c.serve-served.new.store in
+    let xs = c.args.self.now.modules.modules.items in
+    let ys = c.serve-served.new.self.modules.items in
+    sent-low g.B.Blocks.name s t (all_of (λ y i. 0) xs) (all_of (λ y i. 0) ys) _ c.requires.rest.hand (kept-none xs) (kept-none ys) c.serve-served.ensures.hands c.in-Some.next _ c.in-Some.ensures
+    (record { side = Slave; at = c.args.at; way = Down }) c.serve-served.ensures.falls
+
+pub returns-in_default : goal.returns-in_default
+returns-in_default g c =
+    let s = g.B.Blocks.value c.args.store.now in
+    let t = g.B.Blocks.value c.serve-served.new.store in
+    let xs = c.args.self.now.modules.modules.items in
+    let ys = c.serve-served.new.self.modules.items in
+    rw c.note_all.ensures (record {
+      are = record { held = c.serve-served.ensures.held; two = c.serve-served.ensures.length ∙ c.requires.rest.are.two };
+      hand = none-rest g.B.Blocks.name s t (all_of (λ y i. 0) xs) (all_of (λ y i. 0) ys) _ c.requires.rest.hand (kept-none xs) (kept-none ys) c.serve-served.ensures.hands c.in_default.ensures.0;
+    })
+
+pub returns : goal.returns
+returns g c =
+    let s = g.B.Blocks.value c.args.store.now in
+    let t = g.B.Blocks.value c.serve-served.new.store in
+    let u = g.B.Blocks.value c.deliver.new.store in
+    let n = g.B.Blocks.name c.in-Some.next.message in
+    let xs = c.args.self.now.modules.modules.items in
+    let ys = c.serve-served.new.self.modules.items in
+    let zs = c.deliver.new.stations.modules.modules.items in
+    let here : Spot = record { side = Slave; at = c.args.at; way = Down } in
+    let carried : Hands t u n (all_of (λ y i. 0) ys) (all_of (λ y i. 0) zs) (λ _. 0) = subst (λ (m : Stream toy.Stock). Hands t u n (all_of (λ y i. 0) m.modules.items) (all_of (λ y i. 0) zs) (λ _. 0)) c.note_all.ensures c.deliver.ensures.hands in
+    record {
+      are = c.deliver.ensures.held;
+      hand = sent-rest g.B.Blocks.name s t (all_of (λ y i. 0) xs) (all_of (λ y i. 0) ys) _ c.requires.rest.hand (kept-none xs) (kept-none ys) c.serve-served.ensures.hands c.in-Some.next _ c.in-Some.ensures
+          here false (stop_of c.serve-served.result) _ (map (λ y. stock_in s y.name y.queue) xs) u (all_of (λ y i. 0) zs) c.serve-served.ensures.sent (kept-none zs) carried;
+    }

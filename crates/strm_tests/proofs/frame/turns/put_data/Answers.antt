@@ -1,0 +1,7 @@
+-- The message is a chain.
+use Rattle.strm_msg.proofs.MadeData.{made-data}
+use Rattle.strm_tests.proofs.frame.turns.put_data.Goals as goal
+
+pub put-requires-clause-chain : goal.put-requires-clause-chain
+put-requires-clause-chain g c =
+    (made-data (g.B.Blocks.value c.args.store.now) (g.B.Blocks.value c.from_bytes.new.store) (g.B.Blocks.name c.in_ok-message.message) _ c.in_ok-message.ensures).one

@@ -1,0 +1,3 @@
+pub mod Toys
+pub mod ToyLaws
+pub mod Rigs

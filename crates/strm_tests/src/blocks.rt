@@ -1,0 +1,285 @@
+//! Each call of a store once, through the bound, and how many references a data block can have.
+ghost use Rattle.std.specs.Prelude.{ℕ, ◌≡◌, ◌≢◌, ◌<◌, ◌≤◌, ◌+◌, ◌-◌, ◌^◌, min, not, is_some, length, IfOk, IfSome};
+ghost use Rattle.strm_blocks.specs.Blocks.{IsInHand, in_hand};
+
+use std::test::Fail;
+use strm_blocks::{Blocks, FlushWhat, NoBlocks, Peek, Summary, TableStore, Visitor};
+use strm_types::{Band, MsgKind};
+
+// So many more blocks behind a message, which all name the data block of its first one.
+fn piled<B: Blocks>(store: &mut B, message: B::Mp, count: usize) -> Result<B::Mp, NoBlocks>
+    requires { IsInHand (B.value store.old) (B.name message) }
+    ensures { IfOk result (λ m. IsInHand (B.value store.new) (B.name m)) }
+{
+    let mut pile = message;
+    for _ in 0..count {
+        store.audit();
+        let block = store.dup(&pile, 0)?;
+        pile = store.link(pile, block);
+    }
+    Ok(pile)
+}
+
+// A message of one block with these bytes. Those that were in hand still are.
+fn made<B: Blocks>(store: &mut B, kind: MsgKind, bytes: &[u8]) -> Result<B::Mp, NoBlocks>
+    ensures held { IfOk result (λ m. IsInHand (B.value store.new) (B.name m)) }
+    ensures others { IfOk result (λ m. (i : ℕ) → IsInHand (B.value store.old) i → IsInHand (B.value store.new) i) }
+    ensures apart { IfOk result (λ m. (i : ℕ) → IsInHand (B.value store.old) i → i ≢ B.name m) }
+{
+    let message = store.alloc(kind)?;
+    store.append(&message, bytes);
+    Ok(message)
+}
+
+// A message of a control part and a data part.
+fn of_two_parts<B: Blocks>(store: &mut B, control: &[u8], body: &[u8]) -> Result<B::Mp, NoBlocks>
+    ensures { IfOk result (λ m. IsInHand (B.value store.new) (B.name m)) }
+{
+    let first = made(store, MsgKind::Proto, control)?;
+    let second = made(store, MsgKind::Data, body)?;
+    Ok(store.link(first, second))
+}
+
+// The last block of a message loses so many bytes at its head, or all that it has.
+fn trim_first<B: Blocks>(store: &mut B, message: &B::Mp, n: usize)
+    requires { IsInHand (B.value store.old) (B.name message.now) }
+    ensures { IsInHand (B.value store.new) (B.name message.now) }
+{
+    let last = store.blocks(message) - 1;
+    store.trim_head(message, last, n);
+}
+
+// The last block of a message loses so many bytes at its tail, or all that it has.
+fn trim_last<B: Blocks>(store: &mut B, message: &B::Mp, n: usize)
+    requires { IsInHand (B.value store.old) (B.name message.now) }
+    ensures { IsInHand (B.value store.new) (B.name message.now) }
+{
+    let last = store.blocks(message) - 1;
+    store.trim_tail(message, last, n);
+}
+
+// How many bytes a copy of a message's last block shows, which is freed again.
+fn len_of_copy<B: Blocks>(store: &mut B, message: &B::Mp) -> Result<usize, NoBlocks>
+    requires { IsInHand (B.value store.old) (B.name message.now) }
+    ensures { B.value store.new ≡ B.value store.old }
+{
+    let last = store.blocks(message) - 1;
+    let copied = store.copy(message, last)?;
+    store.audit();
+    let len = store.block_len(&copied, 0);
+    store.free(copied);
+    Ok(len)
+}
+
+// How many bytes a duplicate of a message's last block shows, which is freed again.
+fn len_of_dup<B: Blocks>(store: &mut B, message: &B::Mp) -> Result<usize, NoBlocks>
+    requires { IsInHand (B.value store.old) (B.name message.now) }
+    ensures { B.value store.new ≡ B.value store.old }
+{
+    let last = store.blocks(message) - 1;
+    let shared = store.dup(message, last)?;
+    store.audit();
+    let len = store.block_len(&shared, 0);
+    store.free(shared);
+    Ok(len)
+}
+
+// Whether the first block of a message can't be duplicated once more.
+fn is_full<B: Blocks>(store: &mut B, message: &B::Mp) -> bool
+    requires { IsInHand (B.value store.old) (B.name message.now) }
+    ensures { B.value store.new ≡ B.value store.old }
+{
+    store.audit();
+    let Ok(twin) = store.dup(message, 0) else {
+        return true;
+    };
+    store.free(twin);
+    false
+}
+
+// How many blocks are free beside a data block of so many references, and whether it can have no more.
+fn beside_pile<B: Blocks>(
+    store: &mut B,
+    references: usize,
+) -> Result<((usize, usize), bool), NoBlocks>
+    requires { 0 < references }
+{
+    let first = store.alloc(MsgKind::Data)?;
+    let pile = piled(store, first, references - 1)?;
+    let free = store.free_blocks();
+    let full = is_full(store, &pile);
+    store.free(pile);
+    Ok((free, full))
+}
+
+// What is seen of a message of band 3 at the front of list 2, and its name when it was taken off again.
+fn through_a_list<B: Blocks>(store: &mut B, message: B::Mp) -> Option<(Peek, B::Mp)>
+    requires { IsInHand (B.value store.old) (B.name message) }
+    ensures { IfSome result (λ taken. IsInHand (B.value store.new) (B.name taken.1)) }
+{
+    store.set_band(&message, Band(3));
+    store.insert_back(2, message);
+    let peek = store.peek(2)?;
+    let taken = store.pop(2)?;
+    Some((peek, taken))
+}
+
+// Whether a message of band 3 has two blocks, of which the second is of M_DATA and shows these bytes.
+fn ends_in<B: Blocks>(store: &B, message: &B::Mp, bytes: &[u8]) -> bool
+    requires { IsInHand (B.value store.now) (B.name message.now) }
+{
+    store.blocks(message) == 2
+        && store.band(message) == Band(3)
+        && store.kind(message, 1) == MsgKind::Data
+        && store.bytes_at(message, 1) == bytes
+}
+
+// Puts the first block of a message on list 7, and lets the rest stay in hand.
+fn part<B: Blocks>(store: &mut B, message: B::Mp)
+    requires { IsInHand (B.value store.old) (B.name message) }
+{
+    let (first, _rest) = store.unlink(message);
+    store.insert_front(7, first);
+}
+
+// Whether a message of two parts is seen as it is made, after each call on it. Its parts are then on list 7 and in hand.
+fn is_seen<B: Blocks>(store: &mut B) -> Result<bool, NoBlocks> {
+    let message = of_two_parts(store, b"ab", b"cdef")?;
+    trim_first(store, &message, 1);
+    trim_last(store, &message, 1);
+    let lens = (len_of_copy(store, &message)?, len_of_dup(store, &message)?);
+    let Some((peek, message)) = through_a_list(store, message) else {
+        return Ok(false);
+    };
+    let wanted = Peek {
+        kind: MsgKind::Proto,
+        band: Band(3),
+        control: Some(2),
+        body: Some(2),
+    };
+    let shown = ends_in(store, &message, b"de");
+    part(store, message);
+    Ok(lens == (2, 2) && peek == wanted && shown)
+}
+
+// A message of one block with these bytes, made at once.
+fn filled<B: Blocks>(store: &mut B, kind: MsgKind, bytes: &[u8]) -> Result<B::Mp, NoBlocks>
+    requires { length bytes.now ≤ 256 }
+    ensures { IfOk result (λ m. IsInHand (B.value store.new) (B.name m)) }
+{
+    store.alloc_with(kind, Band(2), bytes)
+}
+
+// The first block of a message gets another kind.
+fn turn_first<B: Blocks>(store: &mut B, message: &B::Mp, kind: MsgKind)
+    requires { IsInHand (B.value store.old) (B.name message.now) }
+    ensures { IsInHand (B.value store.new) (B.name message.now) }
+{
+    let _some = store.blocks(message);
+    store.set_kind(message, 0, kind);
+}
+
+// What a message of three bytes is counted by after it became one of M_PROTO, and after all of its bytes were trimmed.
+fn summed<B: Blocks>(store: &mut B) -> Result<[Summary; 2], NoBlocks> {
+    let message = filled(store, MsgKind::Data, b"abc")?;
+    turn_first(store, &message, MsgKind::Proto);
+    let turned = store.summary(&message);
+    trim_first(store, &message, 300);
+    let trimmed = store.summary(&message);
+    store.free(message);
+    Ok([turned, trimmed])
+}
+
+// Looks for the first message that has a data part: of how many messages it was told, and how long that part is.
+#[derive(Drop)]
+struct FirstData {
+    told: usize,
+    body: Option<usize>,
+}
+
+impl Visitor for FirstData {
+    ghost after = { λ v p. record { told = min (v.told + 1) (2 ^ 64 - 1); body = p.body } };
+
+    ghost goes_on = { λ v. not (is_some v.body) };
+
+    fn see(&mut self, message: Peek) -> bool {
+        self.told = self.told.saturating_add(1);
+        self.body = message.body;
+        self.body.is_none()
+    }
+}
+
+// Puts a message with these bytes on list 5.
+fn put_filled<B: Blocks>(store: &mut B, kind: MsgKind, bytes: &[u8]) -> Result<(), NoBlocks>
+    requires { length bytes.now ≤ 256 }
+{
+    let message = filled(store, kind, bytes)?;
+    store.insert_back(5, message);
+    Ok(())
+}
+
+// Whether a visitor of list 5 passes over the messages without a data part, and is told of none behind the first one.
+fn finds_data<B: Blocks>(store: &mut B) -> Result<bool, NoBlocks> {
+    let empty = store.is_empty(5);
+    put_filled(store, MsgKind::Proto, b"ab")?;
+    put_filled(store, MsgKind::Data, b"cdef")?;
+    put_filled(store, MsgKind::Data, b"gh")?;
+    let mut first = FirstData {
+        told: 0,
+        body: None,
+    };
+    store.visit(5, &mut first);
+    Ok(empty && !store.is_empty(5) && first.told == 2 && first.body == Some(4))
+}
+
+#[test]
+fn a_data_block_has_at_most_255_references(rt: HostRuntime) -> Result<(), Fail> {
+    let mut store = TableStore::new(rt.alloc(), 300, 300)?;
+    assert_eq!(rt; beside_pile(&mut store, 255)?, ((45, 299), true));
+    assert_eq!(rt; store.free_blocks(), (300, 300));
+    Ok(())
+}
+
+#[test]
+fn each_call_does_its_work(rt: HostRuntime) -> Result<(), Fail> {
+    let mut store = TableStore::new(rt.alloc(), 8, 8)?;
+    assert!(rt; is_seen(&mut store)?);
+    assert_eq!(rt; store.free_blocks(), (6, 6));
+    store.drop_where(
+        7,
+        FlushWhat {
+            all: false,
+            band: Some(Band(3)),
+        },
+    );
+    assert_eq!(rt; store.free_blocks(), (7, 7));
+    store.reset();
+    assert_eq!(rt; store.free_blocks(), (8, 8));
+    Ok(())
+}
+
+#[test]
+fn a_visitor_is_told_until_it_wants_no_more(rt: HostRuntime) -> Result<(), Fail> {
+    let mut store = TableStore::new(rt.alloc(), 8, 8)?;
+    assert!(rt; finds_data(&mut store)?);
+    assert_eq!(rt; store.free_blocks(), (5, 5));
+    Ok(())
+}
+
+#[test]
+fn a_message_is_counted_at_once(rt: HostRuntime) -> Result<(), Fail> {
+    let mut store = TableStore::new(rt.alloc(), 8, 8)?;
+    let turned = Summary {
+        kind: MsgKind::Proto,
+        band: Band(2),
+        bytes: 3,
+    };
+    let trimmed = Summary {
+        kind: MsgKind::Proto,
+        band: Band(2),
+        bytes: 0,
+    };
+    assert_eq!(rt; summed(&mut store)?, [turned, trimmed]);
+    assert_eq!(rt; store.free_blocks(), (8, 8));
+    Ok(())
+}

@@ -1,0 +1,113 @@
+//! Deliveries and stacks of modules, by toys.
+
+mod counter;
+mod rig;
+mod stock;
+mod turner;
+mod turns;
+
+use counter::Counter;
+use std::test::Fail;
+use stock::Stock;
+use strm_blocks::{Blocks, TableStore};
+use strm_frame::{Enabled, Stream, deliver};
+use strm_msg::from_bytes;
+use strm_queue::Queue;
+use strm_types::{Band, Fates, ModuleName, MsgKind, Place, QueueName, Side, Spot, Way};
+use turner::Turner;
+
+#[test]
+fn a_message_is_handed_on_until_an_end_takes_it(rt: HostRuntime) -> Result<(), Fail> {
+    let mut store = TableStore::new(rt.alloc(), 10, 10)?;
+    let mut counter = Counter { seen: 0 };
+    let mut told = Fates::none();
+    let message = from_bytes(&mut store, MsgKind::Data, Band(0), b"abc")?;
+    let to = Spot {
+        side: Side::Slave,
+        at: 4,
+        way: Way::Up,
+    };
+    deliver(&mut store, &mut counter, 16, to, message, &mut told);
+    assert_eq!(rt; counter.seen, 5);
+    assert_eq!(rt; store.free_blocks(), (10, 10));
+    Ok(())
+}
+
+#[test]
+fn a_stack_holds_three_modules_each_name_once(rt: HostRuntime) -> Result<(), Fail> {
+    let mut stack = Stream::new();
+    assert!(rt; look(&stack).is_none());
+    assert!(rt; stack.pop().is_none());
+    for name in [ModuleName::Ptem, ModuleName::Ldterm, ModuleName::Pckt] {
+        assert!(rt; push(&mut stack, name));
+        assert!(rt; !push(&mut stack, name));
+        assert!(rt; look(&stack) == Some(name));
+    }
+    for name in [ModuleName::Pckt, ModuleName::Ldterm, ModuleName::Ptem] {
+        assert!(rt; stack.pop().map(|turner| turner.name) == Some(name));
+    }
+    assert!(rt; push(&mut stack, ModuleName::Ptem));
+    Ok(())
+}
+
+fn push(stack: &mut Stream<Turner>, name: ModuleName) -> bool {
+    stack.push::<TableStore>(Turner { name }).is_ok()
+}
+
+fn look(stack: &Stream<Turner>) -> Option<ModuleName> {
+    stack.look::<TableStore>()
+}
+
+#[test]
+fn the_nearest_queue_past_a_place_is_found(rt: HostRuntime) -> Result<(), Fail> {
+    let mut stack = Stream::new();
+    for name in [ModuleName::Ptem, ModuleName::Ldterm, ModuleName::Pckt] {
+        let queue = Queue::new(0, 512, 128);
+        assert!(rt; stack.push::<TableStore>(Stock { name, queue }).is_ok());
+    }
+    assert!(rt; stack.place_past::<TableStore>(Way::Down, 0) == Some(1));
+    assert!(rt; stack.place_past::<TableStore>(Way::Down, 2) == Some(3));
+    assert!(rt; stack.place_past::<TableStore>(Way::Down, 3).is_none());
+    assert!(rt; stack.place_past::<TableStore>(Way::Up, 4).is_none());
+    assert!(rt; stack.place_before::<TableStore>(Way::Down, 4) == Some(3));
+    assert!(rt; stack.place_before::<TableStore>(Way::Down, 1).is_none());
+    Ok(())
+}
+
+#[test]
+fn a_writer_waits_at_the_nearest_queue(rt: HostRuntime) -> Result<(), Fail> {
+    let mut stack = Stream::new();
+    for name in [ModuleName::Ptem, ModuleName::Ldterm] {
+        let queue = Queue::new(0, 512, 128);
+        assert!(rt; stack.push::<TableStore>(Stock { name, queue }).is_ok());
+    }
+    stack.let_wait_past::<TableStore>(Way::Down, Band(2), 1);
+    stack.let_wait_past::<TableStore>(Way::Up, Band(3), 3);
+    for waits in [true, false] {
+        let last = stack.modules.pop();
+        assert!(rt; last.map(|stock| stock.queue.flows[2].want_write) == Some(waits));
+    }
+    Ok(())
+}
+
+#[test]
+fn the_queues_of_a_popped_module_leave_the_enabled_list(rt: HostRuntime) -> Result<(), Fail> {
+    let mut enabled = Enabled::new();
+    for side in [Side::Slave, Side::Master] {
+        for way in [Way::Up, Way::Down] {
+            enabled.enable(QueueName {
+                side,
+                place: Place::Ldterm,
+                way,
+            });
+        }
+        enabled.enable(side.driver());
+    }
+    enabled.forget(Side::Slave, ModuleName::Ptem);
+    assert_eq!(rt; enabled.as_slice().len(), 6);
+    enabled.forget(Side::Slave, ModuleName::Ldterm);
+    assert_eq!(rt; enabled.as_slice().len(), 4);
+    assert!(rt; enabled.contains(Side::Slave.driver()));
+    assert!(rt; enabled.contains(Side::Master.driver()));
+    Ok(())
+}

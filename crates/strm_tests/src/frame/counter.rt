@@ -1,0 +1,58 @@
+//! Stations that count what passes: a message goes on upward from each, and at the top it ends.
+
+use strm_blocks::Blocks;
+use strm_frame::{Outbox, Sent, Stations};
+use strm_types::{Fates, Spot, Way};
+
+#[derive(Drop)]
+pub struct Counter {
+    pub seen: usize,
+}
+
+impl<B: Blocks> Stations<B> for Counter {
+    ghost use Rattle.std.specs.Prelude.{ℕ, refl};
+    ghost use Rattle.strm_tests.specs.Toys.{counts, upward, nothing};
+
+    ghost Plain = { ℕ };
+
+    ghost plain = { λ s x. x.seen };
+
+    ghost IsHeld = { λ s x. Unit {0} };
+
+    ghost keeps = { λ x i. 0 };
+
+    ghost puts = { counts };
+
+    ghost height = { upward };
+
+    ghost cost = { λ p. nothing };
+
+    ghost spare = { λ p. 0 };
+
+    fn put_at(
+        &mut self,
+        store: &mut B,
+        to: Spot,
+        message: B::Mp,
+        _told: &mut Fates,
+    ) -> Outbox<B::Mp> {
+        store.audit();
+        self.seen = self.seen.wrapping_add(1);
+        if to.at == 0 {
+            store.free(message);
+            return Outbox::none();
+        }
+        Outbox::one(Sent {
+            to: Spot {
+                at: to.at - 1,
+                way: Way::Up,
+                ..to
+            },
+            message,
+        })
+    }
+
+    ghost frame = { λ s t x same held. (refl, held) };
+
+    ghost cost_stays = { λ to m p. refl };
+}

@@ -1,0 +1,247 @@
+//! A stream of two modules with queues, as a pair has one: what a put sends on is delivered, and turns move what stands on
+//! the queues.
+
+ghost use Rattle.std.specs.Prelude.{ℕ, ◌≡◌, ◌<◌, ◌≤◌, ◌∷◌, [], true, false};
+ghost use Rattle.strm_blocks.specs.Blocks.{in_hand, empty_store};
+ghost use Rattle.strm_msg.specs.Messages.{IsChain};
+ghost use Rattle.strm_tests.specs.Rigs.{is_end, AreTwo, AtRest};
+
+use super::stock::Stock;
+use arrayvec::ArrayVec;
+use strm_blocks::Blocks;
+use strm_frame::{Enabled, Outbox, Stations, Stream, deliver};
+use strm_queue::Queue;
+use strm_types::{Asks, Band, Fates, ModuleName, Note, QueueName, Side, Spot, Turn, Way};
+
+/// Two modules on a stream, the queues that are enabled, and how many messages have left at the top and at the bottom.
+#[derive(Drop)]
+pub struct Rig {
+    pub modules: Stream<Stock>,
+    pub enabled: Enabled,
+    pub above: usize,
+    pub below: usize,
+}
+
+// Whether no module stands at a place.
+fn is_end(at: usize) -> bool
+    ensures is { result ≡ is_end at }
+    ensures inside { result ≡ false → (0 < at) × (at ≤ 2) }
+{
+    at == 0 || at > 2
+}
+
+impl Rig {
+    /// A module with a name on the enabled list over one without, whose queue is full from 4 bytes on and lets writers go
+    /// from 2 down. Nothing stands there.
+    pub fn new() -> Rig
+        ensures { (mblks dblks : ℕ) → AtRest (λ x. x.queue) (empty_store mblks dblks) result.modules.modules.items }
+    {
+        let mut modules = ArrayVec::new();
+        modules.push(Stock {
+            name: ModuleName::Ldterm,
+            queue: Queue::new(0, 512, 128),
+        });
+        modules.push(Stock {
+            name: ModuleName::Pckt,
+            queue: Queue::new(1, 4, 2),
+        });
+        Rig {
+            modules: Stream { modules },
+            enabled: Enabled::new(),
+            above: 0,
+            below: 0,
+        }
+    }
+
+    // The name of the queue of the module at a place, where it has one.
+    fn queue_name(&self, at: usize, way: Way) -> Option<QueueName> {
+        let module = self.modules.modules.as_slice().get(at.checked_sub(1)?)?;
+        let place = module.name.place()?;
+        Some(QueueName {
+            side: Side::Slave,
+            place,
+            way,
+        })
+    }
+
+    // Enables what a note says of the module at a place.
+    fn note<B: Blocks>(&mut self, at: usize, note: Note)
+        ensures { self.new.modules ≡ self.old.modules }
+    {
+        let name = match note {
+            Note::Enable(way) => self.queue_name(at, way),
+            Note::Room(way) => match self.modules.place_before::<B>(way, at) {
+                Some(before) => self.queue_name(before, way),
+                None => None,
+            },
+        };
+        self.enabled.enable_found(name);
+    }
+
+    // The same where a condition holds.
+    fn note_if<B: Blocks>(&mut self, holds: bool, at: usize, note: Note)
+        ensures { self.new.modules ≡ self.old.modules }
+    {
+        if holds {
+            self.note::<B>(at, note);
+        }
+    }
+
+    // The same for several notes, one after the other.
+    fn note_all<B: Blocks>(&mut self, at: usize, notes: &[Note])
+        ensures { self.new.modules ≡ self.old.modules }
+    {
+        let Some((first, rest)) = notes.split_first() else {
+            return;
+        };
+        self.note::<B>(at, *first);
+        self.note_all::<B>(at, rest);
+    }
+
+    // Takes the queue at a place off the enabled list.
+    fn disable(&mut self, at: usize)
+        ensures { self.new.modules ≡ self.old.modules }
+    {
+        if let Some(name) = self.queue_name(at, Way::Down) {
+            self.enabled.remove(name);
+        }
+    }
+
+    // Counts a message that leaves.
+    fn leave(&mut self, way: Way)
+        ensures { self.new.modules ≡ self.old.modules }
+    {
+        match way {
+            Way::Up => self.above = self.above.wrapping_add(1),
+            Way::Down => self.below = self.below.wrapping_add(1),
+        }
+    }
+
+    /// Delivers the only message in hand to a spot.
+    pub fn put<B: Blocks>(&mut self, store: &mut B, to: Spot, message: B::Mp)
+        requires are { AreTwo (λ x. x.queue) (B.value store.old) self.old.modules.modules.items }
+        requires alone { (B.value store.old).hand ≡ record { name = B.name message; chain = in_hand (B.value store.old) (B.name message) } ∷ [] }
+        requires chain { IsChain (in_hand (B.value store.old) (B.name message)) }
+        requires near { to.at ≤ 3 }
+        ensures { AtRest (λ x. x.queue) (B.value store.new) self.new.modules.modules.items }
+    {
+        let mut told = Fates::none();
+        deliver(store, self, 16, to, message, &mut told);
+    }
+
+    /// How many messages and bytes stand on the queues, from the top.
+    pub fn sizes<B: Blocks>(&self, store: &B) -> [(usize, usize); 2]
+        requires { AtRest (λ x. x.queue) (B.value store.now) self.now.modules.modules.items }
+    {
+        [
+            self.modules.sizes(store, 1, Way::Down),
+            self.modules.sizes(store, 2, Way::Down),
+        ]
+    }
+
+    // Calls the service procedure of the module at a place, which sends one message at most, and delivers what it sends. The
+    // answer is how many bytes it treated.
+    fn serve<B: Blocks>(&mut self, store: &mut B, at: usize) -> usize
+        requires rest { AtRest (λ x. x.queue) (B.value store.old) self.old.modules.modules.items }
+        requires inside { 0 < at }
+        requires within { at ≤ 2 }
+        ensures { AtRest (λ x. x.queue) (B.value store.new) self.new.modules.modules.items }
+    {
+        let here = Spot {
+            side: Side::Slave,
+            at,
+            way: Way::Down,
+        };
+        let mut told = Fates::none();
+        let served = self.modules.serve(store, here, false, &mut told);
+        self.note_all::<B>(at, served.acts.notes.as_slice());
+        let mut sent = served.acts.sent;
+        let Some(next) = sent.take_first() else {
+            return served.bytes;
+        };
+        deliver(store, self, 16, next.to, next.message, &mut told);
+        served.bytes
+    }
+
+    // Ends a turn of the queue at a place.
+    fn end_turn<B: Blocks>(&mut self, store: &B, at: usize, took: bool)
+        requires rest { AtRest (λ x. x.queue) (B.value store.now) self.old.modules.modules.items }
+        requires inside { 0 < at }
+        requires within { at ≤ 2 }
+        ensures { AtRest (λ x. x.queue) (B.value store.now) self.new.modules.modules.items }
+    {
+        let end = self.modules.end_turn(store, at, Way::Down, took);
+        self.note_if::<B>(end.room, at, Note::Room(Way::Down));
+        self.note_if::<B>(end.more && took, at, Note::Enable(Way::Down));
+    }
+
+    /// A turn of the queue at a place, which comes off the enabled list: its first message goes on where there is room past
+    /// it, and else it waits for room.
+    pub fn turn<B: Blocks>(&mut self, store: &mut B, at: usize) -> Turn
+        requires rest { AtRest (λ x. x.queue) (B.value store.old) self.old.modules.modules.items }
+        requires inside { 0 < at }
+        requires within { at ≤ 2 }
+        ensures { AtRest (λ x. x.queue) (B.value store.new) self.new.modules.modules.items }
+    {
+        self.disable(at);
+        let Asks::Room(band) = self.modules.asks(store, at, Way::Down) else {
+            self.end_turn(store, at, false);
+            return Turn::Idle;
+        };
+        if self.modules.can_pass(store, Way::Down, band, at) == Some(false) {
+            self.modules.let_wait_past::<B>(Way::Down, band, at);
+            self.end_turn(store, at, false);
+            return Turn::Blocked;
+        }
+        let bytes = self.serve(store, at);
+        self.end_turn(store, at, true);
+        Turn::Moved(bytes)
+    }
+}
+
+impl<B: Blocks> Stations<B> for Rig {
+    ghost use Rattle.std.specs.Prelude.{List, map, length, refl};
+    ghost use Rattle.strm_frame.specs.Hands.{once};
+    ghost use Rattle.strm_frame.specs.Stacks.{all_of};
+    ghost use Rattle.strm_tests.specs.Toys.{far, nothing};
+    ghost use Rattle.strm_tests.specs.ToyLaws.{stock_in};
+    ghost use Rattle.strm_tests.specs.Rigs.{AreTwo, rig_puts, rig-frame};
+
+    ghost Plain = { List Rattle.strm_tests.specs.Toys.Stock };
+
+    ghost plain = { λ s x. map (λ y. stock_in s y.name y.queue) x.modules.modules.items };
+
+    ghost IsHeld = { λ s x. AreTwo (λ y. y.queue) s x.modules.modules.items };
+
+    ghost keeps = { λ x. all_of (λ y i. 0) x.modules.modules.items };
+
+    ghost puts = { rig_puts };
+
+    ghost height = { far };
+
+    ghost cost = { λ p. nothing };
+
+    ghost spare = { λ p. 0 };
+
+    fn put_at(
+        &mut self,
+        store: &mut B,
+        to: Spot,
+        message: B::Mp,
+        told: &mut Fates,
+    ) -> Outbox<B::Mp> {
+        store.audit();
+        if is_end(to.at) {
+            self.leave(to.way);
+            store.free(message);
+            return Outbox::none();
+        }
+        let acts = self.modules.put(store, to, message, told);
+        self.note_all::<B>(to.at, acts.notes.as_slice());
+        acts.sent
+    }
+
+    ghost frame = { λ s t x same held. rig-frame (λ y. y.name) (λ y. y.queue) s t x.modules.modules.items same held };
+
+    ghost cost_stays = { λ to m p. refl };
+}

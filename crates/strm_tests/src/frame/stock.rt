@@ -1,0 +1,256 @@
+//! A module with a write queue. M_DATA that goes down stays there until its service procedure sends it on. It sends each
+//! M_FLUSH that comes up down again, and passes all else.
+
+ghost use Rattle.std.specs.Prelude.{◌≡◌};
+ghost use Rattle.std.specs.Prelude.{if◌then◌else◌, [], ◌∷◌};
+ghost use Rattle.strm_tests.specs.Toys.{stays};
+
+use super::turner::onward;
+use arrayvec::ArrayVec;
+use strm_blocks::Blocks;
+use strm_frame::{Acts, LetGo, Module, Outbox, Sent, Served, TurnEnd, clear_queue, end_queue_turn};
+use strm_msg::message_size;
+use strm_queue::Queue;
+use strm_queue::standing::{count, dequeue, enqueue, first_size, is_full, sizes};
+use strm_types::{Asks, Band, Fates, ModuleName, MsgKind, Note, Rule, Side, Spot, Way};
+
+#[derive(Drop)]
+pub struct Stock {
+    pub name: ModuleName,
+    pub queue: Queue,
+}
+
+impl Default for Stock {
+    fn default() -> Stock {
+        Stock {
+            name: ModuleName::Ptem,
+            queue: Queue::new(0, 1, 0),
+        }
+    }
+}
+
+// A note, where a condition holds.
+fn note_if(holds: bool, note: Note) -> ArrayVec<Note, 4>
+    ensures { result.items ≡ (if holds then note ∷ [] else []) }
+{
+    let mut notes = ArrayVec::new();
+    if holds {
+        notes.push(note);
+    }
+    notes
+}
+
+// Whether a message of a kind stays on the queue.
+fn stays(kind: MsgKind, way: Way) -> bool
+    ensures { result ≡ stays kind way }
+{
+    matches!((kind, way), (MsgKind::Data, Way::Down))
+}
+
+impl<B: Blocks> Module<B> for Stock {
+    ghost use Rattle.std.specs.Prelude.{refl, false};
+    ghost use Rattle.strm_queue.specs.Stored.{IsReady};
+    ghost use Rattle.strm_frame.specs.Hands.{once};
+    ghost use Rattle.strm_tests.specs.Toys.{stocks, far, nothing, stock_queue, with_stock, stock_asks, stock_serves, stock_far};
+    ghost use Rattle.strm_tests.specs.ToyLaws.{stock_in, stock-frame, one-call};
+
+    ghost Plain = { Rattle.strm_tests.specs.Toys.Stock };
+
+    ghost plain = { λ s x. stock_in s x.name x.queue };
+
+    ghost name_of = { λ p. p.name };
+
+    ghost IsHeld = { λ s x. IsReady s x.queue };
+
+    ghost owns = { λ x. once x.queue.list };
+
+    ghost keeps = { λ x i. 0 };
+
+    ghost puts = { stocks };
+
+    ghost queue_of = { stock_queue };
+
+    ghost with_queue = { with_stock };
+
+    ghost line_of = { λ p. [] };
+
+    ghost without_line = { λ p. p };
+
+    ghost asks = { stock_asks };
+
+    ghost serves = { stock_serves };
+
+    ghost MayServe = { λ way again p. again ≡ false };
+
+    ghost MayStop = { λ way again bytes p. ⊥ };
+
+    ghost turn_height = { stock_far };
+
+    ghost turn_cost = { λ here again p. 0 };
+
+    ghost height = { far };
+
+    ghost takes = { λ here m p. 0 };
+
+    ghost leaves = { λ here m p. 0 };
+
+    ghost cost = { nothing };
+
+    fn name(&self) -> ModuleName {
+        self.name
+    }
+
+    fn put(&mut self, store: &mut B, here: Spot, message: B::Mp, _told: &mut Fates) -> Acts<B::Mp> {
+        store.audit();
+        let kind = store.kind(&message, 0);
+        if stays(kind, here.way) {
+            let enables = enqueue(store, &mut self.queue, message);
+            return Acts {
+                notes: note_if(enables, Note::Enable(Way::Down)),
+                sent: Outbox::none(),
+            };
+        }
+        Acts {
+            notes: ArrayVec::new(),
+            sent: Outbox::one(Sent {
+                to: here.toward(onward(kind, here.way)),
+                message,
+            }),
+        }
+    }
+
+    fn has_queue(&self, way: Way) -> bool {
+        match way {
+            Way::Up => false,
+            Way::Down => true,
+        }
+    }
+
+    fn is_full(&self, store: &B, way: Way, band: Band) -> bool {
+        match way {
+            Way::Up => false,
+            Way::Down => is_full(store, &self.queue, band),
+        }
+    }
+
+    fn count(&self, store: &B, way: Way, band: Band) -> usize {
+        match way {
+            Way::Up => 0,
+            Way::Down => count(store, &self.queue, band),
+        }
+    }
+
+    fn sizes(&self, store: &B, way: Way) -> (usize, usize) {
+        match way {
+            Way::Up => (0, 0),
+            Way::Down => sizes(store, &self.queue),
+        }
+    }
+
+    fn first_size(&self, store: &B, way: Way) -> usize {
+        match way {
+            Way::Up => 0,
+            Way::Down => first_size(store, &self.queue),
+        }
+    }
+
+    fn none_waits_up(&self, _store: &B) -> bool {
+        true
+    }
+
+    fn line_len(&self) -> usize {
+        0
+    }
+
+    fn let_wait(&mut self, way: Way, band: Band) {
+        match way {
+            Way::Up => {}
+            Way::Down => self.queue.let_wait(band),
+        }
+    }
+
+    fn asks(&self, store: &B, way: Way) -> Asks {
+        store.audit();
+        match way {
+            Way::Down if !self.queue.is_empty(store) => Asks::Room(Band(0)),
+            Way::Down | Way::Up => Asks::Empty,
+        }
+    }
+
+    fn serve(
+        &mut self,
+        store: &mut B,
+        here: Spot,
+        _again: bool,
+        _told: &mut Fates,
+    ) -> Served<B::Mp> {
+        if self.queue.is_empty(store) {
+            return Served {
+                acts: Acts {
+                    notes: ArrayVec::new(),
+                    sent: Outbox::none(),
+                },
+                bytes: 0,
+                stopped: false,
+                again: false,
+            };
+        }
+        let Some(message) = dequeue(store, &mut self.queue) else {
+            unreachable!()
+        };
+        store.audit();
+        let bytes = message_size(store, &message);
+        Served {
+            acts: Acts {
+                notes: ArrayVec::new(),
+                sent: Outbox::one(Sent {
+                    to: here.toward(Way::Down),
+                    message,
+                }),
+            },
+            bytes,
+            stopped: false,
+            again: false,
+        }
+    }
+
+    fn end_turn(&mut self, store: &B, way: Way, took: bool) -> TurnEnd {
+        match way {
+            Way::Up => TurnEnd {
+                room: false,
+                more: false,
+            },
+            Way::Down => end_queue_turn(store, &mut self.queue, took),
+        }
+    }
+
+    fn clear(
+        &mut self,
+        store: &mut B,
+        side: Side,
+        rule: Rule,
+        seeking: Option<u32>,
+        told: &mut Fates,
+    ) -> LetGo {
+        let direction = side.direction();
+        let gone = clear_queue(store, &mut self.queue, seeking, direction, rule, told);
+        LetGo {
+            notes: note_if(gone.room, Note::Room(Way::Down)),
+            met: gone.met,
+        }
+    }
+
+    ghost frame = { λ s t x same held. stock-frame s t x.name x.queue (λ _. 0) same held };
+
+    ghost rests = { λ s x way i held may. refl };
+
+    ghost either_way = { λ way way' p may. may };
+
+    ghost turn_goes = { λ here again stop p may. one-call here p p.queue.messages };
+
+    ghost put_stays = { λ here m p way again may. may };
+
+    ghost queue_stays = { λ at q p way again may. may };
+
+    ghost line_stays = { λ p way again may. may };
+}

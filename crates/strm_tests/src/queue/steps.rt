@@ -1,0 +1,187 @@
+//! Steps that are taken on a queue over a store of tables, and what is to be seen after each.
+
+ghost use Rattle.std.specs.Prelude.{◌≡◌, ◌<◌, List, [], IfOk};
+ghost use Rattle.strm_blocks.specs.Blocks.{Block, IsInHand, in_hand, list_at};
+ghost use Rattle.strm_queue.specs.Kept.{AreCounted, band_of};
+
+use std::alloc::Global;
+use std::process::Abort;
+use std::test::Fail;
+use strm_blocks::{Blocks, NoBlocks, TableStore};
+use strm_queue::standing::mark_all;
+use strm_queue::{Flush, Queue, are_marks, is_band};
+use strm_types::{BANDS, Band, Marks, MsgKind};
+
+// What comes to a queue, and what is to be seen of it then.
+#[derive(Clone, Copy)]
+pub(crate) enum Step<'a> {
+    // A message of this kind and band is put, which enables the queue.
+    Put(MsgKind, u8, &'a [u8]),
+    // A message of data of band 0 is put back.
+    PutBack(&'a [u8]),
+    // A take gives a message whose first block shows these bytes.
+    Take(&'a [u8]),
+    // A take gives none.
+    TakeNone,
+    // So many bytes count in a band.
+    Counts(u8, usize),
+    // A band gets a high-water and a low-water mark, and is full then or not.
+    Marks(u8, usize, usize, bool),
+    // All bands get a high-water and a low-water mark.
+    MarkAll(usize, usize),
+    // A band is full or not.
+    Full(u8, bool),
+    // The messages of data are freed.
+    Flush,
+}
+
+// A message of one block with these bytes.
+fn message<B: Blocks>(
+    store: &mut B,
+    kind: MsgKind,
+    band: u8,
+    bytes: &[u8],
+) -> Result<B::Mp, NoBlocks>
+    requires { band < BANDS }
+    ensures in_hand { IfOk result (λ m. IsInHand (B.value store.new) (B.name m)) }
+    ensures low { IfOk result (λ m. band_of (in_hand (B.value store.new) (B.name m)) < BANDS) }
+    ensures lists { (B.value store.new).lists ≡ (B.value store.old).lists }
+{
+    let message = store.alloc(kind)?;
+    store.set_band(&message, Band(band));
+    store.append(&message, bytes);
+    Ok(message)
+}
+
+// Puts a message, and says whether that enables the queue.
+fn puts<B: Blocks>(
+    queue: &mut Queue,
+    store: &mut B,
+    kind: MsgKind,
+    band: u8,
+    bytes: &[u8],
+) -> Result<bool, NoBlocks>
+    requires { AreCounted queue.old.flows (list_at (B.value store.old) queue.old.list) }
+    ensures { AreCounted queue.new.flows (list_at (B.value store.new) queue.new.list) }
+{
+    if !is_band(Band(band)) {
+        return Ok(false);
+    }
+    let message = message(store, kind, band, bytes)?;
+    Ok(queue.putq(store, message))
+}
+
+// Puts a message of data back.
+fn puts_back<B: Blocks>(queue: &mut Queue, store: &mut B, bytes: &[u8]) -> Result<bool, NoBlocks>
+    requires { AreCounted queue.old.flows (list_at (B.value store.old) queue.old.list) }
+    ensures { AreCounted queue.new.flows (list_at (B.value store.new) queue.new.list) }
+{
+    let message = message(store, MsgKind::Data, 0, bytes)?;
+    queue.putbq(store, message);
+    Ok(true)
+}
+
+// Takes the first message of a queue, and says whether its first block shows these bytes.
+fn next_shows<B: Blocks>(queue: &mut Queue, store: &mut B, bytes: &[u8]) -> bool
+    requires { AreCounted queue.old.flows (list_at (B.value store.old) queue.old.list) }
+    ensures { AreCounted queue.new.flows (list_at (B.value store.new) queue.new.list) }
+{
+    let Some(message) = queue.getq(store) else {
+        return false;
+    };
+    let some = store.blocks(&message) > 0;
+    let right = some && store.bytes_at(&message, 0) == bytes;
+    store.free(message);
+    right
+}
+
+// Takes the first message of a queue, if there is one, and says whether there is none.
+fn has_none<B: Blocks>(queue: &mut Queue, store: &mut B) -> bool
+    requires { AreCounted queue.old.flows (list_at (B.value store.old) queue.old.list) }
+    ensures { AreCounted queue.new.flows (list_at (B.value store.new) queue.new.list) }
+{
+    match queue.getq(store) {
+        Some(message) => {
+            store.free(message);
+            false
+        }
+        None => true,
+    }
+}
+
+// Sets the marks of a band, and says whether it is full then.
+fn is_full_at(queue: &mut Queue, band: u8, high: usize, low: usize) -> bool
+    ensures counted { (q : List (List Block)) → AreCounted queue.old.flows q → AreCounted queue.new.flows q }
+    ensures list { queue.new.list ≡ queue.old.list }
+{
+    if !is_band(Band(band)) || !are_marks(high, low) {
+        return false;
+    }
+    queue.set_marks(Band(band), high, low);
+    queue.is_full(Band(band))
+}
+
+// Sets the marks of all bands, and says whether they may be that.
+fn marks_all(queue: &mut Queue, high: usize, low: usize) -> bool
+    ensures counted { (q : List (List Block)) → AreCounted queue.old.flows q → AreCounted queue.new.flows q }
+    ensures list { queue.new.list ≡ queue.old.list }
+{
+    if !are_marks(high, low) {
+        return false;
+    }
+    mark_all(queue, Marks { high, low });
+    true
+}
+
+// Takes a step, and says whether what is to be seen is seen.
+fn goes<B: Blocks>(queue: &mut Queue, store: &mut B, step: Step<'_>) -> Result<bool, NoBlocks>
+    requires { AreCounted queue.old.flows (list_at (B.value store.old) queue.old.list) }
+    ensures { AreCounted queue.new.flows (list_at (B.value store.new) queue.new.list) }
+{
+    match step {
+        Step::Put(kind, band, bytes) => puts(queue, store, kind, band, bytes),
+        Step::PutBack(bytes) => puts_back(queue, store, bytes),
+        Step::Take(bytes) => Ok(next_shows(queue, store, bytes)),
+        Step::TakeNone => Ok(has_none(queue, store)),
+        Step::Counts(band, bytes) => { Ok(is_band(Band(band)) && queue.count(Band(band)) == bytes) }
+        Step::Marks(band, high, low, full) => Ok(is_full_at(queue, band, high, low) == full),
+        Step::MarkAll(high, low) => Ok(marks_all(queue, high, low)),
+        Step::Full(band, full) => Ok(is_band(Band(band)) && queue.is_full(Band(band)) == full),
+        Step::Flush => {
+            queue.flushq(store, Flush::Data);
+            Ok(true)
+        }
+    }
+}
+
+// Takes steps in turn on a queue for a list of the store with nothing on it.
+fn all_go<B: Blocks>(
+    rt: &impl Abort,
+    store: &mut B,
+    list: usize,
+    steps: &[Step<'_>],
+) -> Result<(), Fail>
+    requires list { list < 8 }
+    requires empty { list_at (B.value store.old) list ≡ [] }
+{
+    let mut queue = Queue::new(list, 512, 128);
+    for at in 0..steps.len() {
+        assert!(rt; goes(&mut queue, store, steps[at])?, "at step {at}");
+    }
+    Ok(())
+}
+
+// Takes steps in turn, which leave nothing in the store.
+pub(crate) fn plays(
+    rt: &impl Abort,
+    alloc: Global,
+    list: usize,
+    steps: &[Step<'_>],
+) -> Result<(), Fail>
+    requires { list < 8 }
+{
+    let mut store = TableStore::new(alloc, 10, 10)?;
+    all_go(rt, &mut store, list, steps)?;
+    assert_eq!(rt; store.free_blocks(), (10, 10));
+    Ok(())
+}
