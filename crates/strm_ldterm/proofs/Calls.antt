@@ -23,12 +23,14 @@ use Rattle.strm_frame.specs.Hands.{HasRoom}
 use Rattle.strm_frame.specs.Outboxes.{sent_of}
 use Rattle.strm_frame.specs.Serves.{least_free, stop_at, stop_of}
 use Rattle.strm_ldterm.specs.declared.ldterm.Ldterm.{Ldterm}
-use Rattle.strm_ldterm.specs.Called.{EndsAt, RunsOut, RunsInto, TreatsAs, all_free, treated_by}
+use Rattle.strm_ldterm.specs.Called.{EndsAt, RunsOut, RunsInto, TreatsAs, begun_in, treated_by}
 use Rattle.strm_ldterm.specs.Does.{Proceeds}
 use Rattle.strm_ldterm.specs.Freeing.{FreesNone}
+use Rattle.strm_ldterm.specs.FreeBefore.{IsFreeBefore, all_free, blocks_grown}
 use Rattle.strm_ldterm.specs.Stands.{kept_in, ldterm_in, stage_in}
-use Rattle.strm_ldterm.specs.Turns.{ahead, leaves, notes_left, one_after, stages_left}
+use Rattle.strm_ldterm.specs.Turns.{ahead, bytes_on, leaves, notes_left, one_after, stages_left, under_way}
 use Rattle.strm_ldterm.proofs.Counting.{ahead-reaches}
+use Rattle.strm_ldterm.proofs.FreeBefore.{each-more, free-next}
 use Rattle.strm_ldterm.proofs.Freeing.{stays-few}
 use Rattle.strm_ldterm.proofs.Joining.{nothing-sent, parcels-none, proceeds-joined}
 use Rattle.strm_ldterm.proofs.Treated.{none-under-way}
@@ -49,6 +51,17 @@ pub some-done : (stage : ldterms.Stage ℕ) → 0 < stages_left stage → stages
 some-done Between e = absurd (omega arith)
 some-done (Begun started c) e = refl
 some-done (Answered echo) e = refl
+
+-- whether one has begun
+pub none-begun : (stage : ldterms.Stage ℕ) → stages_left stage ≡ 0 → under_way stage ≡ 0
+none-begun Between e = refl
+none-begun (Begun started c) e = absurd (omega arith)
+none-begun (Answered echo) e = absurd (omega arith)
+
+pub one-begun : (stage : ldterms.Stage ℕ) → 0 < stages_left stage → under_way stage ≡ 1
+one-begun Between e = absurd (omega arith)
+one-begun (Begun started c) e = refl
+one-begun (Answered echo) e = refl
 
 pub left-few : (stage : ldterms.Stage ℕ) → stages_left stage ≤ 2
 left-few Between = omega arith
@@ -164,6 +177,7 @@ module _ {M : Type 0} (name : M → ℕ) where
   pub record Ran (s0 s : StoreValue) (here : Spot) (x0 x : Ldterm M) (bytes left : ℕ) (notes : List Note) (t0 t : Fates) : Type 0 where
     pub fewer : left ≤ bytes
     pub does : Proceeds name s0 s x0 x (all_free s0) notes [] t0 t (ahead here (3 * (bytes - left)) (ldterm_in name s0 x0))
+    pub begun : (byte : ℕ) → byte < bytes - left → IsFreeBefore name s0 x0 t0 (bytes_on here) (ldterm_in name s0 x0) byte
     pub room : HasRoom s 1
 
   -- none was treated yet
@@ -171,6 +185,7 @@ module _ {M : Type 0} (name : M → ℕ) where
   ran-none s0 here x0 bytes t0 still room = record {
     room = room;
     fewer = omega arith;
+    begun = λ byte less. absurd (omega arith);
     does = (let zero : 0 ≡ 3 * (bytes - bytes) = omega arith in takes-any s0 s0 x0 x0 0 [] [] t0 t0 (ahead here (3 * (bytes - bytes)) (ldterm_in name s0 x0)) (subst (λ n. Proceeds name s0 s0 x0 x0 0 [] [] t0 t0 (ahead here n (ldterm_in name s0 x0))) zero still));
   }
 
@@ -202,6 +217,27 @@ module _ {M : Type 0} (name : M → ℕ) where
         let f = r.fewer in
         omega arith
 
+    -- before the byte that is so many behind
+    free-before : (more : ℕ) → HasRoom s (STOP_BLOCKS + blocks_grown p (bytes_on here more p).state) → IsFreeBefore name s0 x0 t0 (bytes_on here) p0 (n + more)
+    free-before more free = record {
+      before = n;
+      more = more;
+      is = refl;
+      store = s;
+      there = x;
+      notes = notes;
+      told = t;
+      reached = (let same : 3 * n ≡ stages_left p0.stage + 3 * n = omega arith in subst (λ k. Proceeds name s0 s x0 x (all_free s0) notes [] t0 t (ahead here k p0)) same r.does);
+      free = free;
+    }
+
+    pub begun-on : (k : ℕ) → ((byte : ℕ) → byte < k → HasRoom s (STOP_BLOCKS + blocks_grown p (bytes_on here byte p).state)) → (byte : ℕ) → byte < n + k → IsFreeBefore name s0 x0 t0 (bytes_on here) p0 byte
+    begun-on k more = each-more (IsFreeBefore name s0 x0 t0 (bytes_on here) p0) n k r.begun (λ byte within. free-before byte (more byte within))
+
+    -- one more, where so many blocks are free
+    pub begun-one : HasRoom s STOP_BLOCKS → (byte : ℕ) → byte < 1 → HasRoom s (STOP_BLOCKS + blocks_grown p (bytes_on here byte p).state)
+    begun-one many = free-next here s p ran-stage many
+
     short : length notes ≤ 2
     short = let f = fits here p0 n stage within in let a = ahead-short here (3 * n) p0 f in let e = ap length r.does.noted in omega arith
 
@@ -223,8 +259,10 @@ module _ {M : Type 0} (name : M → ℕ) where
             (subst (Proceeds name s0 s' x0 x' (all_free s0 + k) (notes ++ notes') sent' t0 t') (sym (ahead-more here (3 * n) (3 * j) p0))
             (proceeds-joined name s0 s x0 x (all_free s0) notes t0 t (ahead here (3 * n) p0) st r.does s' x' k notes' sent' t' (ahead here (3 * j)) b))
 
-        pub ran-next : sent' ≡ [] → HasRoom s STOP_BLOCKS → k < STOP_BLOCKS → Ran s0 s' here x0 x' bytes (left - j) (notes ++ notes') t0 t'
-        ran-next quiet many less = record {
+        pub ran-next : sent' ≡ [] → HasRoom s STOP_BLOCKS → k < STOP_BLOCKS → ((byte : ℕ) → byte < j → HasRoom s (STOP_BLOCKS + blocks_grown p (bytes_on here byte p).state))
+            → Ran s0 s' here x0 x' bytes (left - j) (notes ++ notes') t0 t'
+        ran-next quiet many less begins = record {
+          begun = λ byte within. begun-on j begins byte (let f = r.fewer in omega arith);
           room = room-behind many less;
           fewer = (let f = r.fewer in omega arith);
           does =
@@ -235,14 +273,15 @@ module _ {M : Type 0} (name : M → ℕ) where
 
     -- a run of so many, and all that is noted
     pub ran-run : (s' : StoreValue) (x' : Ldterm M) (j : ℕ) (notes' all : List Note) (t' : Fates) → IsStore s → j ≤ length (cells_left p) → all ≡ notes ++ notes' → Proceeds name s s' x x' 2 notes' [] t t' (ahead here (3 * j) p)
-        → HasRoom s STOP_BLOCKS → Ran s0 s' here x0 x' bytes (left - j) all t0 t'
-    ran-run s' x' j notes' all t' st within joined b many =
-        subst (λ ns. Ran s0 s' here x0 x' bytes (left - j) ns t0 t') (sym joined) (ran-next s' x' 2 j notes' [] t' (let l = ran-left in omega arith) b st refl many (omega arith))
+        → HasRoom s STOP_BLOCKS → ((byte : ℕ) → byte < j → HasRoom s (STOP_BLOCKS + blocks_grown p (bytes_on here byte p).state)) → Ran s0 s' here x0 x' bytes (left - j) all t0 t'
+    ran-run s' x' j notes' all t' st within joined b many begins =
+        subst (λ ns. Ran s0 s' here x0 x' bytes (left - j) ns t0 t') (sym joined) (ran-next s' x' 2 j notes' [] t' (let l = ran-left in omega arith) b st refl many (omega arith) begins)
 
     -- or one that has sent something
-    pub runs-into : (s' : StoreValue) (x' : Ldterm M) (notes' : List Note) (sent' : List (Sent M)) (t' : Fates) → 0 < left → Proceeds name s s' x x' 27 notes' sent' t t' (ahead here 3 p) → IsStore s
+    pub runs-into : (s' : StoreValue) (x' : Ldterm M) (notes' : List Note) (sent' : List (Sent M)) (t' : Fates) → 0 < left → HasRoom s STOP_BLOCKS → Proceeds name s s' x x' 27 notes' sent' t t' (ahead here 3 p) → IsStore s
         → is_none_left sent' ≡ false → HasRoom s' (leaves (stage_in x'.stage)) × (0 < stages_left (stage_in x'.stage)) → RunsInto name s0 s' here x0 x' bytes left (notes ++ notes') sent' t0 t'
-    runs-into s' x' notes' sent' t' some b st sent behind = record {
+    runs-into s' x' notes' sent' t' some many b st sent behind = record {
+      begun = λ byte within. begun-on 1 (begun-one many) byte (omega arith);
       fewer = r.fewer;
       some = some;
       sends = sent;
@@ -287,8 +326,10 @@ module _ {M : Type 0} (name : M → ℕ) (s s' : StoreValue) (here : Spot) (x x'
   -- what a call did, where the definition comes to this
   treats-as : (served : Served M) (v : Serving ℕ (ldterms.Ldterm ℕ)) → treated_by name s s' here x x' (stop_of served) ≡ v
       → Proceeds name s s' x x' (all_free s) served.acts.notes.items (sent_of served.acts.sent) t t' v.acted → served.bytes ≡ v.bytes → served.again ≡ v.again → (served.stopped ≡ true → (least_free s' < STOP_BLOCKS) × (served.again ≡ false))
+      → ((byte : ℕ) → byte < begun_in served.bytes served.again (under_way (stage_in x.stage)) → IsFreeBefore name s x t (bytes_on here) (ldterm_in name s x) byte)
       → (served.stopped ≡ true → EndsAt name s s' here x x' served.bytes) → to_treat (ldterm_in name s' x') ≤ to_treat (ldterm_in name s x) → HasRoom s' (leaves (stage_in x'.stage)) → TreatsAs name s s' here x x' served t t'
-  treats-as served v is does bytes again stops ends less room = record {
+  treats-as served v is does bytes again stops begun ends less room = record {
+    begun = begun;
     does = subst (λ (w : Serving ℕ (ldterms.Ldterm ℕ)). Proceeds name s s' x x' (all_free s) served.acts.notes.items (sent_of served.acts.sent) t t' w.acted) (sym is) does;
     bytes = bytes ∙ sym (ap (λ (w : Serving ℕ (ldterms.Ldterm ℕ)). w.bytes) is);
     again = again ∙ sym (ap (λ (w : Serving ℕ (ldterms.Ldterm ℕ)). w.again) is);
@@ -315,7 +356,7 @@ module _ {M : Type 0} (name : M → ℕ) (s s' : StoreValue) (here : Spot) (x x'
       let same = ap to_treat r.does.state in
       treats-as (record { acts = acts; bytes = bytes - left; stopped = false; again = true }) _
       (treats-sent here from n (3 * (left - 1)) (to_treat from) (omega arith) out (omega arith) work)
-      r.does (omega arith) refl (λ e. absurd (false≢true e)) (λ e. absurd (false≢true e)) (omega arith) r.room
+      r.does (omega arith) refl (λ e. absurd (false≢true e)) (λ byte within. r.begun byte (let u = none-begun (stage_in x.stage) between in omega arith)) (λ e. absurd (false≢true e)) (omega arith) r.room
 
   -- and where nothing was sent, to the end of the call
   pub out-treats : (bytes left : ℕ) (notes : ArrayVec Note) (sent : Outbox M) (s1 : StoreValue) (x1 : Ldterm M) (t1 : Fates) → IsStore s1 → stages_left (stage_in x.stage) ≡ 0 → bytes ≡ length (cells_left from)
@@ -338,7 +379,7 @@ module _ {M : Type 0} (name : M → ℕ) (s s' : StoreValue) (here : Spot) (x x'
       treats-as (record { acts = record { notes = notes; sent = sent }; bytes = bytes - left; stopped = nat_lt 0 left; again = false }) _
       (ap (λ k. treats plain here k 0 from) stop ∙ treats-ended here from n (bytes - left) (omega arith) none)
       (subst (λ ns. Proceeds name s s' x x' (all_free s) ns (sent_of sent) t t' (one_after (ahead here n from) (finished plain here))) (append-nil notes.items) all)
-      refl refl (λ v. (few (lower 0 left v), refl)) (λ v. record { treat = omega arith; done = omega arith }) (omega arith)
+      refl refl (λ v. (few (lower 0 left v), refl)) (λ byte within. r.begun byte (let u = none-begun (stage_in x.stage) between in omega arith)) (λ v. record { treat = omega arith; done = omega arith }) (omega arith)
       (record { mblks = (let r' = r.room.mblks in let e' = e.mblks in omega (arith, stage, r', e')); dblks = (let r' = r.room.dblks in let e' = e.dblks in omega (arith, stage, r', e')) })
     where
       at : (v : Bool) → nat_lt 0 left ≡ v → left ≤ bytes × (to_treat from ≡ bytes) → unwrap_or (stop_at v (bytes - left)) (to_treat from) ≡ bytes - left
@@ -413,9 +454,32 @@ module _ {M : Type 0} (name : M → ℕ) (s s' : StoreValue) (here : Spot) (x x'
       let rd = behind.0.dblks in
       treats-as (record { acts = acts; bytes = 0; stopped = false; again = true }) _
       (treats-sent here from n (3 * (to_treat from - 1)) (to_treat from) (omega arith) out room work)
-      (takes-any name s s' x x' 26 acts.notes.items (sent_of acts.sent) t t' (ahead here n from) a) (omega arith) refl (λ v. absurd (false≢true v)) (λ v. absurd (false≢true v)) (omega arith) (record { mblks = omega arith; dblks = omega arith })
+      (takes-any name s s' x x' 26 acts.notes.items (sent_of acts.sent) t t' (ahead here n from) a) (omega arith) refl (λ v. absurd (false≢true v)) (λ byte within. absurd (let u = one-begun (stage_in x.stage) under in omega arith)) (λ v. absurd (false≢true v)) (omega arith) (record { mblks = omega arith; dblks = omega arith })
 
 module _ {M : Type 0} (name : M → ℕ) (s s1 s' : StoreValue) (here : Spot) (x x1 x' : Ldterm M) (t t1 t' : Fates) where
+  -- before a byte that comes behind what was left of one
+  begun-behind : (notes : List Note) (byte : ℕ) → IsStore s1 → Proceeds name s s1 x x1 26 notes [] t t1 (ahead here (stages_left (stage_in x.stage)) (ldterm_in name s x)) → stages_left (stage_in x1.stage) ≡ 0
+      → IsFreeBefore name s1 x1 t1 (bytes_on here) (ldterm_in name s1 x1) byte → IsFreeBefore name s x t (bytes_on here) (ldterm_in name s x) byte
+  begun-behind notes byte st a between f =
+      let p = ldterm_in name s x in
+      let n = stages_left p.stage in
+      let same : stages_left (stage_in x1.stage) + 3 * f.before ≡ 3 * f.before = omega arith in
+      let on = subst (λ k. Proceeds name s1 f.store x1 f.there (all_free s1) f.notes [] t1 f.told (ahead here k (ldterm_in name s1 x1))) same f.reached in
+      record {
+        before = f.before;
+        more = f.more;
+        is = f.is;
+        store = f.store;
+        there = f.there;
+        notes = notes ++ f.notes;
+        told = f.told;
+        reached =
+            takes-any name s f.store x f.there (26 + all_free s1) (notes ++ f.notes) [] t f.told (bytes_on here f.before p)
+            (subst (Proceeds name s f.store x f.there (26 + all_free s1) (notes ++ f.notes) [] t f.told) (sym (ahead-more here n (3 * f.before) p))
+            (proceeds-joined name s s1 x x1 26 notes t t1 (ahead here n p) st a f.store f.there (all_free s1) f.notes [] f.told (ahead here (3 * f.before)) on));
+        free = f.free;
+      }
+
   -- from within a byte on that has sent nothing, and then on
   pub resumed-goes-on : (notes : List Note) (served : Served M) (all : ArrayVec Note) → IsStore s1 → 0 < stages_left (stage_in x.stage) → all.items ≡ notes ++ served.acts.notes.items
       → Proceeds name s s1 x x1 26 notes [] t t1 (ahead here (stages_left (stage_in x.stage)) (ldterm_in name s x)) → TreatsAs name s1 s' here x1 x' served t1 t'
@@ -458,7 +522,12 @@ module _ {M : Type 0} (name : M → ℕ) (s s1 s' : StoreValue) (here : Spot) (x
       (subst (Proceeds name s s' x x' (all_free s) (notes ++ served.acts.notes.items) (sent_of served.acts.sent) t t')
       (ap (λ v. cond {A = Acts} v (next (ends here (3 * k) (ahead here n p).state)) (ahead here n p)) none ∙ ap (λ (q : ldterms.Ldterm ℕ). next (ends here (3 * k) q)) (sym a.state)) joined))
       (ap (λ j. j + 1) count ∙ plus (is_some u.state.in_work) (to_treat u.state) (to_treat p1) (to_treat p) k (omega arith) one)
-      again b.stops (λ v. let less = (b.ends v).treat in record { treat = omega arith; done = omega arith }) (omega arith) b.room
+      again b.stops
+      (λ byte within.
+      let u = one-begun (stage_in x.stage) under in
+      let w = none-begun (stage_in x1.stage) (left-none p1.stage zero) in
+      begun-behind notes byte st a (left-none p1.stage zero) (b.begun byte (omega arith)))
+      (λ v. let less = (b.ends v).treat in record { treat = omega arith; done = omega arith }) (omega arith) b.room
     where
       at : (v : Bool) (m : ℕ) → to_treat (ldterm_in name s x) ≡ to_treat (ldterm_in name s1 x1) + 1 → unwrap_or (stop_at v (m + 1)) (to_treat (ldterm_in name s x)) ≡ unwrap_or (stop_at v m) (to_treat (ldterm_in name s1 x1)) + 1
       at true m one = refl
