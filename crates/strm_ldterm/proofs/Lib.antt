@@ -37,6 +37,7 @@ pub mod Struck
 pub mod Treated
 pub mod RunsDone
 pub mod Marks
+pub mod Bytes
 pub mod Calls
 pub mod Freeing
 pub mod Turned

@@ -39,7 +39,7 @@ use Rattle.strm_ldterm.specs.Posting.{PoursAs, poured}
 use Rattle.strm_ldterm.specs.FreeBefore.{IsFreeBefore, all_free}
 use Rattle.strm_ldterm.specs.Stands.{ldterm_in, stage_in}
 use Rattle.strm_ldterm.specs.Turns.{one_after, stages_left}
-use Rattle.strm_ldterm.proofs.Calls.{lower, none-begun, none-done, takes-any}
+use Rattle.strm_ldterm.proofs.Bytes.{lower, none-begun, none-done, takes-any}
 use Rattle.strm_ldterm.proofs.Freeing.{stays-few}
 use Rattle.strm_ldterm.proofs.Joining.{proceeds-joined}
 use Rattle.strm_ldterm.proofs.Pouring.{pours-left}

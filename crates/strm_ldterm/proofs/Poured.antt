@@ -23,7 +23,7 @@ use Rattle.strm_ldterm.specs.Does.{Proceeds}
 use Rattle.strm_ldterm.specs.Posting.{bytes_given, is_printed, poured}
 use Rattle.strm_ldterm.specs.Stands.{IsHeld, ldterm_in}
 use Rattle.strm_ldterm.specs.Turns.{one_after}
-use Rattle.strm_ldterm.proofs.Calls.{kept-some}
+use Rattle.strm_ldterm.proofs.Bytes.{kept-some}
 use Rattle.strm_ldterm.proofs.FreeBefore.{all-front, each-more, grown-two, room-for, room-none, take-front}
 use Rattle.strm_ldterm.proofs.Joining.{proceeds-joined, stays-so}
 use Rattle.strm_ldterm.proofs.Pouring.{byte-out, pours-both, pours-left, pours-work, run-out}

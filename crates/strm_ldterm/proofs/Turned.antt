@@ -1,5 +1,5 @@
 -- Calls of the service procedure, by the way of their queue.
-use Rattle.std.proofs.Common.{ℕ, ◌≡◌, ◌≤◌, ◌<◌, ◌+◌, Bool, true, false, [], length, refl, sym, ap, subst, ◌∙◌, arith}
+use Rattle.std.proofs.Common.{ℕ, ◌≡◌, ◌≤◌, ◌+◌, Bool, true, false, [], length, refl, sym, ap, subst, ◌∙◌, arith}
 use Rattle.std.proofs.lemmas.Bool.{false≢true}
 use Rattle.std.specs.Prelude.{Option, None, Some, is_some, not, unwrap_or}
 use Rattle.strm_types.specs.declared.names.Way.{Way}
@@ -34,7 +34,7 @@ use Rattle.strm_ldterm.specs.Served.{IsServed}
 use Rattle.strm_ldterm.specs.FreeBefore.{IsFreeBefore, all_free}
 use Rattle.strm_ldterm.specs.Stands.{keeps, ldterm_in, stage_in, IsHeld}
 use Rattle.strm_ldterm.specs.Turns.{bytes_on, leaves, needs, stages_left}
-use Rattle.strm_ldterm.proofs.Calls.{all-left, kept-some, takes-any, none-begun, none-done}
+use Rattle.strm_ldterm.proofs.Bytes.{all-left, kept-some, takes-any, none-begun, none-done}
 use Rattle.strm_ldterm.proofs.Joining.{proceeds-joined}
 use Rattle.strm_ldterm.specs.ServedLaws.{again-works, down-idle, first-idle, serves-served}
 

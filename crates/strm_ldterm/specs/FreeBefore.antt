@@ -1,5 +1,5 @@
 -- How many blocks are free before a byte of a call begins (srv(9E); STREAMS Programming Guide, "Message Structure").
-use Rattle.std.specs.Prelude.{ℕ, ◌≡◌, ◌+◌, ◌-◌, ◌/◌, Bool, if◌then◌else◌, List, [], ◌∷◌, length}
+use Rattle.std.specs.Prelude.{ℕ, ◌≡◌, ◌+◌, ◌-◌, ◌/◌, if◌then◌else◌, List, [], ◌∷◌, length}
 use Rattle.strm_types.specs.declared.limits.TheConstants.{BLOCK_SIZE, STOP_BLOCKS}
 use Rattle.strm_types.specs.declared.rules.Fates.{Fates}
 use Rattle.strm_types.specs.declared.spots.Note.{Note}
@@ -36,9 +36,9 @@ abbrev pub blocks_grown : ldterms.Ldterm ℕ → ldterms.Ldterm ℕ → ℕ
 blocks_grown p q = blocks_for (length q.gathered) - blocks_for (length p.gathered) + (blocks_for (echo_size q) - blocks_for (echo_size p))
 
 module _ {M : Type 0} (name : M → ℕ) (old : StoreValue) (x : Ldterm M) (t : Fates) (next : ℕ → ldterms.Ldterm ℕ → Acted ℕ (ldterms.Ldterm ℕ)) (start : ldterms.Ldterm ℕ) where
-  -- So many blocks of each kind are free before a byte of a call that a further byte may begin. Some bytes before it lead from the beginning of the call to a
-  -- store, and the others from there on to the byte fill no more blocks than are free there beside those. (A block that these empty isn't counted:
-  -- its bytes may be another message's too.)
+  -- Before a byte of a call begins 32 blocks of each kind are free. Some of the bytes before it lead from the beginning of the call to a store, and those
+  -- from there on to the byte fill no more blocks than are free there beside the 32. That is what is certain: a block that these empty isn't counted, as its
+  -- bytes may be another message's too; and of what the module itself keeps the store is known by the messages, and not by how many blocks they have.
   pub record IsFreeBefore (byte : ℕ) : Type 0 where
     pub before : ℕ
     pub more : ℕ

@@ -239,7 +239,7 @@ fn echo_run<B: Blocks>(
 
 /// Treats plain bytes at the front of the message in work at once, as many as its first block has of them, the line has room for, and
 /// can be echoed before the write queue is full: just as if they were treated one after the other. They take two blocks of each kind at
-/// most. The cost is a step for each byte, and a pass over a table of 256 bytes.
+/// most, and there are some only where each of them begins with `STOP_BLOCKS` free. The cost is a step for each byte, and a pass over a table of 256 bytes.
 pub(crate) fn treat_run<B: Blocks>(
     ldterm: &mut Ldterm<B::Mp>,
     store: &mut B,

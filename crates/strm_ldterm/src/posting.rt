@@ -117,7 +117,8 @@ fn post_byte<B: Blocks>(ldterm: &mut Ldterm<B::Mp>, store: &mut B, here: Spot, t
     ldterm.column = posted.column;
 }
 
-// Bytes that go out as themselves, as many as stand at the front of the first block of the message in work.
+// Bytes that go out as themselves, as many as stand at the front of the first block of the message in work. There are some only where each
+// of them begins with `STOP_BLOCKS` blocks of each kind free.
 fn post_run<B: Blocks>(ldterm: &mut Ldterm<B::Mp>, store: &mut B, odd: &[bool; 256]) -> usize
     requires held { IsHeld B.name (B.value store.old) ldterm.old }
     requires kept { AreIn (B.value store.old) (λ _. 0) (keeps B.name ldterm.old) }

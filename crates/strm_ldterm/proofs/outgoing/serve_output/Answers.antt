@@ -6,7 +6,7 @@ use Rattle.strm_types.specs.Ldterms as ldterms
 use Rattle.strm_ldterm.specs.Bounds.{passes_whole}
 use Rattle.strm_ldterm.specs.Outgone.{output_of}
 use Rattle.strm_ldterm.specs.Stands.{ldterm_in}
-use Rattle.strm_ldterm.proofs.Calls.{kept-some}
+use Rattle.strm_ldterm.proofs.Bytes.{kept-some}
 use Rattle.strm_ldterm.proofs.Joining.{still-kept}
 use Rattle.strm_ldterm.proofs.Outgone.{out-serves}
 use Rattle.strm_ldterm.proofs.Turned.{down≢up, down-serves, whole-serves}

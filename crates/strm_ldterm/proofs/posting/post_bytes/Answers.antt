@@ -3,7 +3,7 @@ use Rattle.std.proofs.Common.{◌≡◌, ◌≤◌, ◌-◌, true, [], sym, subs
 use Rattle.strm_types.specs.declared.limits.TheConstants.{STOP_BLOCKS}
 use Rattle.strm_frame.specs.Serves.{least_free}
 use Rattle.strm_ldterm.specs.Posting.{is_printed}
-use Rattle.strm_ldterm.proofs.Calls.{are-many, lower}
+use Rattle.strm_ldterm.proofs.Bytes.{are-many, lower}
 use Rattle.strm_ldterm.proofs.Joining.{still-kept}
 use Rattle.strm_ldterm.proofs.Poured.{byte-begins, pours-are, pours-more, pours-none, pours-some, pours-termios}
 use Rattle.strm_ldterm.proofs.posting.post_bytes.Goals as goal

@@ -3,7 +3,7 @@ use Rattle.strm_frame.specs.Outboxes.{sent_of}
 use Rattle.strm_types.specs.declared.limits.TheConstants.{STOP_BLOCKS}
 use Rattle.strm_frame.specs.Serves.{least_free}
 use Rattle.strm_ldterm.specs.Called.{RunsInto}
-use Rattle.strm_ldterm.proofs.Calls.{Ran, are-many, begun-one, lower, notes-fit, ran-left, ran-next, ran-none, ran-run, ran-stage, runs-into}
+use Rattle.strm_ldterm.proofs.Bytes.{Ran, are-many, begun-one, lower, notes-fit, ran-left, ran-next, ran-none, ran-run, ran-stage, runs-into}
 use Rattle.strm_ldterm.proofs.Joining.{still-kept, stays-so}
 use Rattle.strm_ldterm.proofs.Struck.{some-left}
 use Rattle.strm_ldterm.proofs.serving.treat_bytes.Goals as goal
