@@ -1,7 +1,7 @@
--- Bytes of the message in work, one after the other, and calls of the service procedure of the read queue.
+-- Calls of the service procedure of the read queue.
 use Rattle.std.proofs.Common.{ℕ, ◌≡◌, ◌≤◌, ◌<◌, ◌+◌, ◌-◌, ◌*◌, Bool, true, false, cond, List, [], ◌++◌, length, refl, sym, ap, subst, ◌∙◌, arith, append-nil}
 use Rattle.std.proofs.lemmas.Bool.{false≢true}
-use Rattle.std.specs.Prelude.{Option, None, Some, is_some, nat_lt, unwrap_or}
+use Rattle.std.specs.Prelude.{is_some, nat_lt, unwrap_or}
 use Rattle.strm_types.specs.declared.limits.TheConstants.{STOP_BLOCKS}
 use Rattle.strm_types.specs.declared.rules.Fates.{Fates}
 use Rattle.strm_types.specs.declared.spots.Note.{Note}
@@ -9,7 +9,6 @@ use Rattle.strm_types.specs.declared.spots.Spot.{Spot}
 use Rattle.strm_types.specs.Cells.{plain}
 use Rattle.strm_types.specs.Input.{cells_left, finished, stages_done, to_treat, treats}
 use Rattle.strm_types.specs.Ldterms as ldterms
-use Rattle.strm_types.specs.Ldterms.{Between, Begun, Answered}
 use Rattle.strm_types.specs.Queue.{is_none_left}
 use Rattle.strm_types.specs.Service.{Serving}
 use Rattle.strm_blocks.specs.Blocks.{StoreValue, IsStore}
@@ -23,239 +22,17 @@ use Rattle.strm_frame.specs.Hands.{HasRoom}
 use Rattle.strm_frame.specs.Outboxes.{sent_of}
 use Rattle.strm_frame.specs.Serves.{least_free, stop_at, stop_of}
 use Rattle.strm_ldterm.specs.declared.ldterm.Ldterm.{Ldterm}
-use Rattle.strm_ldterm.specs.Called.{EndsAt, RunsOut, RunsInto, TreatsAs, all_free, treated_by}
+use Rattle.strm_ldterm.specs.Called.{EndsAt, RunsOut, RunsInto, TreatsAs, begun_in, treated_by}
 use Rattle.strm_ldterm.specs.Does.{Proceeds}
 use Rattle.strm_ldterm.specs.Freeing.{FreesNone}
-use Rattle.strm_ldterm.specs.Stands.{kept_in, ldterm_in, stage_in}
-use Rattle.strm_ldterm.specs.Turns.{ahead, leaves, notes_left, one_after, stages_left}
+use Rattle.strm_ldterm.specs.FreeBefore.{IsFreeBefore, all_free}
+use Rattle.strm_ldterm.specs.Stands.{ldterm_in, stage_in}
+use Rattle.strm_ldterm.specs.Turns.{ahead, bytes_on, leaves, one_after, stages_left, under_way}
+use Rattle.strm_ldterm.proofs.Bytes.{ahead-short, all-left, between-after, done-few, kept-some, leaves-one, left-few, left-none, lower, none-begun, none-done, one-begun, one-more-left, some-done, takes-any, work-after}
 use Rattle.strm_ldterm.proofs.Counting.{ahead-reaches}
 use Rattle.strm_ldterm.proofs.Freeing.{stays-few}
 use Rattle.strm_ldterm.proofs.Joining.{nothing-sent, parcels-none, proceeds-joined}
-use Rattle.strm_ldterm.proofs.Treated.{none-under-way}
 use Rattle.strm_ldterm.proofs.Turning.{Acts, ahead-more, ends, ends-more}
-
--- how far a byte is
-pub done-few : (stage : ldterms.Stage ℕ) → stages_done stage ≤ 2
-done-few Between = omega arith
-done-few (Begun started c) = omega arith
-done-few (Answered echo) = omega arith
-
-pub none-done : (stage : ldterms.Stage ℕ) → stages_left stage ≡ 0 → stages_done stage ≡ 0
-none-done Between e = refl
-none-done (Begun started c) e = absurd (omega arith)
-none-done (Answered echo) e = absurd (omega arith)
-
-pub some-done : (stage : ldterms.Stage ℕ) → 0 < stages_left stage → stages_done stage + stages_left stage ≡ 3
-some-done Between e = absurd (omega arith)
-some-done (Begun started c) e = refl
-some-done (Answered echo) e = refl
-
-pub left-few : (stage : ldterms.Stage ℕ) → stages_left stage ≤ 2
-left-few Between = omega arith
-left-few (Begun started c) = omega arith
-left-few (Answered echo) = omega arith
-
-pub leaves-one : (stage : ldterms.Stage ℕ) → stages_left stage ≡ 1 → leaves stage ≤ 26
-leaves-one Between e = omega arith
-leaves-one (Begun started c) e = absurd (omega arith)
-leaves-one (Answered echo) e = omega arith
-
--- a test of numbers
-pub lower : (a b : ℕ) → nat_lt a b ≡ true → a < b
-lower a b is = grind (arith, nat_tests)
-
-pub are-many : (s : StoreValue) → nat_lt (least_free s) STOP_BLOCKS ≡ false → HasRoom s STOP_BLOCKS
-are-many s is = record { mblks = grind (arith, nat_tests); dblks = grind (arith, nat_tests) }
-
-pub kept-some : {M : Type 0} (name : M → ℕ) (s : StoreValue) (o : Option M) → is_some (kept_in name s o) ≡ is_some o
-kept-some name s None = refl
-kept-some name s (Some m) = refl
-
-pub left-none : (stage : ldterms.Stage ℕ) → stages_done stage ≡ 0 → stages_left stage ≡ 0
-left-none Between e = refl
-left-none (Begun started c) e = absurd (omega arith)
-left-none (Answered echo) e = absurd (omega arith)
-
--- between two bytes all that is left of the message is to be treated
-pub all-left : (p : ldterms.Ldterm ℕ) → stages_left p.stage ≡ 0 → to_treat p ≡ length (cells_left p)
-all-left p none = (let z : to_treat (record p { stage = Between }) ≡ length (cells_left p) = omega arith in ap (λ (st : ldterms.Stage ℕ). to_treat (record p { stage = st })) (none-under-way p.stage none) ∙ z)
-
-pub one-more-left : (p : ldterms.Ldterm ℕ) → 0 < stages_left p.stage → to_treat p ≡ length (cells_left p) + 1
-one-more-left p some = at p.stage refl some
-  where
-    at : (st : ldterms.Stage ℕ) → p.stage ≡ st → 0 < stages_left st → to_treat p ≡ length (cells_left p) + 1
-    at Between is some = absurd (omega arith)
-    at (Begun started c) is some = ap (λ (st : ldterms.Stage ℕ). to_treat (record p { stage = st })) is
-    at (Answered echo) is some = ap (λ (st : ldterms.Stage ℕ). to_treat (record p { stage = st })) is
-
-notes-two : (p : ldterms.Ldterm ℕ) → notes_left p ≤ 2
-notes-two p = at p.stage p.echoing
-  where
-    at : (st : ldterms.Stage ℕ) (v : Bool) → notes_left (record p { stage = st; echoing = v }) ≤ 2
-    at Between true = omega arith
-    at Between false = omega arith
-    at (Begun true c) true = omega arith
-    at (Begun true c) false = omega arith
-    at (Begun false c) true = omega arith
-    at (Begun false c) false = omega arith
-    at (Answered echo) true = omega arith
-    at (Answered echo) false = omega arith
-
-module _ (here : Spot) where
-  -- no call notes more than twice
-  pub ahead-short : (n : ℕ) (p : ldterms.Ldterm ℕ) → n + stages_done p.stage ≤ 3 * to_treat p → length (ahead here n p).notes ≤ 2
-  ahead-short n p room = let r = (ahead-reaches here n p room).counts.few in let two = notes-two p in omega arith
-
-  module _ (p : ldterms.Ldterm ℕ) (n : ℕ) (between : stages_left p.stage ≡ 0) (within : n ≤ length (cells_left p)) where
-    fits : 3 * n + stages_done p.stage ≤ 3 * to_treat p
-    fits = let z = none-done p.stage between in let t = all-left p between in omega arith
-
-    -- behind so many bytes that have sent nothing
-    pub between-after : is_none_left (ahead here (3 * n) p).sent ≡ true → (stages_left (ahead here (3 * n) p).state.stage ≡ 0) × (length (cells_left (ahead here (3 * n) p).state) + n ≡ length (cells_left p))
-    between-after none =
-        let r = ahead-reaches here (3 * n) p fits in
-        let q = (ahead here (3 * n) p).state in
-        let all = r.all none in
-        let e = r.counts.left in
-        let z = none-done p.stage between in
-        let t = all-left p between in
-        let two = done-few q.stage in
-        let zero : stages_done q.stage ≡ 0 = omega arith in
-        let stage = left-none q.stage zero in
-        let u = all-left q stage in
-        (stage, omega arith)
-
-  -- a byte that has sent something is to be treated still
-  pub treat-after : (p : ldterms.Ldterm ℕ) → stages_left p.stage ≡ 0 → 0 < length (cells_left p) → is_none_left (ahead here 3 p).sent ≡ false → 0 < stages_left (ahead here 3 p).state.stage → to_treat (ahead here 3 p).state ≡ length (cells_left p)
-  treat-after p between some sent under =
-      let z = none-done p.stage between in
-      let t = all-left p between in
-      let r = ahead-reaches here 3 p (omega arith) in
-      let q = (ahead here 3 p).state in
-      let e = r.counts.left in
-      let w = r.within in
-      let o = r.some sent in
-      let d = some-done q.stage under in
-      let two = left-few q.stage in
-      omega arith
-
-  -- the message in work stays one
-  pub work-after : (n : ℕ) (p : ldterms.Ldterm ℕ) → n + stages_done p.stage ≤ 3 * to_treat p → is_some (ahead here n p).state.in_work ≡ is_some p.in_work
-  work-after n p room = (ahead-reaches here n p room).counts.work
-
-module _ {M : Type 0} (name : M → ℕ) where
-  -- all that is free may be said to be taken
-  pub takes-any : (s0 s : StoreValue) (x0 x : Ldterm M) (k : ℕ) (notes : List Note) (sent : List (Sent M)) (t0 t : Fates) (is : Acts) → Proceeds name s0 s x0 x k notes sent t0 t is → Proceeds name s0 s x0 x (all_free s0) notes sent t0 t is
-  takes-any s0 s x0 x k notes sent t0 t is a = record {
-    state = a.state;
-    noted = a.noted;
-    parcels = a.parcels;
-    told = a.told;
-    held = a.held;
-    own = a.own;
-    chains = a.chains;
-    hands = a.hands;
-    mblks = omega arith;
-    dblks = omega arith;
-    pool = a.pool;
-  }
-
-  -- Of so many bytes some were treated, and nothing was sent.
-  pub record Ran (s0 s : StoreValue) (here : Spot) (x0 x : Ldterm M) (bytes left : ℕ) (notes : List Note) (t0 t : Fates) : Type 0 where
-    pub fewer : left ≤ bytes
-    pub does : Proceeds name s0 s x0 x (all_free s0) notes [] t0 t (ahead here (3 * (bytes - left)) (ldterm_in name s0 x0))
-    pub room : HasRoom s 1
-
-  -- none was treated yet
-  pub ran-none : (s0 : StoreValue) (here : Spot) (x0 : Ldterm M) (bytes : ℕ) (t0 : Fates) → Proceeds name s0 s0 x0 x0 0 [] [] t0 t0 (ldterms.sends [] (ldterm_in name s0 x0)) → HasRoom s0 1 → Ran s0 s0 here x0 x0 bytes bytes [] t0 t0
-  ran-none s0 here x0 bytes t0 still room = record {
-    room = room;
-    fewer = omega arith;
-    does = (let zero : 0 ≡ 3 * (bytes - bytes) = omega arith in takes-any s0 s0 x0 x0 0 [] [] t0 t0 (ahead here (3 * (bytes - bytes)) (ldterm_in name s0 x0)) (subst (λ n. Proceeds name s0 s0 x0 x0 0 [] [] t0 t0 (ahead here n (ldterm_in name s0 x0))) zero still));
-  }
-
-  module _ (s0 s : StoreValue) (x0 x : Ldterm M) (here : Spot) (bytes left : ℕ) (notes : List Note) (t0 t : Fates) (stage : stages_left (stage_in x0.stage) ≡ 0)
-      (size : bytes ≡ length (cells_left (ldterm_in name s0 x0))) (r : Ran s0 s here x0 x bytes left notes t0 t) where
-    abbrev p0 : ldterms.Ldterm ℕ
-    p0 = ldterm_in name s0 x0
-
-    abbrev p : ldterms.Ldterm ℕ
-    p = ldterm_in name s x
-
-    abbrev n : ℕ
-    n = bytes - left
-
-    none : is_none_left (ahead here (3 * n) p0).sent ≡ true
-    none = sym (ap is_none_left r.does.parcels) ∙ parcels-none name s []
-
-    within : n ≤ length (cells_left p0)
-    within = let z = size in omega arith
-
-    pub ran-stage : stages_left (stage_in x.stage) ≡ 0
-    ran-stage = ap (λ (q : ldterms.Ldterm ℕ). stages_left q.stage) r.does.state ∙ (between-after here p0 n stage within none).0
-
-    pub ran-left : length (cells_left p) ≡ left
-    ran-left =
-        let same = ap (λ (q : ldterms.Ldterm ℕ). length (cells_left q)) r.does.state in
-        let after = (between-after here p0 n stage within none).1 in
-        let z = size in
-        let f = r.fewer in
-        omega arith
-
-    short : length notes ≤ 2
-    short = let f = fits here p0 n stage within in let a = ahead-short here (3 * n) p0 f in let e = ap length r.does.noted in omega arith
-
-    -- and so many more, in blocks of which so many are taken
-    module _ (s' : StoreValue) (x' : Ldterm M) (k j : ℕ) (notes' : List Note) (sent' : List (Sent M)) (t' : Fates) (most : j ≤ left) (b : Proceeds name s s' x x' k notes' sent' t t' (ahead here (3 * j) p)) where
-      more : 3 * j + stages_done p.stage ≤ 3 * to_treat p
-      more = let z = none-done p.stage ran-stage in let a = all-left p ran-stage in let l = ran-left in omega arith
-
-      pub notes-fit : length notes + length notes' ≤ 4
-      notes-fit = let a = short in let c = ahead-short here (3 * j) p more in let e = ap length b.noted in omega arith
-
-      room-behind : HasRoom s STOP_BLOCKS → k < STOP_BLOCKS → HasRoom s' 1
-      room-behind many less = record { mblks = (let m = many.mblks in let b' = b.mblks in omega (arith, m, b', less)); dblks = (let m = many.dblks in let b' = b.dblks in omega (arith, m, b', less)) }
-
-      module _ (st : IsStore s) where
-        joined : Proceeds name s0 s' x0 x' (all_free s0) (notes ++ notes') sent' t0 t' (ahead here (3 * n + 3 * j) p0)
-        joined =
-            takes-any s0 s' x0 x' (all_free s0 + k) (notes ++ notes') sent' t0 t' (ahead here (3 * n + 3 * j) p0)
-            (subst (Proceeds name s0 s' x0 x' (all_free s0 + k) (notes ++ notes') sent' t0 t') (sym (ahead-more here (3 * n) (3 * j) p0))
-            (proceeds-joined name s0 s x0 x (all_free s0) notes t0 t (ahead here (3 * n) p0) st r.does s' x' k notes' sent' t' (ahead here (3 * j)) b))
-
-        pub ran-next : sent' ≡ [] → HasRoom s STOP_BLOCKS → k < STOP_BLOCKS → Ran s0 s' here x0 x' bytes (left - j) (notes ++ notes') t0 t'
-        ran-next quiet many less = record {
-          room = room-behind many less;
-          fewer = (let f = r.fewer in omega arith);
-          does =
-              (let f = r.fewer in let e : 3 * n + 3 * j ≡ 3 * (bytes - (left - j)) = omega arith in
-              subst (λ i. Proceeds name s0 s' x0 x' (all_free s0) (notes ++ notes') [] t0 t' (ahead here i p0)) e
-              (subst (λ out. Proceeds name s0 s' x0 x' (all_free s0) (notes ++ notes') out t0 t' (ahead here (3 * n + 3 * j) p0)) quiet joined));
-        }
-
-    -- a run of so many, and all that is noted
-    pub ran-run : (s' : StoreValue) (x' : Ldterm M) (j : ℕ) (notes' all : List Note) (t' : Fates) → IsStore s → j ≤ length (cells_left p) → all ≡ notes ++ notes' → Proceeds name s s' x x' 2 notes' [] t t' (ahead here (3 * j) p)
-        → HasRoom s STOP_BLOCKS → Ran s0 s' here x0 x' bytes (left - j) all t0 t'
-    ran-run s' x' j notes' all t' st within joined b many =
-        subst (λ ns. Ran s0 s' here x0 x' bytes (left - j) ns t0 t') (sym joined) (ran-next s' x' 2 j notes' [] t' (let l = ran-left in omega arith) b st refl many (omega arith))
-
-    -- or one that has sent something
-    pub runs-into : (s' : StoreValue) (x' : Ldterm M) (notes' : List Note) (sent' : List (Sent M)) (t' : Fates) → 0 < left → Proceeds name s s' x x' 27 notes' sent' t t' (ahead here 3 p) → IsStore s
-        → is_none_left sent' ≡ false → HasRoom s' (leaves (stage_in x'.stage)) × (0 < stages_left (stage_in x'.stage)) → RunsInto name s0 s' here x0 x' bytes left (notes ++ notes') sent' t0 t'
-    runs-into s' x' notes' sent' t' some b st sent behind = record {
-      fewer = r.fewer;
-      some = some;
-      sends = sent;
-      does = joined s' x' 27 1 notes' sent' t' some b st;
-      under_way = behind.1;
-      room = behind.0;
-      treat =
-          (let q = (ahead here 3 p).state in
-          let out : is_none_left (ahead here 3 p).sent ≡ false = sym (ap is_none_left b.parcels) ∙ parcels-none name s' sent' ∙ sent in
-          let under : 0 < stages_left q.stage = (let e = ap (λ (v : ldterms.Ldterm ℕ). stages_left v.stage) b.state in let u = behind.1 in omega arith) in
-          let l = ran-left in
-          ap to_treat b.state ∙ treat-after here p ran-stage (omega arith) out under ∙ l);
-    }
 
 -- calls of the procedure
 module _ (here : Spot) (p : ldterms.Ldterm ℕ) where
@@ -287,8 +64,10 @@ module _ {M : Type 0} (name : M → ℕ) (s s' : StoreValue) (here : Spot) (x x'
   -- what a call did, where the definition comes to this
   treats-as : (served : Served M) (v : Serving ℕ (ldterms.Ldterm ℕ)) → treated_by name s s' here x x' (stop_of served) ≡ v
       → Proceeds name s s' x x' (all_free s) served.acts.notes.items (sent_of served.acts.sent) t t' v.acted → served.bytes ≡ v.bytes → served.again ≡ v.again → (served.stopped ≡ true → (least_free s' < STOP_BLOCKS) × (served.again ≡ false))
+      → ((byte : ℕ) → byte < begun_in served.bytes served.again (under_way (stage_in x.stage)) → IsFreeBefore name s x t (bytes_on here) (ldterm_in name s x) byte)
       → (served.stopped ≡ true → EndsAt name s s' here x x' served.bytes) → to_treat (ldterm_in name s' x') ≤ to_treat (ldterm_in name s x) → HasRoom s' (leaves (stage_in x'.stage)) → TreatsAs name s s' here x x' served t t'
-  treats-as served v is does bytes again stops ends less room = record {
+  treats-as served v is does bytes again stops begun ends less room = record {
+    begun = begun;
     does = subst (λ (w : Serving ℕ (ldterms.Ldterm ℕ)). Proceeds name s s' x x' (all_free s) served.acts.notes.items (sent_of served.acts.sent) t t' w.acted) (sym is) does;
     bytes = bytes ∙ sym (ap (λ (w : Serving ℕ (ldterms.Ldterm ℕ)). w.bytes) is);
     again = again ∙ sym (ap (λ (w : Serving ℕ (ldterms.Ldterm ℕ)). w.again) is);
@@ -315,7 +94,7 @@ module _ {M : Type 0} (name : M → ℕ) (s s' : StoreValue) (here : Spot) (x x'
       let same = ap to_treat r.does.state in
       treats-as (record { acts = acts; bytes = bytes - left; stopped = false; again = true }) _
       (treats-sent here from n (3 * (left - 1)) (to_treat from) (omega arith) out (omega arith) work)
-      r.does (omega arith) refl (λ e. absurd (false≢true e)) (λ e. absurd (false≢true e)) (omega arith) r.room
+      r.does (omega arith) refl (λ e. absurd (false≢true e)) (λ byte within. r.begun byte (let u = none-begun (stage_in x.stage) between in omega arith)) (λ e. absurd (false≢true e)) (omega arith) r.room
 
   -- and where nothing was sent, to the end of the call
   pub out-treats : (bytes left : ℕ) (notes : ArrayVec Note) (sent : Outbox M) (s1 : StoreValue) (x1 : Ldterm M) (t1 : Fates) → IsStore s1 → stages_left (stage_in x.stage) ≡ 0 → bytes ≡ length (cells_left from)
@@ -338,7 +117,7 @@ module _ {M : Type 0} (name : M → ℕ) (s s' : StoreValue) (here : Spot) (x x'
       treats-as (record { acts = record { notes = notes; sent = sent }; bytes = bytes - left; stopped = nat_lt 0 left; again = false }) _
       (ap (λ k. treats plain here k 0 from) stop ∙ treats-ended here from n (bytes - left) (omega arith) none)
       (subst (λ ns. Proceeds name s s' x x' (all_free s) ns (sent_of sent) t t' (one_after (ahead here n from) (finished plain here))) (append-nil notes.items) all)
-      refl refl (λ v. (few (lower 0 left v), refl)) (λ v. record { treat = omega arith; done = omega arith }) (omega arith)
+      refl refl (λ v. (few (lower 0 left v), refl)) (λ byte within. r.begun byte (let u = none-begun (stage_in x.stage) between in omega arith)) (λ v. record { treat = omega arith; done = omega arith }) (omega arith)
       (record { mblks = (let r' = r.room.mblks in let e' = e.mblks in omega (arith, stage, r', e')); dblks = (let r' = r.room.dblks in let e' = e.dblks in omega (arith, stage, r', e')) })
     where
       at : (v : Bool) → nat_lt 0 left ≡ v → left ≤ bytes × (to_treat from ≡ bytes) → unwrap_or (stop_at v (bytes - left)) (to_treat from) ≡ bytes - left
@@ -413,9 +192,32 @@ module _ {M : Type 0} (name : M → ℕ) (s s' : StoreValue) (here : Spot) (x x'
       let rd = behind.0.dblks in
       treats-as (record { acts = acts; bytes = 0; stopped = false; again = true }) _
       (treats-sent here from n (3 * (to_treat from - 1)) (to_treat from) (omega arith) out room work)
-      (takes-any name s s' x x' 26 acts.notes.items (sent_of acts.sent) t t' (ahead here n from) a) (omega arith) refl (λ v. absurd (false≢true v)) (λ v. absurd (false≢true v)) (omega arith) (record { mblks = omega arith; dblks = omega arith })
+      (takes-any name s s' x x' 26 acts.notes.items (sent_of acts.sent) t t' (ahead here n from) a) (omega arith) refl (λ v. absurd (false≢true v)) (λ byte within. absurd (let u = one-begun (stage_in x.stage) under in omega arith)) (λ v. absurd (false≢true v)) (omega arith) (record { mblks = omega arith; dblks = omega arith })
 
 module _ {M : Type 0} (name : M → ℕ) (s s1 s' : StoreValue) (here : Spot) (x x1 x' : Ldterm M) (t t1 t' : Fates) where
+  -- before a byte that comes behind what was left of one
+  begun-behind : (notes : List Note) (byte : ℕ) → IsStore s1 → Proceeds name s s1 x x1 26 notes [] t t1 (ahead here (stages_left (stage_in x.stage)) (ldterm_in name s x)) → stages_left (stage_in x1.stage) ≡ 0
+      → IsFreeBefore name s1 x1 t1 (bytes_on here) (ldterm_in name s1 x1) byte → IsFreeBefore name s x t (bytes_on here) (ldterm_in name s x) byte
+  begun-behind notes byte st a between f =
+      let p = ldterm_in name s x in
+      let n = stages_left p.stage in
+      let same : stages_left (stage_in x1.stage) + 3 * f.before ≡ 3 * f.before = omega arith in
+      let on = subst (λ k. Proceeds name s1 f.store x1 f.there (all_free s1) f.notes [] t1 f.told (ahead here k (ldterm_in name s1 x1))) same f.reached in
+      record {
+        before = f.before;
+        more = f.more;
+        is = f.is;
+        store = f.store;
+        there = f.there;
+        notes = notes ++ f.notes;
+        told = f.told;
+        reached =
+            takes-any name s f.store x f.there (26 + all_free s1) (notes ++ f.notes) [] t f.told (bytes_on here f.before p)
+            (subst (Proceeds name s f.store x f.there (26 + all_free s1) (notes ++ f.notes) [] t f.told) (sym (ahead-more here n (3 * f.before) p))
+            (proceeds-joined name s s1 x x1 26 notes t t1 (ahead here n p) st a f.store f.there (all_free s1) f.notes [] f.told (ahead here (3 * f.before)) on));
+        free = f.free;
+      }
+
   -- from within a byte on that has sent nothing, and then on
   pub resumed-goes-on : (notes : List Note) (served : Served M) (all : ArrayVec Note) → IsStore s1 → 0 < stages_left (stage_in x.stage) → all.items ≡ notes ++ served.acts.notes.items
       → Proceeds name s s1 x x1 26 notes [] t t1 (ahead here (stages_left (stage_in x.stage)) (ldterm_in name s x)) → TreatsAs name s1 s' here x1 x' served t1 t'
@@ -458,7 +260,12 @@ module _ {M : Type 0} (name : M → ℕ) (s s1 s' : StoreValue) (here : Spot) (x
       (subst (Proceeds name s s' x x' (all_free s) (notes ++ served.acts.notes.items) (sent_of served.acts.sent) t t')
       (ap (λ v. cond {A = Acts} v (next (ends here (3 * k) (ahead here n p).state)) (ahead here n p)) none ∙ ap (λ (q : ldterms.Ldterm ℕ). next (ends here (3 * k) q)) (sym a.state)) joined))
       (ap (λ j. j + 1) count ∙ plus (is_some u.state.in_work) (to_treat u.state) (to_treat p1) (to_treat p) k (omega arith) one)
-      again b.stops (λ v. let less = (b.ends v).treat in record { treat = omega arith; done = omega arith }) (omega arith) b.room
+      again b.stops
+      (λ byte within.
+      let u = one-begun (stage_in x.stage) under in
+      let w = none-begun (stage_in x1.stage) (left-none p1.stage zero) in
+      begun-behind notes byte st a (left-none p1.stage zero) (b.begun byte (omega arith)))
+      (λ v. let less = (b.ends v).treat in record { treat = omega arith; done = omega arith }) (omega arith) b.room
     where
       at : (v : Bool) (m : ℕ) → to_treat (ldterm_in name s x) ≡ to_treat (ldterm_in name s1 x1) + 1 → unwrap_or (stop_at v (m + 1)) (to_treat (ldterm_in name s x)) ≡ unwrap_or (stop_at v m) (to_treat (ldterm_in name s1 x1)) + 1
       at true m one = refl

@@ -2,6 +2,7 @@ mod Columns
 mod EchoBytes
 mod LineEnds
 mod PlainBytes
+pub mod FreeBefore
 pub mod PlainRuns
 mod Runs
 pub mod Fresh
@@ -36,6 +37,7 @@ pub mod Struck
 pub mod Treated
 pub mod RunsDone
 pub mod Marks
+pub mod Bytes
 pub mod Calls
 pub mod Freeing
 pub mod Turned

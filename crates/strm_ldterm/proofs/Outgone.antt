@@ -31,18 +31,19 @@ use Rattle.strm_frame.specs.Outboxes.{sent_of}
 use Rattle.strm_frame.specs.Serves.{least_free, stop_at, stop_of}
 use Rattle.strm_ldterm.specs.declared.ldterm.Ldterm.{Ldterm}
 use Rattle.strm_ldterm.specs.Bounds.{goes_out, passes_whole}
-use Rattle.strm_ldterm.specs.Called.{ServesAs, all_free}
+use Rattle.strm_ldterm.specs.Called.{ServesAs, at_work, bytes_of_way}
 use Rattle.strm_ldterm.specs.Does.{Proceeds}
 use Rattle.strm_ldterm.specs.Freeing.{FreesNone}
 use Rattle.strm_ldterm.specs.Outgone.{BeganOutput, data_of, let_go}
 use Rattle.strm_ldterm.specs.Posting.{PoursAs, poured}
+use Rattle.strm_ldterm.specs.FreeBefore.{IsFreeBefore, all_free}
 use Rattle.strm_ldterm.specs.Stands.{ldterm_in, stage_in}
 use Rattle.strm_ldterm.specs.Turns.{one_after, stages_left}
-use Rattle.strm_ldterm.proofs.Calls.{lower, none-done, takes-any}
+use Rattle.strm_ldterm.proofs.Bytes.{lower, none-begun, none-done, takes-any}
 use Rattle.strm_ldterm.proofs.Freeing.{stays-few}
 use Rattle.strm_ldterm.proofs.Joining.{proceeds-joined}
 use Rattle.strm_ldterm.proofs.Pouring.{pours-left}
-use Rattle.strm_ldterm.proofs.Turned.{cells-within, down≢up, down-serves}
+use Rattle.strm_ldterm.proofs.Turned.{begun-later, cells-within, down≢up, down-serves}
 
 module _ (here : Spot) (stop : Option ℕ) where
   -- bytes that go out, so many at most
@@ -155,6 +156,13 @@ module _ {M : Type 0} (name : M → ℕ) (s s1 s2 s3 : StoreValue) (here : Spot)
             (subst (λ ns. Proceeds name s s3 x x3 (all_free s) ns (sent_of sent) t t' (one_after (poured here n start) (let_go here band))) (sym quiet) (takes-any name s s3 x x3 (0 + all_free s1 + 0) [] (sent_of sent) t t' _ all));
         bytes = sym (ap (λ (v : Serving ℕ (ldterms.Ldterm ℕ)). v.bytes) whole);
         again_is = sym (ap (λ (v : Serving ℕ (ldterms.Ldterm ℕ)). v.again) whole);
+        begun = λ goes byte within.
+            let none = none-begun (stage_in x.stage) between in
+            let begins : at_work Down again p ≡ start = ap (λ ms. at_work Down again (record p { write_queue = record p.write_queue { messages = ms } })) b.first in
+            let same : at_work here.way again p ≡ start = ap (λ w. at_work w again p) way ∙ begins in
+            subst (λ m. IsFreeBefore name s x t m (at_work here.way again p) byte) (sym (ap (bytes_of_way here) way))
+            (subst (λ (q : ldterms.Ldterm ℕ). IsFreeBefore name s x t (poured here) q byte) (sym same)
+            (begun-later name s s1 x x1 t (poured here) start byte st1 (b.works t) (pours.begun byte (omega (arith, within, none)))));
         stops = λ v. (low (lower 0 left v), refl);
         ends = λ v.
             let most : bytes_left here.way again p ≡ size_of b.message = ap (λ w. bytes_left w again p) way ∙ ap first_size b.first in

@@ -33,7 +33,7 @@ use Rattle.strm_frame.specs.Outboxes.{message_in, times_sent, parcels_in, AreCha
 use Rattle.strm_frame.proofs.Handing.{once-self, once-apart, one-parts, one-chains, no-parts, none-chains}
 use Rattle.strm_ldterm.specs.declared.ldterm.Ldterm.{Ldterm}
 use Rattle.strm_ldterm.specs.Stands.{ldterm_in, owns, times_kept, keeps, IsHeld, with_last}
-use Rattle.strm_ldterm.specs.Bounds.{goes_out}
+use Rattle.strm_ldterm.specs.Bounds.{goes_out, passes_whole}
 use Rattle.strm_ldterm.specs.Does.{Proceeds}
 use Rattle.strm_ldterm.specs.Frames.{form-same, list-ready}
 use Rattle.strm_ldterm.specs.Began.{BeganWhole, BeganWork}
@@ -111,6 +111,9 @@ module _ {M : Type 0} (name : M → ℕ) where
       passes = λ stop f. subst (λ (v : Serving ℕ (ldterms.Ldterm ℕ)). Proceeds name s s x x 0 [] sent f f v.acted) (sym (down-none stop none)) (stays s x sent f held empty);
       size = λ stop. sym (ap (λ (v : Serving ℕ (ldterms.Ldterm ℕ)). v.bytes) (down-none stop none));
       again = λ stop. ap (λ (v : Serving ℕ (ldterms.Ldterm ℕ)). v.again) (down-none stop none);
+      whole = λ again.
+          subst (λ (y : Ldterm M). passes_whole Down again (ldterm_in name s y) ≡ true) (sym (rests-is x rests))
+          (ap (λ (ms : List (Message ℕ)). passes_whole Down again (record (ldterm_in name s (at_rest x)) { write_queue = record (ldterm_in name s (at_rest x)).write_queue { messages = ms ++ [] } })) none);
     }
 
   pub stays-up : (s : StoreValue) (here : Spot) (x : Ldterm M) → IsHeld name s x → messages_on s x.read_queue.list ≡ [] → BeganWhole name s s here x x [] 0
@@ -120,6 +123,7 @@ module _ {M : Type 0} (name : M → ℕ) where
         passes = λ stop f. subst (λ (v : Serving ℕ (ldterms.Ldterm ℕ)). Proceeds name s s x x 0 [] [] f f v.acted) (sym (is stop)) (stays s x [] f held refl);
         size = λ stop. sym (ap (λ (v : Serving ℕ (ldterms.Ldterm ℕ)). v.bytes) (is stop));
         again = λ stop. ap (λ (v : Serving ℕ (ldterms.Ldterm ℕ)). v.again) (is stop);
+        whole = ap (λ (ms : List (Message ℕ)). passes_whole Up false (record (ldterm_in name s x) { read_queue = record (ldterm_in name s x).read_queue { messages = ms } })) none;
       }
 
   -- off the write queue
@@ -212,6 +216,9 @@ module _ {M : Type 0} (name : M → ℕ) where
           (down-proceeds to here sent f one there);
       size = λ stop. size ∙ sym (ap (λ (v : Serving ℕ (ldterms.Ldterm ℕ)). v.bytes) (down-is here stop whole));
       again = λ stop. ap (λ (v : Serving ℕ (ldterms.Ldterm ℕ)). v.again) (down-is here stop whole);
+      whole = λ again.
+          let p = ldterm_in name s (at_rest x) in
+          ap (λ (ms : List (Message ℕ)). passes_whole Down again (record p { write_queue = record p.write_queue { messages = ms ++ [] } })) is.first ∙ ap not whole;
     }
 
     down-work : (here : Spot) (bytes band : ℕ) → IsStore t → (block_at 0 (in_hand t (name m))).kind ≡ kinds.Data → opost x.termios ≡ true → 0 < bytes → bytes ≡ length (cells_of (message_in t (name m)))
@@ -334,6 +341,7 @@ module _ {M : Type 0} (name : M → ℕ) where
           (up-proceeds to here sent f one there);
       size = λ stop. size ∙ sym (ap (λ (v : Serving ℕ (ldterms.Ldterm ℕ)). v.bytes) (up-is here stop false kind));
       again = λ stop. ap (λ (v : Serving ℕ (ldterms.Ldterm ℕ)). v.again) (up-is here stop false kind);
+      whole = (let p = ldterm_in name s (at_rest x) in ap (λ (ms : List (Message ℕ)). passes_whole Up false (record p { read_queue = record p.read_queue { messages = ms } })) is.first ∙ ap not kind);
     }
 
     work-rest : (here : Spot) (bytes : ℕ) → IsStore t → (block_at 0 (in_hand t (name m))).kind ≡ kinds.Data → is_data (message_in t (name m)).kind ≡ true → bytes ≡ length (cells_of (message_in t (name m)))

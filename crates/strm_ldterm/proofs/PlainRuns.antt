@@ -1,5 +1,5 @@
 -- Plain bytes that are treated at once are treated one after the other.
-use Rattle.std.proofs.Common.{ℕ, ◌≡◌, ◌≤◌, ◌<◌, ◌+◌, ◌*◌, ◌%◌, ◌^◌, Bool, true, false, cond, List, [], ◌∷◌, ◌++◌, length, drop, refl, sym, ap, ◌∙◌, arith, append-nil, append_assoc, length-append}
+use Rattle.std.proofs.Common.{ℕ, zero, suc, ◌≡◌, ◌≤◌, ◌<◌, ◌+◌, ◌*◌, ◌%◌, ◌^◌, Bool, true, false, cond, List, [], ◌∷◌, ◌++◌, length, drop, take, refl, sym, ap, subst, ◌∙◌, arith, append-nil, append_assoc, length-append, length-take, take-append-drop}
 use Rattle.std.proofs.lemmas.Bool.{false≢true}
 use Rattle.std.proofs.lemmas.Bool.Decides.{nat_tests}
 use Rattle.std.proofs.lemmas.List.Sums.{sum_by-cons}
@@ -28,9 +28,11 @@ use Rattle.strm_types.specs.Queue.{count_of, flow_of, is_full, is_none_left, put
 use Rattle.strm_types.specs.Rules.{made_more}
 use Rattle.strm_types.specs.Termios.{echo, icanon}
 use Rattle.strm_types.specs.Typing.{added, echo_dir, echo_grows, echo_stands, echoed, grown}
+use Rattle.strm_ldterm.specs.FreeBefore.{blocks_grown, echo_size, last_size}
 use Rattle.strm_ldterm.specs.PlainRuns.{is_plain, run_done, run_echoed, typed_run}
 use Rattle.strm_ldterm.specs.Turns.{ahead, one_after}
 use Rattle.strm_ldterm.proofs.EchoStands.{data-enables, data-rank, echoed-room, grown-last}
+use Rattle.strm_ldterm.proofs.FreeBefore.{all-front, grown-none, grown-two, last-size}
 use Rattle.strm_ldterm.proofs.Grows.{cells-data}
 use Rattle.strm_ldterm.proofs.Last.{count-last, zero-last}
 use Rattle.strm_ldterm.proofs.PlainBytes.{or-left, stroke_of-plain}
@@ -380,3 +382,48 @@ module _ (here : Spot) where
   runs-done lines echoes (c ∷ []) rest p some r = same-done (ahead here 3 p) (done_as lines echoes (c ∷ []) p) (one-byte lines echoes c [] rest p r)
   runs-done lines echoes (c ∷ d ∷ more) rest p some r =
       runs-on lines echoes c (d ∷ more) rest p r (runs-done lines echoes (d ∷ more) rest (done_as lines echoes (c ∷ []) p).state (omega arith) (next-runs lines echoes c (d ∷ more) rest p r))
+
+  -- So many bytes at its front are a run too.
+  front-runs : (lines echoes : Bool) (run rest : List ℕ) (p : Ldterm ℕ) (n : ℕ) → Runs lines echoes run rest p → n ≤ length run → Runs lines echoes (take n run) (drop n run ++ rest) p
+  front-runs lines echoes run rest p n r few = record {
+    canonical = r.canonical;
+    under = r.under;
+    between = r.between;
+    running = r.running;
+    free = r.free;
+    front = r.front ∙ ap (λ xs. xs ++ rest) (sym (take-append-drop n run)) ∙ append_assoc (take n run) (drop n run) rest;
+    all = all-front (λ b. is_plain p.termios b ≡ true) n run r.all;
+    line = λ v. (let l = r.line v in omega (arith, l, few, length-take n run));
+    room = λ v. (let l = r.room v in omega (arith, l, few, length-take n run));
+    last = r.last;
+  }
+
+  -- what it adds to what is gathered, and to the echo
+  gathers-more : (lines : Bool) (old run : List ℕ) → length (cond lines old (old ++ run)) ≤ length old + length run
+  gathers-more true old run = omega arith
+  gathers-more false old run = let l = length-append old run in omega arith
+
+  echoes-more : (v grows : Bool) (run : List ℕ) (ms : List (Message ℕ)) → (grows ≡ true → EndsPlain ms) → cond (cond v true grows) (last_size (stands_as v grows run ms)) 0 ≤ cond grows (last_size ms) 0 + length run
+  echoes-more false grows run ms last = omega arith
+  echoes-more true true run ms last =
+      let l = last refl in
+      let then : grown plain here run ms ≡ l.before ++ data_message (l.cells ++ run) ∷ [] =
+      ap (grown plain here run) l.is ∙ grown-last here run l.before (data_message l.cells) ∙ ap (λ cells. l.before ++ data_message (cells ++ run) ∷ []) (cells-data l.cells) in
+      let a = ap last_size then ∙ last-size l.before (data_message (l.cells ++ run)) ∙ ap length (cells-data (l.cells ++ run)) ∙ length-append l.cells run in
+      let b = ap last_size l.is ∙ last-size l.before (data_message l.cells) ∙ ap length (cells-data l.cells) in
+      omega (arith, a, b)
+  echoes-more true false run ms last =
+      let a = ap last_size (put-data run ms) ∙ last-size ms (data_message run) ∙ ap length (cells-data run) in
+      omega (arith, a)
+
+  -- So many bytes of a run take two blocks at most.
+  pub run-blocks : (lines echoes : Bool) (run rest : List ℕ) (p : Ldterm ℕ) (n : ℕ) → Runs lines echoes run rest p → length run ≤ 256 → n ≤ length run → blocks_grown p (ahead here (3 * n) p).state ≤ 2
+  run-blocks lines echoes run rest p zero r few within = omega (arith, grown-none p)
+  run-blocks lines echoes run rest p (suc n) r few within =
+      let front = take (suc n) run in
+      let long : length front ≡ suc n = omega (arith, length-take (suc n) run, within) in
+      let done = runs-done lines echoes front (drop (suc n) run ++ rest) p (omega arith) (front-runs lines echoes run rest p (suc n) r within) in
+      let q = (done_as lines echoes front p).state in
+      let gathered : length q.gathered ≤ length p.gathered + 256 = omega (arith, gathers-more lines p.gathered front, long, few, within) in
+      let echo : echo_size q ≤ echo_size p + 256 = omega (arith, echoes-more echoes p.echoing front p.write_queue.messages r.last, long, few, within) in
+      subst (λ k. blocks_grown p (ahead here (3 * k) p).state ≤ 2) long (subst (λ (w : Ldterm ℕ). blocks_grown p w ≤ 2) (sym done.state) (grown-two p q gathered echo))

@@ -1,8 +1,9 @@
 -- Output on a store: bytes of the message in work that go out, one after the other.
-use Rattle.std.proofs.Common.{ℕ, ◌≡◌, ◌≤◌, ◌+◌, ◌-◌, true, List, [], ◌∷◌, ◌++◌, length, drop, take, refl, sym, ap, subst, ◌∙◌, arith, append-nil, length-drop}
+use Rattle.std.proofs.Common.{ℕ, zero, suc, ◌≡◌, ◌≤◌, ◌<◌, ◌+◌, ◌-◌, true, List, [], ◌∷◌, ◌++◌, length, drop, take, refl, sym, ap, subst, ◌∙◌, arith, append-nil, length-append, length-drop, length-take}
 use Rattle.std.specs.Prelude.{is_some}
 use Rattle.std.specs.List.{AllByRecursion}
 use Rattle.std.proofs.Math.Seq.{take-append_seam}
+use Rattle.strm_types.specs.declared.limits.TheConstants.{STOP_BLOCKS}
 use Rattle.strm_types.specs.declared.output.Posted.{Posted}
 use Rattle.strm_types.specs.declared.output.TheConstants.{COLUMN_MAX}
 use Rattle.strm_types.specs.declared.rules.Fates.{Fates}
@@ -15,13 +16,15 @@ use Rattle.strm_types.specs.Ldterms.{sends}
 use Rattle.strm_types.specs.Output.{Output, post, posts, told_for, wrapped}
 use Rattle.strm_types.specs.OutputTurns.{output_dir}
 use Rattle.strm_blocks.specs.Blocks.{StoreValue, IsStore}
+use Rattle.strm_frame.specs.Hands.{HasRoom}
 use Rattle.strm_ldterm.specs.declared.ldterm.Ldterm.{Ldterm}
-use Rattle.strm_ldterm.specs.Called.{all_free}
+use Rattle.strm_ldterm.specs.FreeBefore.{IsFreeBefore, all_free, blocks_grown}
 use Rattle.strm_ldterm.specs.Does.{Proceeds}
 use Rattle.strm_ldterm.specs.Posting.{bytes_given, is_printed, poured}
 use Rattle.strm_ldterm.specs.Stands.{IsHeld, ldterm_in}
 use Rattle.strm_ldterm.specs.Turns.{one_after}
-use Rattle.strm_ldterm.proofs.Calls.{kept-some}
+use Rattle.strm_ldterm.proofs.Bytes.{kept-some}
+use Rattle.strm_ldterm.proofs.FreeBefore.{all-front, each-more, grown-two, room-for, room-none, take-front}
 use Rattle.strm_ldterm.proofs.Joining.{proceeds-joined, stays-so}
 use Rattle.strm_ldterm.proofs.Pouring.{byte-out, pours-both, pours-left, pours-work, run-out}
 use Rattle.strm_ldterm.proofs.RunsDone.{left-whole}
@@ -126,13 +129,41 @@ module _ {M : Type 0} (name : M → ℕ) where
         pours-so here s s1 s2 x x1 x2 (length run) (of column) f f st front gathers
         (ap (λ xs. posts plain dir 0 x.termios x.column xs) taken ∙ run-out dir x.termios x.column run low few all ∙ ap of (sym moved)) refl
 
+  -- what is gathered is longer by what so many bytes give, and the echo is the same
+  pours-grown : (here : Spot) (p : ldterms.Ldterm ℕ) (n k : ℕ) → length (poured here n p).state.gathered ≡ length p.gathered + k → k ≤ 256 → blocks_grown p (poured here n p).state ≤ 2
+  pours-grown here p n k long few = grown-two p (poured here n p).state (omega arith) (omega arith)
+
+  -- each of these printed bytes begins with blocks enough
+  pub run-begins : (here : Spot) (s : StoreValue) (x : Ldterm M) (run : List ℕ) → (let cells = cells_left (ldterm_in name s x) in cells ≡ run ++ drop (length run) cells) → x.column ≤ COLUMN_MAX → length run ≤ 256
+      → AllByRecursion (λ b. is_printed x.termios b ≡ true) run → HasRoom s (STOP_BLOCKS + 2) → (byte : ℕ) → byte < length run → HasRoom s (STOP_BLOCKS + blocks_grown (ldterm_in name s x) (poured here byte (ldterm_in name s x)).state)
+  run-begins here s x run is low few all room byte within =
+      let p = ldterm_in name s x in
+      let cells = cells_left p in
+      let front = take byte run in
+      let long : length front ≡ byte = omega (arith, length-take byte run, within) in
+      let taken : take byte cells ≡ front = ap (take byte) is ∙ take-front byte run (drop (length run) cells) (omega arith) in
+      let given = ap (λ xs. (posts plain (output_dir plain here) 0 x.termios x.column xs).given) taken
+      ∙ ap (λ (o : Output ℕ). o.given) (run-out (output_dir plain here) x.termios x.column front low (omega (arith, long, few, within)) (all-front (λ b. is_printed x.termios b ≡ true) byte run all)) in
+      let grown = ap (λ xs. length (p.gathered ++ xs)) given ∙ length-append p.gathered front in
+      room-for s (blocks_grown p (poured here byte p).state) room (pours-grown here p byte (length front) grown (omega (arith, long, few, within)))
+
+  -- so does the next one, where so many blocks are free
+  pub byte-begins : (here : Spot) (s : StoreValue) (x : Ldterm M) → HasRoom s STOP_BLOCKS → (byte : ℕ) → byte < 1 → HasRoom s (STOP_BLOCKS + blocks_grown (ldterm_in name s x) (poured here byte (ldterm_in name s x)).state)
+  byte-begins here s x room zero first =
+      let p = ldterm_in name s x in
+      let l = ap length (append-nil p.gathered) in
+      room-none s (blocks_grown p (poured here 0 p).state) room (omega (arith, l))
+  byte-begins here s x room (suc n) first = absurd (omega arith)
+
   -- of so many bytes all went out but those that are left
   pub record Pours (s t : StoreValue) (here : Spot) (x y : Ldterm M) (bytes left : ℕ) (f f' : Fates) : Type 0 where
     pub fewer : left ≤ bytes
     pub does : Proceeds name s t x y (all_free s) [] [] f f' (poured here (bytes - left) (ldterm_in name s x))
+    pub begun : (byte : ℕ) → byte < bytes - left → IsFreeBefore name s x f (poured here) (ldterm_in name s x) byte
 
   pub pours-none : (s : StoreValue) (here : Spot) (x : Ldterm M) (bytes : ℕ) (f : Fates) → IsHeld name s x → Pours s s here x x bytes bytes f f
   pours-none s here x bytes f held = record {
+    begun = λ byte less. absurd (omega arith);
     fewer = omega arith;
     does =
         let p = ldterm_in name s x in
@@ -174,14 +205,17 @@ module _ {M : Type 0} (name : M → ℕ) where
         ∙ omega arith
 
     -- and more of them
-    pub pours-more : (u : StoreValue) (z : Ldterm M) (n k : ℕ) (f2 : Fates) → IsStore t → n ≤ left → Proceeds name t u y z k [] [] f1 f2 (poured here n (ldterm_in name t y)) → Pours s u here x z bytes (left - n) f f2
-    pours-more u z n k f2 st few more =
+    pub pours-more : (u : StoreValue) (z : Ldterm M) (n k : ℕ) (f2 : Fates) → IsStore t → n ≤ left → Proceeds name t u y z k [] [] f1 f2 (poured here n (ldterm_in name t y))
+        → ((byte : ℕ) → byte < n → HasRoom t (STOP_BLOCKS + blocks_grown (ldterm_in name t y) (poured here byte (ldterm_in name t y)).state)) → Pours s u here x z bytes (left - n) f f2
+    pours-more u z n k f2 st few more begins =
         let p = ldterm_in name s x in
         let did = proceeds-joined name s t x y (all_free s) [] f f1 (poured here (bytes - left) p) st so.does u z k [] [] f2 (poured here n) more in
         let count : bytes - left + n ≡ bytes - (left - n) = (let low = so.fewer in omega arith) in
         let same = pours-both here (bytes - left) n p work-there ∙ ap (λ m. poured here m p) count in
         record {
           fewer = (let low = so.fewer in omega arith);
+          begun = λ byte within. each-more (IsFreeBefore name s x f (poured here) p) (bytes - left) n so.begun
+              (λ i less. record { before = bytes - left; more = i; is = refl; store = t; there = y; notes = []; told = f1; reached = so.does; free = begins i less }) byte (let low = so.fewer in omega arith);
           does = subst (λ (a : Acted ℕ (ldterms.Ldterm ℕ)). Proceeds name s u x z (all_free s) [] [] f f2 a) same (record {
             state = did.state;
             noted = did.noted;

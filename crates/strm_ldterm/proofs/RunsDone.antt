@@ -4,6 +4,7 @@ use Rattle.std.proofs.lemmas.Bool.{false≢true}
 use Rattle.std.specs.List.{AllByRecursion}
 use Rattle.std.specs.Option.{option_to_list}
 use Rattle.std.specs.Prelude.{Option, None, Some, is_some, IfSome, slice_index_or}
+use Rattle.strm_types.specs.declared.limits.TheConstants.{STOP_BLOCKS}
 use Rattle.strm_types.specs.declared.rules.Fates.{Fates}
 use Rattle.strm_types.specs.declared.spots.Note.{Note}
 use Rattle.strm_types.specs.declared.spots.Spot.{Spot}
@@ -17,17 +18,20 @@ use Rattle.strm_types.specs.Termios.{echo, icanon}
 use Rattle.strm_types.specs.Typing.{echo_grows, echo_stands}
 use Rattle.strm_types.specs.Cells.{plain}
 use Rattle.strm_blocks.specs.Blocks.{StoreValue, IsStore}
+use Rattle.strm_frame.specs.Hands.{HasRoom}
 use Rattle.strm_frame.specs.Outboxes.{message_in}
 use Rattle.strm_queue.specs.Stored.{queue_in}
 use Rattle.strm_ldterm.specs.declared.ldterm.Ldterm.{Ldterm}
 use Rattle.strm_ldterm.specs.Does.{Proceeds}
+use Rattle.strm_ldterm.specs.FreeBefore.{blocks_grown}
 use Rattle.strm_ldterm.specs.PlainRuns.{MayRun, is_plain, run_echoed, typed_run}
 use Rattle.strm_ldterm.specs.Stands.{IsHeld, IsOrdinary, kept_in, ldterm_in, stage_in}
-use Rattle.strm_ldterm.specs.Turns.{ahead, stages_left}
+use Rattle.strm_ldterm.specs.Turns.{ahead, bytes_on, stages_left}
 use Rattle.strm_ldterm.proofs.Begun.{busy-all, idle-left}
+use Rattle.strm_ldterm.proofs.FreeBefore.{free-on, room-for}
 use Rattle.strm_ldterm.proofs.Grows.{ordinary-is}
 use Rattle.strm_ldterm.proofs.Joining.{proceeds-joined, takes-more}
-use Rattle.strm_ldterm.proofs.PlainRuns.{EndsPlain, Runs, done-as, runs-done}
+use Rattle.strm_ldterm.proofs.PlainRuns.{EndsPlain, Runs, done-as, run-blocks, runs-done}
 use Rattle.strm_ldterm.proofs.Treated.{none-under-way}
 
 -- bytes that aren't marked are plain
@@ -85,6 +89,34 @@ module _ {M : Type 0} (name : M → ℕ) where
       at None there = idle-left name s x there (cells_left (ldterm_in name s x))
       at (Some m) there = busy-all name s x m there held
 
+  -- bytes that may be treated at once
+  module _ (s : StoreValue) (x : Ldterm M) (run : List ℕ) (most : ℕ) (held : IsHeld name s x) (stage : stages_left (stage_in x.stage) ≡ 0) (few : length run ≤ most)
+      (is : cells_left (ldterm_in name s x) ≡ run ++ drop (length run) (cells_left (ldterm_in name s x))) (all : AllByRecursion (λ b. is_plain x.termios b ≡ true) run) (may : MayRun most (ldterm_in name s x)) where
+    abbrev from : ldterms.Ldterm ℕ
+    from = ldterm_in name s x
+
+    runs-from : Runs (icanon from.termios) (echo from.termios) run (drop (length run) (cells_left from)) from
+    runs-from =
+        let fits = may-fewer from most (length run) few may in
+        record {
+          canonical = refl;
+          under = refl;
+          between = none-under-way from.stage stage;
+          running = fits.running;
+          free = fits.free;
+          front = is;
+          all = all;
+          line = fits.line;
+          room = fits.room;
+          last = λ v. echo-last s x held v;
+        }
+
+    -- each of them begins with blocks enough
+    pub run-begun : (here : Spot) → length run ≤ 256 → HasRoom s (STOP_BLOCKS + 2) → (byte : ℕ) → byte < length run → HasRoom s (STOP_BLOCKS + blocks_grown from (bytes_on here byte from).state)
+    run-begun here short room byte within =
+        free-on here s from stage byte
+        (room-for s (blocks_grown from (ahead here (3 * byte) from).state) room (run-blocks here (icanon from.termios) (echo from.termios) run (drop (length run) (cells_left from)) from byte runs-from short (omega arith)))
+
   module _ (s s1 : StoreValue) (x x1 : Ldterm M) (here : Spot) (run : List ℕ) (t : Fates) (held : IsHeld name s x)
       (front : Proceeds name s s1 x x1 0 [] [] t t (sends [] (with_left (drop (length run) (cells_left (ldterm_in name s x))) (ldterm_in name s x)))) where
     abbrev p : ldterms.Ldterm ℕ
@@ -116,19 +148,7 @@ module _ {M : Type 0} (name : M → ℕ) where
           → stages_left (stage_in x.stage) ≡ 0 → 0 < length run → length run ≤ most → cells_left p ≡ run ++ drop (length run) (cells_left p) → AllByRecursion (λ b. is_plain x.termios b ≡ true) run → MayRun most p
           → Proceeds name s s3 x x3 2 notes [] t t3 (ahead here (3 * length run) p)
       run-treated s3 x3 notes t3 most st2 echoed stage some few is all may =
-          let fits = may-fewer p most (length run) few may in
-          let runs : Runs (icanon p.termios) (echo p.termios) run (drop (length run) (cells_left p)) p = record {
-            canonical = refl;
-            under = refl;
-            between = none-under-way p.stage stage;
-            running = fits.running;
-            free = fits.free;
-            front = is;
-            all = all;
-            line = fits.line;
-            room = fits.room;
-            last = λ v. echo-last s x held v;
-          } in
+          let runs = runs-from s x run most held stage few is all may in
           let same = runs-done here (icanon p.termios) (echo p.termios) run (drop (length run) (cells_left p)) p some runs in
           let did = subst (Proceeds name s s3 x x3 2 notes [] t t3) (done-as here (icanon p.termios) (echo p.termios) run p refl refl)
           (proceeds-joined name s s2 x x2 1 [] t t (sends [] (typed_run run (with_left (drop (length run) (cells_left p)) p))) st2 typed-on s3 x3 1 notes [] t3 (run_echoed here run) echoed) in

@@ -18,7 +18,7 @@ use Rattle.strm_msg.proofs.InHand.{fresh-dropped}
 use Rattle.strm_frame.specs.Hands.{once, CanPut, Shifts}
 use Rattle.strm_frame.specs.Outboxes.{message_in}
 use Rattle.strm_frame.proofs.Handing.{freed-hands, once-self, once-apart}
-use Rattle.strm_ldterm.specs.Becoming.{Becomes}
+use Rattle.strm_ldterm.specs.Becoming.{Becomes, IsFronted}
 use Rattle.strm_ldterm.specs.Stands.{IsData}
 
 -- a fresh name is none in hand
@@ -208,6 +208,10 @@ none-shown (b ∷ c ∷ rest) one kind single none = absurd (omega arith)
 none-shown (b ∷ []) one kind single none =
     ap cells_of (shown-bytes (b ∷ []) one kind) ∙ data_in-cells b.band (b.bytes ++ []) ∙ ap (λ l. l ++ []) (no-bytes b.bytes none)
 
+-- the walk ends before a block that has bytes, or at the last one
+pub skipped-front : (t : StoreValue) (j : ℕ) → length (in_hand t j) ≡ 1 → IsFronted t j
+skipped-front t j single = λ more. absurd (omega arith)
+
 pub skipped-none : (s t : StoreValue) (i j : ℕ) → Becomes s t i j (message_in s i) → length (in_hand t j) ≡ 1 → length (block_at 0 (in_hand t j)).bytes ≡ 0 → cells_of (message_in s i) ≡ []
 skipped-none s t i j b single none = ap cells_of (sym b.shows) ∙ none-shown (in_hand t j) b.is.chain b.is.kind single none
 
@@ -254,6 +258,9 @@ module _ (s t : StoreValue) (i n : ℕ) (is : IsInHand s i) (msg : IsData s i) (
 
   left-is : in_hand t i ≡ left
   left-is = ap (λ v. in_hand v i) after ∙ in_hand-changed s i left is
+
+  pub front-in : IsInHand t i
+  front-in = subst (λ v. IsInHand v i) (sym after) (IsInHand-changed s i i left is)
 
   pub front-is : cells_of (message_in s i) ≡ front ++ drop (length front) (cells_of (message_in s i))
   front-is = less.cells

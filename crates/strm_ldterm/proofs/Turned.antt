@@ -1,17 +1,19 @@
 -- Calls of the service procedure, by the way of their queue.
 use Rattle.std.proofs.Common.{ℕ, ◌≡◌, ◌≤◌, ◌+◌, Bool, true, false, [], length, refl, sym, ap, subst, ◌∙◌, arith}
 use Rattle.std.proofs.lemmas.Bool.{false≢true}
-use Rattle.std.specs.Prelude.{Option, None, is_some, not, unwrap_or}
+use Rattle.std.specs.Prelude.{Option, None, Some, is_some, not, unwrap_or}
 use Rattle.strm_types.specs.declared.names.Way.{Way}
 use Rattle.strm_types.specs.declared.names.Way.TheVariants.{Up, Down}
 use Rattle.strm_types.specs.declared.rules.Fates.{Fates}
 use Rattle.strm_types.specs.declared.spots.Spot.{Spot}
 use Rattle.strm_types.specs.Cells.{plain}
+use Rattle.strm_types.specs.Deliver.{Acted}
 use Rattle.strm_types.specs.Input.{cells_left, input_begins, is_data, to_treat, treats}
 use Rattle.strm_types.specs.LdtermServes.{ldterm_serves}
 use Rattle.strm_types.specs.Ldterms as ldterms
 use Rattle.strm_types.specs.Ldterms.{Between, Begun, Answered}
 use Rattle.strm_types.specs.Message.{Message, cells_of, size_of}
+use Rattle.strm_types.specs.Queue.{left_with}
 use Rattle.strm_types.specs.OutputTurns.{output_serves}
 use Rattle.strm_types.specs.Service.{Serving}
 use Rattle.strm_types.specs.TurnCalls.{bytes_left}
@@ -25,13 +27,14 @@ use Rattle.strm_frame.specs.Serves.{stop_at, stop_of}
 use Rattle.strm_ldterm.specs.declared.ldterm.Ldterm.{Ldterm}
 use Rattle.strm_ldterm.specs.Began.{BeganWork}
 use Rattle.strm_ldterm.specs.Bounds.{passes_whole}
-use Rattle.strm_ldterm.specs.Called.{ServesAs, TreatsAs, all_free}
+use Rattle.strm_ldterm.specs.Called.{ServesAs, TreatsAs, at_work, bytes_of_way}
 use Rattle.strm_ldterm.specs.Does.{Proceeds}
 use Rattle.strm_ldterm.specs.Resting.{ldterm-rests}
 use Rattle.strm_ldterm.specs.Served.{IsServed}
+use Rattle.strm_ldterm.specs.FreeBefore.{IsFreeBefore, all_free}
 use Rattle.strm_ldterm.specs.Stands.{keeps, ldterm_in, stage_in, IsHeld}
-use Rattle.strm_ldterm.specs.Turns.{leaves, needs, stages_left}
-use Rattle.strm_ldterm.proofs.Calls.{all-left, kept-some, takes-any, none-done}
+use Rattle.strm_ldterm.specs.Turns.{bytes_on, leaves, needs, stages_left}
+use Rattle.strm_ldterm.proofs.Bytes.{all-left, kept-some, takes-any, none-begun, none-done}
 use Rattle.strm_ldterm.proofs.Joining.{proceeds-joined}
 use Rattle.strm_ldterm.specs.ServedLaws.{again-works, down-idle, first-idle, serves-served}
 
@@ -78,11 +81,29 @@ leaves-some (Answered echo) = omega arith
 some-left-room : (s : StoreValue) (stage : ldterms.Stage ℕ) → HasRoom s (leaves stage) → HasRoom s 1
 some-left-room s stage room = let some = leaves-some stage in record { mblks = (let r = room.mblks in omega (arith, r, some)); dblks = (let r = room.dblks in omega (arith, r, some)) }
 
+-- before a byte of a message that has come into work
+pub begun-later : {M : Type 0} (name : M → ℕ) (s s1 : StoreValue) (x x1 : Ldterm M) (t : Fates) (next : ℕ → ldterms.Ldterm ℕ → Acted ℕ (ldterms.Ldterm ℕ)) (q : ldterms.Ldterm ℕ) (byte : ℕ) → IsStore s1
+    → Proceeds name s s1 x x1 0 [] [] t t (ldterms.sends [] q) → IsFreeBefore name s1 x1 t next (ldterm_in name s1 x1) byte → IsFreeBefore name s x t next q byte
+begun-later name s s1 x x1 t next q byte st works f = record {
+  before = f.before;
+  more = f.more;
+  is = f.is;
+  store = f.store;
+  there = f.there;
+  notes = f.notes;
+  told = f.told;
+  reached =
+      takes-any name s f.store x f.there (0 + all_free s1) f.notes [] t f.told (next f.before q)
+      (proceeds-joined name s s1 x x1 0 [] t t (ldterms.sends [] q) st works f.store f.there (all_free s1) f.notes [] f.told (next f.before) f.reached);
+  free = f.free;
+}
+
 module _ {M : Type 0} (name : M → ℕ) (s s' : StoreValue) (here : Spot) (x x' : Ldterm M) (again : Bool) (t : Fates) where
   -- a message passed whole, or none
   pub whole-serves : (served : Served M) (sent : Outbox M) (bytes : ℕ) (v : Serving ℕ (ldterms.Ldterm ℕ)) → served.acts.notes.items ≡ [] → served.acts.sent ≡ sent → served.bytes ≡ bytes → served.stopped ≡ false → served.again ≡ false
-      → ldterm_serves plain here 0 again None (ldterm_in name s x) ≡ v → Proceeds name s s' x x' 0 [] (sent_of sent) t t v.acted → bytes ≡ v.bytes → v.again ≡ false → (here.way ≡ Up → HasRoom s 1) → ServesAs name s s' here x x' again served t t
-  whole-serves served sent bytes v no-notes same-sent same-bytes goes-on ends is a size over room =
+      → ldterm_serves plain here 0 again None (ldterm_in name s x) ≡ v → Proceeds name s s' x x' 0 [] (sent_of sent) t t v.acted → bytes ≡ v.bytes → v.again ≡ false → (here.way ≡ Up → HasRoom s 1) → passes_whole here.way again (ldterm_in name s x) ≡ true
+      → ServesAs name s s' here x x' again served t t
+  whole-serves served sent bytes v no-notes same-sent same-bytes goes-on ends is a size over room passed =
       let p = ldterm_in name s x in
       let whole : ldterm_serves plain here 0 again (stop_of served) p ≡ v = ap (λ b. ldterm_serves plain here 0 again (stop_at b served.bytes) p) goes-on ∙ is in
       record {
@@ -92,6 +113,7 @@ module _ {M : Type 0} (name : M → ℕ) (s s' : StoreValue) (here : Spot) (x x'
             (subst (λ (o : Outbox M). Proceeds name s s' x x' (all_free s) [] (sent_of o) t t v.acted) (sym same-sent) (takes-any name s s' x x' 0 [] (sent_of sent) t t v.acted a)));
         bytes = same-bytes ∙ size ∙ sym (ap (λ (w : Serving ℕ (ldterms.Ldterm ℕ)). w.bytes) whole);
         again_is = ends ∙ sym over ∙ sym (ap (λ (w : Serving ℕ (ldterms.Ldterm ℕ)). w.again) whole);
+        begun = λ none. absurd (false≢true (sym none ∙ passed));
         stops = λ e. absurd (false≢true (sym goes-on ∙ e));
         ends = λ e. absurd (false≢true (sym goes-on ∙ e));
         room = λ e. absurd (false≢true (sym ends ∙ e));
@@ -108,6 +130,10 @@ module _ {M : Type 0} (name : M → ℕ) (s s' : StoreValue) (here : Spot) (x x'
         does = subst (λ (w : Serving ℕ (ldterms.Ldterm ℕ)). Proceeds name s s' x x' (all_free s) served.acts.notes.items (sent_of served.acts.sent) t t' w.acted) (sym whole) b.does;
         bytes = b.bytes ∙ sym (ap (λ (w : Serving ℕ (ldterms.Ldterm ℕ)). w.bytes) whole);
         again_is = b.again ∙ sym (ap (λ (w : Serving ℕ (ldterms.Ldterm ℕ)). w.again) whole);
+        begun = λ goes byte within.
+            let same : at_work here.way again (ldterm_in name s x) ≡ ldterm_in name s x = ap (λ w. at_work w again (ldterm_in name s x)) way ∙ ap (λ v. at_work Up v (ldterm_in name s x)) more in
+            subst (λ n. IsFreeBefore name s x t n (at_work here.way again (ldterm_in name s x)) byte) (sym (ap (bytes_of_way here) way))
+            (subst (λ (q : ldterms.Ldterm ℕ). IsFreeBefore name s x t (bytes_on here) q byte) (sym same) (b.begun byte within));
         stops = b.stops;
         ends = λ e.
             let left = ap (λ w. bytes_left w again (ldterm_in name s x)) way ∙ ap (λ v. bytes_left Up v (ldterm_in name s x)) more in
@@ -135,6 +161,15 @@ module _ {M : Type 0} (name : M → ℕ) (s s' : StoreValue) (here : Spot) (x x'
             (proceeds-joined name s s1 x x1 0 [] t t _ st works s' x' (all_free s1) served.acts.notes.items (sent_of served.acts.sent) t' (λ q. (treats plain here (unwrap_or (stop_of served) (to_treat p1)) 0 p1).acted) b.does));
         bytes = b.bytes ∙ sym (ap (λ (v : Serving ℕ (ldterms.Ldterm ℕ)). v.bytes) whole);
         again_is = b.again ∙ sym (ap (λ (v : Serving ℕ (ldterms.Ldterm ℕ)). v.again) whole);
+        begun = λ goes byte within.
+            let none = none-begun (stage_in x.stage) between in
+            let none1 = none-begun (stage_in x1.stage) stage in
+            let begins : at_work Up false p ≡ record p { read_queue = left_with w.rest p.read_queue; in_work = Some w.message } =
+            ap (λ ms. at_work Up false (record p { read_queue = record p.read_queue { messages = ms } })) w.first in
+            let same : at_work here.way false p ≡ record p { read_queue = left_with w.rest p.read_queue; in_work = Some w.message } = ap (λ v. at_work v false p) way ∙ begins in
+            subst (λ n. IsFreeBefore name s x t n (at_work here.way false p) byte) (sym (ap (bytes_of_way here) way))
+            (subst (λ (q : ldterms.Ldterm ℕ). IsFreeBefore name s x t (bytes_on here) q byte) (sym same)
+            (begun-later name s s1 x x1 t (bytes_on here) _ byte st works (b.begun byte (omega (arith, within, none, none1)))));
         stops = b.stops;
         ends = λ e.
             let left : bytes_left here.way false p ≡ size_of w.message = ap (λ v. bytes_left v false p) way ∙ ap first_size w.first in

@@ -1,10 +1,14 @@
 -- A message in hand that another one, or the same one with less of it, has come for.
-use Rattle.std.specs.Prelude.{ℕ, ◌≡◌}
+use Rattle.std.specs.Prelude.{ℕ, ◌≡◌, ◌<◌, length}
 use Rattle.strm_types.specs.Message.{Message}
-use Rattle.strm_blocks.specs.Blocks.{StoreValue}
+use Rattle.strm_blocks.specs.Blocks.{StoreValue, block_at, in_hand}
 use Rattle.strm_frame.specs.Hands.{once, Shifts}
 use Rattle.strm_frame.specs.Outboxes.{message_in}
 use Rattle.strm_ldterm.specs.Stands.{IsData}
+
+-- The first block of a message in hand has bytes, or it is the only one.
+abbrev pub IsFronted : StoreValue → ℕ → Type 0
+IsFronted s i = 1 < length (in_hand s i) → 0 < length (block_at 0 (in_hand s i)).bytes
 
 -- M_DATA in hand is in hand under a name that may be another one, and stands for `m`. No list changed, and no block was taken.
 pub record Becomes (old new : StoreValue) (i j : ℕ) (m : Message ℕ) : Type 0 where

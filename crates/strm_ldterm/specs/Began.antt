@@ -1,6 +1,7 @@
 -- What the beginning of a turn of the read queue did.
-use Rattle.std.specs.Prelude.{ℕ, ◌≡◌, false, List, [], ◌∷◌, length, Option, Some, unwrap_or}
+use Rattle.std.specs.Prelude.{ℕ, ◌≡◌, true, false, List, [], ◌∷◌, length, Option, Some, unwrap_or}
 use Rattle.strm_types.specs.declared.kinds.MsgKind.TheVariants as kinds
+use Rattle.strm_types.specs.declared.names.Way.TheVariants.{Up}
 use Rattle.strm_types.specs.declared.rules.Fates.{Fates}
 use Rattle.strm_types.specs.declared.spots.Spot.{Spot}
 use Rattle.strm_types.specs.Cells.{plain}
@@ -16,6 +17,7 @@ use Rattle.strm_frame.specs.Outboxes.{sent_of}
 use Rattle.strm_ldterm.specs.declared.opening.InputBegun.{InputBegun}
 use Rattle.strm_ldterm.specs.declared.opening.InputBegun.TheVariants as begun
 use Rattle.strm_ldterm.specs.declared.ldterm.Ldterm.{Ldterm}
+use Rattle.strm_ldterm.specs.Bounds.{passes_whole}
 use Rattle.strm_ldterm.specs.Does.{Proceeds}
 use Rattle.strm_ldterm.specs.Stands.{ldterm_in}
 
@@ -29,6 +31,7 @@ module _ {M : Type 0} (name : M → ℕ) (old new : StoreValue) (here : Spot) (x
     pub passes : (stop : Option ℕ) (f : Fates) → Proceeds name old new x x' 0 [] sent f f (input_of stop).acted
     pub size : (stop : Option ℕ) → bytes ≡ (input_of stop).bytes
     pub again : (stop : Option ℕ) → (input_of stop).again ≡ false
+    pub whole : passes_whole Up false (ldterm_in name old x) ≡ true
 
   -- The first message is M_DATA of so many bytes, and is in work: what the definition says is what treating it says.
   pub record BeganWork (bytes : ℕ) : Type 0 where

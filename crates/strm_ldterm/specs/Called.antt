@@ -1,18 +1,21 @@
 -- What a call of the service procedure of the read queue did.
-use Rattle.std.specs.Prelude.{ℕ, ◌≡◌, ◌<◌, ◌≤◌, ◌+◌, ◌-◌, ◌*◌, Bool, true, false, [], List, Option, unwrap_or}
+use Rattle.std.specs.Prelude.{ℕ, ◌≡◌, ◌<◌, ◌≤◌, ◌+◌, ◌-◌, ◌*◌, Bool, true, false, if◌then◌else◌, [], ◌∷◌, List, Option, Some, unwrap_or}
 use Rattle.strm_types.specs.declared.limits.TheConstants.{STOP_BLOCKS}
-use Rattle.strm_types.specs.declared.names.Way.TheVariants.{Up}
+use Rattle.strm_types.specs.declared.names.Way.{Way}
+use Rattle.strm_types.specs.declared.names.Way.TheVariants.{Up, Down}
 use Rattle.strm_types.specs.declared.rules.Fates.{Fates}
 use Rattle.strm_types.specs.declared.spots.Note.{Note}
 use Rattle.strm_types.specs.declared.spots.Spot.{Spot}
 use Rattle.strm_types.specs.Cells.{plain}
+use Rattle.strm_types.specs.Deliver.{Acted}
 use Rattle.strm_types.specs.Input.{stages_done, to_treat, treats}
 use Rattle.strm_types.specs.LdtermServes.{ldterm_serves}
 use Rattle.strm_types.specs.Ldterms as ldterms
-use Rattle.strm_types.specs.Queue.{is_none_left}
+use Rattle.strm_types.specs.Message.{Message}
+use Rattle.strm_types.specs.Queue.{is_none_left, left_with}
 use Rattle.strm_types.specs.Service.{Serving}
 use Rattle.strm_types.specs.TurnCalls.{Ends}
-use Rattle.strm_blocks.specs.Blocks.{StoreValue, free_m, free_d}
+use Rattle.strm_blocks.specs.Blocks.{StoreValue}
 use Rattle.strm_queue.specs.Stored.{FreesBlocks}
 use Rattle.strm_frame.specs.declared.parcels.Sent.{Sent}
 use Rattle.strm_frame.specs.declared.service.Served.{Served}
@@ -24,18 +27,36 @@ use Rattle.strm_ldterm.specs.declared.serving.Run.{Run}
 use Rattle.strm_ldterm.specs.declared.serving.Run.TheVariants as run
 use Rattle.strm_ldterm.specs.Bounds.{passes_whole}
 use Rattle.strm_ldterm.specs.Does.{Proceeds}
+use Rattle.strm_ldterm.specs.FreeBefore.{IsFreeBefore, all_free}
+use Rattle.strm_ldterm.specs.Posting.{poured}
 use Rattle.strm_ldterm.specs.Stands.{ldterm_in, stage_in}
-use Rattle.strm_ldterm.specs.Turns.{ahead, leaves, stages_left}
+use Rattle.strm_ldterm.specs.Turns.{ahead, bytes_on, leaves, stages_left, under_way}
 
--- all blocks of a store that are free
-abbrev pub all_free : StoreValue → ℕ
-all_free s = free_m s + free_d s
+-- a call treats bytes of the first message of its queue, or goes on with the message in work
+abbrev pub at_work : Way → Bool → ldterms.Ldterm ℕ → ldterms.Ldterm ℕ
+at_work Up true p = p
+at_work way again p = taken (ldterms.queue_at way p).messages
+  where
+    taken : List (Message ℕ) → ldterms.Ldterm ℕ
+    taken [] = p
+    taken (m ∷ rest) = record (ldterms.with_queue_at way (left_with rest (ldterms.queue_at way p)) p) { in_work = Some m }
+
+-- what so many bytes do, by the queue's way
+abbrev pub bytes_of_way : Spot → Way → ℕ → ldterms.Ldterm ℕ → Acted ℕ (ldterms.Ldterm ℕ)
+bytes_of_way here Up = bytes_on here
+bytes_of_way here Down = poured here
+
+-- how many bytes have begun in a call that treated so many: the one that has sent something too, and not the one that had begun before
+abbrev pub begun_in : ℕ → Bool → ℕ → ℕ
+begun_in bytes again before = bytes + (if again then 1 else 0) - before
 
 module _ {M : Type 0} (name : M → ℕ) (old new : StoreValue) (here : Spot) (x x' : Ldterm M) where
-  -- Of so many bytes some were treated, and nothing was sent. Bytes are left only where blocks are few.
+  -- Of so many bytes some were treated, and nothing was sent. Before each of them blocks enough are free. Bytes are left only where blocks are
+  -- few.
   pub record RunsOut (bytes left : ℕ) (notes : List Note) (t t' : Fates) : Type 0 where
     pub fewer : left ≤ bytes
     pub does : Proceeds name old new x x' (all_free old) notes [] t t' (ahead here (3 * (bytes - left)) (ldterm_in name old x))
+    pub begun : (byte : ℕ) → byte < bytes - left → IsFreeBefore name old x t (bytes_on here) (ldterm_in name old x) byte
     pub stops : 0 < left → least_free new < STOP_BLOCKS
     pub room : HasRoom new 1
 
@@ -45,6 +66,7 @@ module _ {M : Type 0} (name : M → ℕ) (old new : StoreValue) (here : Spot) (x
     pub some : 0 < left
     pub sends : is_none_left sent ≡ false
     pub does : Proceeds name old new x x' (all_free old) notes sent t t' (ahead here (3 * (bytes - left) + 3) (ldterm_in name old x))
+    pub begun : (byte : ℕ) → byte ≤ bytes - left → IsFreeBefore name old x t (bytes_on here) (ldterm_in name old x) byte
     pub under_way : 0 < stages_left (stage_in x'.stage)
     pub room : HasRoom new (leaves (stage_in x'.stage))
     pub treat : to_treat (ldterm_in name new x') ≡ left
@@ -62,12 +84,13 @@ module _ {M : Type 0} (name : M → ℕ) (old new : StoreValue) (here : Spot) (x
     pub treat : bytes ≤ to_treat (ldterm_in name old x)
     pub done : stages_done (stage_in x.stage) ≤ 3 * bytes
 
-  -- A call did what the definition says. Behind one that stopped fewer blocks of some kind are free than a byte may take, and it isn't called
-  -- again. What it leaves of a byte has blocks enough.
+  -- A call did what the definition says. Before each byte that it begins blocks enough are free. Behind one that stopped fewer blocks of some kind
+  -- are free than a byte may take, and it isn't called again. What it leaves of a byte has blocks enough.
   pub record TreatsAs (served : Served M) (t t' : Fates) : Type 0 where
     pub does : Proceeds name old new x x' (all_free old) served.acts.notes.items (sent_of served.acts.sent) t t' (treated_by (stop_of served)).acted
     pub bytes : served.bytes ≡ (treated_by (stop_of served)).bytes
     pub again : served.again ≡ (treated_by (stop_of served)).again
+    pub begun : (byte : ℕ) → byte < begun_in served.bytes served.again (under_way (stage_in x.stage)) → IsFreeBefore name old x t (bytes_on here) (ldterm_in name old x) byte
     pub stops : served.stopped ≡ true → (least_free new < STOP_BLOCKS) × (served.again ≡ false)
     pub ends : served.stopped ≡ true → EndsAt served.bytes
     pub less : to_treat (ldterm_in name new x') ≤ to_treat (ldterm_in name old x)
@@ -77,14 +100,16 @@ module _ {M : Type 0} (name : M → ℕ) (old new : StoreValue) (here : Spot) (x
   abbrev pub served_by : Bool → Option ℕ → Serving ℕ (ldterms.Ldterm ℕ)
   served_by again stop = ldterm_serves plain here 0 again stop (ldterm_in name old x)
 
-  -- A call of the service procedure of a queue did what the definition says. Behind one that stopped fewer blocks of some kind are free than a
-  -- byte may take, and it isn't called again. One that is called again leaves blocks enough for the rest of the byte, and for what it has sent, and any one on the way up one for
+  -- A call of the service procedure of a queue did what the definition says. Before each byte that it begins blocks enough are free, unless a
+  -- message passes whole. Behind one that stopped fewer blocks of some kind are free than a byte may take, and it isn't called again. One that is called again leaves blocks enough for the rest of the byte, and for what it has sent, and any one on the way up one for
   -- what it sends at its end.
   -- A message that passes whole takes none.
   pub record ServesAs (again : Bool) (served : Served M) (t t' : Fates) : Type 0 where
     pub does : Proceeds name old new x x' (all_free old) served.acts.notes.items (sent_of served.acts.sent) t t' (served_by again (stop_of served)).acted
     pub bytes : served.bytes ≡ (served_by again (stop_of served)).bytes
     pub again_is : served.again ≡ (served_by again (stop_of served)).again
+    pub begun : passes_whole here.way again (ldterm_in name old x) ≡ false → (byte : ℕ) → byte < begun_in served.bytes served.again (under_way (stage_in x.stage))
+        → IsFreeBefore name old x t (bytes_of_way here here.way) (at_work here.way again (ldterm_in name old x)) byte
     pub stops : served.stopped ≡ true → (least_free new < STOP_BLOCKS) × (served.again ≡ false)
     pub ends : served.stopped ≡ true → Ends here.way again (ldterm_in name old x) served.bytes
     pub room : served.again ≡ true → HasRoom new (leaves (stage_in x'.stage))

@@ -6,6 +6,7 @@ pub mod Frames
 pub mod Resting
 pub mod Relieved
 pub mod Turns
+pub mod FreeBefore
 pub mod Sending
 pub mod Grown
 pub mod Quiet

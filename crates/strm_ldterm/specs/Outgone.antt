@@ -1,5 +1,5 @@
 -- What a turn of the write queue did (ldterm(7M), "Write-side Behavior"; srv(9E); putbq(9F)).
-use Rattle.std.specs.Prelude.{ℕ, ◌≡◌, ◌<◌, true, false, List, [], ◌∷◌, length, map, Option, None, Some}
+use Rattle.std.specs.Prelude.{ℕ, ◌≡◌, ◌<◌, Bool, true, false, List, [], ◌∷◌, length, map, Option, None, Some}
 use Rattle.strm_types.specs.declared.kinds.MsgKind.TheVariants as kinds
 use Rattle.strm_types.specs.declared.limits.TheConstants.{BANDS}
 use Rattle.strm_types.specs.declared.names.Way.TheVariants.{Down}
@@ -21,6 +21,7 @@ use Rattle.strm_frame.specs.Outboxes.{sent_of}
 use Rattle.strm_ldterm.specs.declared.opening.OutputBegun.{OutputBegun}
 use Rattle.strm_ldterm.specs.declared.opening.OutputBegun.TheVariants as begun
 use Rattle.strm_ldterm.specs.declared.ldterm.Ldterm.{Ldterm}
+use Rattle.strm_ldterm.specs.Bounds.{passes_whole}
 use Rattle.strm_ldterm.specs.Does.{Proceeds}
 use Rattle.strm_ldterm.specs.Stands.{ldterm_in}
 
@@ -44,6 +45,7 @@ module _ {M : Type 0} (name : M → ℕ) (old new : StoreValue) (here : Spot) (x
     pub passes : (stop : Option ℕ) (f : Fates) → Proceeds name old new x x' 0 [] sent f f (output_of stop).acted
     pub size : (stop : Option ℕ) → bytes ≡ (output_of stop).bytes
     pub again : (stop : Option ℕ) → (output_of stop).again ≡ false
+    pub whole : (again : Bool) → passes_whole Down again (ldterm_in name old x) ≡ true
 
   -- The first message is M_DATA of so many bytes and of a band, goes out under OPOST, and is in work. Nothing else is under way.
   pub record BeganOutput (bytes band : ℕ) : Type 0 where

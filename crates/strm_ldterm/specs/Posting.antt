@@ -17,7 +17,7 @@ use Rattle.strm_types.specs.OutputTurns.{output_dir}
 use Rattle.strm_blocks.specs.Blocks.{StoreValue}
 use Rattle.strm_frame.specs.Serves.{least_free}
 use Rattle.strm_ldterm.specs.declared.ldterm.Ldterm.{Ldterm}
-use Rattle.strm_ldterm.specs.Called.{all_free}
+use Rattle.strm_ldterm.specs.FreeBefore.{IsFreeBefore, all_free}
 use Rattle.strm_ldterm.specs.Does.{Proceeds}
 use Rattle.strm_ldterm.specs.Stands.{ldterm_in}
 
@@ -45,8 +45,10 @@ poured here n p =
     }
 
 module _ {M : Type 0} (name : M → ℕ) (old new : StoreValue) (here : Spot) (x x' : Ldterm M) where
-  -- Of so many bytes of the message in work all went out but those that are left, and these only where blocks are few.
+  -- Of so many bytes of the message in work all went out but those that are left. Before each of them blocks enough are free, and before the
+  -- next one they are few.
   pub record PoursAs (bytes left : ℕ) (t t' : Fates) : Type 0 where
     pub fewer : left ≤ bytes
     pub does : Proceeds name old new x x' (all_free old) [] [] t t' (poured here (bytes - left) (ldterm_in name old x))
+    pub begun : (byte : ℕ) → byte < bytes - left → IsFreeBefore name old x t (poured here) (ldterm_in name old x) byte
     pub stops : 0 < left → least_free new < STOP_BLOCKS

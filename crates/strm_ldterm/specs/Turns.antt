@@ -1,11 +1,21 @@
 -- Several stages of a turn on plain bytes, one after the other, before its end.
-use Rattle.std.specs.Prelude.{ℕ, zero, suc, ◌+◌, true, if◌then◌else◌, [], ◌++◌}
+use Rattle.std.specs.Prelude.{ℕ, zero, suc, ◌+◌, ◌*◌, true, if◌then◌else◌, [], ◌++◌}
 use Rattle.strm_types.specs.declared.spots.Spot.{Spot}
 use Rattle.strm_types.specs.Cells.{plain}
 use Rattle.strm_types.specs.Deliver.{Acted}
 use Rattle.strm_types.specs.Input.{next_stage}
 use Rattle.strm_types.specs.Ldterms.{Ldterm, Stage, Between, Begun, Answered, sends}
 use Rattle.strm_types.specs.Queue.{is_none_left}
+
+-- how many stages of a byte that has begun are left, and whether one has begun
+abbrev pub stages_left : Stage ℕ → ℕ
+stages_left Between = 0
+stages_left (Begun started c) = 2
+stages_left (Answered echo) = 1
+
+abbrev pub under_way : Stage ℕ → ℕ
+under_way Between = 0
+under_way _ = 1
 
 -- one thing and then another, unless the first one sends something
 abbrev pub one_after : Acted ℕ (Ldterm ℕ) → (Ldterm ℕ → Acted ℕ (Ldterm ℕ)) → Acted ℕ (Ldterm ℕ)
@@ -18,6 +28,10 @@ one_after t next = if is_none_left t.sent then joined (next t.state) else t
 abbrev pub ahead : Spot → ℕ → Ldterm ℕ → Acted ℕ (Ldterm ℕ)
 ahead here zero p = sends [] p
 ahead here (suc n) p = one_after (next_stage plain here 0 p) (ahead here n)
+
+-- so many bytes, behind what is left of one that has begun
+abbrev pub bytes_on : Spot → ℕ → Ldterm ℕ → Acted ℕ (Ldterm ℕ)
+bytes_on here n p = ahead here (stages_left p.stage + 3 * n) p
 
 -- How many blocks of each kind the rest of a byte takes at most, beside one in which the bytes that are gathered may become a packet, and how
 -- many are free at least behind a call that leaves the byte there, for it and for the delivery of what the call sent.
@@ -38,9 +52,3 @@ notes_left p = of_stage p.stage + (if p.echoing then 0 else 1)
     of_stage : Stage ℕ → ℕ
     of_stage (Begun true c) = 1
     of_stage _ = 0
-
--- how many stages of a byte that has begun are left
-abbrev pub stages_left : Stage ℕ → ℕ
-stages_left Between = 0
-stages_left (Begun started c) = 2
-stages_left (Answered echo) = 1

@@ -1,6 +1,6 @@
 //! A byte of the message in work begins (ldterm(7M); termio(7I): IXON, IXANY).
 
-ghost use Rattle.std.specs.Prelude.{ℕ, ◌≡◌, ◌≤◌, ◌<◌, ◌∷◌, [], length, drop, MatchOption};
+ghost use Rattle.std.specs.Prelude.{ℕ, ◌≡◌, ◌≤◌, ◌<◌, ◌∷◌, [], length, drop, IfSome, MatchOption};
 ghost use Rattle.strm_types.specs.declared.rules.Fates.{Fates};
 ghost use Rattle.strm_types.specs.declared.limits.TheConstants.{MODULES};
 ghost use Rattle.strm_types.specs.Cells.{plain};
@@ -11,7 +11,7 @@ ghost use Rattle.strm_types.specs.Typing.{begins};
 ghost use Rattle.strm_blocks.specs.Blocks.{IsFreshName, IsInHand, banded, block_at, dropped, held, in_hand};
 ghost use Rattle.strm_frame.specs.Hands.{AreIn, HasRoom};
 ghost use Rattle.strm_frame.specs.Outboxes.{message_in, sent_of};
-ghost use Rattle.strm_ldterm.specs.Becoming.{Becomes};
+ghost use Rattle.strm_ldterm.specs.Becoming.{Becomes, IsFronted};
 ghost use Rattle.strm_ldterm.specs.Does.{Proceeds};
 ghost use Rattle.strm_ldterm.specs.Stands.{ldterm_in, keeps, IsData, IsHeld};
 
@@ -48,6 +48,7 @@ pub(crate) fn skip_empty<B: Blocks>(store: &mut B, mut message: B::Mp) -> B::Mp
     ensures in_hand { IsInHand (B.value store.new) (B.name result) }
     ensures shown { length (block_at 0 (in_hand (B.value store.new) (B.name result))).bytes ≡ 0 →
         cells_of (message_in (B.value store.old) (B.name message)) ≡ [] }
+    ensures front { IsFronted (B.value store.new) (B.name result) }
 {
     for _ in 1..store.blocks(&message) {
         store.audit();
@@ -59,8 +60,9 @@ pub(crate) fn skip_empty<B: Blocks>(store: &mut B, mut message: B::Mp) -> B::Mp
     message
 }
 
-// Takes the next byte off the front of a message of data, if there is one: adjmsg(9F). Blocks without bytes before it are freed, so
-// that all bytes of a message cost a step each, and one for each of its blocks.
+// Takes the next byte off the front of a message of data, if there is one: adjmsg(9F). Blocks without bytes before it are freed, and so is
+// its own, where that was the last byte of it and another block stands behind it: all bytes of a message cost a step each, and one for each
+// of its blocks.
 fn take_byte<B: Blocks>(store: &mut B, message: B::Mp) -> (B::Mp, Option<u8>)
     requires in_hand { IsInHand (B.value store.old) (B.name message) }
     requires is { IsData (B.value store.old) (B.name message) }
@@ -69,6 +71,7 @@ fn take_byte<B: Blocks>(store: &mut B, message: B::Mp) -> (B::Mp, Option<u8>)
         (left_of (drop 1 (cells_of m)) m) }
     ensures byte { let cells = cells_of (message_in (B.value store.old) (B.name message)) in
         MatchOption result.1 (cells ≡ []) (λ byte. cells ≡ byte ∷ drop 1 cells) }
+    ensures front { IsFronted (B.value store.new) (B.name result.0) }
 {
     let message = skip_empty(store, message);
     store.audit();
@@ -77,10 +80,11 @@ fn take_byte<B: Blocks>(store: &mut B, message: B::Mp) -> (B::Mp, Option<u8>)
     }
     let byte = store.bytes_at(&message, 0)[0];
     store.trim_head(&message, 0, 1);
-    (message, Some(byte))
+    store.audit();
+    (skip_empty(store, message), Some(byte))
 }
 
-/// Takes the next byte of the message in work, if there is one.
+/// Takes the next byte of the message in work, if there is one. A block that this empties is freed, unless it is the message's last.
 pub(crate) fn next_byte<B: Blocks>(ldterm: &mut Ldterm<B::Mp>, store: &mut B) -> Option<u8>
     requires held { IsHeld B.name (B.value store.old) ldterm.old }
     requires kept { AreIn (B.value store.old) (λ _. 0) (keeps B.name ldterm.old) }
@@ -89,6 +93,7 @@ pub(crate) fn next_byte<B: Blocks>(ldterm: &mut Ldterm<B::Mp>, store: &mut B) ->
         (sends [] (with_left (drop 1 (cells_left p)) p)) }
     ensures byte { let p = ldterm_in B.name (B.value store.old) ldterm.old in let cells = cells_left p in
         MatchOption result ((cells ≡ []) × (with_left (drop 1 cells) p ≡ p)) (λ byte. cells ≡ byte ∷ drop 1 cells) }
+    ensures front { IfSome ldterm.new.in_work (λ m. IsFronted (B.value store.new) (B.name m)) }
 {
     let Some(message) = ldterm.in_work.take() else {
         return None;

@@ -1,9 +1,10 @@
 //! Runs of plain bytes in a turn, which are treated at once: lines that are pasted, or sent by a program (termio(7I): "Canonical Mode
 //! Input Processing", "Non-Canonical Mode Input Processing", ECHO).
 
-ghost use Rattle.std.specs.Prelude.{ℕ, ◌≡◌, ◌<◌, ◌≤◌, ◌+◌, ◌*◌, ◌++◌, ◌==◌, [], true, false, length, drop, take, slice_index_or};
+ghost use Rattle.std.specs.Prelude.{ℕ, ◌≡◌, ◌<◌, ◌≤◌, ◌+◌, ◌*◌, ◌++◌, ◌==◌, [], true, false, length, drop, take, slice_index_or, IfSome};
 ghost use Rattle.std.specs.List.{AllByRecursion, list_any};
 ghost use Rattle.strm_types.specs.declared.keys.TheConstants.{LINE_MAX};
+ghost use Rattle.strm_types.specs.declared.limits.TheConstants.{STOP_BLOCKS};
 ghost use Rattle.strm_types.specs.declared.rules.Fates.{Fates};
 ghost use Rattle.strm_types.specs.Input.{cells_left, left_of, with_left};
 ghost use Rattle.strm_types.specs.Ldterms.{sends};
@@ -12,11 +13,12 @@ ghost use Rattle.strm_types.specs.Termios.{icanon};
 ghost use Rattle.strm_blocks.specs.Blocks.{IsInHand};
 ghost use Rattle.strm_frame.specs.Hands.{AreIn, HasRoom};
 ghost use Rattle.strm_frame.specs.Outboxes.{message_in};
-ghost use Rattle.strm_ldterm.specs.Becoming.{Becomes};
+ghost use Rattle.strm_ldterm.specs.Becoming.{Becomes, IsFronted};
 ghost use Rattle.strm_ldterm.specs.Does.{Proceeds};
+ghost use Rattle.strm_ldterm.specs.FreeBefore.{blocks_grown};
 ghost use Rattle.strm_ldterm.specs.PlainRuns.{MayRun, is_plain, run_echoed, typed_run};
 ghost use Rattle.strm_ldterm.specs.Stands.{IsData, IsHeld, keeps, ldterm_in, stage_in};
-ghost use Rattle.strm_ldterm.specs.Turns.{ahead, stages_left};
+ghost use Rattle.strm_ldterm.specs.Turns.{ahead, bytes_on, stages_left};
 
 use crate::beginning::skip_empty;
 use crate::echoes::RUN_MAX;
@@ -28,7 +30,7 @@ use crate::typing::gather;
 use arrayvec::ArrayVec;
 use bitflags::Flags;
 use strm_blocks::Blocks;
-use strm_types::{Fates, InputModes, LINE_MAX, LocalModes, Note, Spot, Termios, Way};
+use strm_types::{Fates, InputModes, LINE_MAX, LocalModes, Note, STOP_BLOCKS, Spot, Termios, Way};
 
 /// What became of plain bytes that were treated at once: how many they were, and what is noted of their echo.
 #[derive(Drop)]
@@ -36,6 +38,9 @@ pub(crate) struct Ran {
     pub bytes: usize,
     pub notes: ArrayVec<Note, 4>,
 }
+
+/// How many blocks of each kind a run takes at most: one for what is gathered, and one for its echo.
+const RUN_BLOCKS: usize = 2;
 
 /// Marks the bytes from one up to another, in a mode that says so.
 pub(crate) fn mark(odd: &mut [bool; 256], mode: bool, from: usize, to: usize)
@@ -94,7 +99,7 @@ fn plain_len(odd: &[bool; 256], bytes: &[u8]) -> usize
 }
 
 // Takes bytes that aren't marked off the front of a message of data, as far as its first block that has some has them, and so many at
-// most: adjmsg(9F).
+// most: adjmsg(9F). The block is freed where it is empty then and another one stands behind it.
 fn take_plain<B: Blocks>(
     store: &mut B,
     message: B::Mp,
@@ -110,6 +115,7 @@ fn take_plain<B: Blocks>(
         cells ≡ result.1.items ++ drop (length result.1.items) cells }
     ensures plain { AllByRecursion (λ b. slice_index_or odd.now b true ≡ false) result.1.items }
     ensures few { length result.1.items ≤ most }
+    ensures trimmed { IsFronted (B.value store.new) (B.name result.0) }
 {
     let message = skip_empty(store, message);
     store.audit();
@@ -121,10 +127,12 @@ fn take_plain<B: Blocks>(
         unreachable!()
     };
     store.trim_head(&message, 0, taken);
-    (message, run)
+    store.audit();
+    (skip_empty(store, message), run)
 }
 
-/// Takes bytes that aren't marked off the front of the message in work, as many as its first block has of them, and so many at most.
+/// Takes bytes that aren't marked off the front of the message in work, as many as its first block has of them, and so many at most. A block
+/// that this empties is freed, unless it is the message's last.
 pub(crate) fn take_front<B: Blocks>(
     ldterm: &mut Ldterm<B::Mp>,
     store: &mut B,
@@ -140,6 +148,7 @@ pub(crate) fn take_front<B: Blocks>(
         cells ≡ result.items ++ drop (length result.items) cells }
     ensures plain { AllByRecursion (λ b. slice_index_or odd.now b true ≡ false) result.items }
     ensures few { length result.items ≤ most }
+    ensures trimmed { IfSome ldterm.new.in_work (λ m. IsFronted (B.value store.new) (B.name m)) }
 {
     let Some(message) = ldterm.in_work.take() else {
         return ArrayVec::new();
@@ -151,18 +160,34 @@ pub(crate) fn take_front<B: Blocks>(
     run
 }
 
+/// How many bytes may be treated at once, as far as blocks go. A run takes two blocks of each kind at most, and so many are free that each
+/// of its bytes begins with `STOP_BLOCKS`.
+pub(crate) fn run_most<B: Blocks>(store: &B) -> usize
+    ensures few { result ≤ 256 }
+    ensures many { 0 < result → HasRoom (B.value store.now) (STOP_BLOCKS + 2) }
+{
+    let (message_blocks, data_blocks) = store.free_blocks();
+    if message_blocks < STOP_BLOCKS + RUN_BLOCKS || data_blocks < STOP_BLOCKS + RUN_BLOCKS {
+        return 0;
+    }
+    RUN_MAX
+}
+
 // How many plain bytes may be treated at once, where any may.
 fn run_room<B: Blocks>(ldterm: &Ldterm<B::Mp>, store: &B) -> usize
     requires { IsHeld B.name (B.value store.now) ldterm.now }
     ensures may { 0 < result → MayRun result (ldterm_in B.name (B.value store.now) ldterm.now) }
+    ensures few { result ≤ 256 }
+    ensures many { 0 < result → HasRoom (B.value store.now) (STOP_BLOCKS + 2) }
 {
     if ldterm.stopped || ldterm.after_lnext {
         return 0;
     }
+    let most = run_most(store);
     let typed = if ldterm.termios.lflag.contains(LocalModes::ICANON) {
-        LINE_MAX - ldterm.line.len()
+        most.min(LINE_MAX - ldterm.line.len())
     } else {
-        RUN_MAX
+        most
     };
     if !ldterm.termios.lflag.contains(LocalModes::ECHO) {
         return typed;
@@ -214,7 +239,7 @@ fn echo_run<B: Blocks>(
 
 /// Treats plain bytes at the front of the message in work at once, as many as its first block has of them, the line has room for, and
 /// can be echoed before the write queue is full: just as if they were treated one after the other. They take two blocks of each kind at
-/// most. The cost is a step for each byte, and a pass over a table of 256 bytes.
+/// most, and there are some only where each of them begins with `STOP_BLOCKS` free. The cost is a step for each byte, and a pass over a table of 256 bytes.
 pub(crate) fn treat_run<B: Blocks>(
     ldterm: &mut Ldterm<B::Mp>,
     store: &mut B,
@@ -229,6 +254,8 @@ pub(crate) fn treat_run<B: Blocks>(
         Proceeds B.name s (B.value store.new) ldterm.old ldterm.new 2 result.notes.items [] told.old told.new
         (ahead here (3 * result.bytes) (ldterm_in B.name s ldterm.old)) }
     ensures within { result.bytes ≤ length (cells_left (ldterm_in B.name (B.value store.old) ldterm.old)) }
+    ensures begun { let p = ldterm_in B.name (B.value store.old) ldterm.old in
+        (byte : ℕ) → byte < result.bytes → HasRoom (B.value store.old) (STOP_BLOCKS + blocks_grown p (bytes_on here byte p).state) }
 {
     let odd = odd_bytes(&ldterm.termios);
     let most = run_room(ldterm, store);

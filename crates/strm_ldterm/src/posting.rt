@@ -1,7 +1,8 @@
 //! Output under OPOST: bytes of the message in work go out one after the other, and what they give is gathered, to go down together
 //! (termio(7I): "Output Modes"; ldterm(7M)).
 
-ghost use Rattle.std.specs.Prelude.{ℕ, ◌≡◌, ◌<◌, ◌≤◌, ◌++◌, [], true, false, length, is_some, replicate, slice_index_or};
+ghost use Rattle.std.specs.Prelude.{ℕ, ◌≡◌, ◌<◌, ◌≤◌, ◌+◌, ◌++◌, [], true, false, length, is_some, replicate, slice_index_or};
+ghost use Rattle.strm_types.specs.declared.limits.TheConstants.{STOP_BLOCKS};
 ghost use Rattle.strm_types.specs.declared.rules.Fates.{Fates};
 ghost use Rattle.strm_types.specs.declared.spots.Spot.{Spot};
 ghost use Rattle.strm_types.specs.Cells.{plain};
@@ -12,14 +13,14 @@ ghost use Rattle.strm_types.specs.Output.{made_for, space, told_for};
 ghost use Rattle.strm_types.specs.OutputTurns.{output_dir};
 ghost use Rattle.strm_frame.specs.Hands.{AreIn, HasRoom};
 ghost use Rattle.strm_ldterm.specs.Does.{Proceeds};
+ghost use Rattle.strm_ldterm.specs.FreeBefore.{blocks_grown};
 ghost use Rattle.strm_ldterm.specs.Posting.{PoursAs, bytes_given, is_printed, poured};
 ghost use Rattle.strm_ldterm.specs.Stands.{IsHeld, keeps, ldterm_in};
 
 use crate::beginning::next_byte;
-use crate::echoes::RUN_MAX;
 use crate::flushing::direction_at;
 use crate::ldterm::Ldterm;
-use crate::pasting::{mark, take_front};
+use crate::pasting::{mark, run_most, take_front};
 use crate::posts::{moved_on, post};
 use crate::serving::are_few;
 use crate::typing::gather;
@@ -116,7 +117,8 @@ fn post_byte<B: Blocks>(ldterm: &mut Ldterm<B::Mp>, store: &mut B, here: Spot, t
     ldterm.column = posted.column;
 }
 
-// Bytes that go out as themselves, as many as stand at the front of the first block of the message in work.
+// Bytes that go out as themselves, as many as stand at the front of the first block of the message in work. There are some only where each
+// of them begins with `STOP_BLOCKS` blocks of each kind free.
 fn post_run<B: Blocks>(ldterm: &mut Ldterm<B::Mp>, store: &mut B, odd: &[bool; 256]) -> usize
     requires held { IsHeld B.name (B.value store.old) ldterm.old }
     requires kept { AreIn (B.value store.old) (λ _. 0) (keeps B.name ldterm.old) }
@@ -127,9 +129,12 @@ fn post_run<B: Blocks>(ldterm: &mut Ldterm<B::Mp>, store: &mut B, odd: &[bool; 2
         Proceeds B.name s (B.value store.new) ldterm.old ldterm.new 1 [] [] f f
         (poured here result (ldterm_in B.name s ldterm.old)) }
     ensures within { result ≤ length (cells_left (ldterm_in B.name (B.value store.old) ldterm.old)) }
+    ensures begun { (here : Spot) (byte : ℕ) → let p = ldterm_in B.name (B.value store.old) ldterm.old in
+        byte < result → HasRoom (B.value store.old) (STOP_BLOCKS + blocks_grown p (poured here byte p).state) }
 {
     let column = ldterm.column;
-    let front = take_front(ldterm, store, odd, RUN_MAX);
+    let most = run_most(store);
+    let front = take_front(ldterm, store, odd, most);
     let run = front.as_slice();
     if run.is_empty() {
         return 0;

@@ -244,9 +244,9 @@ fn serve_input<B: Blocks>(
 
 /// Calls the service procedure of its queue of a way: `srv(9E)`. On the write queue M_DATA goes out byte by byte under OPOST, and all else
 /// goes down whole. On the read queue M_DATA is treated byte by byte, and all else goes up whole. `again` is for one more call in the same turn
-/// of the read queue, once all is delivered that the last one sent: a call ends where something is sent. It stops within the message only
-/// where, before a byte begins, fewer than `STOP_BLOCKS` blocks of some kind are free; the rest of the message goes back to the
-/// front of its queue then. The cost is in proportion to the bytes that are treated, and a step for each block of the message.
+/// of the read queue, once all is delivered that the last one sent: a call ends where something is sent. It begins a byte only where
+/// `STOP_BLOCKS` blocks of each kind are free, and stops within the message only where, before a byte begins, they aren't; the rest of
+/// the message goes back to the front of its queue then. The cost is in proportion to the bytes that are treated, and a step for each block of the message.
 pub fn serve<B: Blocks>(
     ldterm: &mut Ldterm<B::Mp>,
     store: &mut B,

@@ -148,19 +148,21 @@ push s ldterm
 write s "ab\n"
   ok 3
 turn s.ldterm.w
-  ok 2
+  ok 1
 show s
-  show s head.r 0 0 ldterm.r 0 0 ldterm.w 1 1 drv.w 1 2
+  show s head.r 0 0 ldterm.r 0 0 ldterm.w 1 2 drv.w 1 1
 turn s.ldterm.w
   err ENOSR
 turn s.drv.w
-  ok 2
-read m 9
-  data 2 "ab"
-turn s.ldterm.w
   ok 1
+read m 9
+  data 1 "a"
 run 9
-  ran 1
+  ran 2
+read m 9
+  data 1 "b"
+run 9
+  ran 2
 read m 9
   data 2 "\r\n"
 "#,

@@ -189,7 +189,7 @@ const SHORT_AT_7: ScriptEnd = ScriptEnd {
 };
 
 /// Turns where few blocks are free.
-pub const FEW_BLOCKS: [Scene; 5] = [
+pub const FEW_BLOCKS: [Scene; 6] = [
     (
         "A turn stops within its message where too few blocks are left, and the next one goes on",
         SHORT_AT_6,
@@ -212,7 +212,11 @@ flush s w
 run 50
   ran 4
 read m 9
-  data 2 "^A"
+  data 1 "^"
+run 50
+  ran 2
+read m 9
+  data 1 "A"
 write m "\n"
   ok 1
 run 50
@@ -283,9 +287,36 @@ read m 9
 "#,
     ),
     (
-        "Plain bytes are treated together, and the turn doesn't stop between them",
-        WELL,
+        "A turn stops between two plain bytes too, and once the echo is flushed the next one goes on",
+        SHORT_AT_7,
         r#"open 33
+  ok
+unlock
+  ok
+slave
+  ok
+push s ptem
+  ok
+push s ldterm
+  ok
+write m "ab"
+  ok 2
+run 50
+  ran 2
+turn s.ldterm.w
+  err ENOSR
+flush s w
+  ok
+run 50
+  ran 4
+read m 10
+  data 1 "b"
+"#,
+    ),
+    (
+        "Where each of them begins with blocks enough, plain bytes are treated in one turn",
+        WELL,
+        r#"open 35
   ok
 unlock
   ok

@@ -1,7 +1,7 @@
 -- A block at a time.
 use Rattle.std.proofs.Common.{◌≡◌, ◌<◌, length, arith}
 use Rattle.strm_blocks.specs.Blocks.{in_hand}
-use Rattle.strm_ldterm.proofs.Skipped.{skips-more, skipped-none}
+use Rattle.strm_ldterm.proofs.Skipped.{skips-more, skipped-front, skipped-none}
 use Rattle.strm_ldterm.proofs.beginning.skip_empty.Goals as goal
 
 pub loop-preserved : goal.loop-preserved
@@ -21,3 +21,11 @@ returns-clause-shown g c = λ none.
     let single : length (in_hand t j) ≡ 1 =
     let l = c.loop.invariant.left in let n = c.blocks-end.ensures.count in let k = c.loop-test.false in let some = c.loop.invariant.became.is.chain.some in omega arith in
     skipped-none s t (g.B.Blocks.name c.args.message) j c.loop.invariant.became single none
+
+pub returns-clause-front : goal.returns-clause-front
+returns-clause-front g c =
+    let t = g.B.Blocks.value c.loop.store in
+    let j = g.B.Blocks.name c.loop.message in
+    let single : length (in_hand t j) ≡ 1 =
+    let l = c.loop.invariant.left in let n = c.blocks-end.ensures.count in let k = c.loop-test.false in let some = c.loop.invariant.became.is.chain.some in omega arith in
+    skipped-front t j single

@@ -3,9 +3,10 @@ use Rattle.std.proofs.Common.{ℕ, [], length, sym, ap, ◌∙◌}
 use Rattle.std.specs.Prelude.{None, is_some}
 use Rattle.strm_types.specs.Input.{cells_left}
 use Rattle.strm_types.specs.Ldterms as ldterms
+use Rattle.strm_ldterm.specs.Bounds.{passes_whole}
 use Rattle.strm_ldterm.specs.Outgone.{output_of}
 use Rattle.strm_ldterm.specs.Stands.{ldterm_in}
-use Rattle.strm_ldterm.proofs.Calls.{kept-some}
+use Rattle.strm_ldterm.proofs.Bytes.{kept-some}
 use Rattle.strm_ldterm.proofs.Joining.{still-kept}
 use Rattle.strm_ldterm.proofs.Outgone.{out-serves}
 use Rattle.strm_ldterm.proofs.Turned.{down≢up, down-serves, whole-serves}
@@ -53,6 +54,7 @@ returns-in-Whole g c = λ again.
     whole-serves name s s1 c.args.here x x1 again c.args.told.now c.of_whole.result c.in-Whole.passed.sent c.in-Whole.passed.bytes (output_of name s s1 c.args.here x x1 None)
     c.of_whole.ensures.notes c.of_whole.ensures.sent c.of_whole.ensures.bytes c.of_whole.ensures.stopped c.of_whole.ensures.again
     (down-serves c.args.here again None (ldterm_in name s x) c.requires.way) (whole.passes None c.args.told.now) (whole.size None) (whole.again None) (λ up. absurd (down≢up (sym c.requires.way ∙ up)))
+    (ap (λ w. passes_whole w again (ldterm_in name s x)) c.requires.way ∙ whole.whole again)
 
 pub returns-in-InWork : goal.returns-in-InWork
 returns-in-InWork g c = λ again.

@@ -7,7 +7,7 @@ use Rattle.strm_blocks.specs.Blocks.{block_at, in_hand}
 use Rattle.strm_frame.specs.Outboxes.{message_in}
 use Rattle.strm_ldterm.specs.Becoming.{Becomes}
 use Rattle.strm_ldterm.proofs.Runs.{take-twice}
-use Rattle.strm_ldterm.proofs.Skipped.{becomes-both, front-becomes, front-is}
+use Rattle.strm_ldterm.proofs.Skipped.{becomes-both, front-becomes, front-in, front-is}
 use Rattle.strm_ldterm.proofs.pasting.take_plain.Goals as goal
 
 pub returns-clause-became : goal.returns-clause-became
@@ -21,10 +21,24 @@ returns-clause-became g c =
     let b = c.skip_empty-message.ensures.became in
     let run = c.try_extend_from_slice.new.self.items in
     let items : run ≡ take n (block_at 0 (in_hand t j)).bytes = c.in-Ok.ensures.ok ∙ ap (λ l. l ++ take n c.bytes_at-bytes.result.now) c.new-run.ensures ∙ ap (take n) c.bytes_at-bytes.ensures.bytes in
-    becomes-both s t u i j j (message_in s i) (left_of (drop (length run) (cells_of (message_in s i))) (message_in s i)) c.audit.ensures b
+    let v = g.B.Blocks.value c.skip_empty.new.store in
+    let k = g.B.Blocks.name c.skip_empty.result in
+    let left = left_of (drop (length run) (cells_of (message_in s i))) (message_in s i) in
+    let taken = becomes-both s t u i j j (message_in s i) left c.audit.ensures b
     (subst (λ (m : Message ℕ). Becomes t u j j (left_of (drop (length run) (cells_of m)) m)) b.shows
     (subst (λ l. Becomes t u j j (left_of (drop (length l) (cells_of (message_in t j))) (message_in t j))) (sym items)
-    (front-becomes t u j n c.skip_empty-message.ensures.in_hand b.is c.trim_head.ensures)))
+    (front-becomes t u j n c.skip_empty-message.ensures.in_hand b.is c.trim_head.ensures))) in
+    subst (Becomes s v i k) taken.shows (becomes-both s u v i j k left (message_in u j) c.audit-2.ensures taken c.skip_empty.ensures.became)
+
+pub skip_empty-requires-clause-in_hand : goal.skip_empty-requires-clause-in_hand
+skip_empty-requires-clause-in_hand g c =
+    front-in (g.B.Blocks.value c.skip_empty-message.new.store) (g.B.Blocks.value c.trim_head.new.self) (g.B.Blocks.name c.skip_empty-message.result) c.plain_len-taken.result
+    c.skip_empty-message.ensures.in_hand c.skip_empty-message.ensures.became.is c.trim_head.ensures
+
+pub skip_empty-requires-clause-is : goal.skip_empty-requires-clause-is
+skip_empty-requires-clause-is g c =
+    (front-becomes (g.B.Blocks.value c.skip_empty-message.new.store) (g.B.Blocks.value c.trim_head.new.self) (g.B.Blocks.name c.skip_empty-message.result) c.plain_len-taken.result
+    c.skip_empty-message.ensures.in_hand c.skip_empty-message.ensures.became.is c.trim_head.ensures).is
 
 pub returns-clause-front : goal.returns-clause-front
 returns-clause-front g c =

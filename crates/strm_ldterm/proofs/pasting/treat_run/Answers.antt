@@ -8,7 +8,7 @@ use Rattle.strm_ldterm.specs.Does.{Proceeds}
 use Rattle.strm_ldterm.specs.PlainRuns.{is_plain}
 use Rattle.strm_ldterm.specs.Stands.{ldterm_in}
 use Rattle.strm_ldterm.proofs.Joining.{still-kept}
-use Rattle.strm_ldterm.proofs.RunsDone.{all-plain, front-short, line-room, no-run, run-treated}
+use Rattle.strm_ldterm.proofs.RunsDone.{all-plain, front-short, line-room, no-run, run-begun, run-treated}
 use Rattle.strm_ldterm.proofs.Skipped.{no-bytes}
 use Rattle.strm_ldterm.proofs.pasting.treat_run.Goals as goal
 
@@ -93,3 +93,22 @@ pub returns-clause-within : goal.returns-clause-within
 returns-clause-within g c =
     let cells = cells_left (ldterm_in g.B.Blocks.name (g.B.Blocks.value c.args.store.now) c.args.ldterm.now) in
     front-short c.as_slice-run.result.now cells (subst (λ l. cells ≡ l ++ drop (length l) cells) (sym c.as_slice-run.ensures.value) c.take_front-front.ensures.front)
+
+pub returns-then-is_empty-clause-begun : goal.returns-then-is_empty-clause-begun
+returns-then-is_empty-clause-begun g c = λ byte less. absurd (omega arith)
+
+pub returns-clause-begun : goal.returns-clause-begun
+returns-clause-begun g c = λ byte within.
+    let s = g.B.Blocks.value c.args.store.now in
+    let x = c.args.ldterm.now in
+    let run = c.as_slice-run.result.now in
+    let front = c.take_front-front.ensures in
+    let most = c.run_room-most.result in
+    let is = sym c.as_slice-run.ensures.value in
+    let cells = cells_left (ldterm_in g.B.Blocks.name s x) in
+    let some : 0 < length run = (let e = sym c.is_empty.ensures ∙ c.if-is_empty.false in grind (arith, nat_tests)) in
+    let few : length run ≤ most = subst (λ l. length l ≤ most) is front.few in
+    let short = c.run_room-most.ensures.few in
+    run-begun g.B.Blocks.name s x run most c.requires.held c.requires.stage few (subst (λ l. cells ≡ l ++ drop (length l) cells) is front.front)
+    (subst (AllByRecursion (λ b. is_plain x.termios b ≡ true)) is (all-plain x.termios c.odd_bytes-odd.result c.take_front-front.result.items c.odd_bytes-odd.ensures front.plain)) (c.run_room-most.ensures.may (omega arith))
+    c.args.here (omega arith) (c.run_room-most.ensures.many (omega arith)) byte within

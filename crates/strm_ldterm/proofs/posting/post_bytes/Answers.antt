@@ -3,9 +3,9 @@ use Rattle.std.proofs.Common.{◌≡◌, ◌≤◌, ◌-◌, true, [], sym, subs
 use Rattle.strm_types.specs.declared.limits.TheConstants.{STOP_BLOCKS}
 use Rattle.strm_frame.specs.Serves.{least_free}
 use Rattle.strm_ldterm.specs.Posting.{is_printed}
-use Rattle.strm_ldterm.proofs.Calls.{lower}
+use Rattle.strm_ldterm.proofs.Bytes.{are-many, lower}
 use Rattle.strm_ldterm.proofs.Joining.{still-kept}
-use Rattle.strm_ldterm.proofs.Poured.{pours-are, pours-more, pours-none, pours-some, pours-termios}
+use Rattle.strm_ldterm.proofs.Poured.{byte-begins, pours-are, pours-more, pours-none, pours-some, pours-termios}
 use Rattle.strm_ldterm.proofs.posting.post_bytes.Goals as goal
 use Rattle.strm_ldterm.proofs.posting.post_bytes.Goals.{then-left-eq0-via-then-left-eq0, then-left-eq0-via-else-left-eq0+then-are_few}
 
@@ -44,10 +44,11 @@ returns-then-left-eq0 g c =
     let l = pours-are name s t c.args.here c.args.ldterm.now c.loop-left.ldterm c.args.bytes c.loop-left.left c.args.told.now c.loop-left.told c.requires.work c.requires.bytes c.loop-left.invariant in
     let within : c.post_run-run.result ≤ c.loop-left.left = (let w = c.post_run-run.ensures.within in omega arith) in
     let r = pours-more name s t c.args.here c.args.ldterm.now c.loop-left.ldterm c.args.bytes c.loop-left.left c.args.told.now c.loop-left.told c.requires.work c.requires.bytes c.loop-left.invariant
-    u c.post_run-run.new.ldterm c.post_run-run.result 1 c.loop-left.told c.audit.ensures within (c.post_run-run.ensures.does c.args.here c.loop-left.told) in
+    u c.post_run-run.new.ldterm c.post_run-run.result 1 c.loop-left.told c.audit.ensures within (c.post_run-run.ensures.does c.args.here c.loop-left.told) (c.post_run-run.ensures.begun c.args.here) in
     record {
       fewer = r.fewer;
       does = r.does;
+      begun = r.begun;
       stops = elim c.then-left-eq0.branch [
         | then-left-eq0-via-then-left-eq0 w ↦ λ some. absurd (let none = w.if-left-eq0.true in omega arith)
         | then-left-eq0-via-else-left-eq0+then-are_few w ↦ λ some. lower (least_free u) STOP_BLOCKS (sym w.are_few-else-left-eq0.ensures ∙ w.if-are_few.true)
@@ -74,7 +75,7 @@ post_byte-requires-clause-some g c =
     let l = pours-are name s t c.args.here c.args.ldterm.now c.loop-left.ldterm c.args.bytes c.loop-left.left c.args.told.now c.loop-left.told c.requires.work c.requires.bytes c.loop-left.invariant in
     let within : c.post_run-run.result ≤ c.loop-left.left = (let w = c.post_run-run.ensures.within in omega arith) in
     let r = pours-more name s t c.args.here c.args.ldterm.now c.loop-left.ldterm c.args.bytes c.loop-left.left c.args.told.now c.loop-left.told c.requires.work c.requires.bytes c.loop-left.invariant
-    (g.B.Blocks.value c.post_run-run.new.store) c.post_run-run.new.ldterm c.post_run-run.result 1 c.loop-left.told c.audit.ensures within (c.post_run-run.ensures.does c.args.here c.loop-left.told) in
+    (g.B.Blocks.value c.post_run-run.new.store) c.post_run-run.new.ldterm c.post_run-run.result 1 c.loop-left.told c.audit.ensures within (c.post_run-run.ensures.does c.args.here c.loop-left.told) (c.post_run-run.ensures.begun c.args.here) in
     let e = pours-are name s (g.B.Blocks.value c.post_run-run.new.store) c.args.here c.args.ldterm.now c.post_run-run.new.ldterm c.args.bytes (c.loop-left.left - c.post_run-run.result) c.args.told.now c.loop-left.told c.requires.work c.requires.bytes r in
     let some = c.if-left-eq0.false in
     omega arith
@@ -87,7 +88,8 @@ loop-left-preserved g c =
     let l = pours-are name s t c.args.here c.args.ldterm.now c.loop-left.ldterm c.args.bytes c.loop-left.left c.args.told.now c.loop-left.told c.requires.work c.requires.bytes c.loop-left.invariant in
     let within : c.post_run-run.result ≤ c.loop-left.left = (let w = c.post_run-run.ensures.within in omega arith) in
     let r = pours-more name s t c.args.here c.args.ldterm.now c.loop-left.ldterm c.args.bytes c.loop-left.left c.args.told.now c.loop-left.told c.requires.work c.requires.bytes c.loop-left.invariant
-    (g.B.Blocks.value c.post_run-run.new.store) c.post_run-run.new.ldterm c.post_run-run.result 1 c.loop-left.told c.audit.ensures within (c.post_run-run.ensures.does c.args.here c.loop-left.told) in
+    (g.B.Blocks.value c.post_run-run.new.store) c.post_run-run.new.ldterm c.post_run-run.result 1 c.loop-left.told c.audit.ensures within (c.post_run-run.ensures.does c.args.here c.loop-left.told) (c.post_run-run.ensures.begun c.args.here) in
     let some : 1 ≤ c.loop-left.left - c.post_run-run.result = (let more = c.if-left-eq0.false in omega arith) in
     pours-more name s (g.B.Blocks.value c.post_run-run.new.store) c.args.here c.args.ldterm.now c.post_run-run.new.ldterm c.args.bytes (c.loop-left.left - c.post_run-run.result) c.args.told.now c.loop-left.told c.requires.work c.requires.bytes r
     (g.B.Blocks.value c.post_byte.new.store) c.post_byte.new.ldterm 1 1 c.post_byte.new.told c.audit-in-loop-left.ensures some c.post_byte.ensures
+    (byte-begins name c.args.here (g.B.Blocks.value c.post_run-run.new.store) c.post_run-run.new.ldterm (are-many (g.B.Blocks.value c.post_run-run.new.store) (sym c.are_few-else-left-eq0.ensures ∙ c.if-are_few.false)))

@@ -9,7 +9,7 @@ use Rattle.strm_ldterm.specs.Does.{Proceeds}
 use Rattle.strm_ldterm.specs.Posting.{is_printed}
 use Rattle.strm_ldterm.specs.Stands.{ldterm_in}
 use Rattle.strm_ldterm.proofs.Begun.{room-stays}
-use Rattle.strm_ldterm.proofs.Poured.{pours-run, pours-zero}
+use Rattle.strm_ldterm.proofs.Poured.{pours-run, pours-zero, run-begins}
 use Rattle.strm_ldterm.proofs.Pouring.{all-printed}
 use Rattle.strm_ldterm.proofs.Proceeding.{proceeds-kept}
 use Rattle.strm_ldterm.proofs.RunsDone.{front-short}
@@ -47,7 +47,9 @@ returns-clause-does g c = λ here f.
     let is = sym c.as_slice-run.ensures.value in
     let p = ldterm_in name s x in
     let cells = cells_left p in
-    let few : length run ≤ 256 = subst (λ l. length l ≤ 256) is front.few in
+    let most = c.run_most-most.result in
+    let short : length run ≤ most = subst (λ l. length l ≤ most) is front.few in
+    let few : length run ≤ 256 = (let m = c.run_most-most.ensures.few in omega arith) in
     pours-run name here s s1 (g.B.Blocks.value c.gather.new.store) x x1 c.gather.new.ldterm f f c.audit.ensures run c.moved_on-ldterm.result
     (subst (λ l. cells ≡ l ++ drop (length l) cells) is front.front)
     (subst (λ l. Proceeds name s s1 x x1 0 [] [] f f (sends [] (with_left (drop (length l) cells) p))) is (front.did f))
@@ -58,3 +60,21 @@ pub returns-clause-within : goal.returns-clause-within
 returns-clause-within g c =
     let cells = cells_left (ldterm_in g.B.Blocks.name (g.B.Blocks.value c.args.store.now) c.args.ldterm.now) in
     front-short c.as_slice-run.result.now cells (subst (λ l. cells ≡ l ++ drop (length l) cells) (sym c.as_slice-run.ensures.value) c.take_front-front.ensures.front)
+
+pub returns-then-is_empty-clause-begun : goal.returns-then-is_empty-clause-begun
+returns-then-is_empty-clause-begun g c = λ here byte less. absurd (omega arith)
+
+pub returns-clause-begun : goal.returns-clause-begun
+returns-clause-begun g c = λ here byte within.
+    let s = g.B.Blocks.value c.args.store.now in
+    let x = c.args.ldterm.now in
+    let run = c.as_slice-run.result.now in
+    let front = c.take_front-front.ensures in
+    let is = sym c.as_slice-run.ensures.value in
+    let cells = cells_left (ldterm_in g.B.Blocks.name s x) in
+    let most = c.run_most-most.result in
+    let short : length run ≤ most = subst (λ l. length l ≤ most) is front.few in
+    let few = c.run_most-most.ensures.few in
+    run-begins g.B.Blocks.name here s x run (subst (λ l. cells ≡ l ++ drop (length l) cells) is front.front) c.moved_on-ldterm.ensures.low (omega arith)
+    (subst (AllByRecursion (λ b. is_printed x.termios b ≡ true)) is (all-printed x.termios c.args.odd.now c.take_front-front.result.items c.requires.odd front.plain))
+    (c.run_most-most.ensures.many (omega arith)) byte within

@@ -1,5 +1,6 @@
 use Rattle.std.proofs.Common.{[], false, refl, sym, ap, subst, ◌∙◌, arith}
 use Rattle.std.specs.Prelude.{None}
+use Rattle.strm_ldterm.specs.Bounds.{passes_whole}
 use Rattle.strm_ldterm.specs.Began.{input_of}
 use Rattle.strm_ldterm.specs.Does.{Proceeds}
 use Rattle.strm_ldterm.specs.Stands.{ldterm_in, stage_in}
@@ -38,7 +39,7 @@ returns-in-Empty g c =
     c.of_whole.ensures.notes c.of_whole.ensures.sent c.of_whole.ensures.bytes c.of_whole.ensures.stopped c.of_whole.ensures.again
     (first-serves c.args.here false None (ldterm_in name s x) c.requires.way refl)
     (subst (λ out. Proceeds name s s1 x x1 0 [] out c.args.told.now c.args.told.now (input_of name s s1 c.args.here x x1 None).acted) (sym c.none.ensures) (whole.passes None c.args.told.now))
-    (whole.size None) (whole.again None) (λ up. c.requires.room)
+    (whole.size None) (whole.again None) (λ up. c.requires.room) (ap (λ w. passes_whole w false (ldterm_in name s x)) c.requires.way ∙ whole.whole)
 
 pub returns-in-Whole : goal.returns-in-Whole
 returns-in-Whole g c =
@@ -52,7 +53,7 @@ returns-in-Whole g c =
     whole-serves name s s1 c.args.here x x1 false c.args.told.now done.result c.in-Whole.passed.sent c.in-Whole.passed.bytes (input_of name s s1 c.args.here x x1 None)
     done.ensures.notes done.ensures.sent done.ensures.bytes done.ensures.stopped done.ensures.again
     (first-serves c.args.here false None (ldterm_in name s x) c.requires.way refl)
-    (whole.passes None c.args.told.now) (whole.size None) (whole.again None) (λ up. c.requires.room)
+    (whole.passes None c.args.told.now) (whole.size None) (whole.again None) (λ up. c.requires.room) (ap (λ w. passes_whole w false (ldterm_in name s x)) c.requires.way ∙ whole.whole)
 
 pub returns-in-InWork : goal.returns-in-InWork
 returns-in-InWork g c =

@@ -3,7 +3,8 @@ use Rattle.strm_frame.specs.Outboxes.{sent_of}
 use Rattle.strm_ldterm.specs.Does.{Proceeds}
 use Rattle.strm_ldterm.specs.Stands.{ldterm_in, stage_in}
 use Rattle.strm_ldterm.specs.Turns.{ahead, stages_left}
-use Rattle.strm_ldterm.proofs.Calls.{kept-some, lower, resumed-between, resumed-goes-on, resumed-sends, resumed-short, resumed-work}
+use Rattle.strm_ldterm.proofs.Bytes.{kept-some, lower}
+use Rattle.strm_ldterm.proofs.Calls.{resumed-between, resumed-goes-on, resumed-sends, resumed-short, resumed-work}
 use Rattle.strm_ldterm.proofs.Struck.{some-left}
 use Rattle.strm_ldterm.proofs.serving.treat.Goals as goal
 

@@ -3,7 +3,7 @@ use Rattle.strm_frame.specs.Outboxes.{sent_of}
 use Rattle.strm_types.specs.declared.limits.TheConstants.{STOP_BLOCKS}
 use Rattle.strm_frame.specs.Serves.{least_free}
 use Rattle.strm_ldterm.specs.Called.{RunsInto}
-use Rattle.strm_ldterm.proofs.Calls.{Ran, are-many, lower, notes-fit, ran-left, ran-next, ran-none, ran-run, ran-stage, runs-into}
+use Rattle.strm_ldterm.proofs.Bytes.{Ran, are-many, begun-one, lower, notes-fit, ran-left, ran-next, ran-none, ran-run, ran-stage, runs-into}
 use Rattle.strm_ldterm.proofs.Joining.{still-kept, stays-so}
 use Rattle.strm_ldterm.proofs.Struck.{some-left}
 use Rattle.strm_ldterm.proofs.serving.treat_bytes.Goals as goal
@@ -48,10 +48,11 @@ pub returns-then-left-eq0 : goal.returns-then-left-eq0
 returns-then-left-eq0 g c =
     let r = (ran-run g.B.Blocks.name (g.B.Blocks.value c.args.store.now) (g.B.Blocks.value c.loop-left.store) c.args.ldterm.now c.loop-left.ldterm c.args.here c.args.bytes c.loop-left.left c.loop-left.notes.items c.args.told.now c.loop-left.told
     c.requires.stage c.requires.bytes c.loop-left.invariant (g.B.Blocks.value c.treat_run-ran.new.store) c.treat_run-ran.new.ldterm c.treat_run-ran.result.bytes c.treat_run-ran.result.notes.items c.join-notes.result.items c.treat_run-ran.new.told
-    c.audit.ensures c.treat_run-ran.ensures.within c.join-notes.ensures c.treat_run-ran.ensures.does (are-many (g.B.Blocks.value c.loop-left.store) (sym c.are_few.ensures ∙ c.if-not-are_few.true))) in
+    c.audit.ensures c.treat_run-ran.ensures.within c.join-notes.ensures c.treat_run-ran.ensures.does (are-many (g.B.Blocks.value c.loop-left.store) (sym c.are_few.ensures ∙ c.if-not-are_few.true)) c.treat_run-ran.ensures.begun) in
     record {
       fewer = r.fewer;
       does = r.does;
+      begun = r.begun;
       room = r.room;
       stops = elim c.then-left-eq0.branch [
         | then-left-eq0-via-then-left-eq0 w ↦ λ some. absurd (let none = w.if-left-eq0.true in omega arith)
@@ -63,14 +64,14 @@ pub treat_byte-more-requires-clause-held : goal.treat_byte-more-requires-clause-
 treat_byte-more-requires-clause-held g c =
     let r = (ran-run g.B.Blocks.name (g.B.Blocks.value c.args.store.now) (g.B.Blocks.value c.loop-left.store) c.args.ldterm.now c.loop-left.ldterm c.args.here c.args.bytes c.loop-left.left c.loop-left.notes.items c.args.told.now c.loop-left.told
     c.requires.stage c.requires.bytes c.loop-left.invariant (g.B.Blocks.value c.treat_run-ran.new.store) c.treat_run-ran.new.ldterm c.treat_run-ran.result.bytes c.treat_run-ran.result.notes.items c.join-notes.result.items c.treat_run-ran.new.told
-    c.audit.ensures c.treat_run-ran.ensures.within c.join-notes.ensures c.treat_run-ran.ensures.does (are-many (g.B.Blocks.value c.loop-left.store) (sym c.are_few.ensures ∙ c.if-not-are_few.true))) in
+    c.audit.ensures c.treat_run-ran.ensures.within c.join-notes.ensures c.treat_run-ran.ensures.does (are-many (g.B.Blocks.value c.loop-left.store) (sym c.are_few.ensures ∙ c.if-not-are_few.true)) c.treat_run-ran.ensures.begun) in
     r.does.held
 
 pub treat_byte-more-requires-clause-kept : goal.treat_byte-more-requires-clause-kept
 treat_byte-more-requires-clause-kept g c =
     let r = (ran-run g.B.Blocks.name (g.B.Blocks.value c.args.store.now) (g.B.Blocks.value c.loop-left.store) c.args.ldterm.now c.loop-left.ldterm c.args.here c.args.bytes c.loop-left.left c.loop-left.notes.items c.args.told.now c.loop-left.told
     c.requires.stage c.requires.bytes c.loop-left.invariant (g.B.Blocks.value c.treat_run-ran.new.store) c.treat_run-ran.new.ldterm c.treat_run-ran.result.bytes c.treat_run-ran.result.notes.items c.join-notes.result.items c.treat_run-ran.new.told
-    c.audit.ensures c.treat_run-ran.ensures.within c.join-notes.ensures c.treat_run-ran.ensures.does (are-many (g.B.Blocks.value c.loop-left.store) (sym c.are_few.ensures ∙ c.if-not-are_few.true))) in
+    c.audit.ensures c.treat_run-ran.ensures.within c.join-notes.ensures c.treat_run-ran.ensures.does (are-many (g.B.Blocks.value c.loop-left.store) (sym c.are_few.ensures ∙ c.if-not-are_few.true)) c.treat_run-ran.ensures.begun) in
     still-kept g.B.Blocks.name (g.B.Blocks.value c.args.store.now) (g.B.Blocks.value c.treat_run-ran.new.store) c.args.ldterm.now c.treat_run-ran.new.ldterm _ c.join-notes.result.items c.args.told.now c.treat_run-ran.new.told _ c.audit-in-loop-left.ensures
     r.does c.requires.kept
 
@@ -78,7 +79,7 @@ pub treat_byte-more-requires-clause-stage : goal.treat_byte-more-requires-clause
 treat_byte-more-requires-clause-stage g c =
     let r = (ran-run g.B.Blocks.name (g.B.Blocks.value c.args.store.now) (g.B.Blocks.value c.loop-left.store) c.args.ldterm.now c.loop-left.ldterm c.args.here c.args.bytes c.loop-left.left c.loop-left.notes.items c.args.told.now c.loop-left.told
     c.requires.stage c.requires.bytes c.loop-left.invariant (g.B.Blocks.value c.treat_run-ran.new.store) c.treat_run-ran.new.ldterm c.treat_run-ran.result.bytes c.treat_run-ran.result.notes.items c.join-notes.result.items c.treat_run-ran.new.told
-    c.audit.ensures c.treat_run-ran.ensures.within c.join-notes.ensures c.treat_run-ran.ensures.does (are-many (g.B.Blocks.value c.loop-left.store) (sym c.are_few.ensures ∙ c.if-not-are_few.true))) in
+    c.audit.ensures c.treat_run-ran.ensures.within c.join-notes.ensures c.treat_run-ran.ensures.does (are-many (g.B.Blocks.value c.loop-left.store) (sym c.are_few.ensures ∙ c.if-not-are_few.true)) c.treat_run-ran.ensures.begun) in
     ran-stage g.B.Blocks.name (g.B.Blocks.value c.args.store.now) (g.B.Blocks.value c.treat_run-ran.new.store) c.args.ldterm.now c.treat_run-ran.new.ldterm c.args.here c.args.bytes (c.loop-left.left - c.treat_run-ran.result.bytes) c.join-notes.result.items c.args.told.now c.treat_run-ran.new.told
     c.requires.stage c.requires.bytes r
 
@@ -86,7 +87,7 @@ pub treat_byte-more-requires-clause-some : goal.treat_byte-more-requires-clause-
 treat_byte-more-requires-clause-some g c =
     let r = (ran-run g.B.Blocks.name (g.B.Blocks.value c.args.store.now) (g.B.Blocks.value c.loop-left.store) c.args.ldterm.now c.loop-left.ldterm c.args.here c.args.bytes c.loop-left.left c.loop-left.notes.items c.args.told.now c.loop-left.told
     c.requires.stage c.requires.bytes c.loop-left.invariant (g.B.Blocks.value c.treat_run-ran.new.store) c.treat_run-ran.new.ldterm c.treat_run-ran.result.bytes c.treat_run-ran.result.notes.items c.join-notes.result.items c.treat_run-ran.new.told
-    c.audit.ensures c.treat_run-ran.ensures.within c.join-notes.ensures c.treat_run-ran.ensures.does (are-many (g.B.Blocks.value c.loop-left.store) (sym c.are_few.ensures ∙ c.if-not-are_few.true))) in
+    c.audit.ensures c.treat_run-ran.ensures.within c.join-notes.ensures c.treat_run-ran.ensures.does (are-many (g.B.Blocks.value c.loop-left.store) (sym c.are_few.ensures ∙ c.if-not-are_few.true)) c.treat_run-ran.ensures.begun) in
     let l = ran-left g.B.Blocks.name (g.B.Blocks.value c.args.store.now) (g.B.Blocks.value c.treat_run-ran.new.store) c.args.ldterm.now c.treat_run-ran.new.ldterm c.args.here c.args.bytes (c.loop-left.left - c.treat_run-ran.result.bytes) c.join-notes.result.items c.args.told.now c.treat_run-ran.new.told
     c.requires.stage c.requires.bytes r in
     let some = c.if-left-eq0.false in
@@ -96,7 +97,7 @@ pub join-notes-requires-in-loop-left : goal.join-notes-requires-in-loop-left
 join-notes-requires-in-loop-left g c =
     let r = (ran-run g.B.Blocks.name (g.B.Blocks.value c.args.store.now) (g.B.Blocks.value c.loop-left.store) c.args.ldterm.now c.loop-left.ldterm c.args.here c.args.bytes c.loop-left.left c.loop-left.notes.items c.args.told.now c.loop-left.told
     c.requires.stage c.requires.bytes c.loop-left.invariant (g.B.Blocks.value c.treat_run-ran.new.store) c.treat_run-ran.new.ldterm c.treat_run-ran.result.bytes c.treat_run-ran.result.notes.items c.join-notes.result.items c.treat_run-ran.new.told
-    c.audit.ensures c.treat_run-ran.ensures.within c.join-notes.ensures c.treat_run-ran.ensures.does (are-many (g.B.Blocks.value c.loop-left.store) (sym c.are_few.ensures ∙ c.if-not-are_few.true))) in
+    c.audit.ensures c.treat_run-ran.ensures.within c.join-notes.ensures c.treat_run-ran.ensures.does (are-many (g.B.Blocks.value c.loop-left.store) (sym c.are_few.ensures ∙ c.if-not-are_few.true)) c.treat_run-ran.ensures.begun) in
     let some = c.if-left-eq0.false in
     notes-fit g.B.Blocks.name (g.B.Blocks.value c.args.store.now) (g.B.Blocks.value c.treat_run-ran.new.store) c.args.ldterm.now c.treat_run-ran.new.ldterm c.args.here c.args.bytes (c.loop-left.left - c.treat_run-ran.result.bytes) c.join-notes.result.items c.args.told.now c.treat_run-ran.new.told
     c.requires.stage c.requires.bytes r
@@ -106,7 +107,7 @@ pub returns-then-not-is_empty : goal.returns-then-not-is_empty
 returns-then-not-is_empty g c =
     let r = (ran-run g.B.Blocks.name (g.B.Blocks.value c.args.store.now) (g.B.Blocks.value c.loop-left.store) c.args.ldterm.now c.loop-left.ldterm c.args.here c.args.bytes c.loop-left.left c.loop-left.notes.items c.args.told.now c.loop-left.told
     c.requires.stage c.requires.bytes c.loop-left.invariant (g.B.Blocks.value c.treat_run-ran.new.store) c.treat_run-ran.new.ldterm c.treat_run-ran.result.bytes c.treat_run-ran.result.notes.items c.join-notes.result.items c.treat_run-ran.new.told
-    c.audit.ensures c.treat_run-ran.ensures.within c.join-notes.ensures c.treat_run-ran.ensures.does (are-many (g.B.Blocks.value c.loop-left.store) (sym c.are_few.ensures ∙ c.if-not-are_few.true))) in
+    c.audit.ensures c.treat_run-ran.ensures.within c.join-notes.ensures c.treat_run-ran.ensures.does (are-many (g.B.Blocks.value c.loop-left.store) (sym c.are_few.ensures ∙ c.if-not-are_few.true)) c.treat_run-ran.ensures.begun) in
     let sent = sent_of c.treat_byte-more.result.sent in
     let some = some-left sent c.is_empty.result c.if-not-is_empty.true c.is_empty.ensures in
     let more = c.if-left-eq0.false in
@@ -114,25 +115,29 @@ returns-then-not-is_empty g c =
     (sym c.join-notes-in-loop-left.ensures)
     (runs-into g.B.Blocks.name (g.B.Blocks.value c.args.store.now) (g.B.Blocks.value c.treat_run-ran.new.store) c.args.ldterm.now c.treat_run-ran.new.ldterm c.args.here c.args.bytes (c.loop-left.left - c.treat_run-ran.result.bytes) c.join-notes.result.items c.args.told.now c.treat_run-ran.new.told
     c.requires.stage c.requires.bytes r
-    (g.B.Blocks.value c.treat_byte-more.new.store) c.treat_byte-more.new.ldterm c.treat_byte-more.result.notes.items (sent_of c.treat_byte-more.result.sent) c.treat_byte-more.new.told (omega arith) c.treat_byte-more.ensures.does c.audit-in-loop-left.ensures some (c.treat_byte-more.ensures.leaves some))
+    (g.B.Blocks.value c.treat_byte-more.new.store) c.treat_byte-more.new.ldterm c.treat_byte-more.result.notes.items (sent_of c.treat_byte-more.result.sent) c.treat_byte-more.new.told (omega arith) (are-many (g.B.Blocks.value c.treat_run-ran.new.store) (sym c.are_few-else-left-eq0.ensures ∙ c.if-are_few.false)) c.treat_byte-more.ensures.does c.audit-in-loop-left.ensures some (c.treat_byte-more.ensures.leaves some))
 
 pub loop-left-preserved : goal.loop-left-preserved
 loop-left-preserved g c =
     let r = (ran-run g.B.Blocks.name (g.B.Blocks.value c.args.store.now) (g.B.Blocks.value c.loop-left.store) c.args.ldterm.now c.loop-left.ldterm c.args.here c.args.bytes c.loop-left.left c.loop-left.notes.items c.args.told.now c.loop-left.told
     c.requires.stage c.requires.bytes c.loop-left.invariant (g.B.Blocks.value c.treat_run-ran.new.store) c.treat_run-ran.new.ldterm c.treat_run-ran.result.bytes c.treat_run-ran.result.notes.items c.join-notes.result.items c.treat_run-ran.new.told
-    c.audit.ensures c.treat_run-ran.ensures.within c.join-notes.ensures c.treat_run-ran.ensures.does (are-many (g.B.Blocks.value c.loop-left.store) (sym c.are_few.ensures ∙ c.if-not-are_few.true))) in
+    c.audit.ensures c.treat_run-ran.ensures.within c.join-notes.ensures c.treat_run-ran.ensures.does (are-many (g.B.Blocks.value c.loop-left.store) (sym c.are_few.ensures ∙ c.if-not-are_few.true)) c.treat_run-ran.ensures.begun) in
     let more = c.if-left-eq0.false in
+    let many = are-many (g.B.Blocks.value c.treat_run-ran.new.store) (sym c.are_few-else-left-eq0.ensures ∙ c.if-are_few.false) in
     subst (λ notes. Ran g.B.Blocks.name (g.B.Blocks.value c.args.store.now) (g.B.Blocks.value c.treat_byte-more.new.store) c.args.here c.args.ldterm.now c.treat_byte-more.new.ldterm c.args.bytes ((c.loop-left.left - c.treat_run-ran.result.bytes) - 1) notes c.args.told.now c.treat_byte-more.new.told)
     (sym c.join-notes-in-loop-left.ensures)
     (ran-next g.B.Blocks.name (g.B.Blocks.value c.args.store.now) (g.B.Blocks.value c.treat_run-ran.new.store) c.args.ldterm.now c.treat_run-ran.new.ldterm c.args.here c.args.bytes (c.loop-left.left - c.treat_run-ran.result.bytes) c.join-notes.result.items c.args.told.now c.treat_run-ran.new.told
     c.requires.stage c.requires.bytes r
     (g.B.Blocks.value c.treat_byte-more.new.store) c.treat_byte-more.new.ldterm 27 1 c.treat_byte-more.result.notes.items (sent_of c.treat_byte-more.result.sent) c.treat_byte-more.new.told (omega arith) c.treat_byte-more.ensures.does c.audit-in-loop-left.ensures
-    (c.if-not-is_empty.ensures.0 refl) (are-many (g.B.Blocks.value c.treat_run-ran.new.store) (sym c.are_few-else-left-eq0.ensures ∙ c.if-are_few.false)) (omega arith))
+    (c.if-not-is_empty.ensures.0 refl) many (omega arith)
+    (begun-one g.B.Blocks.name (g.B.Blocks.value c.args.store.now) (g.B.Blocks.value c.treat_run-ran.new.store) c.args.ldterm.now c.treat_run-ran.new.ldterm c.args.here c.args.bytes (c.loop-left.left - c.treat_run-ran.result.bytes) c.join-notes.result.items c.args.told.now c.treat_run-ran.new.told
+    c.requires.stage c.requires.bytes r many))
 
 pub returns : goal.returns
 returns g c = record {
   fewer = c.loop-left.invariant.fewer;
   does = c.loop-left.invariant.does;
+  begun = c.loop-left.invariant.begun;
   room = c.loop-left.invariant.room;
   stops = elim c.loop-left-test.branch [
     | then-loop-left-test+else-not-are_few w ↦ λ some. lower (least_free (g.B.Blocks.value c.loop-left.store)) STOP_BLOCKS (sym w.are_few.ensures ∙ w.if-not-are_few.false)

@@ -1,4 +1,4 @@
-use Rattle.strm_ldterm.proofs.Calls.{Ran}
+use Rattle.strm_ldterm.proofs.Bytes.{Ran}
 use Rattle.strm_ldterm.proofs.serving.treat_bytes.Given as goal
 
 abbrev pub invariant-loop-left : goal.invariant-loop-left

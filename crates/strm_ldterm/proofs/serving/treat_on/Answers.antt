@@ -1,6 +1,7 @@
 use Rattle.std.proofs.Common.{◌∙◌}
 use Rattle.strm_frame.specs.Outboxes.{sent_of}
-use Rattle.strm_ldterm.proofs.Calls.{into-short, into-treats, kept-some, out-short, out-treats}
+use Rattle.strm_ldterm.proofs.Bytes.{kept-some}
+use Rattle.strm_ldterm.proofs.Calls.{into-short, into-treats, out-short, out-treats}
 use Rattle.strm_ldterm.proofs.serving.treat_on.Goals as goal
 
 pub returns-in-Into-clause-does : goal.returns-in-Into-clause-does
