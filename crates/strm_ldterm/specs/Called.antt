@@ -11,7 +11,7 @@ use Rattle.strm_types.specs.LdtermServes.{ldterm_serves}
 use Rattle.strm_types.specs.Ldterms as ldterms
 use Rattle.strm_types.specs.Queue.{is_none_left}
 use Rattle.strm_types.specs.Service.{Serving}
-use Rattle.strm_types.specs.TurnCalls.{Ends}
+use Rattle.strm_types.specs.LdtermCalls.{Ends}
 use Rattle.strm_blocks.specs.Blocks.{StoreValue, free_m, free_d}
 use Rattle.strm_queue.specs.Stored.{FreesBlocks}
 use Rattle.strm_frame.specs.declared.parcels.Sent.{Sent}
