@@ -12,9 +12,9 @@ use Rattle.strm_types.specs.declared.limits.TheConstants.{READ_MAX}
 use Rattle.strm_types.specs.declared.refusals.Refusal.{Refusal}
 use Rattle.strm_types.specs.Cells.{plain, bytes_of}
 use Rattle.strm_types.specs.Journal.{answer_len, reply_in}
-use Rattle.strm_types.specs.Pair.{PairState, AddsEntry}
+use Rattle.strm_laws.specs.Pair.{PairState, AddsEntry}
 use Rattle.strm_types.specs.Reads.{head_draw}
-use Rattle.strm_types.specs.State.{stream}
+use Rattle.strm_laws.specs.State.{stream}
 use Rattle.strm_types.proofs.ReadKeeps.{head_draw-most}
 
 -- the bytes of a read are those that its answer counts

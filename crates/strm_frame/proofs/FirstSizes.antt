@@ -2,8 +2,7 @@
 use Rattle.std.proofs.Common.{ℕ, ◌≤◌, List, [], ◌∷◌, arith}
 use Rattle.std.proofs.lemmas.List.Sums.{sum_by-cons}
 use Rattle.strm_types.specs.Message.{Message, size_of}
-use Rattle.strm_types.specs.Queue.{bytes_of}
-use Rattle.strm_types.specs.TurnOutcomes.{first_size}
+use Rattle.strm_types.specs.Queue.{bytes_of, first_size}
 use Rattle.strm_blocks.specs.Blocks.{StoreValue, IsStore, list_at}
 use Rattle.strm_queue.specs.declared.queue.Queue.{Queue}
 use Rattle.strm_queue.specs.Stored.{messages_on, IsReady}

@@ -4,8 +4,7 @@
 ghost use Rattle.std.specs.Prelude.{ℕ, ◌≡◌, ◌<◌, ◌≤◌, ◌-◌, false, not, [], length, map, slice_index_or};
 ghost use Rattle.std.specs.List.{AllByRecursion, list_any};
 ghost use Rattle.strm_types.specs.declared.limits.TheConstants.{BANDS};
-ghost use Rattle.strm_types.specs.Queue.{bytes_of, count_of};
-ghost use Rattle.strm_types.specs.TurnOutcomes.{first_size};
+ghost use Rattle.strm_types.specs.Queue.{bytes_of, count_of, first_size};
 ghost use Rattle.strm_types.specs.declared.names.Way.TheVariants.{Up};
 ghost use Rattle.strm_types.specs.Modules.{change_among};
 ghost use Rattle.strm_types.specs.Refused.{has_no_data};

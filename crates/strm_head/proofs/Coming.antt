@@ -11,11 +11,10 @@ use Rattle.strm_types.specs.declared.spots.Spot.{Spot}
 use Rattle.strm_types.specs.Deliver.{Acted, Parcel, toward, Goes}
 use Rattle.strm_types.specs.Flush.{is_data_kind}
 use Rattle.strm_types.specs.Flushing.{is_flush, asked_by, flush_bytes, flush_message}
-use Rattle.strm_types.specs.Heads.{is_pcproto, passed_by, is_doubled, waits_for_readers, turned_round, flush_up, obeyed, head_put}
+use Rattle.strm_types.specs.Heads.{is_pcproto, passed_by, is_doubled, waits_for_readers, turned_round, flush_up, obeyed, head_put, Head}
 use Rattle.strm_types.specs.Message.{Message, cells_of}
 use Rattle.strm_types.specs.Names.{direction_at}
 use Rattle.strm_types.specs.Queue.{put_on}
-use Rattle.strm_types.specs.State.{Head}
 use Rattle.strm_blocks.specs.Blocks.{Block, StoreValue, IsInHand, block_at, dropped, list_at, names_of}
 use Rattle.strm_blocks.specs.Outcomes.{peek_of, told}
 use Rattle.strm_blocks.proofs.Laws.{total-dropped, used-is, references-is, free_m-is, free_d-more}

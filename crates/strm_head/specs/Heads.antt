@@ -11,7 +11,7 @@ use Rattle.strm_types.specs.Flushing.{flush_bytes, flush_message}
 use Rattle.strm_types.specs.Ioctls.{nak_message}
 use Rattle.strm_types.specs.Message.{Message}
 use Rattle.strm_types.specs.Slots.{PlainSlot, map_slot}
-use Rattle.strm_types.specs.State as state
+use Rattle.strm_types.specs.Heads as state
 use Rattle.strm_blocks.specs.Blocks.{StoreValue}
 use Rattle.strm_queue.specs.Stored.{queue_in}
 use Rattle.strm_head.specs.declared.head.Head.{Head}

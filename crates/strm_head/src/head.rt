@@ -40,7 +40,7 @@ pub struct Waiting {
 
 impl Head {
     ghost use Rattle.strm_blocks.specs.Blocks.{StoreValue};
-    ghost use Rattle.strm_types.specs.State.{with_mode};
+    ghost use Rattle.strm_types.specs.Heads.{with_mode};
     ghost use Rattle.strm_head.specs.Heads.{head_in};
 
     /// A head on an empty queue: RNORM and RPROTNORM. No signal waits, and no ioctl is under way.

@@ -11,7 +11,7 @@ ghost use Rattle.strm_types.specs.Refused.{is_a_band};
 ghost use Rattle.strm_types.specs.Flush.{is_data_kind};
 ghost use Rattle.strm_types.specs.Signals.{signal_in, with_signal};
 ghost use Rattle.strm_types.specs.Slots.{slot_answered};
-ghost use Rattle.strm_types.specs.State as state;
+ghost use Rattle.strm_types.specs.Heads as state;
 ghost use Rattle.strm_blocks.specs.Blocks.{Block, StoreValue, IsInHand, in_hand, dropped, list_at, block_at};
 ghost use Rattle.strm_msg.specs.Bytes.{bytes_of};
 ghost use Rattle.strm_msg.specs.Messages.{message_of, IsChain};

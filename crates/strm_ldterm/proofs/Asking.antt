@@ -8,7 +8,7 @@ use Rattle.strm_types.specs.declared.names.Way.{Way}
 use Rattle.strm_types.specs.declared.names.Way.TheVariants.{Up, Down}
 use Rattle.strm_types.specs.Message.{Message}
 use Rattle.strm_types.specs.ModuleQueues.{messages_at}
-use Rattle.strm_types.specs.TurnOutcomes.{first_size}
+use Rattle.strm_types.specs.Queue.{first_size}
 use Rattle.strm_blocks.specs.declared.asked.Peek.{Peek}
 use Rattle.strm_blocks.specs.Blocks.{StoreValue, IsStore, in_hand}
 use Rattle.strm_blocks.specs.Outcomes.{PeekedFirst}

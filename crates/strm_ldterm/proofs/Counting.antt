@@ -16,7 +16,7 @@ use Rattle.strm_types.specs.Message.{Message, cells_of}
 use Rattle.strm_types.specs.Queue.{is_none_left, is_full, put_enables}
 use Rattle.strm_types.specs.Typing.{bare, begins, echoed, echo_dir, echo_grows, echo_lost, echo_stands, is_lnext, stroke_at, strikes, struck, wakes}
 use Rattle.strm_types.specs.Message.{data_message}
-use Rattle.strm_types.proofs.LdtermStages.{strikes-stay}
+use Rattle.strm_types.proofs.StrikesStay.{strikes-stay}
 use Rattle.strm_ldterm.specs.Turns.{ahead, notes_left}
 use Rattle.strm_ldterm.proofs.Turning.{Acts}
 

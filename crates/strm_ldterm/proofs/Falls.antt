@@ -9,7 +9,7 @@ use Rattle.strm_types.specs.Cells.{plain}
 use Rattle.strm_types.specs.Deliver.{AreLower, toward}
 use Rattle.strm_types.specs.LdtermServes.{ldterm_serves}
 use Rattle.strm_types.specs.Ldterms.{Ldterm}
-use Rattle.strm_types.specs.Puts.{far, far_at, is_turned}
+use Rattle.strm_types.specs.Far.{far, far_at, is_turned}
 use Rattle.strm_ldterm.specs.Bounds.{turn_height}
 use Rattle.strm_ldterm.proofs.Onward.{serves-send}
 

@@ -11,7 +11,7 @@ use Rattle.strm_types.specs.Message.{Message, cells_of}
 use Rattle.strm_types.specs.OutputTurns.{output_serves, posted, unchanged}
 use Rattle.strm_types.specs.Queue.{is_none_left}
 use Rattle.strm_types.specs.Termios.{opost}
-use Rattle.strm_types.proofs.OutputServes.{turn_of}
+use Rattle.strm_types.proofs.OutputStops.{turn_of}
 use Rattle.strm_ldterm.specs.Bounds.{goes_out}
 
 module _ (here : Spot) (stop : Option ℕ) where

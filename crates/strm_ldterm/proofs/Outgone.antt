@@ -18,12 +18,11 @@ use Rattle.strm_types.specs.Ldterms.{onward, sends}
 use Rattle.strm_types.specs.Message.{Message, cells_of, size_of}
 use Rattle.strm_types.specs.Output.{Output, posts}
 use Rattle.strm_types.specs.OutputTurns.{Outgoing, output_dir, output_serves, posted, unchanged, with_given}
-use Rattle.strm_types.specs.Queue.{is_none_left, left_with}
+use Rattle.strm_types.specs.Queue.{is_none_left, left_with, first_size}
 use Rattle.strm_types.specs.Service.{Serving}
 use Rattle.strm_types.specs.Termios.{opost}
-use Rattle.strm_types.specs.TurnCalls.{bytes_left}
-use Rattle.strm_types.specs.TurnOutcomes.{first_size}
-use Rattle.strm_types.proofs.OutputServes.{turn_of}
+use Rattle.strm_types.specs.LdtermCalls.{bytes_left}
+use Rattle.strm_types.proofs.OutputStops.{turn_of}
 use Rattle.strm_blocks.specs.Blocks.{StoreValue, IsStore}
 use Rattle.strm_frame.specs.declared.parcels.Outbox.{Outbox}
 use Rattle.strm_frame.specs.declared.service.Served.{Served}

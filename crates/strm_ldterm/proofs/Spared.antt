@@ -9,7 +9,7 @@ use Rattle.strm_types.specs.declared.names.Way.{Way}
 use Rattle.strm_types.specs.declared.names.Way.TheVariants.{Up, Down}
 use Rattle.strm_types.specs.declared.spots.Spot.{Spot}
 use Rattle.strm_types.specs.Cells.{plain}
-use Rattle.strm_types.specs.Costs.{asking_at, cost_of}
+use Rattle.strm_types.specs.Costs.{asking_at, cost_of, most_cost, most_down}
 use Rattle.strm_types.specs.Deliver.{Parcel, toward}
 use Rattle.strm_types.specs.Input.{input_begins, is_data, passes, stages_done, to_treat, treats}
 use Rattle.strm_types.specs.LdtermServes.{ldterm_serves}
@@ -20,10 +20,9 @@ use Rattle.strm_types.specs.OutputTurns.{output_dir, output_serves, posted, unch
 use Rattle.strm_types.specs.Queue.{is_none_left, left_with}
 use Rattle.strm_types.specs.Service.{Serving}
 use Rattle.strm_types.specs.Termios.{opost}
-use Rattle.strm_types.specs.Puts.{is_turned}
-use Rattle.strm_types.specs.StackCosts.{most_cost, most_down}
+use Rattle.strm_types.specs.Far.{is_turned}
 use Rattle.strm_types.proofs.CostSums.{none-few, one-few}
-use Rattle.strm_types.proofs.StackBounds.{most-few}
+use Rattle.strm_types.proofs.MostBounds.{most-few}
 use Rattle.strm_blocks.specs.Blocks.{StoreValue}
 use Rattle.strm_queue.specs.Stored.{FreesBlocks}
 use Rattle.strm_frame.specs.Hands.{HasRoom}

@@ -9,19 +9,18 @@ use Rattle.strm_types.specs.declared.names.Way.{Way}
 use Rattle.strm_types.specs.declared.names.Way.TheVariants.{Up, Down}
 use Rattle.strm_types.specs.declared.spots.Spot.{Spot}
 use Rattle.strm_types.specs.Cells.{cells_made, plain}
-use Rattle.strm_types.specs.Costs.{asking_at, cost, cost_of}
+use Rattle.strm_types.specs.Costs.{asking_at, cost, cost_of, most_cost}
 use Rattle.strm_types.specs.Deliver.{Acted, Parcel, toward}
 use Rattle.strm_types.specs.Input.{begins_next, cells_left, left_of, made_of, next_stage, stage_at, stages, with_left}
 use Rattle.strm_types.specs.Keys.{restarts}
 use Rattle.strm_types.specs.Ldterms.{Ldterm, Stage, Between, Begun, Answered, flush_passes, onward, sends}
 use Rattle.strm_types.specs.Message.{Message, data_message}
-use Rattle.strm_types.specs.StackCosts.{most_cost}
 use Rattle.strm_types.specs.Queue.{is_full, is_none_left}
 use Rattle.strm_types.specs.Typing.{bare, echo_dir, echoed, echo_grows, echo_lost, echo_stands, gathered_up, is_lnext, stroke_at, struck}
 use Rattle.strm_types.proofs.CostsBounded.{is_quiet, next-cost}
 use Rattle.strm_types.proofs.CostSums.{more-few, none-few, one-few}
-use Rattle.strm_types.proofs.StackBounds.{most-low}
-use Rattle.strm_types.proofs.LdtermStages.{strikes-stay}
+use Rattle.strm_types.proofs.MostBounds.{most-low}
+use Rattle.strm_types.proofs.StrikesStay.{strikes-stay}
 use Rattle.strm_ldterm.specs.Turns.{leaves, needs}
 use Rattle.strm_ldterm.proofs.Onward.{flush-sent, struck-sends}
 

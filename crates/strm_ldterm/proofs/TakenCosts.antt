@@ -18,7 +18,7 @@ use Rattle.strm_types.specs.Flushing.{flush_message, is_flush, read_flush}
 use Rattle.strm_types.specs.Ldterms.{Ldterm, both, onward, read_flushed, sends}
 use Rattle.strm_types.specs.Message.{Message, data_message, has_parts}
 use Rattle.strm_types.specs.Options.{mode_message}
-use Rattle.strm_types.specs.Puts.{turns_round}
+use Rattle.strm_types.specs.Far.{turns_round}
 use Rattle.strm_types.specs.TakenUp.{ends_lines, line_up, read_mode_of, taken_up, termios_taken}
 use Rattle.strm_types.specs.Typing.{up_alone}
 use Rattle.strm_types.proofs.LdtermPuts.{acked-bare, acked-kind}

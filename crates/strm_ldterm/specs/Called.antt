@@ -14,7 +14,7 @@ use Rattle.strm_types.specs.Ldterms as ldterms
 use Rattle.strm_types.specs.Message.{Message}
 use Rattle.strm_types.specs.Queue.{is_none_left, left_with}
 use Rattle.strm_types.specs.Service.{Serving}
-use Rattle.strm_types.specs.TurnCalls.{Ends}
+use Rattle.strm_types.specs.LdtermCalls.{Ends}
 use Rattle.strm_blocks.specs.Blocks.{StoreValue}
 use Rattle.strm_queue.specs.Stored.{FreesBlocks}
 use Rattle.strm_frame.specs.declared.parcels.Sent.{Sent}

@@ -19,7 +19,7 @@ use Rattle.strm_types.specs.OutputTurns.{output_serves}
 use Rattle.strm_types.specs.Queue.{Queue, is_full, is_none_left, left_with}
 use Rattle.strm_types.specs.Typing.{bare, begins, echo_dir, echo_grows, echo_lost, echo_stands, echoed, is_lnext, stroke_at, struck}
 use Rattle.strm_types.proofs.LdtermPutStays.{Stays, idle-stays, line-stays, puts-stay, queue-stays}
-use Rattle.strm_types.proofs.LdtermStages.{strikes-stay}
+use Rattle.strm_types.proofs.StrikesStay.{strikes-stay}
 use Rattle.strm_ldterm.specs.Served.{IsIdle, IsServed}
 
 module _ {C : Type 0} where

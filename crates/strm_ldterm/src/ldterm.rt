@@ -3,7 +3,7 @@
 
 ghost use Rattle.std.specs.Prelude.{ℕ, ◌≡◌, ◌<◌, ◌+◌, []};
 ghost use Rattle.strm_types.specs.Ldterms.{new_ldterm};
-ghost use Rattle.strm_types.specs.TurnCalls.{IsShort};
+ghost use Rattle.strm_types.specs.LdtermCalls.{IsShort};
 ghost use Rattle.strm_types.specs.declared.names.ModuleName.TheVariants as names;
 ghost use Rattle.strm_blocks.specs.Blocks.{StoreValue, list_at};
 ghost use Rattle.strm_frame.specs.Hands.{once};

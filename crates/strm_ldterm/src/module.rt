@@ -16,9 +16,9 @@ impl<B: Blocks> Module<B> for Ldterm<B::Mp> {
     ghost use Rattle.strm_types.specs.LdtermServes.{ldterm_serves};
     ghost use Rattle.strm_types.specs.LdtermPuts.{ldterm_puts};
     ghost use Rattle.strm_types.specs.Ldterms as plain;
-    ghost use Rattle.strm_types.specs.Puts.{far};
-    ghost use Rattle.strm_types.specs.StackCosts.{most_cost};
-    ghost use Rattle.strm_types.specs.TurnCalls.{Ends};
+    ghost use Rattle.strm_types.specs.Far.{far};
+    ghost use Rattle.strm_types.specs.Costs.{most_cost};
+    ghost use Rattle.strm_types.specs.LdtermCalls.{Ends};
     ghost use Rattle.strm_ldterm.specs.Bounds as bounds;
     ghost use Rattle.strm_ldterm.specs.Calls as calls;
     ghost use Rattle.strm_ldterm.specs.Frames.{ldterm-frame};

@@ -4,12 +4,10 @@ ghost use Rattle.std.specs.Prelude.{ℕ, ◌≡◌, ◌<◌, ◌≤◌, ◌+◌,
 ghost use Rattle.std.specs.Option.{option_to_list};
 ghost use Rattle.strm_types.specs.declared.limits.TheConstants.{BANDS};
 ghost use Rattle.strm_types.specs.declared.names.Way.TheVariants.{Up};
-ghost use Rattle.strm_types.specs.Queue.{bytes_of, flow_of, count_of};
-ghost use Rattle.strm_types.specs.TurnOutcomes.{first_size};
+ghost use Rattle.strm_types.specs.Queue.{bytes_of, flow_of, count_of, first_size};
 ghost use Rattle.strm_types.specs.ModuleQueues.{messages_at, full_at};
 ghost use Rattle.strm_types.specs.Message.{Message};
 ghost use Rattle.strm_types.specs.Refused.{has_no_data};
-ghost use Rattle.strm_types.specs.TurnOutcomes.{first_size};
 ghost use Rattle.strm_queue.specs.Stored.{queue_in, messages_on, IsReady};
 ghost use Rattle.strm_frame.specs.Serves.{IsBand};
 ghost use Rattle.strm_ldterm.specs.Stands.{ldterm_in, kept_in, IsHeld, IsOrdinary};

@@ -4,11 +4,11 @@ use Rattle.strm_types.specs.declared.names.Dir.{Dir}
 use Rattle.strm_types.specs.declared.rules.Fates.{Fates}
 use Rattle.strm_types.specs.declared.limits.Config.{Config}
 use Rattle.strm_types.specs.Cells.{plain}
-use Rattle.strm_types.specs.Kept.{told_by}
-use Rattle.strm_types.specs.Ledgers.{FewBooked, inline, queued}
+use Rattle.strm_laws.specs.Kept.{told_by}
+use Rattle.strm_laws.specs.Ledgers.{FewBooked, inline, queued}
 use Rattle.strm_types.specs.Rules.{fates_of, no_fates}
-use Rattle.strm_types.specs.State.{State, book, opening}
-use Rattle.strm_types.proofs.LedgerSums.{agrees, sum_of}
+use Rattle.strm_laws.specs.State.{State, book, opening}
+use Rattle.strm_laws.proofs.LedgerSums.{agrees, sum_of}
 use Rattle.strm_blocks.specs.Blocks.{StoreValue}
 use Rattle.strm_pair.specs.declared.journal.Journal.{Journal}
 use Rattle.strm_pair.specs.declared.streams.Streams.{Streams}

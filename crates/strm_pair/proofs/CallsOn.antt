@@ -17,17 +17,18 @@ use Rattle.strm_types.specs.declared.spots.Spot.{Spot}
 use Rattle.strm_types.specs.Cells.{plain}
 use Rattle.strm_types.specs.Deliver.{Fate, tallied}
 use Rattle.strm_types.specs.Input.{stages_done, to_treat}
-use Rattle.strm_types.specs.Kept.{AreIdle}
+use Rattle.strm_laws.specs.Kept.{AreIdle}
 use Rattle.strm_types.specs.Ldterms.{Ldterm, Stage, Between, Begun, Answered}
-use Rattle.strm_types.specs.ModuleTurns.{module_turn_ended, module_turned, moved_on}
-use Rattle.strm_types.specs.Refused.{in_range}
-use Rattle.strm_types.specs.Spares.{spare}
-use Rattle.strm_types.specs.Stacked.{IsAtRest, Module, OfLdterm, OfPtem, OfPckt, module_serves}
-use Rattle.strm_types.specs.State.{State, stream}
-use Rattle.strm_types.specs.TurnCalls.{Begins, Ends, Stopped, asks_on, bytes_left, ldterm_of, led, module_at, treated}
-use Rattle.strm_types.specs.TurnOutcomes.{TurnOutcome}
-use Rattle.strm_types.proofs.ModuleTurnCalls.{Reached, UnderWay, index-map, led-at, led-length, moves-within, none_there, reached-last, reached-next, under_way}
-use Rattle.strm_types.proofs.StackSpares.{range-spare}
+use Rattle.strm_laws.specs.ModuleTurns.{module_turn_ended, module_turned, moved_on}
+use Rattle.strm_laws.specs.Refusals.{in_range}
+use Rattle.strm_laws.specs.Spares.{spare}
+use Rattle.strm_laws.specs.Stacked.{IsAtRest, Module, OfLdterm, OfPtem, OfPckt, module_serves}
+use Rattle.strm_laws.specs.State.{State, stream}
+use Rattle.strm_types.specs.LdtermCalls.{Begins, Ends, bytes_left}
+use Rattle.strm_laws.specs.TurnCalls.{Stopped, asks_on, ldterm_of, led, module_at, treated}
+use Rattle.strm_laws.specs.TurnOutcomes.{TurnOutcome}
+use Rattle.strm_laws.proofs.ModuleTurnCalls.{Reached, UnderWay, index-map, led-at, led-length, moves-within, none_there, reached-last, reached-next, under_way}
+use Rattle.strm_laws.proofs.StackSpares.{range-spare}
 use Rattle.strm_frame.specs.Serves.{stop_at}
 use Rattle.strm_pair.specs.AnyModules.{turn_cost}
 use Rattle.strm_pair.specs.declared.calling.Call.{Call}

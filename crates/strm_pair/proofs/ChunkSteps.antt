@@ -5,11 +5,11 @@ use Rattle.strm_types.specs.declared.rules.Fates.{Fates}
 use Rattle.strm_types.specs.Cells.{plain}
 use Rattle.strm_types.specs.Deliver.{tallied}
 use Rattle.strm_types.specs.Message.{data_message}
-use Rattle.strm_types.specs.StackCosts.{most_cost}
-use Rattle.strm_types.specs.State.{State}
+use Rattle.strm_types.specs.Costs.{most_cost}
+use Rattle.strm_laws.specs.State.{State}
 use Rattle.strm_types.specs.Write.{chunks_of}
-use Rattle.strm_types.specs.Writes.{Wrote, below_head, chunks_sent, is_full_below}
-use Rattle.strm_types.proofs.WriteSteps.{chunk_goes, went}
+use Rattle.strm_laws.specs.Writes.{Wrote, below_head, chunks_sent, is_full_below}
+use Rattle.strm_laws.proofs.WriteSteps.{chunk_goes, went}
 use Rattle.strm_ldterm.proofs.Flushed.{tallied-append}
 
 -- a chunk on its way down takes no block but its own, and no packet comes of it

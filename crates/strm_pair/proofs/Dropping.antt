@@ -8,9 +8,9 @@ use Rattle.strm_types.specs.declared.rules.Rule.TheVariants.{ModulePopped}
 use Rattle.strm_types.specs.declared.slots.Slot.{Slot}
 use Rattle.strm_types.specs.declared.slots.Slot.TheVariants.{Free, Waiting, Acked, Nacked}
 use Rattle.strm_types.specs.Dropped.{number_sought}
-use Rattle.strm_types.specs.Pushes.{mode_behind, taken_off, top_on, top_taken}
-use Rattle.strm_types.specs.Stacked.{Module}
-use Rattle.strm_types.specs.State.{State, stream}
+use Rattle.strm_laws.specs.Pushes.{mode_behind, taken_off, top_on, top_taken}
+use Rattle.strm_laws.specs.Stacked.{Module}
+use Rattle.strm_laws.specs.State.{State, stream}
 use Rattle.strm_head.specs.Heads.{plain_slot}
 use Rattle.strm_pair.proofs.Modes.{ioctl-stays}
 

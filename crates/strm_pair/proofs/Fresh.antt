@@ -2,19 +2,19 @@
 use Rattle.std.proofs.Common.{ℕ, ◌≡◌, List, [], ap, sym, subst, refl, ◌∙◌, arith}
 use Rattle.std.specs.Prelude.{replicate}
 use Rattle.strm_types.specs.declared.limits.Config.{Config}
-use Rattle.strm_types.specs.State.{opening}
+use Rattle.strm_laws.specs.State.{opening}
 use Rattle.strm_types.specs.Cells.{plain}
 use Rattle.strm_types.specs.declared.rules.Fates.{Fates}
-use Rattle.strm_types.specs.Kept.{told_by}
+use Rattle.strm_laws.specs.Kept.{told_by}
 use Rattle.strm_types.specs.Rules.{no_fates}
-use Rattle.strm_types.specs.Step.{IsLegal}
-use Rattle.strm_types.specs.Pair.{new_pair}
+use Rattle.strm_laws.specs.Step.{IsLegal}
+use Rattle.strm_laws.specs.Pair.{new_pair}
 use Rattle.strm_blocks.specs.Blocks.{Block, Held, StoreValue, empty_store}
 use Rattle.strm_pair.specs.declared.streams.Streams.{Streams}
 use Rattle.strm_pair.specs.declared.journal.Journal.{Journal}
 use Rattle.strm_pair.specs.Pairs.{state_in, AreHeld, free_in, journal_of}
 use Rattle.strm_types.specs.declared.names.Dir.TheVariants.{MasterToSlave, SlaveToMaster}
-use Rattle.strm_types.specs.Ledgers.{FewBooked}
+use Rattle.strm_laws.specs.Ledgers.{FewBooked}
 use Rattle.strm_pair.specs.PairViews.{pair_of, IsKept}
 use Rattle.strm_pair.proofs.Shown.{free-empty}
 use Rattle.strm_pair.proofs.Steps.{led-nowhere}

@@ -6,16 +6,16 @@ use Rattle.strm_types.specs.declared.answers.Answer.TheVariants.{Msg}
 use Rattle.strm_types.specs.declared.limits.TheConstants.{READ_MAX}
 use Rattle.strm_types.specs.declared.modes.Wanted.{Wanted}
 use Rattle.strm_types.specs.declared.names.Side.{Side}
-use Rattle.strm_types.specs.Calls.{Reply, map_answer}
+use Rattle.strm_types.specs.Events.{Reply, map_answer}
 use Rattle.strm_types.specs.Cells.{plain, bytes_of}
 use Rattle.strm_types.specs.Gets.{Got, head_get, prio_got}
 use Rattle.strm_types.specs.Journal.{answer_len, part_len, reply_in}
 use Rattle.strm_types.specs.Message.{part}
-use Rattle.strm_types.specs.State as plain_state
-use Rattle.strm_types.specs.State.{State, stream}
-use Rattle.strm_types.proofs.GetKeeps.{get-control, get-data}
+use Rattle.strm_types.specs.Heads as plain_state
+use Rattle.strm_laws.specs.State.{State, stream}
+use Rattle.strm_laws.proofs.GetKeeps.{get-control, get-data}
 use Rattle.strm_types.proofs.PlainCells.{bytes-plain}
-use Rattle.strm_types.proofs.StoredCalls.{reply-back, reply-size}
+use Rattle.strm_laws.proofs.StoredCalls.{reply-back, reply-size}
 use Rattle.strm_blocks.specs.Blocks.{StoreValue}
 use Rattle.strm_head.specs.declared.getting.Gotten.{Gotten}
 use Rattle.strm_head.specs.Getting.{Gives}

@@ -4,13 +4,13 @@ use Rattle.strm_types.specs.declared.names.Side.{Side}
 use Rattle.strm_types.specs.declared.names.Side.TheVariants.{Master, Slave}
 use Rattle.strm_types.specs.declared.rules.Rule.{Rule}
 use Rattle.strm_types.specs.declared.rules.Rule.TheVariants.{EndClosed}
-use Rattle.strm_types.specs.Closes.{head_emptied}
+use Rattle.strm_laws.specs.Closes.{head_emptied}
 use Rattle.strm_types.specs.Emptied.{of_all}
-use Rattle.strm_types.specs.Kept.{AreIdle}
-use Rattle.strm_types.specs.Pushes.{top_taken}
-use Rattle.strm_types.specs.Stacked.{Module}
-use Rattle.strm_types.specs.State.{State, stream}
-use Rattle.strm_types.proofs.ModulesIdle.{AllIdle}
+use Rattle.strm_laws.specs.Kept.{AreIdle}
+use Rattle.strm_laws.specs.Pushes.{top_taken}
+use Rattle.strm_laws.specs.Stacked.{Module}
+use Rattle.strm_laws.specs.State.{State, stream}
+use Rattle.strm_laws.proofs.ModulesIdle.{AllIdle}
 
 -- at the modules of a side
 pub side-idle : (side : Side) (s : State ℕ) → AreIdle s → AllIdle (stream side s).modules

@@ -1,6 +1,6 @@
 -- A message that was made while nobody is in a call is alone in hand, and the streams stay; so is one that was taken.
 use Rattle.std.proofs.Common.{ℕ, ◌≡◌, ◌∷◌, sym, ap, subst, ◌∙◌, arith}
-use Rattle.strm_types.specs.Kept.{AreIdle}
+use Rattle.strm_laws.specs.Kept.{AreIdle}
 use Rattle.strm_blocks.specs.Blocks.{StoreValue, held, in_hand}
 use Rattle.strm_msg.specs.Messages.{IsChain}
 use Rattle.strm_pair.specs.declared.streams.Streams.{Streams}

@@ -4,9 +4,9 @@ use Rattle.std.specs.Prelude.{sum_by, ◌&&◌, nat_lt, nat_le}
 use Rattle.std.proofs.lemmas.Bool.Decides.{nat_tests}
 use Rattle.strm_types.specs.declared.entries.Entry.{Entry}
 use Rattle.strm_types.specs.declared.limits.Config.{Config}
-use Rattle.strm_types.specs.Refused.{has_room}
+use Rattle.strm_laws.specs.Refusals.{has_room}
 use Rattle.strm_types.specs.Journal.{PlainEntry, entry_len, entries_in, room_used}
-use Rattle.strm_types.proofs.JournalEntries.{length-entries_in, room_used-stored}
+use Rattle.strm_laws.proofs.JournalEntries.{length-entries_in, room_used-stored}
 use Rattle.strm_pair.specs.Journals.{has_room_for}
 
 both : (a b : Bool) → (a && b) ≡ true → (a ≡ true) × (b ≡ true)

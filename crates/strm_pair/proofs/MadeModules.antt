@@ -4,7 +4,7 @@ use Rattle.std.proofs.lemmas.Bool.Decides.{nat_tests}
 use Rattle.std.specs.Prelude.{Some, ◌==◌}
 use Rattle.strm_types.specs.declared.names.ModuleName.TheVariants as names
 use Rattle.strm_types.specs.Ldterms.{new_ldterm}
-use Rattle.strm_types.specs.Stacked.{OfLdterm}
+use Rattle.strm_laws.specs.Stacked.{OfLdterm}
 use Rattle.strm_blocks.specs.Blocks.{StoreValue, list_at}
 use Rattle.strm_frame.proofs.Handing.{once-self}
 use Rattle.strm_frame.specs.Hands.{once}

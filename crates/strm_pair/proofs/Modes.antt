@@ -12,7 +12,7 @@ use Rattle.strm_types.specs.declared.names.Way.TheVariants.{Up}
 use Rattle.strm_types.specs.declared.rules.Rule.TheVariants.{EndClosed}
 use Rattle.strm_types.specs.Cells.{plain}
 use Rattle.strm_types.specs.Deliver.{Carried, Fate, Goes, Took}
-use Rattle.strm_types.specs.Earlier.{before_among, before_by, places_of}
+use Rattle.strm_laws.specs.Earlier.{before_among, before_by, places_of}
 use Rattle.strm_types.specs.Heads.{with_options}
 use Rattle.strm_types.specs.Ldterms.{new_ldterm}
 use Rattle.strm_types.specs.Message.{cells_of}
@@ -23,13 +23,13 @@ use Rattle.strm_types.specs.Options.{options_in}
 use Rattle.strm_types.specs.Pckts.{new_pckt}
 use Rattle.strm_types.specs.Ptems.{new_ptem}
 use Rattle.strm_types.specs.Options.{mode_message, mode_number}
-use Rattle.strm_types.specs.Pushes.{enable_waiting, head_above, let_come, may_stand, mode_on_push, mode_put, named_by, pushed_named, with_modules}
-use Rattle.strm_types.specs.Puts.{delivered}
+use Rattle.strm_laws.specs.Pushes.{enable_waiting, head_above, let_come, may_stand, mode_on_push, mode_put, named_by, pushed_named, with_modules}
+use Rattle.strm_laws.specs.Puts.{delivered}
 use Rattle.strm_types.specs.Queue.{is_none_left}
-use Rattle.strm_types.specs.Refused.{is_known}
-use Rattle.strm_types.specs.Stacked.{Module, OfLdterm, OfPtem, OfPckt, module_name, module_queue}
-use Rattle.strm_types.specs.State.{State, stream, with_stream}
-use Rattle.strm_types.proofs.FlushDelivered.{carries, went_on}
+use Rattle.strm_laws.specs.Refusals.{is_known}
+use Rattle.strm_laws.specs.Stacked.{Module, OfLdterm, OfPtem, OfPckt, module_name, module_queue}
+use Rattle.strm_laws.specs.State.{State, stream, with_stream}
+use Rattle.strm_laws.proofs.FlushDelivered.{carries, went_on}
 
 -- what it does at a head that is open, and at one that isn't
 abbrev told_mode : Bool → Side → ReadMode → State ℕ → Carried ℕ (State ℕ)

@@ -9,7 +9,7 @@ use Rattle.strm_types.specs.Message.{Message}
 use Rattle.strm_types.specs.Ptems.{Ptem, ptem_puts}
 use Rattle.strm_types.proofs.CostSums.{none-few}
 use Rattle.strm_types.proofs.LdtermPuts.{puts-each}
-use Rattle.strm_types.proofs.PtemPuts.{puts-each as ptem-each}
+use Rattle.strm_laws.proofs.PtemPuts.{puts-each as ptem-each}
 use Rattle.strm_ldterm.proofs.Spending.{flush-cost, goes-cost}
 use Rattle.strm_ldterm.proofs.TakenCosts.{taken-cost}
 use Rattle.strm_pty.proofs.Costing.{ack-cost, hear-cost, nak-above-cost, nak-below-cost, raise-cost, set-cost}

@@ -15,21 +15,21 @@ use Rattle.strm_types.specs.declared.spots.Spot.{Spot}
 use Rattle.strm_types.specs.Cells.{plain}
 use Rattle.strm_types.specs.Books.{with_made}
 use Rattle.strm_types.specs.Deliver.{Acted, Fate, Took, tallied}
-use Rattle.strm_types.specs.Earlier.{places_of}
+use Rattle.strm_laws.specs.Earlier.{places_of}
 use Rattle.strm_types.specs.Input.{made_of}
 use Rattle.strm_types.specs.Message.{Message}
 use Rattle.strm_types.specs.ModuleQueues.{at_place}
 use Rattle.strm_types.specs.Names.{other}
-use Rattle.strm_types.specs.Puts.{earlier_at, made_above, module_acted, noted, put_at_module}
-use Rattle.strm_types.specs.Spares.{module_packs, packet_most, spare, spare_behind}
-use Rattle.strm_types.specs.StackCosts.{EachOnce, module_leaves, module_takes}
-use Rattle.strm_types.specs.Stacked.{Module, module_name}
-use Rattle.strm_types.specs.State.{State, Stream, book, stream, with_stream}
-use Rattle.strm_types.proofs.Booked.{between-counts, booked-on, made-within, made_in, master-told, slave-told}
-use Rattle.strm_types.proofs.Noted.{noted-same}
-use Rattle.strm_types.proofs.PlainPuts.{among-same}
-use Rattle.strm_types.proofs.StackSpares.{among-makes, among-one, spare-fits}
-use Rattle.strm_types.proofs.StackStays.{keep-names}
+use Rattle.strm_laws.specs.Puts.{earlier_at, made_above, module_acted, noted, put_at_module}
+use Rattle.strm_laws.specs.Spares.{module_packs, packet_most, spare, spare_behind}
+use Rattle.strm_laws.specs.StackCosts.{EachOnce, module_leaves, module_takes}
+use Rattle.strm_laws.specs.Stacked.{Module, module_name}
+use Rattle.strm_laws.specs.State.{State, Stream, book, stream, with_stream}
+use Rattle.strm_laws.proofs.Booked.{between-counts, booked-on, made-within, made_in, master-told, slave-told}
+use Rattle.strm_laws.proofs.Noted.{noted-same}
+use Rattle.strm_laws.proofs.PlainPuts.{among-same}
+use Rattle.strm_laws.proofs.StackSpares.{among-makes, among-one, spare-fits}
+use Rattle.strm_laws.proofs.StackStays.{keep-names}
 use Rattle.strm_blocks.specs.Blocks.{IsStore, StoreValue, list_at}
 use Rattle.strm_queue.specs.Stored.{queue_in, HoldsReadable}
 use Rattle.strm_queue.proofs.Placed.{ready-same}

@@ -13,8 +13,8 @@ use Rattle.strm_types.specs.Emptied.{of_all, emptied, none_goes, queue_behind}
 use Rattle.strm_types.specs.Message.{Message}
 use Rattle.strm_types.specs.Modules.{act_among, top_name}
 use Rattle.strm_types.specs.Queue as plain
-use Rattle.strm_types.specs.Stacked.{Module, OfLdterm, module_name}
-use Rattle.strm_types.specs.TurnCalls.{ldterm_of}
+use Rattle.strm_laws.specs.Stacked.{Module, OfLdterm, module_name}
+use Rattle.strm_laws.specs.TurnCalls.{ldterm_of}
 use Rattle.strm_blocks.specs.Blocks.{Block, StoreValue, list_at}
 use Rattle.strm_msg.specs.Messages.{message_of}
 use Rattle.strm_queue.specs.Stored.{FreesBlocks}

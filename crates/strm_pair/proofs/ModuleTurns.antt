@@ -14,18 +14,19 @@ use Rattle.strm_types.specs.declared.spots.Asks.{Asks}
 use Rattle.strm_types.specs.declared.spots.Asks.TheVariants as asked
 use Rattle.strm_types.specs.declared.spots.Spot.{Spot}
 use Rattle.strm_types.specs.Cells.{plain}
-use Rattle.strm_types.specs.Kept.{AreIdle}
-use Rattle.strm_types.specs.LdtermTurns.{is_between}
+use Rattle.strm_laws.specs.Kept.{AreIdle}
+use Rattle.strm_types.specs.Ldterms.{is_between}
 use Rattle.strm_types.specs.ModuleQueues.{at_place, messages_at, place_past, waits}
-use Rattle.strm_types.specs.ModuleTurns.{asked_turn, module_turned, moved_within, place_named, stayed_at, turned_named}
+use Rattle.strm_laws.specs.ModuleTurns.{asked_turn, module_turned, moved_within, place_named, stayed_at, turned_named}
 use Rattle.strm_types.specs.Modules.{change_among}
-use Rattle.strm_types.specs.Past.{has_room_past, waits_on, writer_waits}
-use Rattle.strm_types.specs.Queue.{is_none_left}
-use Rattle.strm_types.specs.Stacked.{IsAtRest, Module, OfLdterm, OfPtem, OfPckt, module_asks, module_queue, module_rests, with_module_queue}
-use Rattle.strm_types.specs.State.{State, Stream, stream}
-use Rattle.strm_types.specs.TurnCalls.{bytes_left, ldterm_of}
-use Rattle.strm_types.specs.TurnOutcomes.{TurnOutcome, first_size, stayed_put}
-use Rattle.strm_types.proofs.ModuleTurnCalls.{index-map, none_there}
+use Rattle.strm_laws.specs.Past.{has_room_past, waits_on, writer_waits}
+use Rattle.strm_types.specs.Queue.{is_none_left, first_size}
+use Rattle.strm_laws.specs.Stacked.{IsAtRest, Module, OfLdterm, OfPtem, OfPckt, module_asks, module_queue, module_rests, with_module_queue}
+use Rattle.strm_laws.specs.State.{State, Stream, stream}
+use Rattle.strm_types.specs.LdtermCalls.{bytes_left}
+use Rattle.strm_laws.specs.TurnCalls.{ldterm_of}
+use Rattle.strm_laws.specs.TurnOutcomes.{TurnOutcome, stayed_put}
+use Rattle.strm_laws.proofs.ModuleTurnCalls.{index-map, none_there}
 use Rattle.strm_pair.proofs.NamedPlaces.{found-low}
 use Rattle.strm_pair.specs.ModuleTurned.{MayMove}
 

@@ -5,10 +5,10 @@ use Rattle.std.proofs.lemmas.List.{length-map, length-take}
 use Rattle.strm_types.specs.declared.limits.TheConstants.{MODULES}
 use Rattle.strm_types.specs.declared.names.ModuleName.{ModuleName}
 use Rattle.strm_types.specs.declared.names.Place.{Place}
-use Rattle.strm_types.specs.Earlier.{places_of}
-use Rattle.strm_types.specs.ModuleTurns.{named_from}
+use Rattle.strm_laws.specs.Earlier.{places_of}
+use Rattle.strm_laws.specs.ModuleTurns.{named_from}
 use Rattle.strm_types.specs.Names.{place_of, same_place}
-use Rattle.strm_types.specs.Stacked.{Module, module_name}
+use Rattle.strm_laws.specs.Stacked.{Module, module_name}
 
 module _ (ps : List (Module ℕ)) where
   -- the places of a stream's modules that have places

@@ -8,21 +8,21 @@ use Rattle.strm_types.specs.declared.names.Side.{Side}
 use Rattle.strm_types.specs.declared.names.Side.TheVariants.{Master, Slave}
 use Rattle.strm_types.specs.declared.spots.Spot.{Spot}
 use Rattle.strm_types.specs.Cells.{plain}
-use Rattle.strm_types.specs.Costs.{cost_of}
+use Rattle.strm_types.specs.Costs.{cost_of, most_cost}
 use Rattle.strm_types.specs.Deliver.{Parcel, Took}
-use Rattle.strm_types.specs.Earlier.{modules_on}
+use Rattle.strm_laws.specs.Earlier.{modules_on}
 use Rattle.strm_types.specs.Flush.{is_data_kind}
 use Rattle.strm_types.specs.Message.{Message}
 use Rattle.strm_types.specs.ModuleQueues.{at_place}
-use Rattle.strm_types.specs.Puts.{made_above, put_at_head, put_at_module, put_behind, put_below, put_in}
-use Rattle.strm_types.specs.Spares.{module_packs, spare}
-use Rattle.strm_types.specs.StackCosts.{StandOnce, Stands, module_leaves, module_takes, most_cost, stack_cost, stands_of, stands_on}
-use Rattle.strm_types.specs.Stacked.{module_name}
-use Rattle.strm_types.specs.State.{State, stream}
-use Rattle.strm_types.proofs.PutsFall.{few-stand}
-use Rattle.strm_types.proofs.StackBounds.{packs-few}
-use Rattle.strm_types.proofs.StackModules.{place-fits, place-spends, place-within}
-use Rattle.strm_types.proofs.StackSpares.{behind-spare, head-spare, stack-falls}
+use Rattle.strm_laws.specs.Puts.{made_above, put_at_head, put_at_module, put_behind, put_below, put_in}
+use Rattle.strm_laws.specs.Spares.{module_packs, spare}
+use Rattle.strm_laws.specs.StackCosts.{StandOnce, Stands, module_leaves, module_takes, stack_cost, stands_of, stands_on}
+use Rattle.strm_laws.specs.Stacked.{module_name}
+use Rattle.strm_laws.specs.State.{State, stream}
+use Rattle.strm_laws.proofs.PutsFall.{few-stand}
+use Rattle.strm_laws.proofs.StackBounds.{packs-few}
+use Rattle.strm_laws.proofs.StackModules.{place-fits, place-spends, place-within}
+use Rattle.strm_laws.proofs.StackSpares.{behind-spare, head-spare, stack-falls}
 use Rattle.strm_blocks.specs.Blocks.{IsStore, StoreValue, block_at, in_hand}
 use Rattle.strm_msg.specs.Messages.{message_of}
 use Rattle.strm_msg.proofs.Chains.{bytes-sum}

@@ -15,20 +15,21 @@ use Rattle.strm_types.specs.declared.refusals.Refusal.TheVariants.{Einval, Enxio
 use Rattle.strm_types.specs.Books.{with_written}
 use Rattle.strm_types.specs.Names.{direction_from, is_closed}
 use Rattle.strm_types.specs.Cells.{plain}
-use Rattle.strm_types.specs.CutOff.{IsCutOff}
-use Rattle.strm_types.specs.PutEffect.{write_effect}
+use Rattle.strm_laws.specs.CutOff.{IsCutOff}
+use Rattle.strm_laws.specs.PutEffect.{write_effect}
 use Rattle.strm_types.specs.PutMsg.{is_too_long, put_refusal}
-use Rattle.strm_types.specs.Refused.{goes_down, in_range, refused_at_once, unless}
-use Rattle.strm_types.specs.State.{State, stream, book, with_book}
+use Rattle.strm_laws.specs.Refusals.{goes_down, in_range, refused_at_once}
+use Rattle.strm_types.specs.Refused.{unless}
+use Rattle.strm_laws.specs.State.{State, stream, book, with_book}
 use Rattle.strm_types.specs.Reads.{head_draw}
-use Rattle.strm_types.specs.Calls.{Outcome, wrote, write_sent, read_at}
+use Rattle.strm_laws.specs.Calls.{Outcome, wrote, write_sent, read_at}
 use Rattle.strm_types.specs.Write.{chunk_count, chunks_of}
-use Rattle.strm_types.specs.Writes.{Wrote, cells_sent, chunks_sent}
-use Rattle.strm_types.proofs.CutOff.{goes-stays}
+use Rattle.strm_laws.specs.Writes.{Wrote, cells_sent, chunks_sent}
+use Rattle.strm_laws.proofs.CutOff.{goes-stays}
 use Rattle.strm_types.proofs.PlainCells.{written-plain, bytes-plain}
-use Rattle.strm_types.proofs.Replay.{or_else-none, unless-none}
-use Rattle.strm_types.proofs.WritesStand.{chunks-stand}
-use Rattle.strm_types.specs.Earlier.{NoModules, modules_on}
+use Rattle.strm_laws.proofs.Replay.{or_else-none, unless-none}
+use Rattle.strm_laws.proofs.WritesStand.{chunks-stand}
+use Rattle.strm_laws.specs.Earlier.{NoModules, modules_on}
 use Rattle.strm_pair.specs.Parts.{IsLow}
 use Rattle.strm_pair.specs.PlainCalls.{wrote_plain, read_plain}
 

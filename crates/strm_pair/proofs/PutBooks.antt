@@ -14,17 +14,17 @@ use Rattle.strm_types.specs.declared.rules.Fates.{Fates}
 use Rattle.strm_types.specs.declared.spots.Spot.{Spot}
 use Rattle.strm_types.specs.Books as books
 use Rattle.strm_types.specs.Books.{with_written}
-use Rattle.strm_types.specs.Calls.{message_put, put_at}
+use Rattle.strm_laws.specs.Calls.{message_put, put_at}
 use Rattle.strm_types.specs.Cells.{plain, cells_written}
 use Rattle.strm_types.specs.Deliver.{Carried, tallied}
 use Rattle.strm_types.specs.Message.{Message, part}
 use Rattle.strm_types.specs.Names.{direction_from}
 use Rattle.strm_types.specs.PutMsg.{no_parts, put_message}
-use Rattle.strm_types.specs.Puts.{delivered}
-use Rattle.strm_types.specs.Refused.{in_range}
-use Rattle.strm_types.specs.Spares.{spare}
-use Rattle.strm_types.specs.State.{State, book, with_book}
-use Rattle.strm_types.proofs.PutsBook.{delivered-books}
+use Rattle.strm_laws.specs.Puts.{delivered}
+use Rattle.strm_laws.specs.Refusals.{in_range}
+use Rattle.strm_laws.specs.Spares.{spare}
+use Rattle.strm_laws.specs.State.{State, book, with_book}
+use Rattle.strm_laws.proofs.PutsBook.{delivered-books}
 use Rattle.strm_types.proofs.PlainCells.{written-plain}
 
 -- a book that has room

@@ -22,7 +22,7 @@ use Rattle.strm_frame.specs.Outboxes.{sent_of}
 use Rattle.strm_frame.proofs.Shifting.{shifts-joined}
 use Rattle.strm_pty.specs.Does.{OnlyQueue, driver_cost}
 use Rattle.strm_pair.specs.Pairs.{end_at, with_end}
-use Rattle.strm_types.specs.Earlier.{before_head, driver_place, modules_on}
+use Rattle.strm_laws.specs.Earlier.{before_head, driver_place, modules_on}
 use Rattle.strm_pair.proofs.Sides.{driver-changed, driver-state, head-changed, head-state, driver-is, head-is}
 use Rattle.strm_types.specs.declared.names.Place.TheVariants as places
 use Rattle.strm_types.specs.declared.names.QueueName.{QueueName}
@@ -34,12 +34,13 @@ use Rattle.strm_types.specs.declared.spots.Spot.{Spot}
 use Rattle.strm_types.specs.Deliver.{Acted, Parcel, Took, tallied, toward, Goes}
 use Rattle.strm_types.specs.Flush.{is_data_kind}
 use Rattle.strm_types.specs.Flushing.{asked_by, flush_bytes, flush_message}
-use Rattle.strm_types.specs.Heads.{head_put, is_doubled, obeyed, turned_round, waits_for_readers}
+use Rattle.strm_types.specs.Heads.{head_put, is_doubled, obeyed, turned_round, waits_for_readers, Head}
 use Rattle.strm_types.specs.Message.{Message, cells_of, has_parts}
 use Rattle.strm_types.specs.Names.{direction_at, enable_some, is_open}
-use Rattle.strm_types.specs.Puts.{across_of, earlier_at, is_turned, turns_round, noted, passed_up, put_at_driver, put_at_head, put_at_module, put_behind, put_below, put_in}
+use Rattle.strm_laws.specs.Puts.{across_of, earlier_at, noted, passed_up, put_at_driver, put_at_head, put_at_module, put_behind, put_below, put_in}
+use Rattle.strm_types.specs.Far.{is_turned, turns_round}
 use Rattle.strm_types.specs.Reads.{is_there}
-use Rattle.strm_types.specs.State.{Head, State, stream, with_stream, with_driver_queue}
+use Rattle.strm_laws.specs.State.{State, stream, with_stream, with_driver_queue}
 use Rattle.strm_blocks.specs.Blocks.{StoreValue, in_hand}
 use Rattle.strm_msg.specs.Messages.{IsChain}
 use Rattle.strm_msg.proofs.Chains.{kind-is}
@@ -57,7 +58,7 @@ use Rattle.strm_pty.proofs.Doing.{times-one}
 use Rattle.strm_pair.specs.declared.streams.Streams.{Streams}
 use Rattle.strm_types.specs.Costs.{cost, cost_of, head_takes, below_takes, is_across}
 use Rattle.strm_types.specs.ModuleQueues.{at_place}
-use Rattle.strm_types.specs.StackCosts.{module_leaves, module_takes, stack_cost, stands_of}
+use Rattle.strm_laws.specs.StackCosts.{module_leaves, module_takes, stack_cost, stands_of}
 use Rattle.strm_pair.specs.Pairs.{state_in, AreBeside, Stays, kept_by}
 use Rattle.strm_pair.specs.Framing.{same-state, same-beside}
 use Rattle.strm_pair.specs.PutBy.{PutAs, PutBy, CameBy}

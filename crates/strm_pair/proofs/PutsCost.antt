@@ -14,18 +14,19 @@ use Rattle.strm_types.specs.declared.spots.Across.{Across}
 use Rattle.strm_types.specs.declared.spots.Spot.{Spot}
 use Rattle.strm_types.specs.Deliver.{Acted, Parcel, Took, toward}
 use Rattle.strm_types.specs.Drivers.{answered, bottom_across, crosses, driver_across, driver_put, freed, ioctl_put, own_flushed, put_across, put_down, reader_flush, taken_in}
-use Rattle.strm_types.specs.Flushing.{asked_by, flush_bytes, flush_message, read_flush}
-use Rattle.strm_types.specs.Heads.{head_put, is_doubled, nak_down, obeyed, turned_round, waits_for_readers}
+use Rattle.strm_types.specs.Flushing.{asked_by, flush_bytes, flush_message, read_flush, is_bare_flush}
+use Rattle.strm_types.specs.Heads.{head_put, is_doubled, nak_down, obeyed, turned_round, waits_for_readers, Head}
 use Rattle.strm_types.specs.Ioctls.{read_ioc, nak_message}
 use Rattle.strm_types.specs.Message.{Message, has_parts}
 use Rattle.strm_types.specs.Names.{is_master, is_open, other}
-use Rattle.strm_types.specs.Earlier.{driver_place, modules_on}
-use Rattle.strm_types.specs.Puts.{across_of, is_bare_flush, is_turned, passed_up, put_at_driver, put_at_head, put_behind, turns_round}
+use Rattle.strm_laws.specs.Earlier.{driver_place, modules_on}
+use Rattle.strm_laws.specs.Puts.{across_of, passed_up, put_at_driver, put_at_head, put_behind}
+use Rattle.strm_types.specs.Far.{is_turned, turns_round}
 use Rattle.strm_types.specs.Queue.{Queue}
-use Rattle.strm_types.specs.StackCosts.{Stands, stack_cost}
-use Rattle.strm_types.specs.State.{Head, State, stream}
-use Rattle.strm_types.proofs.PutsFall.{few-stand, reads-alone}
-use Rattle.strm_types.proofs.StackPuts.{behind-few, both-costs, reached-few}
+use Rattle.strm_laws.specs.StackCosts.{Stands, stack_cost}
+use Rattle.strm_laws.specs.State.{State, stream}
+use Rattle.strm_laws.proofs.PutsFall.{few-stand, reads-alone}
+use Rattle.strm_laws.proofs.StackPuts.{behind-few, both-costs, reached-few}
 use Rattle.strm_types.specs.Costs.{across_at, asking_at, asking_cost, below_cost, below_takes, cost, cost_at, cost_of, head_takes, is_across}
 
 -- what goes down from the head costs no more than what a driver makes of it

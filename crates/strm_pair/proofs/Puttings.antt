@@ -3,11 +3,11 @@ use Rattle.std.proofs.Common.{ℕ, ◌≡◌, ◌≤◌, ◌<◌, ◌+◌, true,
 use Rattle.std.specs.Prelude.{Option, None, Some, IfSome}
 use Rattle.strm_types.specs.declared.names.Side.{Side}
 use Rattle.strm_types.specs.declared.names.Side.TheVariants.{Master, Slave}
-use Rattle.strm_types.specs.Pushes.{may_stand, with_modules}
-use Rattle.strm_types.specs.StackCosts.{EachOnce}
-use Rattle.strm_types.specs.Stacked.{Module, module_name}
-use Rattle.strm_types.specs.State.{stream}
-use Rattle.strm_types.proofs.StackOnce.{push-once}
+use Rattle.strm_laws.specs.Pushes.{may_stand, with_modules}
+use Rattle.strm_laws.specs.StackCosts.{EachOnce}
+use Rattle.strm_laws.specs.Stacked.{Module, module_name}
+use Rattle.strm_laws.specs.State.{stream}
+use Rattle.strm_laws.proofs.StackOnce.{push-once}
 use Rattle.strm_blocks.specs.Blocks.{StoreValue, list_at}
 use Rattle.strm_pair.specs.declared.ends.End.{End}
 use Rattle.strm_pair.specs.declared.streams.Streams.{Streams}

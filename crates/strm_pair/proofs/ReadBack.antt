@@ -10,14 +10,15 @@ use Rattle.strm_types.specs.declared.events.Event.TheVariants.{OpenMaster, Unloc
 use Rattle.strm_types.specs.declared.limits.TheConstants.{CONTROL_MAX, DATA_MAX}
 use Rattle.strm_types.specs.declared.modes.Prio.{Prio}
 use Rattle.strm_types.specs.declared.refusals.Refusal.TheVariants.{Einval, Enxio, Erange}
-use Rattle.strm_types.specs.Calls.{Request, map_event, payload_of}
+use Rattle.strm_types.specs.Events.{Request, map_event, payload_of}
 use Rattle.strm_types.specs.Journal.{PlainEntry, content_max, entry_in, event_len, part_len, reply_in}
 use Rattle.strm_types.specs.Message.{part}
 use Rattle.strm_types.specs.PutMsg.{is_no_prio, is_too_long, put_refusal}
-use Rattle.strm_types.specs.Refused.{blocks_asked, goes_down, refused_at_once, unless}
-use Rattle.strm_types.specs.State.{State}
+use Rattle.strm_laws.specs.Refusals.{blocks_asked, goes_down, refused_at_once}
+use Rattle.strm_types.specs.Refused.{unless}
+use Rattle.strm_laws.specs.State.{State}
 use Rattle.strm_types.specs.Write.{chunk_count}
-use Rattle.strm_types.proofs.Replay.{or_else-none}
+use Rattle.strm_laws.proofs.Replay.{or_else-none}
 use Rattle.strm_pair.proofs.Refusing.{few-asked}
 
 abbrev kept : Request → Event ℕ

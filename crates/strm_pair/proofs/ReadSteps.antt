@@ -6,11 +6,11 @@ use Rattle.strm_types.specs.declared.limits.TheConstants.{READ_MAX}
 use Rattle.strm_types.specs.declared.names.Side.{Side}
 use Rattle.strm_types.specs.declared.rules.Fates.{Fates}
 use Rattle.strm_types.specs.Deliver.{tallied}
-use Rattle.strm_types.specs.Earlier.{before_head}
+use Rattle.strm_laws.specs.Earlier.{before_head}
 use Rattle.strm_types.specs.Names.{direction_of, enable_some, head_of}
 use Rattle.strm_types.specs.Reads.{head_draw, read_queue, read_lets_go, read_gone}
-use Rattle.strm_types.specs.State as plain
-use Rattle.strm_types.specs.State.{State, stream, with_stream}
+use Rattle.strm_types.specs.Heads as plain
+use Rattle.strm_laws.specs.State.{State, stream, with_stream}
 use Rattle.strm_blocks.specs.Blocks.{StoreValue}
 use Rattle.strm_head.specs.declared.head.Head.{Head}
 use Rattle.strm_head.specs.Heads.{head_in}

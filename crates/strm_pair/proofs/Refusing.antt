@@ -7,12 +7,13 @@ use Rattle.strm_types.specs.declared.events.Event.TheVariants.{OpenMaster, Unloc
 use Rattle.strm_types.specs.declared.refusals.Refusal.{Refusal}
 use Rattle.strm_types.specs.declared.refusals.Refusal.TheVariants.{Enosr, Enxio, Erange, JournalFull}
 use Rattle.strm_types.specs.declared.limits.TheConstants.{IOCTL_MAX}
-use Rattle.strm_types.specs.Calls.{Request, payload_of}
+use Rattle.strm_types.specs.Events.{Request, payload_of}
 use Rattle.strm_types.specs.Journal.{content_max}
-use Rattle.strm_types.specs.Pair.{PairState, call_refused}
-use Rattle.strm_types.specs.Refused.{blocks_asked, enough, goes_down, has_room, in_range, may_ask, or_else, refused_at_once, refused_by_state, unless}
-use Rattle.strm_types.specs.State.{State}
-use Rattle.strm_types.proofs.Replay.{or_else-none, unless-none}
+use Rattle.strm_laws.specs.Pair.{PairState, call_refused}
+use Rattle.strm_laws.specs.Refusals.{blocks_asked, enough, goes_down, has_room, in_range, may_ask, refused_at_once, refused_by_state}
+use Rattle.strm_types.specs.Refused.{or_else, unless}
+use Rattle.strm_laws.specs.State.{State}
+use Rattle.strm_laws.proofs.Replay.{or_else-none, unless-none}
 
 and-first : (a b : Bool) → (a && b) ≡ true → a ≡ true
 and-first true b is = refl

@@ -16,25 +16,26 @@ use Rattle.strm_types.specs.declared.rules.Fates.{Fates}
 use Rattle.strm_types.specs.declared.spots.Spot.{Spot}
 use Rattle.strm_types.specs.Books.{with_made}
 use Rattle.strm_types.specs.Cells.{plain}
-use Rattle.strm_types.specs.Costs.{cost_of}
+use Rattle.strm_types.specs.Costs.{cost_of, most_cost}
 use Rattle.strm_types.specs.Deliver.{Carried, Fate, Parcel, carried, in_turn, tallied}
-use Rattle.strm_types.specs.Earlier.{places_of}
+use Rattle.strm_laws.specs.Earlier.{places_of}
 use Rattle.strm_types.specs.Input.{made_of}
 use Rattle.strm_types.specs.Ldterms.{Ldterm}
 use Rattle.strm_types.specs.ModuleQueues.{at_place}
 use Rattle.strm_types.specs.Modules.{act_among}
-use Rattle.strm_types.specs.Puts.{earlier_at, module_acted, noted, put_in}
-use Rattle.strm_types.specs.Spares.{spare, spare_behind}
-use Rattle.strm_types.specs.StackCosts.{most_cost, stack_cost, stands_of}
-use Rattle.strm_types.specs.Stacked.{Module, OfLdterm, OfPtem, OfPckt, module_serves}
-use Rattle.strm_types.specs.State.{State, book, stream}
-use Rattle.strm_types.specs.TurnCalls.{Begins, Ends, asks_on, bytes_left, called, ldterm_of, module_at, most_made, treated}
+use Rattle.strm_laws.specs.Puts.{earlier_at, module_acted, noted, put_in}
+use Rattle.strm_laws.specs.Spares.{spare, spare_behind}
+use Rattle.strm_laws.specs.StackCosts.{stack_cost, stands_of}
+use Rattle.strm_laws.specs.Stacked.{Module, OfLdterm, OfPtem, OfPckt, module_serves}
+use Rattle.strm_laws.specs.State.{State, book, stream}
+use Rattle.strm_types.specs.LdtermCalls.{Begins, Ends, bytes_left, most_made}
+use Rattle.strm_laws.specs.TurnCalls.{asks_on, called, ldterm_of, module_at, treated}
 use Rattle.strm_types.proofs.CostSums.{none-few}
-use Rattle.strm_types.proofs.StackSpares.{acted-falls, units-fit}
-use Rattle.strm_types.proofs.StackStays.{serve-names}
-use Rattle.strm_types.proofs.Booked.{between-counts, made-within, made_in, master-told, slave-told}
-use Rattle.strm_types.proofs.LdtermStops.{GoesOn, serves-ends, serves-goes}
-use Rattle.strm_types.proofs.ModuleTurnCalls.{UnderWay, index-map, none_there, sent-stays, under_way}
+use Rattle.strm_laws.proofs.StackSpares.{acted-falls, units-fit}
+use Rattle.strm_laws.proofs.StackStays.{serve-names}
+use Rattle.strm_laws.proofs.Booked.{between-counts, made-within, made_in, master-told, slave-told}
+use Rattle.strm_laws.proofs.LdtermStops.{GoesOn, serves-ends, serves-goes}
+use Rattle.strm_laws.proofs.ModuleTurnCalls.{UnderWay, index-map, none_there, sent-stays, under_way}
 use Rattle.strm_blocks.specs.Blocks.{IsStore, StoreValue}
 use Rattle.strm_frame.specs.declared.service.Served.{Served}
 use Rattle.strm_frame.specs.declared.parcels.Sent.{Sent}

@@ -5,10 +5,10 @@ use Rattle.std.specs.List.{AllByRecursion}
 use Rattle.std.proofs.lemmas.List.{length-map}
 use Rattle.std.proofs.lemmas.List.Sums.{sum_by-append, sum_by-cons}
 use Rattle.strm_types.specs.declared.limits.Config.{Config}
-use Rattle.strm_types.specs.Kept.{AreIdle}
+use Rattle.strm_laws.specs.Kept.{AreIdle}
 use Rattle.strm_types.specs.Queue.{IsOrdered, Queue}
-use Rattle.strm_types.specs.State.{AreOrdered, messages_in, stream_queues}
-use Rattle.strm_types.specs.Stacked.{IsAtRest, queues_of_modules}
+use Rattle.strm_laws.specs.State.{AreOrdered, messages_in, stream_queues}
+use Rattle.strm_laws.specs.Stacked.{IsAtRest, queues_of_modules}
 use Rattle.strm_blocks.specs.Blocks.{Block, StoreValue, IsStore, list_at, empty_store, used}
 use Rattle.strm_blocks.proofs.Laws.{free_m-is}
 use Rattle.strm_msg.specs.Messages.{message_of}

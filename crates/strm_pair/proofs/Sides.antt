@@ -7,9 +7,9 @@ use Rattle.strm_types.specs.declared.kinds.MsgKind.TheVariants as kinds
 use Rattle.strm_types.specs.Flush.{is_data_kind}
 use Rattle.strm_types.specs.Emptied.{of_all, emptied, none_goes, queue_behind}
 use Rattle.strm_types.specs.Queue as state
-use Rattle.strm_types.specs.Stacked as stacked
-use Rattle.strm_types.specs.State as streams
-use Rattle.strm_types.specs.State.{State, stream, with_stream, with_driver_queue}
+use Rattle.strm_laws.specs.Stacked as stacked
+use Rattle.strm_laws.specs.State as streams
+use Rattle.strm_laws.specs.State.{State, stream, with_stream, with_driver_queue}
 use Rattle.strm_blocks.specs.Blocks.{Block, StoreValue, empty_store, list_at}
 use Rattle.strm_msg.specs.Messages.{message_of}
 use Rattle.strm_head.specs.declared.head.Head.{Head}

@@ -2,16 +2,16 @@
 use Rattle.std.proofs.Common.{ℕ, List, refl, ◌≡◌, ◌∙◌, ◌++◌, ◌∷◌, [], ap, sym, subst}
 use Rattle.strm_types.specs.declared.limits.Config.{Config}
 use Rattle.strm_types.specs.Cells.{plain}
-use Rattle.strm_types.specs.State.{State, opening}
+use Rattle.strm_laws.specs.State.{State, opening}
 use Rattle.strm_types.specs.declared.rules.Fates.{Fates}
 use Rattle.strm_types.specs.Deliver.{tallied}
-use Rattle.strm_types.specs.Kept.{AreIdle, gone, told_by}
-use Rattle.strm_types.specs.Ledgers.{FewBooked}
+use Rattle.strm_laws.specs.Kept.{AreIdle, gone, told_by}
+use Rattle.strm_laws.specs.Ledgers.{FewBooked}
 use Rattle.strm_types.specs.Rules.{no_fates}
 use Rattle.strm_types.specs.Journal.{PlainEntry}
-use Rattle.strm_types.specs.Step.{Step, after, replay, IsLegal}
-use Rattle.strm_types.proofs.Replay.{kept-legal, replay-append}
-use Rattle.strm_types.proofs.StepsIdle.{opening-idle, step-idle}
+use Rattle.strm_laws.specs.Step.{Step, after, replay, IsLegal}
+use Rattle.strm_laws.proofs.Replay.{kept-legal, replay-append}
+use Rattle.strm_laws.proofs.StepsIdle.{opening-idle, step-idle}
 use Rattle.strm_blocks.specs.Blocks.{StoreValue}
 use Rattle.strm_pair.specs.declared.streams.Streams.{Streams}
 use Rattle.strm_pair.specs.declared.journal.Journal.{Journal}

@@ -10,11 +10,11 @@ use Rattle.strm_types.specs.declared.spots.Note.{Note}
 use Rattle.strm_types.specs.Deliver.{Carried, Fate, counted_with, tallied}
 use Rattle.strm_types.specs.Modules.{top_name, without_module}
 use Rattle.strm_types.specs.Names.{place_of}
-use Rattle.strm_types.specs.Pushes.{all_taken, top_taken, with_modules}
-use Rattle.strm_types.specs.Puts.{earlier_at, noted}
-use Rattle.strm_types.specs.Stacked.{Module, module_name}
-use Rattle.strm_types.specs.State.{State, stream}
-use Rattle.strm_types.proofs.StackOnce.{pop-once}
+use Rattle.strm_laws.specs.Pushes.{all_taken, top_taken, with_modules}
+use Rattle.strm_laws.specs.Puts.{earlier_at, noted}
+use Rattle.strm_laws.specs.Stacked.{Module, module_name}
+use Rattle.strm_laws.specs.State.{State, stream}
+use Rattle.strm_laws.proofs.StackOnce.{pop-once}
 use Rattle.strm_blocks.specs.Blocks.{StoreValue, list_at}
 use Rattle.strm_queue.specs.Stored.{queue_in, HoldsReadable}
 use Rattle.strm_queue.proofs.Placed.{ready-same}

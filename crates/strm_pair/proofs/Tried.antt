@@ -4,11 +4,11 @@ use Rattle.std.proofs.lemmas.List.{length-map, length-take}
 use Rattle.std.specs.Prelude.{Option, None, Some, slice_index_or, take, min}
 use Rattle.strm_types.specs.declared.limits.TheConstants.{MODULES}
 use Rattle.strm_types.specs.declared.names.Place.{Place}
-use Rattle.strm_types.specs.Earlier.{places_of}
+use Rattle.strm_laws.specs.Earlier.{places_of}
 use Rattle.strm_types.specs.Names.{place_of}
-use Rattle.strm_types.specs.ModuleTurns.{named_from}
-use Rattle.strm_types.specs.Pushes.{is_there}
-use Rattle.strm_types.specs.Stacked.{Module, module_name}
+use Rattle.strm_laws.specs.ModuleTurns.{named_from}
+use Rattle.strm_laws.specs.Pushes.{is_there}
+use Rattle.strm_laws.specs.Stacked.{Module, module_name}
 
 -- the places of the first modules are the first places
 first-places : (ps : List (Module ℕ)) (n i : ℕ) → i < n → slice_index_or (places_of (take n ps)) i None ≡ slice_index_or (places_of ps) i None

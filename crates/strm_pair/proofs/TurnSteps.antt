@@ -9,24 +9,23 @@ use Rattle.strm_types.specs.declared.names.Side.TheVariants.{Master, Slave}
 use Rattle.strm_types.specs.declared.names.Way.{Way}
 use Rattle.strm_types.specs.declared.names.Way.TheVariants.{Up}
 use Rattle.strm_types.specs.Cells as cells
-use Rattle.strm_types.specs.Costs.{asking_at}
-use Rattle.strm_types.specs.Earlier.{driver_place}
+use Rattle.strm_types.specs.Costs.{asking_at, most_cost, most_up}
+use Rattle.strm_laws.specs.Earlier.{driver_place}
 use Rattle.strm_types.specs.Flushing.{asked_by, is_flush}
-use Rattle.strm_types.specs.Kept.{AreIdle}
+use Rattle.strm_laws.specs.Kept.{AreIdle}
 use Rattle.strm_types.specs.Message.{Message, band_of, has_parts, is_held}
 use Rattle.strm_types.specs.Names.{other, is_open}
-use Rattle.strm_types.specs.Past.{has_room_past, writer_waits}
+use Rattle.strm_laws.specs.Past.{has_room_past, writer_waits}
 use Rattle.strm_types.specs.Pckts.{is_packed}
-use Rattle.strm_types.specs.Puts.{far_at, is_turned, turns_round}
+use Rattle.strm_types.specs.Far.{far_at, is_turned, turns_round}
 use Rattle.strm_types.specs.Queue as plain
 use Rattle.strm_types.specs.Queue.{left_with}
-use Rattle.strm_types.specs.Spares.{spare}
-use Rattle.strm_types.specs.StackCosts.{most_cost, most_up}
-use Rattle.strm_types.specs.State.{State, stream}
-use Rattle.strm_types.specs.TurnOutcomes.{stayed_put}
-use Rattle.strm_types.specs.Turns.{is_stopped_across, held_back, with_driver, moved_across, driver_serves, driver_turned, turn_ended}
-use Rattle.strm_types.proofs.StackSpares.{same-spare}
-use Rattle.strm_types.proofs.StepBooks.{driver-books, end-books, waits-books}
+use Rattle.strm_laws.specs.Spares.{spare}
+use Rattle.strm_laws.specs.State.{State, stream}
+use Rattle.strm_laws.specs.TurnOutcomes.{stayed_put}
+use Rattle.strm_laws.specs.Turns.{is_stopped_across, held_back, with_driver, moved_across, driver_serves, driver_turned, turn_ended}
+use Rattle.strm_laws.proofs.StackSpares.{same-spare}
+use Rattle.strm_laws.proofs.StepBooks.{driver-books, end-books, waits-books}
 use Rattle.strm_blocks.specs.Blocks.{Block, StoreValue, block_at}
 use Rattle.strm_blocks.specs.Outcomes.{PeekedFirst}
 use Rattle.strm_blocks.specs.declared.asked.Peek.{Peek}

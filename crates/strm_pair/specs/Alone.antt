@@ -1,6 +1,6 @@
 -- A message that is to be delivered, with nothing else in hand.
 use Rattle.std.specs.Prelude.{ℕ, ◌≡◌, [], ◌∷◌}
-use Rattle.strm_types.specs.Kept.{AreIdle}
+use Rattle.strm_laws.specs.Kept.{AreIdle}
 use Rattle.strm_blocks.specs.Blocks.{StoreValue, in_hand}
 use Rattle.strm_msg.specs.Messages.{IsChain}
 use Rattle.strm_pair.specs.declared.streams.Streams.{Streams}

@@ -6,10 +6,10 @@ use Rattle.strm_types.specs.declared.names.Way.{Way}
 use Rattle.strm_types.specs.declared.spots.Spot.{Spot}
 use Rattle.strm_types.specs.Cells.{plain}
 use Rattle.strm_types.specs.Message.{Message}
-use Rattle.strm_types.specs.Pushes.{named_by}
+use Rattle.strm_laws.specs.Pushes.{named_by}
 use Rattle.strm_types.specs.Queue.{Queue}
-use Rattle.strm_types.specs.Stacked.{Module, OfLdterm, OfPtem, OfPckt, module_name, module_puts, module_serves, with_module_queue, without_module_line}
-use Rattle.strm_types.specs.TurnCalls.{ldterm_of}
+use Rattle.strm_laws.specs.Stacked.{Module, OfLdterm, OfPtem, OfPckt, module_name, module_puts, module_serves, with_module_queue, without_module_line}
+use Rattle.strm_laws.specs.TurnCalls.{ldterm_of}
 use Rattle.strm_blocks.specs.Blocks.{StoreValue, list_at}
 use Rattle.strm_frame.specs.Hands.{SameOwn}
 use Rattle.strm_ldterm.specs.Bounds as bounds

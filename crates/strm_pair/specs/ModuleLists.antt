@@ -13,7 +13,7 @@ use Rattle.strm_types.specs.Ldterms.{IsIdle}
 use Rattle.strm_types.specs.Message.{rank_of}
 use Rattle.strm_types.specs.Queue.{IsOrdered, Queue}
 use Rattle.strm_types.specs.Ranked as ranked
-use Rattle.strm_types.specs.Stacked.{IsAtRest, queues_of_modules}
+use Rattle.strm_laws.specs.Stacked.{IsAtRest, queues_of_modules}
 use Rattle.strm_blocks.specs.Blocks as blocks
 use Rattle.strm_blocks.specs.Blocks.{Block, StoreValue, list_at}
 use Rattle.strm_msg.specs.Messages.{message_of}

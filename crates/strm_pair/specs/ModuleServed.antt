@@ -9,12 +9,14 @@ use Rattle.strm_types.specs.Cells.{plain}
 use Rattle.strm_types.specs.Deliver.{AreLower, Fate, Took, tallied}
 use Rattle.strm_types.specs.Input.{made_of}
 use Rattle.strm_types.specs.ModuleQueues.{at_place}
-use Rattle.strm_types.specs.ModuleTurns.{module_turn_ended, moved_on}
-use Rattle.strm_types.specs.Puts.{far, module_acted}
-use Rattle.strm_types.specs.Spares.{spare}
-use Rattle.strm_types.specs.StackCosts.{most_cost}
-use Rattle.strm_types.specs.State.{State, stream}
-use Rattle.strm_types.specs.TurnCalls.{Ends, asks_on, bytes_left, called, ldterm_of, led, module_at, most_made, treated}
+use Rattle.strm_laws.specs.ModuleTurns.{module_turn_ended, moved_on}
+use Rattle.strm_types.specs.Far.{far}
+use Rattle.strm_laws.specs.Puts.{module_acted}
+use Rattle.strm_laws.specs.Spares.{spare}
+use Rattle.strm_types.specs.Costs.{most_cost}
+use Rattle.strm_laws.specs.State.{State, stream}
+use Rattle.strm_types.specs.LdtermCalls.{Ends, bytes_left, most_made}
+use Rattle.strm_laws.specs.TurnCalls.{asks_on, called, ldterm_of, led, module_at, treated}
 use Rattle.strm_blocks.specs.Blocks.{StoreValue, times_in}
 use Rattle.strm_frame.specs.declared.parcels.Sent.{Sent}
 use Rattle.strm_frame.specs.declared.service.Served.{Served}

@@ -5,7 +5,7 @@ use Rattle.std.proofs.Common.{arith, sym, ◌∙◌}
 use Rattle.std.proofs.lemmas.List.{length-map}
 use Rattle.std.proofs.lemmas.List.Sums.{sum_by-cons}
 use Rattle.strm_types.specs.declared.names.Way.TheVariants.{Up}
-use Rattle.strm_types.specs.Stacked.{IsAtRest}
+use Rattle.strm_laws.specs.Stacked.{IsAtRest}
 use Rattle.strm_blocks.specs.Blocks.{StoreValue}
 use Rattle.strm_frame.specs.StackLaws.{stack-stays}
 use Rattle.strm_frame.specs.Stacks.{all_of, AreHeld}

@@ -5,10 +5,11 @@ use Rattle.strm_types.specs.declared.limits.TheConstants.{MODULES}
 use Rattle.strm_types.specs.declared.names.QueueName.{QueueName}
 use Rattle.strm_types.specs.declared.spots.Spot.{Spot}
 use Rattle.strm_types.specs.Cells.{plain}
-use Rattle.strm_types.specs.ModuleTurns.{module_turned, moved_within}
-use Rattle.strm_types.specs.State.{State, stream}
-use Rattle.strm_types.specs.TurnCalls.{bytes_left, ldterm_of, module_at}
-use Rattle.strm_types.specs.TurnOutcomes.{stayed_put}
+use Rattle.strm_laws.specs.ModuleTurns.{module_turned, moved_within}
+use Rattle.strm_laws.specs.State.{State, stream}
+use Rattle.strm_types.specs.LdtermCalls.{bytes_left}
+use Rattle.strm_laws.specs.TurnCalls.{ldterm_of, module_at}
+use Rattle.strm_laws.specs.TurnOutcomes.{stayed_put}
 use Rattle.strm_pair.specs.declared.serving.Begun.{Begun}
 use Rattle.strm_pair.specs.declared.serving.Begun.TheVariants.{Over, Serves}
 

@@ -4,8 +4,8 @@ use Rattle.strm_types.specs.declared.names.Place.{Place}
 use Rattle.strm_types.specs.declared.names.Way.{Way}
 use Rattle.strm_types.specs.Message.{Message}
 use Rattle.strm_types.specs.ModuleQueues.{at_place, messages_at}
-use Rattle.strm_types.specs.ModuleTurns.{place_named}
-use Rattle.strm_types.specs.Stacked.{Module, module_queue}
+use Rattle.strm_laws.specs.ModuleTurns.{place_named}
+use Rattle.strm_laws.specs.Stacked.{Module, module_queue}
 
 -- what is said of the module at a place, where there is one
 abbrev pub at_found : {A : Type 0} → (Module ℕ → A) → A → List (Module ℕ) → Option ℕ → A

@@ -2,13 +2,13 @@
 use Rattle.std.specs.Prelude.{ℕ, ◌≡◌}
 use Rattle.strm_types.specs.declared.limits.Config.{Config}
 use Rattle.strm_types.specs.Cells.{plain}
-use Rattle.strm_types.specs.State.{State, opening}
-use Rattle.strm_types.specs.Step.{replay, IsLegal}
+use Rattle.strm_laws.specs.State.{State, opening}
+use Rattle.strm_laws.specs.Step.{replay, IsLegal}
 use Rattle.strm_types.specs.declared.rules.Fates.{Fates}
-use Rattle.strm_types.specs.Kept.{told_by}
-use Rattle.strm_types.specs.Ledgers.{FewBooked}
+use Rattle.strm_laws.specs.Kept.{told_by}
+use Rattle.strm_laws.specs.Ledgers.{FewBooked}
 use Rattle.strm_types.specs.Rules.{no_fates}
-use Rattle.strm_types.specs.Pair.{PairState}
+use Rattle.strm_laws.specs.Pair.{PairState}
 use Rattle.strm_blocks.specs.Blocks.{StoreValue}
 use Rattle.strm_pair.specs.declared.streams.Streams.{Streams}
 use Rattle.strm_pair.specs.declared.journal.Journal.{Journal}

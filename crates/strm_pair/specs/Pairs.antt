@@ -2,8 +2,8 @@
 use Rattle.std.specs.Prelude.{ℕ, ◌≡◌, ◌<◌, ◌+◌, List, []}
 use Rattle.strm_types.specs.declared.names.Side.{Side}
 use Rattle.strm_types.specs.declared.names.Side.TheVariants.{Master, Slave}
-use Rattle.strm_types.specs.State.{State}
-use Rattle.strm_types.specs.Refused.{Free}
+use Rattle.strm_laws.specs.State.{State}
+use Rattle.strm_laws.specs.Refusals.{Free}
 use Rattle.strm_types.specs.Journal.{PlainEntry, entries_in}
 use Rattle.strm_blocks.specs.Blocks.{StoreValue, free_m, free_d, in_hand}
 use Rattle.strm_pair.specs.declared.streams.Streams.{Streams}

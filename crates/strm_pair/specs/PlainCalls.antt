@@ -3,11 +3,11 @@ use Rattle.std.specs.Prelude.{ℕ, min, List}
 use Rattle.strm_types.specs.declared.limits.TheConstants.{READ_MAX}
 use Rattle.strm_types.specs.declared.names.Side.{Side}
 use Rattle.strm_types.specs.declared.answers.Answer.TheVariants.{Count, Bytes}
-use Rattle.strm_types.specs.Earlier.{before_head}
+use Rattle.strm_laws.specs.Earlier.{before_head}
 use Rattle.strm_types.specs.Names.{driver_of, head_of, direction_from, direction_of, enable_if, enable_some}
-use Rattle.strm_types.specs.State.{State, stream, with_stream, with_driver_queue, with_head_queue, book, with_book}
+use Rattle.strm_laws.specs.State.{State, stream, with_stream, with_driver_queue, with_head_queue, book, with_book}
 use Rattle.strm_types.specs.Books.{with_written}
-use Rattle.strm_types.specs.Calls.{Outcome}
+use Rattle.strm_laws.specs.Calls.{Outcome}
 use Rattle.strm_types.specs.Deliver.{Fate}
 use Rattle.strm_types.specs.Reads.{head_draw, read_queue, read_lets_go, read_gone}
 use Rattle.strm_types.specs.Write.{written}

@@ -7,9 +7,9 @@ use Rattle.strm_types.specs.Deliver.{Acted, Parcel, Took, tallied}
 use Rattle.strm_types.specs.Message.{Message}
 use Rattle.strm_types.specs.ModuleQueues.{at_place}
 use Rattle.strm_types.specs.Modules.{put_among}
-use Rattle.strm_types.specs.StackCosts.{module_leaves, module_takes}
-use Rattle.strm_types.specs.Stacked.{Module, module_puts}
-use Rattle.strm_types.specs.State.{State}
+use Rattle.strm_laws.specs.StackCosts.{module_leaves, module_takes}
+use Rattle.strm_laws.specs.Stacked.{Module, module_puts}
+use Rattle.strm_laws.specs.State.{State}
 use Rattle.strm_blocks.specs.Blocks.{StoreValue}
 use Rattle.strm_frame.specs.declared.parcels.Sent.{Sent}
 use Rattle.strm_frame.specs.declared.modules.Acts.{Acts}

@@ -7,10 +7,9 @@ use Rattle.strm_types.specs.declared.names.Way.{Way}
 use Rattle.strm_types.specs.declared.names.Way.TheVariants.{Up, Down}
 use Rattle.strm_types.specs.declared.names.QueueName.{QueueName}
 use Rattle.strm_types.specs.ModuleQueues as modules
-use Rattle.strm_types.specs.Queue.{count_of, is_full}
-use Rattle.strm_types.specs.Stacked.{module_queue}
-use Rattle.strm_types.specs.State.{State, Stream, stream}
-use Rattle.strm_types.specs.TurnOutcomes.{first_size}
+use Rattle.strm_types.specs.Queue.{count_of, is_full, first_size}
+use Rattle.strm_laws.specs.Stacked.{module_queue}
+use Rattle.strm_laws.specs.State.{State, Stream, stream}
 use Rattle.strm_blocks.specs.Blocks.{StoreValue}
 use Rattle.strm_queue.specs.Stored.{messages_on}
 use Rattle.strm_pair.specs.Named.{at_named, messages_named, messages_queued}

@@ -3,10 +3,10 @@ use Rattle.std.specs.Prelude.{ℕ, ◌≡◌, ◌+◌, ◌≤◌, ◌<◌, List,
 use Rattle.std.specs.List.{AllByRecursion}
 use Rattle.strm_types.specs.declared.names.Way.TheVariants.{Up, Down}
 use Rattle.strm_types.specs.Queue.{IsOrdered}
-use Rattle.strm_types.specs.StackCosts.{EachOnce}
-use Rattle.strm_types.specs.Stacked as plain
-use Rattle.strm_types.specs.Stacked.{IsAtRest}
-use Rattle.strm_types.specs.State.{Stream}
+use Rattle.strm_laws.specs.StackCosts.{EachOnce}
+use Rattle.strm_laws.specs.Stacked as plain
+use Rattle.strm_laws.specs.Stacked.{IsAtRest}
+use Rattle.strm_laws.specs.State.{Stream}
 use Rattle.strm_blocks.specs.Blocks.{StoreValue, list_at}
 use Rattle.strm_frame.specs.Hands.{SameOwn}
 use Rattle.strm_pair.specs.declared.ends.End.{End}

@@ -5,10 +5,10 @@ use Rattle.strm_types.specs.declared.rules.Fates.{Fates}
 use Rattle.strm_types.specs.declared.rules.Rule.{Rule}
 use Rattle.strm_types.specs.declared.names.ModuleName.{ModuleName}
 use Rattle.strm_types.specs.Deliver.{Acted, tallied}
-use Rattle.strm_types.specs.Pushes.{top_on, top_taken}
+use Rattle.strm_laws.specs.Pushes.{top_on, top_taken}
 use Rattle.strm_types.specs.Service.{cleared}
-use Rattle.strm_types.specs.Stacked.{Module, module_line, module_name, module_queue, with_module_queue, without_module_line}
-use Rattle.strm_types.specs.State.{stream}
+use Rattle.strm_laws.specs.Stacked.{Module, module_line, module_name, module_queue, with_module_queue, without_module_line}
+use Rattle.strm_laws.specs.State.{stream}
 use Rattle.strm_blocks.specs.Blocks.{StoreValue, list_at}
 use Rattle.strm_queue.specs.Stored.{FreesBlocks}
 use Rattle.strm_frame.specs.Serves.{SameHand}

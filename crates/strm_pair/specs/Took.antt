@@ -7,8 +7,8 @@ use Rattle.strm_types.specs.Cells.{plain}
 use Rattle.strm_types.specs.Deliver.{tallied}
 use Rattle.strm_types.specs.Message.{Message}
 use Rattle.strm_types.specs.Queue.{Queue, left_with, relieved, relieves}
-use Rattle.strm_types.specs.State.{State, stream}
-use Rattle.strm_types.specs.Turns.{turned_queue, with_driver, moved_across}
+use Rattle.strm_laws.specs.State.{State, stream}
+use Rattle.strm_laws.specs.Turns.{turned_queue, with_driver, moved_across}
 use Rattle.strm_blocks.specs.Blocks.{StoreValue, in_hand}
 use Rattle.strm_msg.specs.Messages.{message_of, IsChain}
 use Rattle.strm_queue.specs.Stored.{FreesBlocks}

@@ -1,7 +1,7 @@
 //! Answers with their bytes in buffers of their own.
 
 ghost use Rattle.std.specs.Prelude.{◌≡◌, ◌≤◌, length, take, option_map};
-ghost use Rattle.strm_types.specs.Calls.{map_answer};
+ghost use Rattle.strm_types.specs.Events.{map_answer};
 ghost use Rattle.strm_types.specs.Journal.{answer_len, part_in, part_len, reply_in};
 ghost use Rattle.strm_pair.specs.Parts.{longest_part};
 

@@ -4,10 +4,11 @@
 ghost use Rattle.std.specs.Prelude.{ℕ, ◌≡◌, ◌≤◌, ◌<◌, ◌+◌, ◌^◌, length, true, false};
 ghost use Rattle.strm_types.specs.declared.limits.TheConstants.{MODULES};
 ghost use Rattle.strm_types.specs.Books.{with_made};
-ghost use Rattle.strm_types.specs.Kept.{AreIdle};
-ghost use Rattle.strm_types.specs.Refused.{in_range};
-ghost use Rattle.strm_types.specs.State.{stream};
-ghost use Rattle.strm_types.specs.TurnCalls.{Begins, bytes_left, ldterm_of, module_at};
+ghost use Rattle.strm_laws.specs.Kept.{AreIdle};
+ghost use Rattle.strm_laws.specs.Refusals.{in_range};
+ghost use Rattle.strm_laws.specs.State.{stream};
+ghost use Rattle.strm_types.specs.LdtermCalls.{Begins, bytes_left};
+ghost use Rattle.strm_laws.specs.TurnCalls.{ldterm_of, module_at};
 ghost use Rattle.strm_blocks.specs.Blocks.{StoreValue};
 ghost use Rattle.strm_frame.specs.Hands.{HasRoom};
 ghost use Rattle.strm_frame.specs.Outboxes.{sent_of};

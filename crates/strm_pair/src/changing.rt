@@ -2,16 +2,16 @@
 
 ghost use Rattle.std.specs.Prelude.{ℕ, List, ◌≡◌, ◌<◌, ◌∷◌, ◌&&◌, not, true, MatchOption, IfSome, Some, is_some, length};
 ghost use Rattle.strm_types.specs.declared.answers.Answer.TheVariants.{Done};
-ghost use Rattle.strm_types.specs.Calls.{looked};
+ghost use Rattle.strm_laws.specs.Calls.{looked};
 ghost use Rattle.strm_types.specs.Deliver.{tallied};
 ghost use Rattle.strm_types.specs.Dropped.{is_met};
 ghost use Rattle.strm_types.specs.Journal.{answer_len, reply_in};
-ghost use Rattle.strm_types.specs.Kept.{AreIdle};
+ghost use Rattle.strm_laws.specs.Kept.{AreIdle};
 ghost use Rattle.strm_types.specs.Options.{mode_number};
-ghost use Rattle.strm_types.specs.Pushes.{all_taken, below_top, may_stand, mode_behind, mode_on_push, mode_put, modules_emptied, named_by, popped, pushed_named, top_on, with_modules};
+ghost use Rattle.strm_laws.specs.Pushes.{all_taken, below_top, may_stand, mode_behind, mode_on_push, mode_put, modules_emptied, named_by, popped, pushed_named, top_on, with_modules};
 ghost use Rattle.strm_types.specs.Names.{driver_of, enable_if, other, place_of};
 ghost use Rattle.strm_types.specs.Queue.{is_none_left};
-ghost use Rattle.strm_types.specs.State.{stream};
+ghost use Rattle.strm_laws.specs.State.{stream};
 ghost use Rattle.strm_frame.specs.Hands.{HasRoom};
 ghost use Rattle.strm_pair.specs.Parts.{longest_part};
 ghost use Rattle.strm_pair.specs.Taken.{TookNone, TookTop, WithoutTop};

@@ -4,13 +4,13 @@ ghost use Rattle.std.specs.Prelude.{ℕ, ◌≡◌, ◌+◌, ◌≤◌, true};
 ghost use Rattle.strm_types.specs.declared.answers.Answer.TheVariants.{Done};
 ghost use Rattle.strm_types.specs.declared.rules.Rule.TheVariants.{EndClosed};
 ghost use Rattle.strm_types.specs.Cells.{plain};
-ghost use Rattle.strm_types.specs.Closes.{head_emptied, driver_emptied, ended, hung_up_at, closed_at};
+ghost use Rattle.strm_laws.specs.Closes.{head_emptied, driver_emptied, ended, hung_up_at, closed_at};
 ghost use Rattle.strm_types.specs.Emptied.{of_all};
 ghost use Rattle.strm_types.specs.Deliver.{tallied};
-ghost use Rattle.strm_types.specs.Kept.{AreIdle};
-ghost use Rattle.strm_types.specs.Puts.{flushed_on};
-ghost use Rattle.strm_types.specs.Refused.{in_range};
-ghost use Rattle.strm_types.specs.Spares.{spare};
+ghost use Rattle.strm_laws.specs.Kept.{AreIdle};
+ghost use Rattle.strm_laws.specs.Puts.{flushed_on};
+ghost use Rattle.strm_laws.specs.Refusals.{in_range};
+ghost use Rattle.strm_laws.specs.Spares.{spare};
 ghost use Rattle.strm_frame.specs.Hands.{HasRoom};
 ghost use Rattle.strm_pair.specs.Streams.{Modules};
 

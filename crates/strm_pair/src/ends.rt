@@ -2,7 +2,7 @@
 
 ghost use Rattle.std.specs.Prelude.{◌≡◌};
 ghost use Rattle.strm_types.specs.declared.names.Openness.TheVariants.{Open, Closed};
-ghost use Rattle.strm_types.specs.State.{new_head};
+ghost use Rattle.strm_types.specs.Heads.{new_head};
 ghost use Rattle.strm_queue.specs.Stored.{IsReady, Keeps};
 ghost use Rattle.strm_head.specs.Heads.{head_in};
 

@@ -2,7 +2,7 @@
 
 ghost use Rattle.std.specs.Prelude.{◌≡◌, ◌+◌, ◌≤◌, ◌<◌, ◌^◌, [], ◌∷◌, ◌++◌, length, vec_capacity, true, IfOk};
 ghost use Rattle.strm_types.specs.declared.entries.Entry.TheVariants.{Called, Turned};
-ghost use Rattle.strm_types.specs.Calls.{request, payload_of};
+ghost use Rattle.strm_types.specs.Events.{request, payload_of};
 ghost use Rattle.strm_types.specs.Journal.{entry_in, entry_len, answer_len, reply_in};
 ghost use Rattle.strm_pair.specs.Journals.{IsStored, has_room_for};
 

@@ -1,8 +1,8 @@
 //! The numbers of a ledger: the book of a direction, what stands in its lines, and the sum of what has gone.
 
 ghost use Rattle.std.specs.Prelude.{ℕ, ◌≡◌, ◌<◌, ◌≤◌, ◌^◌, sum_by};
-ghost use Rattle.strm_types.specs.Ledgers.{inline};
-ghost use Rattle.strm_types.specs.State.{book};
+ghost use Rattle.strm_laws.specs.Ledgers.{inline};
+ghost use Rattle.strm_laws.specs.State.{book};
 
 use crate::stacks::Stacks;
 use crate::streams::Streams;

@@ -2,7 +2,7 @@
 
 ghost use Rattle.std.specs.Prelude.{ℕ, ◌≡◌, ◌≤◌, ◌+◌};
 ghost use Rattle.strm_types.specs.Ptems.{new_ptem};
-ghost use Rattle.strm_types.specs.Stacked.{OfPtem};
+ghost use Rattle.strm_laws.specs.Stacked.{OfPtem};
 ghost use Rattle.strm_blocks.specs.Blocks.{StoreValue};
 ghost use Rattle.strm_pair.specs.AnyModules.{IsMade, module_in};
 
@@ -45,10 +45,12 @@ impl<Mp: Drop> AnyModule<Mp> {
 
 impl<B: Blocks> Module<B> for AnyModule<B::Mp> {
     ghost use Rattle.strm_types.specs.Cells as cells;
-    ghost use Rattle.strm_types.specs.StackCosts as costs;
-    ghost use Rattle.strm_types.specs.Puts.{far};
-    ghost use Rattle.strm_types.specs.Stacked as plain;
-    ghost use Rattle.strm_types.specs.TurnCalls.{Ends, ldterm_of};
+    ghost use Rattle.strm_types.specs.Costs.{most_cost};
+    ghost use Rattle.strm_laws.specs.StackCosts as costs;
+    ghost use Rattle.strm_types.specs.Far.{far};
+    ghost use Rattle.strm_laws.specs.Stacked as plain;
+    ghost use Rattle.strm_types.specs.LdtermCalls.{Ends};
+    ghost use Rattle.strm_laws.specs.TurnCalls.{ldterm_of};
     ghost use Rattle.strm_ldterm.specs.Bounds.{turn_height};
     ghost use Rattle.strm_pair.specs.AnyModules as any;
 
@@ -88,7 +90,7 @@ impl<B: Blocks> Module<B> for AnyModule<B::Mp> {
 
     ghost leaves = { costs.module_leaves };
 
-    ghost cost = { costs.most_cost };
+    ghost cost = { most_cost };
 
     ghost turn_height = { turn_height };
 

@@ -1,20 +1,20 @@
 //! The pair: calls, turns, and the journal of what was carried out.
 
 ghost use Rattle.std.specs.Prelude.{◌≡◌, ◌≤◌, ◌<◌, ◌+◌, if◌then◌else◌, sum_by, [], length, replicate, MatchResult, MatchOption, IsOk, Err, IfOk, is_some, slice_get};
-ghost use Rattle.strm_types.specs.Calls.{request, map_answer};
+ghost use Rattle.strm_types.specs.Events.{request, map_answer};
 ghost use Rattle.strm_types.specs.Cells.{Origin, plain, tagged};
 ghost use Rattle.strm_types.specs.declared.entries.Entry.TheVariants.{Called, Turned};
-ghost use Rattle.strm_types.specs.Earlier.{modules_on};
-ghost use Rattle.strm_types.specs.Pair.{new_pair, call_refused, queue_refused, AddsEntry};
+ghost use Rattle.strm_laws.specs.Earlier.{modules_on};
+ghost use Rattle.strm_laws.specs.Pair.{new_pair, call_refused, queue_refused, AddsEntry};
 ghost use Rattle.strm_types.specs.Journal.{entries_in, reply_in, answer_len};
-ghost use Rattle.strm_types.specs.Refused.{enough, has_room};
-ghost use Rattle.strm_types.specs.Step.{replay, IsLegal};
-ghost use Rattle.strm_types.specs.Kept.{told_by};
-ghost use Rattle.strm_types.specs.Ledgers.{is_booked, ledger_of, own_places_of, places_of};
+ghost use Rattle.strm_laws.specs.Refusals.{enough, has_room};
+ghost use Rattle.strm_laws.specs.Step.{replay, IsLegal};
+ghost use Rattle.strm_laws.specs.Kept.{told_by};
+ghost use Rattle.strm_laws.specs.Ledgers.{is_booked, ledger_of, own_places_of, places_of};
 ghost use Rattle.strm_types.specs.Rules.{no_fates};
 ghost use Rattle.strm_types.specs.Queue.{bytes_of};
-ghost use Rattle.strm_types.specs.ModuleTurns.{place_named};
-ghost use Rattle.strm_types.specs.State.{AreOrdered, messages_in, opening, stream};
+ghost use Rattle.strm_laws.specs.ModuleTurns.{place_named};
+ghost use Rattle.strm_laws.specs.State.{AreOrdered, messages_in, opening, stream};
 ghost use Rattle.strm_pair.specs.Shows.{Shows, count_at, first_at, full_at, messages_at};
 ghost use Rattle.strm_pair.specs.Parts.{longest_part};
 ghost use Rattle.strm_pair.specs.Pool.{IsPoolOf};
@@ -52,7 +52,7 @@ pub struct Recorded<'a> {
 }
 
 impl<B: Stacks + Drop> Model for Pair<B> {
-    ghost use Rattle.strm_types.specs.Pair.{PairState};
+    ghost use Rattle.strm_laws.specs.Pair.{PairState};
 
     ghost Value = { PairState };
 

@@ -5,12 +5,13 @@ ghost use Rattle.std.specs.Prelude.{ℕ, ◌≡◌, ◌<◌, ◌≤◌, ◌&&◌
 ghost use Rattle.strm_types.specs.declared.limits.TheConstants.{MODULES};
 ghost use Rattle.strm_types.specs.declared.names.Way.TheVariants.{Up};
 ghost use Rattle.strm_types.specs.Cells.{plain};
-ghost use Rattle.strm_types.specs.Earlier.{modules_on};
+ghost use Rattle.strm_laws.specs.Earlier.{modules_on};
 ghost use Rattle.strm_types.specs.Flushing.{is_flush};
 ghost use Rattle.strm_types.specs.Message.{has_parts};
 ghost use Rattle.strm_types.specs.Names.{is_open};
-ghost use Rattle.strm_types.specs.Puts.{across_of, put_at_head, put_at_module, put_at_driver, passed_up, put_behind, put_in, far};
-ghost use Rattle.strm_types.specs.State.{stream};
+ghost use Rattle.strm_laws.specs.Puts.{across_of, put_at_head, put_at_module, put_at_driver, passed_up, put_behind, put_in};
+ghost use Rattle.strm_types.specs.Far.{far};
+ghost use Rattle.strm_laws.specs.State.{stream};
 ghost use Rattle.strm_blocks.specs.Blocks.{in_hand, block_at};
 ghost use Rattle.strm_msg.specs.Messages.{IsChain};
 ghost use Rattle.strm_frame.specs.Hands.{CanPut, HasRoom, MayTake, Shifts, once};
@@ -20,8 +21,8 @@ ghost use Rattle.strm_head.specs.Heads.{down_message, sent_down};
 ghost use Rattle.strm_pty.specs.Does.{Makes, MadeOne};
 ghost use Rattle.strm_types.specs.Costs.{below_takes, cost_of, head_takes, is_across};
 ghost use Rattle.strm_types.specs.ModuleQueues.{at_place};
-ghost use Rattle.strm_types.specs.Spares.{module_packs, spare};
-ghost use Rattle.strm_types.specs.StackCosts.{module_leaves, module_takes, stack_cost, stands_of};
+ghost use Rattle.strm_laws.specs.Spares.{module_packs, spare};
+ghost use Rattle.strm_laws.specs.StackCosts.{module_leaves, module_takes, stack_cost, stands_of};
 ghost use Rattle.strm_pair.specs.PutBy.{PutAs, PutBy, CameBy, StackTakes};
 ghost use Rattle.strm_pair.specs.Streams.{Modules};
 
@@ -328,7 +329,7 @@ impl<S: Drop> Streams<S> {
 
 impl<B: Stacks> Stations<B> for Streams<B::Stack> {
     ghost use Rattle.std.specs.Prelude.{ℕ};
-    ghost use Rattle.strm_types.specs.State.{State};
+    ghost use Rattle.strm_laws.specs.State.{State};
     ghost use Rattle.strm_pair.specs.Pairs.{state_in, AreBeside, kept_by};
     ghost use Rattle.strm_pair.specs.Framing.{costs-stay, streams-frame};
 

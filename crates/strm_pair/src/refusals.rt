@@ -1,16 +1,17 @@
 //! What a call is refused for, by the streams alone.
 
 ghost use Rattle.std.specs.Prelude.{ℕ, ◌≡◌, ◌+◌, ◌≤◌, ◌<◌, ◌^◌, ◌&&◌, not, option_map, None};
-ghost use Rattle.strm_types.specs.Calls.{request};
+ghost use Rattle.strm_types.specs.Events.{request};
 ghost use Rattle.strm_types.specs.Journal.{content_max};
-ghost use Rattle.strm_types.specs.Pushes.{may_stand, named_by};
-ghost use Rattle.strm_types.specs.Refused.{refused_at_once, refused_by_state, blocks_asked, unless, or_else, in_range, goes_down, at_end, is_known, is_a_band, asks_a_band, may_ask};
+ghost use Rattle.strm_laws.specs.Pushes.{may_stand, named_by};
+ghost use Rattle.strm_laws.specs.Refusals.{refused_at_once, refused_by_state, blocks_asked, in_range, goes_down, at_end, is_known, asks_a_band, may_ask};
+ghost use Rattle.strm_types.specs.Refused.{unless, or_else, is_a_band};
 ghost use Rattle.strm_types.specs.PutMsg.{part_blocks};
-ghost use Rattle.strm_types.specs.Writes.{is_full_below};
+ghost use Rattle.strm_laws.specs.Writes.{is_full_below};
 ghost use Rattle.strm_pair.specs.Parts.{IsLow, is_held_back};
 ghost use Rattle.strm_types.specs.declared.refusals.Refusal.TheVariants.{Eagain, Einval, Enxio, Erange};
 ghost use Rattle.strm_types.specs.Names.{is_never, is_open};
-ghost use Rattle.strm_types.specs.State.{stream};
+ghost use Rattle.strm_laws.specs.State.{stream};
 ghost use Rattle.strm_pair.specs.Streams.{Modules};
 
 use crate::ends::End;

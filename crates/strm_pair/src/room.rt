@@ -5,10 +5,10 @@
 ghost use Rattle.std.specs.Prelude.{ℕ, ◌≡◌, ◌<◌};
 ghost use Rattle.strm_types.specs.declared.limits.TheConstants.{BANDS};
 ghost use Rattle.strm_types.specs.ModuleQueues.{place_past, with_waiting};
-ghost use Rattle.strm_types.specs.Past.{end_queue, has_room_past, may_pass, waits_on, with_end_queue, writer_waits};
+ghost use Rattle.strm_laws.specs.Past.{end_queue, has_room_past, may_pass, waits_on, with_end_queue, writer_waits};
 ghost use Rattle.strm_types.specs.Queue.{is_full};
-ghost use Rattle.strm_types.specs.Stacked.{module_queue};
-ghost use Rattle.strm_types.specs.Writes.{is_full_below};
+ghost use Rattle.strm_laws.specs.Stacked.{module_queue};
+ghost use Rattle.strm_laws.specs.Writes.{is_full_below};
 ghost use Rattle.strm_blocks.specs.Blocks.{StoreValue};
 ghost use Rattle.strm_queue.specs.Stored.{IsReady};
 ghost use Rattle.strm_pair.specs.Streams.{IsSide, stream_in};

@@ -17,7 +17,8 @@ use Rattle.strm_types.specs.Ioctls.{nak_message}
 use Rattle.strm_types.specs.Ldterms.{onward}
 use Rattle.strm_types.specs.Message.{Message, has_parts}
 use Rattle.strm_types.specs.Ptems.{signals_up, sigwinch, window_signal}
-use Rattle.strm_types.specs.Puts.{is_bare_flush, is_turned, turns_round}
+use Rattle.strm_types.specs.Flushing.{is_bare_flush}
+use Rattle.strm_types.specs.Far.{is_turned, turns_round}
 use Rattle.strm_types.specs.Typing.{bare}
 use Rattle.strm_types.specs.Winsizes.{same_winsize}
 

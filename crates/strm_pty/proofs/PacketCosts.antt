@@ -7,7 +7,7 @@ use Rattle.strm_types.specs.Cells.{plain}
 use Rattle.strm_types.specs.Costs.{pckt_takes}
 use Rattle.strm_types.specs.Deliver.{AreLower}
 use Rattle.strm_types.specs.Message.{Message}
-use Rattle.strm_types.specs.Puts.{far}
+use Rattle.strm_types.specs.Far.{far}
 use Rattle.strm_types.proofs.PcktPuts.{puts-lower}
 use Rattle.strm_blocks.specs.Blocks.{StoreValue}
 use Rattle.strm_frame.specs.declared.modules.Acts.{Acts}

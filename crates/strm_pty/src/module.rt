@@ -14,8 +14,8 @@ impl<B: Blocks> Module<B> for Pckt {
     ghost use Rattle.strm_types.specs.declared.spots.Asks.TheVariants.{Empty};
     ghost use Rattle.strm_types.specs.Costs as costs;
     ghost use Rattle.strm_types.specs.Pckts as plain;
-    ghost use Rattle.strm_types.specs.Puts.{far};
-    ghost use Rattle.strm_types.specs.Stacked.{unserved};
+    ghost use Rattle.strm_types.specs.Far.{far};
+    ghost use Rattle.strm_types.specs.Service.{unserved};
     ghost use Rattle.strm_pty.specs.Packs.{pckt_in, puts};
 
     ghost Plain = { plain.Pckt };
@@ -160,7 +160,7 @@ impl<B: Blocks> Module<B> for Ptem {
     ghost use Rattle.strm_types.specs.declared.spots.Asks.TheVariants.{Empty};
     ghost use Rattle.strm_types.specs.Costs as costs;
     ghost use Rattle.strm_types.specs.Ptems as plain;
-    ghost use Rattle.strm_types.specs.Puts.{far};
+    ghost use Rattle.strm_types.specs.Far.{far};
     ghost use Rattle.strm_pty.specs.Beside.{idle, ptem_in};
 
     ghost Plain = { plain.Ptem };

@@ -7,7 +7,7 @@ use Rattle.strm_types.specs.declared.kinds.MsgKind.{MsgKind}
 use Rattle.strm_types.specs.declared.kinds.MsgKind.TheVariants as kinds
 use Rattle.strm_types.specs.Message.{band_of, size_of, is_high_priority, is_held}
 use Rattle.strm_types.specs.Queue as plain
-use Rattle.strm_types.specs.Turns.{is_stopped}
+use Rattle.strm_types.specs.Queue.{is_stopped}
 use Rattle.strm_blocks.specs.Blocks.{Block, block_at}
 use Rattle.strm_msg.specs.Messages.{message_of, IsChain}
 use Rattle.strm_msg.proofs.Chains.{kind-is, band-is, size-shown}

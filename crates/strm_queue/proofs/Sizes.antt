@@ -6,7 +6,7 @@ use Rattle.std.proofs.lemmas.List.{length-map}
 use Rattle.std.proofs.lemmas.List.Sums.{sum_by-cons}
 use Rattle.strm_types.specs.Message.{size_of}
 use Rattle.strm_types.specs.Queue as plain
-use Rattle.strm_types.specs.TurnOutcomes.{first_size}
+use Rattle.strm_types.specs.Queue.{first_size}
 use Rattle.strm_blocks.specs.declared.asked.Peek.{Peek}
 use Rattle.strm_blocks.specs.Blocks.{Block, StoreValue, IsStore, list_at, used, missing}
 use Rattle.strm_blocks.specs.Outcomes.{first_bytes, told, peek_of}

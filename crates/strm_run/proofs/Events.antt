@@ -10,14 +10,15 @@ use Rattle.strm_types.specs.declared.events.FlushQueues.{FlushQueues}
 use Rattle.strm_types.specs.declared.entries.Entry.TheVariants.{Called, Turned}
 use Rattle.strm_types.specs.Cells as cells
 use Rattle.strm_types.specs.Names.{is_enabled}
-use Rattle.strm_types.specs.State.{State}
+use Rattle.strm_laws.specs.State.{State}
 use Rattle.strm_pair.specs.Shows.{first_at}
-use Rattle.strm_types.specs.TurnOutcomes.{TurnOutcome}
-use Rattle.strm_types.specs.Turns.{turned}
-use Rattle.strm_types.specs.Calls.{Request, Reply}
+use Rattle.strm_laws.specs.TurnOutcomes.{TurnOutcome}
+use Rattle.strm_laws.specs.Turns.{turned}
+use Rattle.strm_types.specs.Events.{Request, Reply}
 use Rattle.strm_types.specs.Journal.{reply_in}
-use Rattle.strm_types.specs.Refused.{Free, enough, blocks_asked, or_else, turn_blocks, turn_refused, unless}
-use Rattle.strm_types.specs.Pair.{PairState, call_refused, queue_refused, AddsEntry}
+use Rattle.strm_laws.specs.Refusals.{Free, enough, blocks_asked, turn_refused}
+use Rattle.strm_types.specs.Refused.{or_else, turn_blocks, unless}
+use Rattle.strm_laws.specs.Pair.{PairState, call_refused, queue_refused, AddsEntry}
 use Rattle.strm_run.proofs.Stopping.{accounted}
 use Rattle.strm_run.specs.ScriptAnswers.{Ran, reply_line, turn_line}
 use Rattle.strm_run.specs.ScriptRun as script

@@ -5,7 +5,7 @@ use Rattle.std.proofs.lemmas.Bool.Decides.{leb_tells}
 use Rattle.strm_types.specs.declared.names.Side.{Side}
 use Rattle.strm_types.specs.declared.events.Event.TheVariants.{Ioctl, IoctlResult}
 use Rattle.strm_types.specs.declared.ioctls.TheConstants.{TCGETS, TCSETS, TCSETSW, TCSETSF, TIOCGWINSZ, TIOCSWINSZ, TIOCSIGNAL}
-use Rattle.strm_types.specs.Calls.{Request}
+use Rattle.strm_types.specs.Events.{Request}
 use Rattle.strm_run.specs.declared.commands.WindowSize.{WindowSize}
 use Rattle.strm_run.specs.Script.{Command, Call, byte_max, short_max, window_bytes, IsNumber, IsNumberTo, IsWindow, IsSender, Sets, SetsLater, SetsAnew, Raw, IsAsked, Gets, GetsWindow, SetsWindow, Signals, Sends, IsSpelled}
 use Rattle.strm_run.specs.ScriptReading.{and_then, after, Front, within, number_in, number_to, number_at, number_to_at, text_in, behind, behind_side, bare_in, height_got, width_got, columns_got, size_in, window_in, signal_in, sender_at, text_sent, sending_in, asked_in, ioctl_in, poll_in, control_in}

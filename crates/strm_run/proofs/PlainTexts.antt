@@ -11,8 +11,9 @@ use Rattle.strm_types.specs.declared.names.Side.{Side}
 use Rattle.strm_types.specs.declared.events.FlushQueues.{FlushQueues}
 use Rattle.strm_types.specs.Names.{is_enabled}
 use Rattle.strm_types.specs.declared.events.Event.TheVariants as calls
-use Rattle.strm_types.specs.Calls.{Request, Reply}
-use Rattle.strm_types.specs.Refused.{or_else, unless, refused, refused_at_once, refused_by_state, blocks_asked}
+use Rattle.strm_types.specs.Events.{Request, Reply}
+use Rattle.strm_types.specs.Refused.{or_else, unless}
+use Rattle.strm_laws.specs.Refusals.{refused, refused_at_once, refused_by_state, blocks_asked}
 use Rattle.strm_run.specs.Script.{Command, Open, Call, Flush, Put, Get, Turn as TurnOf, Run, Show, Ledger}
 use Rattle.strm_run.specs.ScriptReading.{Reading, Silent, Malformed, Spoken, reading}
 use Rattle.strm_run.specs.ScriptAnswers.{printed_line, reply_line, turn_line, Ran, Wrong}

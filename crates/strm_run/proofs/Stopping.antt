@@ -21,14 +21,14 @@ use Rattle.strm_types.specs.Input.{input_begins, is_data, passes, stages, stages
 use Rattle.strm_types.specs.Ldterms as ldterms
 use Rattle.strm_types.specs.Message.{Message}
 use Rattle.strm_types.specs.ModuleQueues.{at_place, messages_at}
-use Rattle.strm_types.specs.ModuleTurns.{Calls, again_at, asked_turn, calls, made_below, moved_by, moved_on, moved_within, place_named, turned_named, turned_there, waits_there, whole_module}
+use Rattle.strm_laws.specs.ModuleTurns.{Calls, again_at, asked_turn, calls, made_below, moved_by, moved_on, moved_within, place_named, turned_named, turned_there, waits_there, whole_module}
 use Rattle.strm_types.specs.OutputTurns.{output_serves}
-use Rattle.strm_types.specs.Past.{has_room_past}
-use Rattle.strm_types.specs.Queue.{left_with}
-use Rattle.strm_types.specs.Stacked.{Module, OfLdterm, OfPckt, OfPtem, module_asks, module_queue, module_rests, module_serves}
-use Rattle.strm_types.specs.State.{State, Stream, stream}
-use Rattle.strm_types.specs.TurnOutcomes.{TurnOutcome, first_size, stayed_put}
-use Rattle.strm_types.specs.Turns.{turned, turned_at, whole_turn}
+use Rattle.strm_laws.specs.Past.{has_room_past}
+use Rattle.strm_types.specs.Queue.{left_with, first_size}
+use Rattle.strm_laws.specs.Stacked.{Module, OfLdterm, OfPckt, OfPtem, module_asks, module_queue, module_rests, module_serves}
+use Rattle.strm_laws.specs.State.{State, Stream, stream}
+use Rattle.strm_laws.specs.TurnOutcomes.{TurnOutcome, stayed_put}
+use Rattle.strm_laws.specs.Turns.{turned, turned_at, whole_turn}
 use Rattle.strm_types.specs.Names.{without}
 use Rattle.strm_pair.specs.Named.{at_found, messages_named}
 use Rattle.strm_pair.specs.Shows.{first_at}

@@ -18,10 +18,11 @@ use Rattle.strm_types.specs.Gets.{is_wanted, get_refusal}
 use Rattle.strm_types.specs.PutMsg.{is_no_prio, is_too_long, put_refusal}
 use Rattle.strm_types.specs.declared.slots.Slot.TheVariants.{Free, Waiting, Acked, Nacked}
 use Rattle.strm_types.specs.Slots.{PlainSlot, unless_same, result_refusal}
-use Rattle.strm_types.specs.State.{State, stream}
+use Rattle.strm_laws.specs.State.{State, stream}
 use Rattle.strm_types.specs.declared.events.Event.TheVariants as calls
-use Rattle.strm_types.specs.Calls.{Request}
-use Rattle.strm_types.specs.Refused.{or_else, unless, at_end, refused_at_once, refused_by_state}
+use Rattle.strm_types.specs.Events.{Request}
+use Rattle.strm_types.specs.Refused.{or_else, unless}
+use Rattle.strm_laws.specs.Refusals.{at_end, refused_at_once, refused_by_state}
 use Rattle.strm_run.specs.Script.{Command, Open, Call, Flush, Put, Get, Turn as TurnOf, Run, Show, Ledger}
 use Rattle.strm_run.specs.ScriptReading.{Reading, Silent, Malformed, Spoken, reading}
 use Rattle.strm_run.specs.ScriptRun as script

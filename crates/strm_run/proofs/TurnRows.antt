@@ -16,9 +16,9 @@ use Rattle.strm_types.specs.Ldterms.{Ldterm, new_ldterm}
 use Rattle.strm_types.specs.Message.{Message, band_of, cells_of, data_message, is_held, is_high_priority, rank_of, size_of}
 use Rattle.strm_types.specs.Names.{driver_of}
 use Rattle.strm_types.specs.Queue.{Queue}
-use Rattle.strm_types.specs.Stacked.{OfLdterm}
-use Rattle.strm_types.specs.State.{Stream, new_stream, opening}
-use Rattle.strm_types.proofs.Samples.{ordinary}
+use Rattle.strm_laws.specs.Stacked.{OfLdterm}
+use Rattle.strm_laws.specs.State.{Stream, new_stream, opening}
+use Rattle.strm_laws.proofs.Samples.{ordinary}
 use Rattle.strm_run.specs.Script.{queue_in_stream}
 use Rattle.strm_run.specs.ScriptRun.{Supply, Enough, Within, TooFew, PlainPair, script_limits, turn_of, queues_down}
 

@@ -2,7 +2,7 @@
 use Rattle.std.specs.Prelude.{ℕ, Option, option_map, Vec}
 use Rattle.std.specs.Global.{Global}
 use Rattle.strm_types.specs.declared.events.Event.{Event}
-use Rattle.strm_types.specs.Calls.{Request, map_event}
+use Rattle.strm_types.specs.Events.{Request, map_event}
 use Rattle.strm_run.specs.Script as script
 use Rattle.strm_run.specs.ScriptReading as readings
 use Rattle.strm_run.specs.declared.commands.Command.{Command}

@@ -4,8 +4,8 @@ use Rattle.strm_types.specs.declared.names.Place.TheVariants.{Ldterm}
 use Rattle.strm_types.specs.declared.names.Side.{Side}
 use Rattle.strm_types.specs.declared.names.Way.TheVariants.{Up, Down}
 use Rattle.strm_types.specs.Journal.{reply_in}
-use Rattle.strm_types.specs.ModuleTurns.{place_named}
-use Rattle.strm_types.specs.State.{State, stream}
+use Rattle.strm_laws.specs.ModuleTurns.{place_named}
+use Rattle.strm_laws.specs.State.{State, stream}
 use Rattle.strm_run.specs.ScriptAnswers as script
 use Rattle.strm_run.specs.ScriptRun.{size_at}
 use Rattle.strm_run.specs.declared.answers.Line.{Line}

@@ -1,6 +1,6 @@
 -- What a command of the code leads to.
 use Rattle.std.specs.Prelude.{◌≡◌, ℕ, List, ◌++◌, Option, Some}
-use Rattle.strm_types.specs.Pair.{PairState}
+use Rattle.strm_laws.specs.Pair.{PairState}
 use Rattle.strm_run.specs.ScriptRun as script
 use Rattle.strm_run.specs.ScriptRun.{Supply, PlainPair}
 use Rattle.strm_run.specs.Plain.{plain}

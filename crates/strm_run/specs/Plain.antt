@@ -1,5 +1,5 @@
 -- The pair of the code as scripts see it.
-use Rattle.strm_types.specs.Pair.{PairState}
+use Rattle.strm_laws.specs.Pair.{PairState}
 use Rattle.strm_run.specs.ScriptRun.{PlainPair}
 
 -- a pair whose blocks nobody counts

@@ -22,7 +22,7 @@ use Rattle.strm_types.specs.declared.modes.Mode.TheVariants as modes
 use Rattle.strm_types.specs.declared.modes.ReadMode.TheVariants.{ByteStream, MessageKeep, MessageDiscard}
 use Rattle.strm_types.specs.declared.modes.ControlMode.TheVariants.{Refuse, Data, Discard}
 use Rattle.strm_types.specs.declared.ioctls.TheConstants.{TCGETS, TCSETS, TCSETSW, TCSETSF, TIOCGWINSZ, TIOCSWINSZ, TIOCSIGNAL}
-use Rattle.strm_types.specs.Calls.{Request}
+use Rattle.strm_types.specs.Events.{Request}
 use Rattle.strm_run.specs.declared.commands.NamedPrio.{NamedPrio}
 use Rattle.strm_run.specs.declared.commands.NamedPrio.TheVariants as prios
 use Rattle.strm_run.specs.declared.commands.NamedWanted.{NamedWanted}

@@ -16,7 +16,7 @@ use Rattle.strm_types.specs.declared.names.ModuleName.{ModuleName}
 use Rattle.strm_types.specs.declared.names.Side.{Side}
 use Rattle.strm_types.specs.declared.rules.Rule.{Rule}
 use Rattle.strm_types.specs.declared.rules.Rule.TheVariants.{Read, Igncr, EraseKey, Erased, Killed, EofKey, SignalKey, FlowKey, LnextKey, ReprintKey, LineFull, LineOver, Flushed, RestDiscarded, ControlDropped, Doubled, ModulePopped, EndClosed, Replaced, Onocr, EchoFull}
-use Rattle.strm_types.specs.Calls.{Reply}
+use Rattle.strm_types.specs.Events.{Reply}
 use Rattle.strm_types.specs.Rules.{number_of}
 use Rattle.strm_run.specs.Script.{side_name, direction_name, queue_in_stream, module_name}
 use Rattle.strm_run.specs.declared.answers.QueueSize.{QueueSize}

@@ -26,7 +26,7 @@ use Rattle.strm_run.specs.declared.commands.NamedPrio.TheVariants as prios
 use Rattle.strm_run.specs.declared.commands.NamedWanted.{NamedWanted}
 use Rattle.strm_run.specs.declared.commands.NamedWanted.TheVariants as wanteds
 use Rattle.strm_types.specs.declared.ioctls.TheConstants.{TCGETS, TCSETS, TCSETSW, TCSETSF, TIOCGWINSZ, TIOCSWINSZ, TIOCSIGNAL}
-use Rattle.strm_types.specs.Calls.{Request}
+use Rattle.strm_types.specs.Events.{Request}
 use Rattle.strm_run.specs.declared.commands.WindowSize.{WindowSize}
 use Rattle.strm_run.specs.Script.{Command, Open, Call, Flush, Put, Get, Turn, Run, Show, Ledger, usual_size, byte_max, short_max, window_bytes, line_max, number_max, digit_of, is_letter, hex_of, escaped, is_silent}
 

@@ -12,11 +12,11 @@ use Rattle.strm_types.specs.declared.names.QueueName.{QueueName}
 use Rattle.strm_types.specs.declared.names.Way.TheVariants.{Up, Down}
 use Rattle.strm_types.specs.declared.refusals.Refusal.{Refusal}
 use Rattle.strm_types.specs.declared.refusals.Refusal.TheVariants.{Einval, Enxio, Enosr}
-use Rattle.strm_types.specs.ModuleTurns.{place_named}
-use Rattle.strm_types.specs.Kept.{told_by}
-use Rattle.strm_types.specs.Ledgers.{ledger_of}
+use Rattle.strm_laws.specs.ModuleTurns.{place_named}
+use Rattle.strm_laws.specs.Kept.{told_by}
+use Rattle.strm_laws.specs.Ledgers.{ledger_of}
 use Rattle.strm_types.specs.Rules.{no_fates}
-use Rattle.strm_types.specs.State.{State, opening, stream}
+use Rattle.strm_laws.specs.State.{State, opening, stream}
 use Rattle.strm_types.specs.Names.{head_of, driver_of}
 use Rattle.strm_types.specs.Queue.{bytes_of}
 use Rattle.strm_types.specs.declared.names.Side.{Side}
@@ -30,10 +30,11 @@ use Rattle.strm_types.specs.declared.modes.Prio.TheVariants as sent
 use Rattle.strm_types.specs.declared.modes.Wanted.{Wanted}
 use Rattle.strm_types.specs.declared.modes.Wanted.TheVariants as wanted
 use Rattle.strm_types.specs.Cells.{plain}
-use Rattle.strm_types.specs.Turns.{turned, whole_turn}
-use Rattle.strm_types.specs.Calls.{Request, Reply, called}
+use Rattle.strm_laws.specs.Turns.{turned, whole_turn}
+use Rattle.strm_types.specs.Events.{Request, Reply}
+use Rattle.strm_laws.specs.Calls.{called}
 use Rattle.strm_types.specs.Journal.{PlainEntry}
-use Rattle.strm_types.specs.Refused.{refused, turn_refused, blocks_asked}
+use Rattle.strm_laws.specs.Refusals.{refused, turn_refused, blocks_asked}
 use Rattle.strm_run.specs.Script.{Command, Open, Call, Flush, Put, Get, Turn as TurnOf, Run, Show, Ledger, lines_of}
 use Rattle.strm_run.specs.ScriptReading.{Silent, Malformed, Spoken, reading}
 use Rattle.strm_run.specs.ScriptAnswers.{Line, Sizes, Booked, Refused, Wrong, Ran, printed_line, reply_line, turn_line}

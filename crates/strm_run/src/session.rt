@@ -1,17 +1,17 @@
 //! What commands lead to on the pair of a script.
 
 ghost use Rattle.std.specs.Prelude.{◌≡◌, ◌||◌, false, Some, None, IfOk, OnErr, option_map, is_some};
-ghost use Rattle.strm_types.specs.Calls.{request};
+ghost use Rattle.strm_types.specs.Events.{request};
 ghost use Rattle.strm_run.specs.ScriptAnswers as script;
 ghost use Rattle.strm_run.specs.ScriptRun.{by_call, by_flush, by_turn, by_run, by_open, answered};
 ghost use Rattle.strm_run.specs.ScriptRun.{by_put, by_get, band_of, prio_of, wanted_of};
 ghost use Rattle.strm_run.specs.ScriptRun.{script_limits, is_enosr, reach, size_at};
 ghost use Rattle.strm_types.specs.Names.{head_of, driver_of};
 ghost use Rattle.strm_types.specs.Cells as cells;
-ghost use Rattle.strm_types.specs.Kept.{told_by};
-ghost use Rattle.strm_types.specs.Ledgers.{ledger_of};
+ghost use Rattle.strm_laws.specs.Kept.{told_by};
+ghost use Rattle.strm_laws.specs.Ledgers.{ledger_of};
 ghost use Rattle.strm_types.specs.Rules.{no_fates};
-ghost use Rattle.strm_types.specs.State.{opening};
+ghost use Rattle.strm_laws.specs.State.{opening};
 ghost use Rattle.strm_run.specs.Lines.{module_sizes};
 ghost use Rattle.strm_run.specs.Commands.{command_of};
 ghost use Rattle.strm_run.specs.Plain.{plain};

@@ -11,7 +11,8 @@ use Rattle.strm_types.specs.declared.spots.Spot.{Spot}
 use Rattle.strm_types.specs.Costs.{across_at, asking_at, asking_cost, below_cost, cost, cost_at, is_across}
 use Rattle.strm_types.specs.Deliver.{toward}
 use Rattle.strm_types.specs.Message.{Message, has_parts}
-use Rattle.strm_types.specs.Puts.{is_bare_flush, is_turned}
+use Rattle.strm_types.specs.Flushing.{is_bare_flush}
+use Rattle.strm_types.specs.Far.{is_turned}
 
 below-few : (way : Way) (parts across turned : Bool) → below_cost way parts across turned ≤ 4
 below-few Down true across turned = omega arith

@@ -25,10 +25,10 @@ use Rattle.strm_types.specs.Message.{Message, cells_of}
 use Rattle.strm_types.specs.Queue.{is_full, is_none_left, left_with}
 use Rattle.strm_types.specs.Service.{Serving}
 use Rattle.strm_types.specs.Termios.{icanon, imaxbel, noflsh}
-use Rattle.strm_types.specs.TurnCalls.{IsShort, echo_most, most_made}
+use Rattle.strm_types.specs.LdtermCalls.{IsShort, echo_most, most_made}
 use Rattle.strm_types.specs.Typing.{added, bare, begins, both_ways, dropped, echo_dir, echo_grows, echo_lost, echo_stands, echoed, edits, gathered_up, is_blank_cell, is_lnext, lost, sigint, signals, sigquit, sigtstp, strikes, stroke_at, struck, up_alone}
 use Rattle.strm_types.proofs.EchoSizes.{echo-few}
-use Rattle.strm_types.proofs.LdtermStops.{stages-work}
+use Rattle.strm_types.proofs.StagesWork.{stages-work}
 use Rattle.strm_types.proofs.OutputStops.{output-makes}
 use Rattle.strm_types.proofs.MadeCells.{made-both, made-long}
 

@@ -20,6 +20,11 @@ use Rattle.strm_types.specs.Message.{Message, has_parts}
 use Rattle.strm_types.specs.TakenUp.{taken_up}
 use Rattle.strm_types.specs.Termios.{read_termios}
 
+-- what holds of both holds of the one that is chosen
+pub either : {A : Type 0} (P : A → Type 0) (b : Bool) (one another : A) → P one → P another → P (cond b one another)
+either P true one another first second = first
+either P false one another first second = second
+
 module _ {C : Type 0} (here : Spot) (m : Message C) (p : Ldterm C) (P : Acted C (Ldterm C) → Type 0) where
   pub record Each : Type 0 where
     pub waits : waits_on here.way m ≡ true → P (queued_at here.way m p)

@@ -7,7 +7,7 @@ use Rattle.strm_types.specs.declared.spots.Spot.{Spot}
 use Rattle.strm_types.specs.Deliver.{AreLower, toward}
 use Rattle.strm_types.specs.Ldterms.{onward}
 use Rattle.strm_types.specs.Message.{Message}
-use Rattle.strm_types.specs.Puts.{far, far_at, is_turned}
+use Rattle.strm_types.specs.Far.{far, far_at, is_turned}
 
 -- the next place that way is nearer, from the place of a module
 onward-less : (way : Way) (turnable : Bool) (here : Spot) → 0 < here.at → here.at ≤ MODULES → far_at way turnable (toward way here).at < far_at way turnable here.at

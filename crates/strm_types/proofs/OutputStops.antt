@@ -1,19 +1,28 @@
 -- Turns of ldterm's write queue over plain bytes: where they stop, and how much they make.
-use Rattle.std.proofs.Common.{ℕ, ◌≡◌, ◌≤◌, ◌*◌, Bool, true, false, cond, List, [], ◌∷◌, length, refl, ap, ◌∙◌, arith}
+use Rattle.std.proofs.Common.{ℕ, ◌≡◌, ◌≤◌, ◌*◌, Bool, true, false, cond, List, [], ◌∷◌, length, refl, ap, ◌∙◌, arith, map}
 use Rattle.std.specs.Prelude.{◌&&◌, Option, None, Some, drop, take, unwrap_or}
 use Rattle.std.proofs.lemmas.List.{length-take}
+use Rattle.strm_types.specs.declared.names.Way.TheVariants.{Down}
 use Rattle.strm_types.specs.declared.spots.Spot.{Spot}
 use Rattle.strm_types.specs.Cells.{plain}
-use Rattle.strm_types.specs.Input.{is_data, left_of, made_of}
-use Rattle.strm_types.specs.Ldterms.{Ldterm}
+use Rattle.strm_types.specs.Input.{is_data, left_of, made_of, back_on}
+use Rattle.strm_types.specs.Ldterms.{Ldterm, onward}
 use Rattle.strm_types.specs.Message.{Message, cells_of, size_of}
 use Rattle.strm_types.specs.Output.{Output, posts}
 use Rattle.strm_types.specs.OutputTurns.{Outgoing, outgoing, output_dir, output_serves, posted, unchanged, with_given}
+use Rattle.strm_types.specs.Queue.{left_with, first_size}
+use Rattle.strm_types.specs.Service.{Serving}
 use Rattle.strm_types.specs.Termios.{opost}
-use Rattle.strm_types.specs.TurnCalls.{most_made}
-use Rattle.strm_types.specs.TurnOutcomes.{first_size}
+use Rattle.strm_types.specs.LdtermCalls.{most_made}
 use Rattle.strm_types.proofs.Outputs.{posts-make-few, posts-same}
-use Rattle.strm_types.proofs.OutputServes.{turn_of}
+
+-- a turn, by what becomes of its message
+abbrev pub turn_of : {E : Type 0} → Spot → List (Message E) → Ldterm E → Outgoing E → Serving E (Ldterm E)
+turn_of here rest l t = record {
+  acted = record { state = record l { write_queue = back_on t.left (left_with rest l.write_queue); column = t.column }; notes = []; sent = map (onward Down here) t.messages; gone = t.told };
+  bytes = t.bytes;
+  again = false;
+}
 
 module _ (here : Spot) where
   -- Of a message, whatever was made before.

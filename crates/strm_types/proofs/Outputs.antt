@@ -1,8 +1,8 @@
--- Output goes byte by byte, is bounded, loses no cell and makes none that it doesn't tell, and does the same where origins are forgotten.
-use Rattle.std.proofs.Common.{ℕ, ◌≡◌, ◌≤◌, ◌+◌, ◌-◌, ◌*◌, Bool, true, false, cond, List, [], ◌∷◌, ◌++◌, length, map, replicate, refl, sym, ap, ◌∙◌, arith, length-append}
-use Rattle.std.specs.Prelude.{count_by, nat_le, ◌==◌, ◌&&◌}
+-- Output goes byte by byte, is bounded, and of plain bytes is the same however many were made before.
+use Rattle.std.proofs.Common.{ℕ, ◌≡◌, ◌≤◌, ◌+◌, ◌-◌, ◌*◌, Bool, true, false, cond, List, [], ◌∷◌, ◌++◌, length, replicate, refl, sym, ap, ◌∙◌, arith, length-append}
+use Rattle.std.specs.Prelude.{nat_le, ◌==◌, ◌&&◌}
 use Rattle.std.proofs.lemmas.Bool.Decides.{nat_tests}
-use Rattle.std.proofs.lemmas.List.{append_assoc, append-nil, length-replicate, map-append}
+use Rattle.std.proofs.lemmas.List.{append_assoc, append-nil, length-replicate}
 use Rattle.strm_types.specs.declared.names.Dir.{Dir}
 use Rattle.strm_types.specs.declared.output.Given.{Given}
 use Rattle.strm_types.specs.declared.output.Given.TheVariants.{Byte, Ended, Spaces, Nothing}
@@ -10,18 +10,13 @@ use Rattle.strm_types.specs.declared.output.Posted.{Posted}
 use Rattle.strm_types.specs.declared.output.TheConstants.{COLUMN_MAX}
 use Rattle.strm_types.specs.declared.rules.Rule.TheVariants.{Replaced}
 use Rattle.strm_types.specs.declared.termios.Termios.{Termios}
-use Rattle.strm_types.specs.Cells.{Cells, AreCells, plain}
+use Rattle.strm_types.specs.Cells.{Cells, plain}
 use Rattle.strm_types.specs.Deliver.{Fate, Goes, Comes}
 use Rattle.strm_types.specs.Input.{made_of}
-use Rattle.strm_types.specs.Keys.{carriage_return, newline}
-use Rattle.strm_types.specs.LdtermWeights.{IgnoresMapping}
-use Rattle.strm_types.specs.Origins.{map_fate}
-use Rattle.strm_types.specs.Output.{Motion, Newline, Return, Tab, Backspace, Control, Printing, Output, given_for, made_for, map_output, motion_of, newline_column, post, posted_as, posts, raised, return_made, space, to_tab_stop, told_for, wrapped}
-use Rattle.strm_types.specs.Places.{weight_gone, weight_made}
+use Rattle.strm_types.specs.Keys.{newline}
+use Rattle.strm_types.specs.Output.{Motion, Newline, Return, Tab, Backspace, Control, Printing, Output, given_for, made_for, motion_of, newline_column, post, posted_as, posts, raised, space, to_tab_stop, told_for, wrapped}
 use Rattle.strm_types.specs.Termios.{ocrnl, onlcr, onlret, onocr, xtabs}
-use Rattle.strm_types.proofs.DeliveryKeeps.{gone-append, made-append}
-use Rattle.strm_types.proofs.MadeCells.{made-both, made-forget, made-long, made-same}
-use Rattle.strm_types.proofs.Weights.{count-join}
+use Rattle.strm_types.proofs.MadeCells.{made-both, made-long, made-same}
 
 -- a byte's output, in front of that of the bytes behind it
 abbrev pub in_front : {E : Type 0} → List E → List (Fate E) → Output E → Output E
@@ -135,63 +130,6 @@ module _ {C : Type 0} (cells : Cells C) (dir : Dir) where
       let more = posts-make-few (made + made_for p.given) t p.column xs in
       let told = told_for cells dir p.given made c in
       omega (arith, post-few t column (cells.byte c), told-made cells dir p.given made c, made-both told (posts cells dir (made + made_for p.given) t p.column xs).told)
-
--- cells are kept
-
-module _ {C : Type 0} (p : Dir → C → Bool) (cells : Cells C) (ignores : IgnoresMapping cells p) (dir : Dir) where
-  same : (b : ℕ) (c : C) → count_by (p dir) (cells.mapped b c ∷ []) ≡ count_by (p dir) (c ∷ [])
-  same b c = ap (λ x. 0 + cond x 1 0) (ignores dir b c)
-
-  first-keeps : (given : Given) (made : ℕ) (c : C) →
-      count_by (p dir) (given_for cells dir given made c) + weight_gone p (told_for cells dir given made c) ≡ count_by (p dir) (c ∷ []) + weight_made p (told_for cells dir given made c)
-  first-keeps (Byte b) made c = omega (arith, same b c)
-  first-keeps Ended made c = omega (arith, same newline c, count-join (p dir) (return_made cells dir made) (cells.mapped newline c ∷ []))
-  first-keeps (Spaces columns) made c = omega arith
-  first-keeps Nothing made c = omega arith
-
-  pub posts-keep : (made : ℕ) (t : Termios) (column : ℕ) (xs : List C) →
-      let u = posts cells dir made t column xs in count_by (p dir) u.given + weight_gone p u.told ≡ count_by (p dir) xs + weight_made p u.told
-  posts-keep made t column [] = refl
-  posts-keep made t column (c ∷ xs) =
-      let q = post t column (cells.byte c) in
-      let given = given_for cells dir q.given made c in
-      let told = told_for cells dir q.given made c in
-      let u = posts cells dir (made + made_for q.given) t q.column xs in
-      omega (arith, first-keeps q.given made c, posts-keep (made + made_for q.given) t q.column xs, count-join (p dir) given u.given, gone-append p told u.told, made-append p told u.told, count-join (p dir) (c ∷ []) xs)
-
--- origins are forgotten
-
-module _ {C : Type 0} (cells : Cells C) (are : AreCells cells) (dir : Dir) where
-  abbrev f : C → ℕ
-  f = cells.byte
-
-  given-forgets : (given : Given) (made : ℕ) (c : C) → given_for plain dir given made (f c) ≡ map f (given_for cells dir given made c)
-  given-forgets (Byte b) made c = ap (λ x. x ∷ []) (sym (are.byte_mapped b c))
-  given-forgets Ended made c =
-      ap (λ xs. xs ++ newline ∷ []) (made-forget cells are dir made (carriage_return ∷ []))
-      ∙ ap (λ x. map f (return_made cells dir made) ++ x ∷ []) (sym (are.byte_mapped newline c))
-      ∙ sym (map-append f (return_made cells dir made) (cells.mapped newline c ∷ []))
-  given-forgets (Spaces columns) made c = made-forget cells are dir made (replicate columns space)
-  given-forgets Nothing made c = refl
-
-  told-forgets : (given : Given) (made : ℕ) (c : C) → told_for plain dir given made (f c) ≡ map (map_fate f) (told_for cells dir given made c)
-  told-forgets (Byte b) made c = refl
-  told-forgets Ended made c = ap (λ xs. Comes dir xs ∷ []) (made-forget cells are dir made (carriage_return ∷ []))
-  told-forgets (Spaces columns) made c = ap (λ xs. Comes dir xs ∷ Goes dir Replaced (f c ∷ []) ∷ []) (made-forget cells are dir made (replicate columns space))
-  told-forgets Nothing made c = refl
-
-  pub posts-forget : (made : ℕ) (t : Termios) (column : ℕ) (xs : List C) → posts plain dir made t column (map f xs) ≡ map_output f (posts cells dir made t column xs)
-  posts-forget made t column [] = refl
-  posts-forget made t column (c ∷ xs) =
-      let p = post t column (f c) in
-      let given = given_for cells dir p.given made c in
-      let told = told_for cells dir p.given made c in
-      let u = posts cells dir (made + made_for p.given) t p.column xs in
-      ap (λ v. in_front (given_for plain dir p.given made (f c)) (told_for plain dir p.given made (f c)) v) (posts-forget (made + made_for p.given) t p.column xs)
-      ∙ ap (λ g. in_front g (told_for plain dir p.given made (f c)) (map_output f u)) (given-forgets p.given made c)
-      ∙ ap (λ g. in_front (map f given) g (map_output f u)) (told-forgets p.given made c)
-      ∙ ap (λ g. record { given = g; column = u.column; told = map (map_fate f) told ++ map (map_fate f) u.told }) (sym (map-append f given u.given))
-      ∙ ap (λ g. record { given = map f (given ++ u.given); column = u.column; told = g }) (sym (map-append (map_fate f) told u.told))
 
 -- plain bytes give the same, however many were made before
 module _ (dir : Dir) where

@@ -1,18 +1,19 @@
 -- How many blocks of each kind a delivery takes at most: a driver makes two messages at most of an M_FLUSH, and one of what
 -- was sent across; a head makes one of an M_FLUSH that goes down again, or of an M_IOCTL. A message with parts that goes down
 -- behind the head takes none: it stands on a queue as it is, or goes on as it is (putq(9F), putnext(9F)). What modules make of an
--- M_IOCTL and of an M_IOCACK comes to it (ptem(7M), ldterm(7M)). What packets take comes to it where they are made (StackCosts).
+-- M_IOCTL and of an M_IOCACK comes to it (ptem(7M), ldterm(7M)). What packets take comes to it where they are made (StackCosts of strm_laws).
 use Rattle.std.specs.Prelude.{ℕ, suc, ◌+◌, ◌-◌, ◌*◌, min, Bool, ◌&&◌, ◌||◌, ◌==◌, if◌then◌else◌, List, [], ◌∷◌}
 use Rattle.strm_types.specs.declared.kinds.MsgKind.{MsgKind}
-use Rattle.strm_types.specs.declared.kinds.MsgKind.TheVariants.{Ioctl, Iocack}
+use Rattle.strm_types.specs.declared.kinds.MsgKind.TheVariants.{Ioctl, Iocack, Flush}
 use Rattle.strm_types.specs.declared.limits.TheConstants.{MODULES}
 use Rattle.strm_types.specs.declared.names.Way.{Way}
 use Rattle.strm_types.specs.declared.names.Way.TheVariants.{Up, Down}
 use Rattle.strm_types.specs.declared.spots.Spot.{Spot}
 use Rattle.strm_types.specs.Deliver.{Parcel}
+use Rattle.strm_types.specs.Flushing.{asked_by, is_bare_flush}
 use Rattle.strm_types.specs.Message.{Message, has_parts}
 use Rattle.strm_types.specs.Pckts.{is_flush_passed, is_packed}
-use Rattle.strm_types.specs.Puts.{is_bare_flush, is_turned}
+use Rattle.strm_types.specs.Far.{is_turned}
 
 -- with all that a message gives rise to, behind the head: what comes up may be turned round at the head, and then reaches a
 -- driver on its way down; an M_FLUSH may have been sent across, to the driver
@@ -69,6 +70,27 @@ pckt_takes_on Up kind bytes = packet_blocks kind bytes
 
 abbrev pub pckt_takes : {C : Type 0} → Spot → Message C → ℕ
 pckt_takes here m = pckt_takes_on here.way m.kind m.plain
+
+-- How many packets come of a message at most where it does.
+abbrev pub most_up : MsgKind → Bool → ℕ
+most_up Flush writes = if writes then 4 else 1
+most_up Iocack writes = 2
+most_up kind writes = if is_packed kind then 1 else 0
+
+abbrev pub most_down : ℕ → MsgKind → ℕ
+most_down at Flush = 2
+most_down at Ioctl = 2 * (suc MODULES - at)
+most_down at kind = 0
+
+abbrev pub most_packs : {C : Type 0} → Spot → Message C → ℕ
+most_packs here m = by here.way
+  where
+    by : Way → ℕ
+    by Up = most_up m.kind (asked_by m.plain).for_write
+    by Down = most_down here.at m.kind
+
+abbrev pub most_cost : {C : Type 0} → Spot → Message C → ℕ
+most_cost here m = cost here m + most_packs here m
 
 -- how many blocks of each kind messages on their way take at most, by what each takes
 unfoldable pub cost_of : {C : Type 0} → (Spot → Message C → ℕ) → List (Parcel C) → ℕ

@@ -1,5 +1,5 @@
 -- What an M_FLUSH asks for (STREAMS Programming Guide, "Flush Handling"; sys/stream.h: FLUSHR, FLUSHW, FLUSHBAND).
-use Rattle.std.specs.Prelude.{ℕ, Bool, true, false, ◌+◌, ◌==◌, ◌/◌, ◌%◌, nat_lt, if◌then◌else◌, List, [], ◌∷◌, Option, None, Some}
+use Rattle.std.specs.Prelude.{ℕ, Bool, true, false, ◌+◌, ◌==◌, ◌/◌, ◌%◌, nat_lt, if◌then◌else◌, List, [], ◌∷◌, Option, None, Some, not, ◌&&◌}
 use Rattle.strm_types.specs.declared.flushing.FlushAsked.{FlushAsked}
 use Rattle.strm_types.specs.declared.events.FlushQueues.{FlushQueues}
 use Rattle.strm_types.specs.declared.events.FlushQueues.TheVariants.{Read, Write, Both}
@@ -7,7 +7,7 @@ use Rattle.strm_types.specs.declared.kinds.Band.{Band}
 use Rattle.strm_types.specs.declared.kinds.MsgKind.{MsgKind}
 use Rattle.strm_types.specs.declared.kinds.MsgKind.TheVariants.{Flush}
 use Rattle.strm_types.specs.declared.limits.TheConstants.{BANDS}
-use Rattle.strm_types.specs.Message.{Message}
+use Rattle.strm_types.specs.Message.{Message, has_parts}
 
 abbrev pub is_flush : MsgKind → Bool
 is_flush Flush = true
@@ -61,3 +61,7 @@ asked_of Both band = record { for_read = true; for_write = true; band = band }
 -- an M_FLUSH of these bytes
 abbrev pub flush_message : {C : Type 0} → List ℕ → Message C
 flush_message bytes = record { kind = Flush; band = 0; control = None; body = None; plain = bytes }
+
+-- an M_FLUSH, as it always is: without parts
+abbrev pub is_bare_flush : {C : Type 0} → Message C → Bool
+is_bare_flush m = is_flush m.kind && not (has_parts m)

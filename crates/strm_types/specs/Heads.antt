@@ -1,4 +1,4 @@
--- What a stream head does with a message that comes up to it (STREAMS Programming Guide, "Stream Head" and "Flush Handling";
+-- A stream head, and what it does with a message that comes up to it (STREAMS Programming Guide, "Stream Head" and "Flush Handling";
 -- streamio(7I)).
 use Rattle.std.specs.Prelude.{ℕ, Bool, true, false, ◌&&◌, ◌==◌, if◌then◌else◌, List, [], ◌∷◌, Option, None, Some, unwrap_or}
 use Rattle.std.specs.List.{list_any}
@@ -6,10 +6,17 @@ use Rattle.strm_types.specs.declared.flushing.FlushAsked.{FlushAsked}
 use Rattle.strm_types.specs.declared.ioctls.Ioc.{Ioc}
 use Rattle.strm_types.specs.declared.kinds.MsgKind.{MsgKind}
 use Rattle.strm_types.specs.declared.kinds.MsgKind.TheVariants.{Pcproto, Hangup, Flush, Sig, Pcsig, Setopts, Ioctl, Iocack, Iocnak}
+use Rattle.strm_types.specs.declared.modes.ControlMode.{ControlMode}
+use Rattle.strm_types.specs.declared.modes.ControlMode.TheVariants.{Refuse}
+use Rattle.strm_types.specs.declared.modes.Mode.{Mode}
+use Rattle.strm_types.specs.declared.modes.Mode.TheVariants.{Read, Control}
+use Rattle.strm_types.specs.declared.modes.ReadMode.{ReadMode}
+use Rattle.strm_types.specs.declared.modes.ReadMode.TheVariants.{ByteStream}
 use Rattle.strm_types.specs.declared.names.Way.TheVariants.{Up, Down}
 use Rattle.strm_types.specs.declared.options.Marks.{Marks}
 use Rattle.strm_types.specs.declared.options.Options.{Options}
 use Rattle.strm_types.specs.declared.rules.Rule.TheVariants.{Flushed, Doubled}
+use Rattle.strm_types.specs.declared.slots.Slot.TheVariants.{Free}
 use Rattle.strm_types.specs.declared.spots.Note.TheVariants.{Room}
 use Rattle.strm_types.specs.declared.spots.Spot.{Spot}
 use Rattle.strm_types.specs.Deliver.{Acted, Parcel, toward, Goes}
@@ -19,16 +26,34 @@ use Rattle.strm_types.specs.Ioctls.{read_ioc, nak_message}
 use Rattle.strm_types.specs.Message.{Message, cells_of, has_parts}
 use Rattle.strm_types.specs.Names.{direction_at}
 use Rattle.strm_types.specs.Options.{options_in}
-use Rattle.strm_types.specs.Queue.{Queue, marked, put_on}
+use Rattle.strm_types.specs.Queue.{Queue, marked, put_on, new_queue, map_queue}
 use Rattle.strm_types.specs.Signals.{signal_in, with_signal}
-use Rattle.strm_types.specs.Slots.{slot_answered}
-use Rattle.strm_types.specs.State.{Head}
+use Rattle.strm_types.specs.Slots.{slot_answered, PlainSlot}
+
+-- a stream head: what it has for its readers, how they read it, whether an M_HANGUP came up, as the other end is gone, the
+-- signals that came up, and the ioctl that is under way
+pub record Head (C : Type 0) : Type 0 where
+  pub queue : Queue C
+  pub read_mode : ReadMode
+  pub control_mode : ControlMode
+  pub hung_up : Bool
+  pub signals : List ℕ
+  pub ioctl : PlainSlot
 
 abbrev pub is_pcproto : MsgKind → Bool
 is_pcproto Pcproto = true
 is_pcproto _ = false
 
 module _ {C : Type 0} where
+  -- a head as it is made: marks 5120 and 1024, RNORM and RPROTNORM
+  abbrev pub new_head : Head C
+  new_head = record { queue = new_queue 5120 1024; read_mode = ByteStream; control_mode = Refuse; hung_up = false; signals = []; ioctl = Free }
+
+  -- the head with one mode set, and the other one as it was
+  abbrev pub with_mode : Mode → Head C → Head C
+  with_mode (Read mode) h = record h { read_mode = mode }
+  with_mode (Control mode) h = record h { control_mode = mode }
+
   -- the message is freed
   abbrev pub passed_by : Head C → Acted C (Head C)
   passed_by h = record { state = h; notes = []; sent = []; gone = [] }
@@ -94,3 +119,14 @@ module _ {C : Type 0} where
 
   abbrev pub head_put : Spot → Message C → Head C → Acted C (Head C)
   head_put here m h = if has_parts m then waits_for_readers here m h else obeyed here m.kind m.plain h
+
+-- the same state of other cells, as where their origins are forgotten
+abbrev pub map_head : {C D : Type 0} → (C → D) → Head C → Head D
+map_head f h = record {
+  queue = map_queue f h.queue;
+  read_mode = h.read_mode;
+  control_mode = h.control_mode;
+  hung_up = h.hung_up;
+  signals = h.signals;
+  ioctl = h.ioctl;
+}

@@ -8,7 +8,7 @@ use Rattle.strm_types.specs.declared.events.Event.{Event}
 use Rattle.strm_types.specs.declared.events.Event.TheVariants.{Write, Read, Put, Get, Ioctl, IoctlResult, Signals}
 use Rattle.strm_types.specs.declared.entries.Entry.{Entry}
 use Rattle.strm_types.specs.declared.entries.Entry.TheVariants.{Called, Turned}
-use Rattle.strm_types.specs.Calls.{Request, Reply, payload_of, content_of, map_event, map_answer}
+use Rattle.strm_types.specs.Events.{Request, Reply, payload_of, content_of, map_event, map_answer}
 
 -- an entry with its bytes: a caller's call and what it was answered, or a queue's turn
 abbrev pub PlainEntry : Type 0

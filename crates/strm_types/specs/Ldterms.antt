@@ -27,6 +27,11 @@ pub data Stage (C : Type 0) : Type 0 where
   Begun : Bool → C → Stage C
   Answered : List ℕ → Stage C
 
+-- whether nothing of a turn is under way: no message in work, nothing that waits to go up, no echo that grows, and no byte that has begun
+abbrev pub is_between : {C : Type 0} → Stage C → Bool
+is_between Between = true
+is_between _ = false
+
 -- What it is set to; whether its output is stopped, and whether the next byte stands behind LNEXT; the column of its output; the unfinished line; its
 -- queues. In a turn of its read queue also what is left of the message in work, the bytes that wait to go up together, whether the
 -- turn's echo stands last on the write queue, and how far the turn has come.

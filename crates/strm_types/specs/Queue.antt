@@ -2,7 +2,7 @@
 use Rattle.std.specs.Prelude.{ℕ, zero, suc, Bool, true, false, not, ◌&&◌, ◌||◌, ◌==◌, nat_le, nat_lt, if◌then◌else◌, List, [], ◌∷◌, map, sum_by, replicate, slice_index_or, Option, None, Some}
 use Rattle.strm_types.specs.declared.limits.TheConstants.{BANDS}
 use Rattle.strm_types.specs.Ranked as ranked
-use Rattle.strm_types.specs.Message.{Message, rank_of, band_of, size_of, weight_of, is_high_priority, map_message}
+use Rattle.strm_types.specs.Message.{Message, rank_of, band_of, size_of, weight_of, is_high_priority, map_message, is_held}
 
 -- the flow control of one band of a queue
 pub record Flow : Type 0 where
@@ -44,6 +44,11 @@ module _ {C : Type 0} where
   take_first [] = None
   take_first (first ∷ rest) = Some (first, rest)
 
+  -- how many bytes the first message has
+  abbrev pub first_size : List (Message C) → ℕ
+  first_size [] = 0
+  first_size (m ∷ _) = size_of m
+
   -- several messages put one after the other
   abbrev pub put_all : List (Message C) → List (Message C) → List (Message C)
   put_all [] q = q
@@ -72,6 +77,10 @@ module _ {C : Type 0} where
   -- a band is full exactly while its count is at or above its high mark
   abbrev pub is_full : ℕ → Queue C → Bool
   is_full band q = nat_le (flow_of band q).high (count_of band q.messages)
+
+  -- Whether flow control stops a message at a queue.
+  abbrev pub is_stopped : Message C → Queue C → Bool
+  is_stopped m q = is_held m.kind && is_full (band_of m) q
 
   -- the queue with a message put on it
   abbrev pub put_on : Message C → Queue C → Queue C

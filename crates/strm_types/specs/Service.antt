@@ -20,6 +20,10 @@ pub record Serving (C S : Type 0) : Type 0 where
   pub bytes : ℕ
   pub again : Bool
 
+-- a call of a service procedure where there is none: nothing is done
+abbrev pub unserved : {C P : Type 0} → P → Serving C P
+unserved p = record { acted = record { state = p; notes = []; sent = []; gone = [] }; bytes = 0; again = false }
+
 module _ {C : Type 0} where
   -- The queue at the end of a turn: it wants to be read where nothing stands there, and where bytes were taken its waiting
   -- writers are let go. A turn that may not treat the first message ends so too.

@@ -1,7 +1,7 @@
 //! What calls and turns answer.
 
 ghost use Rattle.std.specs.Prelude.{◌≡◌, ◌≤◌, length, option_map};
-ghost use Rattle.strm_types.specs.Calls.{map_answer};
+ghost use Rattle.strm_types.specs.Events.{map_answer};
 ghost use Rattle.strm_types.specs.Journal.{answer_len, part_in, part_len, reply_in};
 
 use crate::limits::{CONTENT_MAX, READ_MAX};

@@ -1,7 +1,7 @@
 //! The calls on a pair.
 
 ghost use Rattle.std.specs.Prelude.{◌≡◌, ◌++◌, option_map};
-ghost use Rattle.strm_types.specs.Calls.{request, payload_of, map_event};
+ghost use Rattle.strm_types.specs.Events.{request, payload_of, map_event};
 ghost use Rattle.std.specs.Prelude.{length};
 ghost use Rattle.strm_types.specs.Message.{part};
 

@@ -1,32 +1,22 @@
 //! What every crate of the stack speaks of: sides, queues, kinds of message, the calls on a pair with their
 //! answers and refusals, and the entries of a pair's journal. `specs/` holds the definitions that every contract
-//! cites, one file for each subject; `laws`, `head_laws`, `put_laws`, `line_laws`, `ptem_laws`, `pckt_laws` and `output_laws` hold what
-//! follows from them, each law the contract of a function.
+//! cites, one file for each subject; what follows from them stands in `strm_laws`.
 #![tactic(auto)]
 
 mod answers;
 mod books;
 mod entries;
 mod events;
-pub mod flush_laws;
 mod flushing;
-pub mod head_laws;
 mod ioctls;
 mod keys;
 mod kinds;
-pub mod laws;
 mod ledger;
-pub mod ledger_laws;
 mod limits;
-pub mod line_laws;
 mod modes;
 mod names;
 mod options;
 mod output;
-pub mod output_laws;
-pub mod pckt_laws;
-pub mod ptem_laws;
-pub mod put_laws;
 mod refusals;
 mod rules;
 mod signals;

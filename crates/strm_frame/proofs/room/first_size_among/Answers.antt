@@ -1,7 +1,7 @@
 -- What one module answers.
 use Rattle.std.proofs.Common.{◌∙◌, sym, ap}
 use Rattle.strm_types.specs.ModuleQueues.{messages_at}
-use Rattle.strm_types.specs.TurnOutcomes.{first_size}
+use Rattle.strm_types.specs.Queue.{first_size}
 use Rattle.strm_frame.proofs.Beside.{said-of}
 use Rattle.strm_frame.proofs.room.first_size_among.Goals as goal
 

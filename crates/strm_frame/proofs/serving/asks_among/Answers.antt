@@ -1,7 +1,7 @@
 -- What one module answers.
 use Rattle.std.proofs.Common.{◌≤◌, ◌∙◌, sym, subst}
 use Rattle.strm_types.specs.ModuleQueues.{messages_at}
-use Rattle.strm_types.specs.TurnOutcomes.{first_size}
+use Rattle.strm_types.specs.Queue.{first_size}
 use Rattle.strm_frame.proofs.Beside.{said-of}
 use Rattle.strm_frame.proofs.serving.asks_among.Goals as goal
 

@@ -6,7 +6,7 @@ use Rattle.std.proofs.lemmas.List.{get_or-map}
 use Rattle.std.specs.Prelude.{HoldsAt}
 use Rattle.strm_types.specs.Deliver.{tallied}
 use Rattle.strm_types.specs.Input.{made_of}
-use Rattle.strm_types.specs.TurnCalls.{most_made}
+use Rattle.strm_types.specs.LdtermCalls.{most_made}
 use Rattle.strm_frame.specs.Hands.{HasRoom}
 use Rattle.strm_frame.specs.Outboxes.{sent_of, times_sent, parcels_in}
 use Rattle.strm_frame.specs.Serves.{stop_of, later_cost}

@@ -1,5 +1,5 @@
 use Rattle.std.proofs.Common.{◌≡◌}
-use Rattle.strm_types.specs.ModuleTurns.{place_named}
+use Rattle.strm_laws.specs.ModuleTurns.{place_named}
 use Rattle.strm_blocks.specs.Blocks.{StoreValue}
 use Rattle.strm_pair.proofs.Tried.{named_at}
 use Rattle.strm_pair.proofs.naming.place_named.Given as goal

@@ -1,6 +1,6 @@
 -- No module stands there.
 use Rattle.std.proofs.Common.{rules, sym, subst}
-use Rattle.strm_types.proofs.StackOnce.{none-once}
+use Rattle.strm_laws.proofs.StackOnce.{none-once}
 use Rattle.strm_pair.specs.Streams.{AreApart}
 use Rattle.strm_pair.proofs.streams.new_end.Goals as goal
 

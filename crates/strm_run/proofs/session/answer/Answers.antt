@@ -3,7 +3,7 @@ use Rattle.std.proofs.lemmas.Result.{IfOk-weaker}
 use Rattle.strm_run.specs.ScriptRun.{Supply, PlainPair, answered, unanswered, by_open}
 use Rattle.strm_types.specs.declared.refusals.Refusal.TheVariants.{Enxio}
 use Rattle.strm_run.specs.Commands.{command_of}
-use Rattle.strm_types.specs.Pair.{PairState}
+use Rattle.strm_laws.specs.Pair.{PairState}
 use Rattle.strm_run.specs.Plain.{plain}
 use Rattle.strm_run.specs.Outcomes.{LeadsTo}
 use Rattle.strm_run.specs.declared.session.Answered.{Answered}

@@ -2,12 +2,12 @@ use Rattle.std.proofs.Common.{◌≡◌, ℕ, Bool, true, false, cond, List, [],
 use Rattle.strm_types.specs.declared.names.Place.TheVariants.{Ldterm}
 use Rattle.strm_types.specs.declared.names.QueueName.{QueueName}
 use Rattle.strm_types.specs.declared.names.Way.TheVariants.{Up, Down}
-use Rattle.strm_types.specs.ModuleTurns.{place_named}
+use Rattle.strm_laws.specs.ModuleTurns.{place_named}
 use Rattle.strm_types.specs.Names.{head_of, driver_of}
-use Rattle.strm_types.specs.State.{State, stream}
+use Rattle.strm_laws.specs.State.{State, stream}
 use Rattle.strm_run.specs.ScriptAnswers.{Sizes}
 use Rattle.strm_types.specs.declared.names.Side.{Side}
-use Rattle.strm_types.specs.Calls.{Request}
+use Rattle.strm_types.specs.Events.{Request}
 use Rattle.strm_run.specs.Script.{Call, Put}
 use Rattle.strm_run.specs.declared.commands.NamedPrio.{NamedPrio}
 use Rattle.strm_run.specs.ScriptRun.{PlainPair, answered, by_call, by_put, by_show, by_ledger, queues_down, size_at}

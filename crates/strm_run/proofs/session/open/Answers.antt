@@ -2,7 +2,7 @@ use Rattle.std.proofs.Common.{rules, ◌<◌, ◌≤◌, None, inl, inr, arith, 
 use Rattle.strm_blocks.specs.Blocks.{StoreValue}
 use Rattle.strm_run.specs.ScriptRun.{by_open, by_call}
 use Rattle.strm_types.specs.declared.events.Event.TheVariants.{OpenMaster}
-use Rattle.strm_types.specs.Pair.{new_pair}
+use Rattle.strm_laws.specs.Pair.{new_pair}
 use Rattle.strm_types.specs.declared.names.Side.TheVariants.{Master}
 use Rattle.strm_pair.specs.PairViews.{sizes_over}
 use Rattle.strm_run.specs.Plain.{plain}

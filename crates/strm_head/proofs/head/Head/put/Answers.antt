@@ -6,7 +6,7 @@ use Rattle.strm_types.specs.Deliver.{Acted, Fate, tallied}
 use Rattle.strm_types.specs.Flush.{is_data_kind}
 use Rattle.strm_types.specs.Flushing.{is_flush}
 use Rattle.strm_types.specs.Heads.{waits_for_readers, flush_up, obeyed, head_put}
-use Rattle.strm_types.specs.State as state
+use Rattle.strm_types.specs.Heads as state
 use Rattle.strm_blocks.specs.Blocks.{StoreValue, in_hand}
 use Rattle.strm_msg.specs.Bytes.{bytes_of}
 use Rattle.strm_msg.specs.Messages.{message_of}

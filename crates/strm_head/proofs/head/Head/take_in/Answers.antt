@@ -8,7 +8,7 @@ use Rattle.strm_types.specs.Flush.{is_data_kind}
 use Rattle.strm_types.specs.Heads.{is_pcproto, is_doubled}
 use Rattle.strm_types.specs.Names.{direction_at}
 use Rattle.strm_types.specs.Rules.{told_more}
-use Rattle.strm_types.specs.State as state
+use Rattle.strm_types.specs.Heads as state
 use Rattle.strm_blocks.specs.Blocks.{in_hand}
 use Rattle.strm_msg.specs.Messages.{message_of}
 use Rattle.strm_queue.specs.Stored.{messages_on}

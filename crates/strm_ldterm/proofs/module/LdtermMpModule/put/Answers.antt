@@ -1,7 +1,7 @@
 use Rattle.std.proofs.Common.{ℕ, List, sym, subst}
 use Rattle.strm_types.specs.Deliver.{AreLower, Parcel}
-use Rattle.strm_types.specs.Puts.{far}
-use Rattle.strm_types.proofs.ModulePuts.{ldterm-lower}
+use Rattle.strm_types.specs.Far.{far}
+use Rattle.strm_types.proofs.LdtermLower.{ldterm-lower}
 use Rattle.strm_frame.specs.Outboxes.{message_in}
 use Rattle.strm_ldterm.specs.Stands.{ldterm_in}
 use Rattle.strm_ldterm.proofs.module.LdtermMpModule.put.Goals as goal

@@ -3,8 +3,8 @@ use Rattle.strm_types.specs.Cells.{plain}
 use Rattle.strm_types.specs.Deliver.{AreLower, Parcel}
 use Rattle.strm_types.specs.Input.{made_of}
 use Rattle.strm_types.specs.LdtermServes.{ldterm_serves}
-use Rattle.strm_types.specs.Puts.{far}
-use Rattle.strm_types.specs.TurnCalls.{most_made}
+use Rattle.strm_types.specs.Far.{far}
+use Rattle.strm_types.specs.LdtermCalls.{most_made}
 use Rattle.strm_types.proofs.LdtermMakes.{serves-makes}
 use Rattle.strm_frame.specs.Outboxes.{parcels_in, sent_of}
 use Rattle.strm_frame.specs.Serves.{stop_of}

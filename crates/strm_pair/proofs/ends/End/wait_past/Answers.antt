@@ -1,7 +1,7 @@
 -- The modules keep their names.
 use Rattle.std.proofs.Common.{map, ap, ◌∙◌}
-use Rattle.strm_types.specs.Stacked.{module_name}
-use Rattle.strm_types.proofs.StackStays.{waits-names}
+use Rattle.strm_laws.specs.Stacked.{module_name}
+use Rattle.strm_laws.proofs.StackStays.{waits-names}
 use Rattle.strm_pair.proofs.Puttings.{side-changed}
 use Rattle.strm_pair.proofs.ends.End.wait_past.Goals as goal
 

@@ -1,7 +1,7 @@
 -- The entry's bytes are the last of the buffer.
 use Rattle.std.proofs.Common.{◌≡◌, ◌∙◌, ◌++◌, ◌∷◌, [], ap, append_assoc}
 use Rattle.strm_types.specs.Journal.{entries_in}
-use Rattle.strm_types.proofs.JournalEntries.{entries_in-push}
+use Rattle.strm_laws.proofs.JournalEntries.{entries_in-push}
 use Rattle.strm_pair.specs.Pairs.{journal_of}
 use Rattle.strm_pair.proofs.journal.Journal.add.Goals as goal
 

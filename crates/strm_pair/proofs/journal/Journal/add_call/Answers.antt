@@ -1,7 +1,7 @@
 -- The room that is asked for is room in the buffers, and the stored entry reads back as the call and its answer.
 use Rattle.std.proofs.Common.{◌≡◌, ◌++◌, ◌∷◌, [], ap, ◌∙◌, arith, length, length-append}
 use Rattle.strm_types.specs.declared.entries.Entry.TheVariants.{Called}
-use Rattle.strm_types.specs.Calls.{map_event, payload_of, request}
+use Rattle.strm_types.specs.Events.{map_event, payload_of, request}
 use Rattle.strm_types.specs.Journal.{answer_len, entry_in, event_len}
 use Rattle.strm_pair.specs.Pairs.{journal_of}
 use Rattle.strm_pair.proofs.JournalLemmas.{room-means}

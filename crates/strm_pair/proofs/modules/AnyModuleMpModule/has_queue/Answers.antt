@@ -1,7 +1,7 @@
 -- Its kind says which queues it has.
 use Rattle.std.proofs.Common.{sym, ap, ◌∙◌}
 use Rattle.strm_types.specs.ModuleQueues.{has_queue}
-use Rattle.strm_types.specs.Stacked.{module_queue}
+use Rattle.strm_laws.specs.Stacked.{module_queue}
 use Rattle.strm_pair.specs.AnyModules.{module_in}
 use Rattle.strm_pair.proofs.modules.AnyModuleMpModule.has_queue.Goals as goal
 

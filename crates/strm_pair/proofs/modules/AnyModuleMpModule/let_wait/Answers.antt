@@ -1,7 +1,7 @@
 -- Nobody waits at a ptem or a pckt.
 use Rattle.std.proofs.Common.{sym, ap, ◌∙◌}
 use Rattle.strm_types.specs.ModuleQueues.{waits}
-use Rattle.strm_types.specs.Stacked.{OfPtem, OfPckt, module_queue, with_module_queue}
+use Rattle.strm_laws.specs.Stacked.{OfPtem, OfPckt, module_queue, with_module_queue}
 use Rattle.strm_pair.specs.AnyModules.{module_in}
 use Rattle.strm_pair.proofs.modules.AnyModuleMpModule.let_wait.Goals as goal
 

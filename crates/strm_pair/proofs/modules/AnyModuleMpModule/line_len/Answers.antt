@@ -1,6 +1,6 @@
 -- Its kind says how long its line is.
 use Rattle.std.proofs.Common.{length, sym, ap, ◌∙◌}
-use Rattle.strm_types.specs.Stacked.{module_line}
+use Rattle.strm_laws.specs.Stacked.{module_line}
 use Rattle.strm_pair.specs.AnyModules.{module_in}
 use Rattle.strm_pair.proofs.modules.AnyModuleMpModule.line_len.Goals as goal
 

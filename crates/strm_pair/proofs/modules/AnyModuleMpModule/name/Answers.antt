@@ -1,6 +1,6 @@
 -- Its kind says its name.
 use Rattle.std.proofs.Common.{sym, ap, ◌∙◌}
-use Rattle.strm_types.specs.Stacked.{module_name}
+use Rattle.strm_laws.specs.Stacked.{module_name}
 use Rattle.strm_pair.specs.AnyModules.{module_in}
 use Rattle.strm_pair.proofs.modules.AnyModuleMpModule.name.Goals as goal
 

@@ -1,7 +1,7 @@
 -- An ldterm keeps what the module does.
 use Rattle.std.proofs.Common.{ℕ, ◌≡◌, Bool, false, List, [], subst, arith}
 use Rattle.strm_types.specs.Deliver.{Parcel}
-use Rattle.strm_types.specs.StackCosts.{most_cost}
+use Rattle.strm_types.specs.Costs.{most_cost}
 use Rattle.strm_types.proofs.CostSums.{none-few}
 use Rattle.strm_blocks.specs.Blocks.{StoreValue}
 use Rattle.strm_frame.specs.Hands.{AreIn, HasRoom}

@@ -1,5 +1,5 @@
-use Rattle.strm_types.specs.Calls.{request}
-use Rattle.strm_types.specs.Pair.{call_refused}
+use Rattle.strm_types.specs.Events.{request}
+use Rattle.strm_laws.specs.Pair.{call_refused}
 use Rattle.strm_pair.proofs.Refusing.{refused-over}
 use Rattle.strm_pair.proofs.pair.Pair.apply.Goals as goal
 

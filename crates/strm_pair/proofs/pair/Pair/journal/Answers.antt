@@ -1,9 +1,9 @@
 -- The plain journal is what the stored entries and bytes say, and the plain queues are what the blocks say.
 use Rattle.std.proofs.Common.{ap, subst, ◌∙◌, rules}
-use Rattle.strm_types.specs.State.{AreOrdered, messages_in}
+use Rattle.strm_laws.specs.State.{AreOrdered, messages_in}
 use Rattle.strm_pair.specs.Pool.{IsPoolOf}
 use Rattle.strm_types.specs.Journal.{entries_in}
-use Rattle.strm_types.specs.Pair.{PairState}
+use Rattle.strm_laws.specs.Pair.{PairState}
 use Rattle.strm_pair.specs.Pairs.{journal_of}
 use Rattle.strm_pair.proofs.Steps.{led-idle}
 use Rattle.strm_pair.proofs.Shown.{ordered, free-shown}

@@ -3,14 +3,14 @@ use Rattle.std.proofs.Common.{ℕ, ◌≡◌, ◌+◌, ◌-◌, if◌then◌else
 use Rattle.strm_types.specs.declared.books.Book.{Book}
 use Rattle.strm_types.specs.declared.ledger.Ledger.{Ledger}
 use Rattle.strm_types.specs.Cells.{tagged}
-use Rattle.strm_types.specs.Ledgers.{inline, is_booked, ledger_of, own_places_of, places_of, queued}
-use Rattle.strm_types.specs.Pair.{PairState}
-use Rattle.strm_types.specs.State.{book, opening}
-use Rattle.strm_types.specs.Step.{replay}
-use Rattle.strm_types.proofs.JournalPlaces.{one-place, own-place}
-use Rattle.strm_types.proofs.LedgerSums.{sum_of}
+use Rattle.strm_laws.specs.Ledgers.{inline, is_booked, ledger_of, own_places_of, places_of, queued}
+use Rattle.strm_laws.specs.Pair.{PairState}
+use Rattle.strm_laws.specs.State.{book, opening}
+use Rattle.strm_laws.specs.Step.{replay}
+use Rattle.strm_laws.proofs.JournalPlaces.{one-place, own-place}
+use Rattle.strm_laws.proofs.LedgerSums.{sum_of}
 use Rattle.strm_types.proofs.PlainCells.{tagged-cells}
-use Rattle.strm_types.proofs.RefusedForgets.{legal-with-origins}
+use Rattle.strm_laws.proofs.RefusedForgets.{legal-with-origins}
 use Rattle.strm_pair.specs.Pairs.{state_in, journal_of}
 use Rattle.strm_pair.proofs.Balanced.{balance, elsewhere-few}
 use Rattle.strm_pair.proofs.pair.Pair.ledger.Goals as goal

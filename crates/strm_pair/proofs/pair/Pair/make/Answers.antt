@@ -5,19 +5,20 @@ use Rattle.std.specs.Prelude.{◌&&◌, nat_le, None}
 use Rattle.std.proofs.lemmas.Bool.Decides.{nat_tests}
 use Rattle.strm_types.specs.declared.entries.Entry.TheVariants.{Called}
 use Rattle.strm_types.specs.Cells.{plain}
-use Rattle.strm_types.specs.Calls.{delivers, payload_of, request}
+use Rattle.strm_laws.specs.Calls.{delivers}
+use Rattle.strm_types.specs.Events.{payload_of, request}
 use Rattle.strm_types.specs.Journal.{PlainEntry, content_max, reply_in}
-use Rattle.strm_types.specs.CutOff.{IsCutOff}
-use Rattle.strm_types.specs.Spares.{spare}
-use Rattle.strm_types.specs.State.{opening}
-use Rattle.strm_types.specs.Ledgers.{FewBooked}
-use Rattle.strm_types.specs.Step.{IsCall, after}
-use Rattle.strm_types.specs.Refused.{enough, blocks_asked, refused_at_once, refused_by_state}
-use Rattle.strm_types.specs.Pair.{PairState, AddsEntry, call_refused}
-use Rattle.strm_types.proofs.Balances.{call-few, written-by-blocks}
-use Rattle.strm_types.proofs.StackSpares.{call-low}
-use Rattle.strm_types.proofs.CutOff.{journal-cut, opening-cut}
-use Rattle.strm_types.proofs.Replay.{call-allowed, or_else-none}
+use Rattle.strm_laws.specs.CutOff.{IsCutOff}
+use Rattle.strm_laws.specs.Spares.{spare}
+use Rattle.strm_laws.specs.State.{opening}
+use Rattle.strm_laws.specs.Ledgers.{FewBooked}
+use Rattle.strm_laws.specs.Step.{IsCall, after}
+use Rattle.strm_laws.specs.Refusals.{enough, blocks_asked, refused_at_once, refused_by_state}
+use Rattle.strm_laws.specs.Pair.{PairState, AddsEntry, call_refused}
+use Rattle.strm_laws.proofs.Balances.{call-few, written-by-blocks}
+use Rattle.strm_laws.proofs.StackSpares.{call-low}
+use Rattle.strm_laws.proofs.CutOff.{journal-cut, opening-cut}
+use Rattle.strm_laws.proofs.Replay.{call-allowed, or_else-none}
 use Rattle.strm_blocks.specs.Blocks.{StoreValue, free_d, free_m}
 use Rattle.strm_blocks.proofs.Laws.{free_m-is}
 use Rattle.strm_pair.specs.Pairs.{state_in, journal_of, free_in}

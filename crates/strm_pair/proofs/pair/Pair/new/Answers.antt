@@ -1,6 +1,6 @@
 -- A pair over a store with nothing in it is as new.
 use Rattle.std.proofs.Common.{◌≡◌, ◌∙◌, ap, sym, rules}
-use Rattle.strm_types.specs.Refused.{Free}
+use Rattle.strm_laws.specs.Refusals.{Free}
 use Rattle.strm_blocks.specs.Blocks.{empty_store}
 use Rattle.strm_pair.specs.PairViews.{sizes_over}
 use Rattle.strm_pair.proofs.Fresh.{fresh-kept, fresh-shown, vacant, all-free}

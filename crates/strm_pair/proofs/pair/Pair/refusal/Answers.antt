@@ -1,10 +1,10 @@
 -- The first reason that holds is the one that is told.
 use Rattle.std.proofs.Common.{◌≡◌, ◌+◌, Fits, w64, length, length-append, rules, sym, ap, ◌∙◌, arith}
 use Rattle.std.specs.Prelude.{None}
-use Rattle.strm_types.specs.Calls.{payload_of, request}
+use Rattle.strm_types.specs.Events.{payload_of, request}
 use Rattle.strm_types.specs.Journal.{content_max}
-use Rattle.strm_types.specs.Pair.{PairState}
-use Rattle.strm_types.specs.Refused.{enough, refused_at_once, refused_by_state}
+use Rattle.strm_laws.specs.Pair.{PairState}
+use Rattle.strm_laws.specs.Refusals.{enough, refused_at_once, refused_by_state}
 use Rattle.strm_pair.proofs.Refusing.{room-small, full-told, few-told, state-told}
 use Rattle.strm_pair.proofs.pair.Pair.refusal.Goals as goal
 

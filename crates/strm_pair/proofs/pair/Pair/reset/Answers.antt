@@ -1,6 +1,6 @@
 -- The store is emptied in place, and what stands beside it is as new.
 use Rattle.std.proofs.Common.{◌≡◌, ◌∙◌, ap}
-use Rattle.strm_types.specs.Pair.{PairState, new_pair}
+use Rattle.strm_laws.specs.Pair.{PairState, new_pair}
 use Rattle.strm_blocks.specs.Blocks.{empty_store}
 use Rattle.strm_pair.proofs.Fresh.{fresh-kept, fresh-shown}
 use Rattle.strm_pair.proofs.pair.Pair.reset.Goals as goal

@@ -1,6 +1,6 @@
 -- The queues of the state are those that the store's lists show.
 use Rattle.std.proofs.Common.{ap, sym, subst}
-use Rattle.strm_types.specs.Pair.{PairState}
+use Rattle.strm_laws.specs.Pair.{PairState}
 use Rattle.strm_queue.specs.Stored.{messages_on}
 use Rattle.strm_pair.specs.Shows.{Shows}
 use Rattle.strm_pair.proofs.Steps.{led-idle}

@@ -4,10 +4,11 @@ use Rattle.std.specs.Prelude.{None}
 use Rattle.strm_types.specs.declared.entries.Entry.TheVariants.{Turned}
 use Rattle.strm_types.specs.Cells.{plain}
 use Rattle.strm_types.specs.Journal.{PlainEntry}
-use Rattle.strm_types.specs.Step.{IsTurn, after}
-use Rattle.strm_types.specs.Refused.{enough, turn_blocks}
-use Rattle.strm_types.specs.Pair.{PairState, AddsEntry, queue_refused}
-use Rattle.strm_types.proofs.Replay.{turn-allowed}
+use Rattle.strm_laws.specs.Step.{IsTurn, after}
+use Rattle.strm_laws.specs.Refusals.{enough}
+use Rattle.strm_types.specs.Refused.{turn_blocks}
+use Rattle.strm_laws.specs.Pair.{PairState, AddsEntry, queue_refused}
+use Rattle.strm_laws.proofs.Replay.{turn-allowed}
 use Rattle.strm_pair.specs.Pairs.{state_in, journal_of, free_in}
 use Rattle.strm_pair.specs.PairViews.{pair_of}
 use Rattle.strm_pair.proofs.JournalLemmas.{room-less}

@@ -2,8 +2,9 @@
 use Rattle.std.proofs.Common.{refl, ap, ◌∙◌}
 use Rattle.strm_types.specs.declared.refusals.Refusal.TheVariants.{Erange}
 use Rattle.strm_types.specs.Names.{is_enabled}
-use Rattle.strm_types.specs.Pair.{PairState}
-use Rattle.strm_types.specs.Refused.{in_range, unless}
+use Rattle.strm_laws.specs.Pair.{PairState}
+use Rattle.strm_laws.specs.Refusals.{in_range}
+use Rattle.strm_types.specs.Refused.{unless}
 use Rattle.strm_pair.proofs.pair.Pair.turn_refusal.Goals as goal
 
 pub returns : goal.returns

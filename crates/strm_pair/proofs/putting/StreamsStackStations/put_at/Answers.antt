@@ -5,10 +5,10 @@ use Rattle.strm_types.specs.Cells.{plain}
 use Rattle.strm_types.specs.Costs.{cost_of}
 use Rattle.strm_types.specs.Deliver.{AreLower}
 use Rattle.strm_types.specs.Message.{Message}
-use Rattle.strm_types.specs.Puts.{far}
-use Rattle.strm_types.specs.Spares.{spare}
-use Rattle.strm_types.specs.StackCosts.{stack_cost, stands_of}
-use Rattle.strm_types.proofs.PutsFall.{puts-fall}
+use Rattle.strm_types.specs.Far.{far}
+use Rattle.strm_laws.specs.Spares.{spare}
+use Rattle.strm_laws.specs.StackCosts.{stack_cost, stands_of}
+use Rattle.strm_laws.proofs.PutsFall.{puts-fall}
 use Rattle.strm_frame.specs.Hands.{Spends}
 use Rattle.strm_frame.specs.Outboxes.{message_in}
 use Rattle.strm_pair.specs.Pairs.{state_in}

@@ -2,11 +2,11 @@
 use Rattle.std.proofs.Common.{◌≡◌, ◌≤◌, ◌-◌, ◌+◌, ℕ, suc, length, sym, ap, subst, ◌∙◌, arith}
 use Rattle.strm_types.specs.Cells.{plain}
 use Rattle.strm_types.specs.Deliver.{tallied}
-use Rattle.strm_types.specs.Kept.{AreIdle}
+use Rattle.strm_laws.specs.Kept.{AreIdle}
 use Rattle.strm_types.specs.Message.{data_message}
 use Rattle.strm_types.specs.Write.{chunks_of}
-use Rattle.strm_types.specs.Writes.{Wrote, below_head, chunks_sent}
-use Rattle.strm_types.proofs.ModulesIdle.{delivered-idle}
+use Rattle.strm_laws.specs.Writes.{Wrote, below_head, chunks_sent}
+use Rattle.strm_laws.proofs.ModulesIdle.{delivered-idle}
 use Rattle.strm_blocks.specs.Blocks.{free_m, free_d}
 use Rattle.strm_pair.specs.Pairs.{state_in}
 use Rattle.strm_pair.proofs.ChunkSteps.{chunks-none, chunks-full, chunks-more, chunks-told}

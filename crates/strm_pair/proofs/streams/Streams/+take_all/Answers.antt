@@ -1,9 +1,9 @@
 -- The module on top is taken off, and then all others.
 use Rattle.std.proofs.Common.{ℕ, ◌≡◌, ◌-◌, suc, length, sym, ap, subst, ◌∙◌, arith}
 use Rattle.strm_types.specs.Deliver.{Carried, tallied}
-use Rattle.strm_types.specs.Kept.{AreIdle}
-use Rattle.strm_types.specs.Pushes.{all_taken, top_taken}
-use Rattle.strm_types.specs.State.{State, stream}
+use Rattle.strm_laws.specs.Kept.{AreIdle}
+use Rattle.strm_laws.specs.Pushes.{all_taken, top_taken}
+use Rattle.strm_laws.specs.State.{State, stream}
 use Rattle.strm_pair.specs.Pairs.{state_in}
 use Rattle.strm_pair.proofs.Idle.{top-idle}
 use Rattle.strm_pair.proofs.Takings.{all-by-one, none-taken, one-less, tallied-both}

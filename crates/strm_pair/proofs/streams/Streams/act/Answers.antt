@@ -4,10 +4,10 @@ use Rattle.std.specs.Prelude.{slice_index_or, None}
 use Rattle.strm_types.specs.declared.names.Dir.TheVariants.{MasterToSlave, SlaveToMaster}
 use Rattle.strm_types.specs.Books.{with_made}
 use Rattle.strm_types.specs.Deliver.{tallied}
-use Rattle.strm_types.specs.Earlier.{places_of}
-use Rattle.strm_types.specs.Puts.{noted}
-use Rattle.strm_types.specs.State as state
-use Rattle.strm_types.specs.TurnCalls.{called}
+use Rattle.strm_laws.specs.Earlier.{places_of}
+use Rattle.strm_laws.specs.Puts.{noted}
+use Rattle.strm_laws.specs.State as state
+use Rattle.strm_laws.specs.TurnCalls.{called}
 use Rattle.strm_pair.specs.declared.ends.End.{End}
 use Rattle.strm_pair.specs.declared.calling.Made.{Made}
 use Rattle.strm_pair.specs.declared.streams.Streams.{Streams}

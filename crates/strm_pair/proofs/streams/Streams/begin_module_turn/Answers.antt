@@ -3,10 +3,11 @@ use Rattle.std.proofs.Common.{ℕ, ◌≤◌, length, sym, ap, subst, ◌∙◌,
 use Rattle.strm_types.specs.declared.answers.Turn.TheVariants.{Blocked, Idle}
 use Rattle.strm_types.specs.declared.spots.Asks.TheVariants as asked
 use Rattle.strm_types.specs.ModuleQueues.{at_place, messages_at}
-use Rattle.strm_types.specs.ModuleTurns.{stayed_at}
-use Rattle.strm_types.specs.Stacked.{module_asks, module_queue}
-use Rattle.strm_types.specs.State.{State, Stream, stream}
-use Rattle.strm_types.specs.TurnOutcomes.{first_size, stayed_put}
+use Rattle.strm_laws.specs.ModuleTurns.{stayed_at}
+use Rattle.strm_laws.specs.Stacked.{module_asks, module_queue}
+use Rattle.strm_laws.specs.State.{State, Stream, stream}
+use Rattle.strm_types.specs.Queue.{first_size}
+use Rattle.strm_laws.specs.TurnOutcomes.{stayed_put}
 use Rattle.strm_pair.specs.ModuleTurned.{BeginsAs}
 use Rattle.strm_pair.specs.Pairs.{state_in}
 use Rattle.strm_pair.proofs.ModuleTurns.{may-move, spot_of, turned-asks, turned-room, turned-waits, waiting-long}

@@ -1,7 +1,7 @@
 -- Each call goes on from what those before it led to.
 use Rattle.std.proofs.Common.{◌≡◌, ◌<◌, ◌+◌, ◌-◌, false, true, [], length, refl, sym, ap, subst, ◌∙◌, arith}
-use Rattle.strm_types.specs.State.{stream}
-use Rattle.strm_types.proofs.ModuleTurnCalls.{reached-first}
+use Rattle.strm_laws.specs.State.{stream}
+use Rattle.strm_laws.proofs.ModuleTurnCalls.{reached-first}
 use Rattle.strm_pair.specs.Pairs.{state_in}
 use Rattle.strm_pair.proofs.CallsOn.{Along, GoOn, along, comes-closer, first-begins, first-books, next-books, still_to_come}
 use Rattle.strm_pair.proofs.ServeSteps.{call-within}

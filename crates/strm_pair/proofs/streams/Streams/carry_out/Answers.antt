@@ -6,11 +6,12 @@ use Rattle.std.specs.Prelude.{option_map}
 use Rattle.strm_types.specs.declared.answers.Answer.TheVariants.{Bytes}
 use Rattle.strm_types.specs.declared.events.Event.{Event}
 use Rattle.strm_types.specs.declared.refusals.Refusal.TheVariants.{Einval}
-use Rattle.strm_types.specs.Calls.{Outcome, request}
-use Rattle.strm_types.specs.Pushes.{may_stand, named_by}
-use Rattle.strm_types.specs.Refused.{refused_at_once, refused_by_state}
-use Rattle.strm_types.specs.State.{stream}
-use Rattle.strm_types.proofs.Replay.{unless-none}
+use Rattle.strm_laws.specs.Calls.{Outcome}
+use Rattle.strm_types.specs.Events.{request}
+use Rattle.strm_laws.specs.Pushes.{may_stand, named_by}
+use Rattle.strm_laws.specs.Refusals.{refused_at_once, refused_by_state}
+use Rattle.strm_laws.specs.State.{stream}
+use Rattle.strm_laws.proofs.Replay.{unless-none}
 use Rattle.strm_pair.specs.Pairs.{state_in}
 use Rattle.strm_pair.proofs.PlainWrites.{put-in_range, write-stays, read-is}
 use Rattle.strm_pair.proofs.streams.Streams.carry_out.Goals as goal

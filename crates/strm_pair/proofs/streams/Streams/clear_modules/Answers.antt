@@ -1,6 +1,6 @@
 -- All modules that stand there.
 use Rattle.std.proofs.Common.{length, ap, ◌∙◌}
-use Rattle.strm_types.specs.State.{Stream}
+use Rattle.strm_laws.specs.State.{Stream}
 use Rattle.strm_pair.proofs.streams.Streams.clear_modules.Goals as goal
 
 pub take_all-requires-clause-count : goal.take_all-requires-clause-count

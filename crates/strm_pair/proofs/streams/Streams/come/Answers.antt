@@ -2,7 +2,7 @@
 use Rattle.std.proofs.Common.{ap, ◌∙◌}
 use Rattle.strm_types.specs.declared.names.Side.TheVariants.{Master, Slave}
 use Rattle.strm_types.specs.declared.names.Way.TheVariants.{Up}
-use Rattle.strm_types.specs.Earlier.{before_at}
+use Rattle.strm_laws.specs.Earlier.{before_at}
 use Rattle.strm_types.specs.Names.{enable_some}
 use Rattle.strm_frame.specs.Outboxes.{message_in}
 use Rattle.strm_frame.proofs.Handing.{can-in_hand}

@@ -2,7 +2,7 @@
 use Rattle.std.proofs.Common.{ap, sym, rules, ◌∙◌}
 use Rattle.strm_types.specs.declared.names.Place.TheVariants.{Ldterm}
 use Rattle.strm_types.specs.Queue.{count_of}
-use Rattle.strm_types.specs.State.{Stream, stream}
+use Rattle.strm_laws.specs.State.{Stream, stream}
 use Rattle.strm_pair.specs.Named.{messages_named}
 use Rattle.strm_pair.specs.Pairs.{state_in}
 use Rattle.strm_pair.specs.Shows.{count_in}

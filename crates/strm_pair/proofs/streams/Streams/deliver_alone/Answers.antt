@@ -1,9 +1,9 @@
 -- Nothing is in hand when all is delivered.
 use Rattle.std.proofs.Common.{sym, subst, arith}
 use Rattle.strm_types.specs.Cells.{plain}
-use Rattle.strm_types.specs.Kept.{AreIdle}
-use Rattle.strm_types.specs.StackCosts.{stands_of}
-use Rattle.strm_types.proofs.ModulesIdle.{delivered-idle}
+use Rattle.strm_laws.specs.Kept.{AreIdle}
+use Rattle.strm_laws.specs.StackCosts.{stands_of}
+use Rattle.strm_laws.proofs.ModulesIdle.{delivered-idle}
 use Rattle.strm_blocks.specs.Blocks.{in_hand}
 use Rattle.strm_msg.specs.Messages.{message_of}
 use Rattle.strm_frame.proofs.Handing.{alone-can, none-left}

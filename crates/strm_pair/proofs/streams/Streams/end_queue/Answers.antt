@@ -1,8 +1,8 @@
 -- The modules keep their names, and the other side stays.
 use Rattle.std.proofs.Common.{◌-◌, map, ap, ◌∙◌}
 use Rattle.strm_types.specs.Service.{turn_ended}
-use Rattle.strm_types.specs.Stacked.{module_name}
-use Rattle.strm_types.proofs.StackStays.{queue-names}
+use Rattle.strm_laws.specs.Stacked.{module_name}
+use Rattle.strm_laws.proofs.StackStays.{queue-names}
 use Rattle.strm_pair.proofs.Puttings.{side-changed}
 use Rattle.strm_pair.proofs.streams.Streams.end_queue.Goals as goal
 

@@ -8,10 +8,10 @@ use Rattle.strm_types.specs.Cells.{plain}
 use Rattle.strm_types.specs.Deliver.{tallied}
 use Rattle.strm_types.specs.Flushing.{asked_of, flush_bytes, flush_message}
 use Rattle.strm_types.specs.Message.{Message}
-use Rattle.strm_types.specs.Puts.{delivered}
-use Rattle.strm_types.specs.Spares.{spare}
-use Rattle.strm_types.specs.StackCosts.{most_cost}
-use Rattle.strm_types.proofs.StackSpares.{range-spare}
+use Rattle.strm_laws.specs.Puts.{delivered}
+use Rattle.strm_laws.specs.Spares.{spare}
+use Rattle.strm_types.specs.Costs.{most_cost}
+use Rattle.strm_laws.proofs.StackSpares.{range-spare}
 use Rattle.strm_blocks.specs.Blocks.{in_hand}
 use Rattle.strm_msg.specs.Messages.{message_of}
 use Rattle.strm_pair.specs.Pairs.{state_in}

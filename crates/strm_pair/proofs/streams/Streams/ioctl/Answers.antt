@@ -1,9 +1,9 @@
 -- What was held stays held, and what is told of an ioctl books nothing.
 use Rattle.std.proofs.Common.{ap, arith}
-use Rattle.strm_types.specs.Calls.{ioctl_told}
-use Rattle.strm_types.specs.Spares.{spare}
-use Rattle.strm_types.proofs.Balances.{told-books}
-use Rattle.strm_types.proofs.StackSpares.{same-spare}
+use Rattle.strm_laws.specs.Calls.{ioctl_told}
+use Rattle.strm_laws.specs.Spares.{spare}
+use Rattle.strm_laws.proofs.Balances.{told-books}
+use Rattle.strm_laws.proofs.StackSpares.{same-spare}
 use Rattle.strm_pair.specs.Pairs.{state_in}
 use Rattle.strm_pair.proofs.streams.Streams.ioctl.Goals as goal
 

@@ -2,8 +2,8 @@
 use Rattle.std.proofs.Common.{false, ap, sym, ◌∙◌}
 use Rattle.strm_types.specs.declared.names.Place.TheVariants.{Ldterm}
 use Rattle.strm_types.specs.ModuleQueues as modules
-use Rattle.strm_types.specs.Stacked.{module_queue}
-use Rattle.strm_types.specs.State.{Stream, stream}
+use Rattle.strm_laws.specs.Stacked.{module_queue}
+use Rattle.strm_laws.specs.State.{Stream, stream}
 use Rattle.strm_pair.specs.Named.{at_named}
 use Rattle.strm_pair.specs.Pairs.{state_in}
 use Rattle.strm_pair.specs.Shows.{full_in}

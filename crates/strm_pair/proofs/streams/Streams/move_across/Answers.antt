@@ -6,17 +6,17 @@ use Rattle.strm_types.specs.declared.names.Way.TheVariants.{Up}
 use Rattle.strm_types.specs.declared.spots.Spot.{Spot}
 use Rattle.strm_types.specs.Cells.{plain}
 use Rattle.strm_types.specs.Deliver.{tallied}
-use Rattle.strm_types.specs.Kept.{AreIdle}
+use Rattle.strm_laws.specs.Kept.{AreIdle}
 use Rattle.strm_types.specs.Message.{size_of}
 use Rattle.strm_types.specs.Names.{other}
-use Rattle.strm_types.specs.Puts.{delivered}
-use Rattle.strm_types.specs.Earlier.{modules_on}
-use Rattle.strm_types.specs.Puts.{is_turned}
+use Rattle.strm_laws.specs.Puts.{delivered}
+use Rattle.strm_laws.specs.Earlier.{modules_on}
+use Rattle.strm_types.specs.Far.{is_turned}
 use Rattle.strm_types.specs.Queue.{left_with}
-use Rattle.strm_types.specs.Spares.{spare}
-use Rattle.strm_types.specs.State.{stream}
-use Rattle.strm_types.specs.Turns.{turn_ended}
-use Rattle.strm_types.proofs.StackSpares.{range-spare}
+use Rattle.strm_laws.specs.Spares.{spare}
+use Rattle.strm_laws.specs.State.{stream}
+use Rattle.strm_laws.specs.Turns.{turn_ended}
+use Rattle.strm_laws.proofs.StackSpares.{range-spare}
 use Rattle.strm_msg.specs.Messages.{message_of}
 use Rattle.strm_pair.specs.Pairs.{state_in}
 use Rattle.strm_pair.proofs.TurnSteps.{ended-spare, taken-idle, taken-spare, up-few, up-near}

@@ -1,7 +1,7 @@
 -- What is noted goes by the nearest earlier queues.
 use Rattle.std.proofs.Common.{ap, ◌∙◌}
-use Rattle.strm_types.proofs.Noted.{noted-same}
-use Rattle.strm_types.specs.Puts.{earlier_at}
+use Rattle.strm_laws.proofs.Noted.{noted-same}
+use Rattle.strm_laws.specs.Puts.{earlier_at}
 use Rattle.strm_pair.specs.Nearest.{earlier_of}
 use Rattle.strm_pair.specs.Pairs.{state_in}
 use Rattle.strm_pair.proofs.streams.Streams.note.Goals as goal

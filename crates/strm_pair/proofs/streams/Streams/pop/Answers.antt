@@ -3,9 +3,9 @@ use Rattle.std.proofs.Common.{ℕ, ◌≡◌, ap, sym, subst, ◌∙◌, arith}
 use Rattle.strm_types.specs.declared.rules.Rule.TheVariants.{ModulePopped}
 use Rattle.strm_types.specs.Deliver.{tallied}
 use Rattle.strm_types.specs.Dropped.{is_met, number_sought}
-use Rattle.strm_types.specs.Kept.{AreIdle}
-use Rattle.strm_types.specs.Pushes.{below_top, ioctl_dropped, mode_behind, mode_put, taken_off, top_on, top_taken}
-use Rattle.strm_types.specs.State.{State, Stream, stream}
+use Rattle.strm_laws.specs.Kept.{AreIdle}
+use Rattle.strm_laws.specs.Pushes.{below_top, ioctl_dropped, mode_behind, mode_put, taken_off, top_on, top_taken}
+use Rattle.strm_laws.specs.State.{State, Stream, stream}
 use Rattle.strm_pair.specs.Pairs.{state_in}
 use Rattle.strm_pair.proofs.Dropping.{same-sought, slot-stays}
 use Rattle.strm_pair.proofs.Idle.{top-idle}

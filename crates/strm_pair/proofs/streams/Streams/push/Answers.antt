@@ -2,9 +2,9 @@
 use Rattle.std.proofs.Common.{ℕ, ◌≡◌, ◌∷◌, ap, sym, subst, ◌∙◌}
 use Rattle.std.specs.Prelude.{Option, Some, IfSome, is_some}
 use Rattle.strm_types.specs.Deliver.{Carried, tallied}
-use Rattle.strm_types.specs.Pushes.{may_stand, mode_put, named_by, with_modules}
+use Rattle.strm_laws.specs.Pushes.{may_stand, mode_put, named_by, with_modules}
 use Rattle.strm_types.specs.Names.{place_of}
-use Rattle.strm_types.specs.State.{State, stream}
+use Rattle.strm_laws.specs.State.{State, stream}
 use Rattle.strm_pair.specs.declared.streams.Streams.{Streams}
 use Rattle.strm_pair.specs.Pairs.{state_in, AreHeld}
 use Rattle.strm_pair.proofs.ModulePushed.{made-named}

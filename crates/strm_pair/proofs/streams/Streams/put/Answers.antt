@@ -6,9 +6,9 @@ use Rattle.strm_types.specs.declared.names.Way.TheVariants.{Up, Down}
 use Rattle.strm_types.specs.Costs.{below_takes, cost, head_takes}
 use Rattle.strm_types.specs.Message.{has_parts}
 use Rattle.strm_types.specs.ModuleQueues.{at_place}
-use Rattle.strm_types.specs.Puts.{put_at_driver}
-use Rattle.strm_types.specs.StackCosts.{module_takes, stack_cost, stands_of}
-use Rattle.strm_types.specs.State.{stream}
+use Rattle.strm_laws.specs.Puts.{put_at_driver}
+use Rattle.strm_laws.specs.StackCosts.{module_takes, stack_cost, stands_of}
+use Rattle.strm_laws.specs.State.{stream}
 use Rattle.strm_frame.specs.Hands.{HasRoom}
 use Rattle.strm_frame.specs.Outboxes.{message_in, sent_of}
 use Rattle.strm_pair.specs.Pairs.{state_in}

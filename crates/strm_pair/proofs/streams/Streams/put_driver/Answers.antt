@@ -3,7 +3,7 @@ use Rattle.std.proofs.Common.{ap, ◌∙◌}
 use Rattle.strm_types.specs.declared.names.Place.TheVariants.{Driver}
 use Rattle.strm_types.specs.declared.names.Side.TheVariants.{Master, Slave}
 use Rattle.std.specs.Prelude.{Some}
-use Rattle.strm_types.specs.Puts.{earlier_at, noted}
+use Rattle.strm_laws.specs.Puts.{earlier_at, noted}
 use Rattle.strm_frame.proofs.Handing.{can-in_hand}
 use Rattle.strm_pair.specs.declared.streams.Streams.{Streams}
 use Rattle.strm_pair.specs.Pairs.{kept_by, state_in}

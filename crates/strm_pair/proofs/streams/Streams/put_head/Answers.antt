@@ -5,7 +5,7 @@ use Rattle.strm_head.specs.Heads.{sent_down}
 use Rattle.strm_frame.specs.Outboxes.{message_in, sent_of}
 use Rattle.strm_types.specs.Costs.{head_takes}
 use Rattle.strm_pair.specs.Pairs.{state_in}
-use Rattle.strm_types.specs.Puts.{put_at_head}
+use Rattle.strm_laws.specs.Puts.{put_at_head}
 use Rattle.strm_pair.proofs.PutSteps.{came-put, down-takes}
 use Rattle.strm_pair.proofs.streams.Streams.put_head.Goals as goal
 

@@ -8,11 +8,11 @@ use Rattle.strm_types.specs.Deliver.{Carried, tallied}
 use Rattle.strm_types.specs.Flush.{is_data_kind}
 use Rattle.strm_types.specs.Message.{Message}
 use Rattle.strm_types.specs.Options.{mode_message}
-use Rattle.strm_types.specs.Pushes.{head_above}
-use Rattle.strm_types.specs.Puts.{delivered}
-use Rattle.strm_types.specs.Spares.{spare}
-use Rattle.strm_types.specs.StackCosts.{most_cost}
-use Rattle.strm_types.specs.State.{State}
+use Rattle.strm_laws.specs.Pushes.{head_above}
+use Rattle.strm_laws.specs.Puts.{delivered}
+use Rattle.strm_laws.specs.Spares.{spare}
+use Rattle.strm_types.specs.Costs.{most_cost}
+use Rattle.strm_laws.specs.State.{State}
 use Rattle.strm_blocks.specs.Blocks.{in_hand}
 use Rattle.strm_msg.specs.Messages.{message_of}
 use Rattle.strm_pair.specs.Pairs.{state_in}

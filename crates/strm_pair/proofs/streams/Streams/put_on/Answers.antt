@@ -2,8 +2,8 @@
 use Rattle.std.proofs.Common.{ap, sym, ◌∙◌}
 use Rattle.std.specs.Prelude.{Some}
 use Rattle.strm_types.specs.declared.names.Side.TheVariants.{Master, Slave}
-use Rattle.strm_types.specs.Pushes.{may_stand, named_by}
-use Rattle.strm_types.specs.State.{stream}
+use Rattle.strm_laws.specs.Pushes.{may_stand, named_by}
+use Rattle.strm_laws.specs.State.{stream}
 use Rattle.strm_pair.specs.Pairs.{state_in}
 use Rattle.strm_pair.proofs.Puttings.{put-state, held-master, held-slave, pushed-once}
 use Rattle.strm_pair.proofs.streams.Streams.put_on.Goals as goal

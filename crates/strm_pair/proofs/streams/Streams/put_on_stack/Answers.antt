@@ -2,8 +2,8 @@
 use Rattle.std.proofs.Common.{sym, subst}
 use Rattle.strm_types.specs.declared.names.Side.{Side}
 use Rattle.strm_types.specs.ModuleQueues.{at_place}
-use Rattle.strm_types.specs.StackCosts.{module_takes}
-use Rattle.strm_types.specs.State.{stream}
+use Rattle.strm_laws.specs.StackCosts.{module_takes}
+use Rattle.strm_laws.specs.State.{stream}
 use Rattle.strm_frame.specs.Hands.{HasRoom}
 use Rattle.strm_frame.specs.Outboxes.{message_in}
 use Rattle.strm_pair.specs.declared.streams.Streams.{Streams}

@@ -6,9 +6,9 @@ use Rattle.strm_types.specs.declared.kinds.MsgKind.{MsgKind}
 use Rattle.strm_types.specs.declared.kinds.MsgKind.TheVariants.{Flush, Data, Proto, Pcproto}
 use Rattle.strm_types.specs.declared.names.Way.TheVariants.{Up}
 use Rattle.strm_types.specs.Flush.{is_data_kind}
-use Rattle.strm_types.specs.Flushing.{is_flush}
+use Rattle.strm_types.specs.Flushing.{is_flush, is_bare_flush}
 use Rattle.strm_types.specs.Message.{has_parts}
-use Rattle.strm_types.specs.Puts.{is_bare_flush, passed_up, put_at_driver}
+use Rattle.strm_laws.specs.Puts.{passed_up, put_at_driver}
 use Rattle.strm_blocks.specs.Blocks.{Block, block_at, in_hand}
 use Rattle.strm_msg.specs.Messages.{IsChain, message_of}
 use Rattle.strm_msg.proofs.Chains.{kind-is}

@@ -8,16 +8,16 @@ use Rattle.strm_types.specs.declared.names.Side.{Side}
 use Rattle.strm_types.specs.Books.{with_written}
 use Rattle.strm_types.specs.Names.{direction_from}
 use Rattle.strm_types.specs.PutMsg.{no_parts, put_message}
-use Rattle.strm_types.specs.Spares.{spare}
-use Rattle.strm_types.specs.StackCosts.{most_cost}
-use Rattle.strm_types.specs.State.{State, book, with_book}
-use Rattle.strm_types.proofs.Balances.{parts-few}
+use Rattle.strm_laws.specs.Spares.{spare}
+use Rattle.strm_types.specs.Costs.{most_cost}
+use Rattle.strm_laws.specs.State.{State, book, with_book}
+use Rattle.strm_laws.proofs.Balances.{parts-few}
 use Rattle.strm_blocks.specs.Blocks.{in_hand}
 use Rattle.strm_msg.specs.Messages.{message_of}
 use Rattle.strm_types.specs.Cells.{plain}
 use Rattle.strm_types.specs.Deliver.{tallied}
 use Rattle.strm_types.specs.Message.{part}
-use Rattle.strm_types.specs.Puts.{delivered}
+use Rattle.strm_laws.specs.Puts.{delivered}
 use Rattle.strm_types.specs.declared.names.Way.TheVariants.{Down}
 use Rattle.strm_types.specs.declared.spots.Spot.{Spot}
 use Rattle.strm_pair.specs.Pairs.{state_in}

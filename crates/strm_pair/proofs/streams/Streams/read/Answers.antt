@@ -4,7 +4,7 @@ use Rattle.strm_types.specs.declared.answers.Answer.TheVariants.{Bytes}
 use Rattle.strm_types.specs.declared.names.Side.TheVariants.{Master, Slave}
 use Rattle.strm_types.specs.Deliver.{tallied}
 use Rattle.strm_types.specs.declared.names.Way.TheVariants.{Up}
-use Rattle.strm_types.specs.Earlier.{before_at}
+use Rattle.strm_laws.specs.Earlier.{before_at}
 use Rattle.strm_types.specs.Names.{direction_of, enable_some, head_of}
 use Rattle.strm_types.specs.Reads.{read_gone}
 use Rattle.strm_queue.specs.Stored.{messages_on}

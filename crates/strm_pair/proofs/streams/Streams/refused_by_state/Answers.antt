@@ -3,8 +3,8 @@ use Rattle.std.proofs.Common.{List, rules, sym, ap, ◌∙◌}
 use denote.Ref.{Bor}
 use Rattle.std.specs.Prelude.{ℕ, option_map}
 use Rattle.strm_types.specs.declared.events.Event.{Event}
-use Rattle.strm_types.specs.Calls.{request}
-use Rattle.strm_types.specs.Refused.{refused_at_once}
+use Rattle.strm_types.specs.Events.{request}
+use Rattle.strm_laws.specs.Refusals.{refused_at_once}
 use Rattle.strm_pair.specs.Pairs.{state_in}
 use Rattle.strm_pair.proofs.PlainWrites.{put-low}
 use Rattle.strm_pair.proofs.streams.Streams.refused_by_state.Goals as goal

@@ -6,16 +6,16 @@ use Rattle.strm_types.specs.declared.names.Side.TheVariants.{Master, Slave}
 use Rattle.strm_types.specs.declared.names.Way.TheVariants.{Down}
 use Rattle.strm_types.specs.declared.spots.Spot.{Spot}
 use Rattle.strm_types.specs.Cells.{plain}
-use Rattle.strm_types.specs.Calls.{ioctl_begun}
+use Rattle.strm_laws.specs.Calls.{ioctl_begun}
 use Rattle.strm_types.specs.Deliver.{tallied}
 use Rattle.strm_types.specs.Ioctls.{asking, ioctl_message}
-use Rattle.strm_types.specs.Kept.{AreIdle}
+use Rattle.strm_laws.specs.Kept.{AreIdle}
 use Rattle.strm_types.specs.Message.{Message}
-use Rattle.strm_types.specs.Puts.{delivered}
-use Rattle.strm_types.specs.Spares.{spare}
-use Rattle.strm_types.specs.StackCosts.{most_cost}
-use Rattle.strm_types.specs.State.{State}
-use Rattle.strm_types.proofs.StackSpares.{range-spare}
+use Rattle.strm_laws.specs.Puts.{delivered}
+use Rattle.strm_laws.specs.Spares.{spare}
+use Rattle.strm_types.specs.Costs.{most_cost}
+use Rattle.strm_laws.specs.State.{State}
+use Rattle.strm_laws.proofs.StackSpares.{range-spare}
 use Rattle.strm_blocks.specs.Blocks.{in_hand}
 use Rattle.strm_msg.specs.Messages.{message_of}
 use Rattle.strm_head.specs.Sending.{ioctl_blocks}

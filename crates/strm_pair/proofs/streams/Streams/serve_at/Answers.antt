@@ -2,7 +2,7 @@
 use Rattle.std.proofs.Common.{◌-◌, sym, subst, arith}
 use Rattle.std.specs.Prelude.{HoldsAt}
 use Rattle.strm_types.specs.declared.names.Side.{Side}
-use Rattle.strm_types.specs.State.{stream}
+use Rattle.strm_laws.specs.State.{stream}
 use Rattle.strm_pair.specs.AnyModules.{MayServe}
 use Rattle.strm_pair.specs.declared.streams.Streams.{Streams}
 use Rattle.strm_pair.specs.ModuleServed.{StackServes}

@@ -2,12 +2,12 @@
 use Rattle.std.proofs.Common.{ℕ, ◌++◌, sym, ap, subst, ◌∙◌}
 use Rattle.strm_types.specs.declared.names.Side.TheVariants.{Master, Slave}
 use Rattle.strm_types.specs.declared.rules.Rule.TheVariants.{EndClosed}
-use Rattle.strm_types.specs.Closes.{head_emptied, driver_emptied, ended, hung_up_at, closed_at}
+use Rattle.strm_laws.specs.Closes.{head_emptied, driver_emptied, ended, hung_up_at, closed_at}
 use Rattle.strm_types.specs.Deliver.{tallied}
 use Rattle.strm_types.specs.Emptied.{of_all}
-use Rattle.strm_types.specs.Kept.{AreIdle}
-use Rattle.strm_types.specs.Pushes.{modules_emptied}
-use Rattle.strm_types.specs.State.{State}
+use Rattle.strm_laws.specs.Kept.{AreIdle}
+use Rattle.strm_laws.specs.Pushes.{modules_emptied}
+use Rattle.strm_laws.specs.State.{State}
 use Rattle.strm_pair.specs.Pairs.{state_in}
 use Rattle.strm_pair.proofs.Idle.{emptied-idle}
 use Rattle.strm_pair.proofs.Takings.{tallied-both}

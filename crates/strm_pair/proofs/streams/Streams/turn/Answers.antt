@@ -1,13 +1,13 @@
 -- A driver's turn makes little: what becomes packets of its message.
 use Rattle.std.proofs.Common.{ap, sym, subst, arith}
 use Rattle.strm_types.specs.Cells.{plain}
-use Rattle.strm_types.specs.Ledgers.{FewBooked}
-use Rattle.strm_types.specs.Spares.{spare}
-use Rattle.strm_types.specs.State.{stream}
-use Rattle.strm_types.specs.Turns.{driver_turned}
-use Rattle.strm_types.proofs.Balances.{turn-few}
-use Rattle.strm_types.proofs.StackSpares.{range-spare, spare-low}
-use Rattle.strm_types.proofs.StepBooks.{serves-books}
+use Rattle.strm_laws.specs.Ledgers.{FewBooked}
+use Rattle.strm_laws.specs.Spares.{spare}
+use Rattle.strm_laws.specs.State.{stream}
+use Rattle.strm_laws.specs.Turns.{driver_turned}
+use Rattle.strm_laws.proofs.Balances.{turn-few}
+use Rattle.strm_laws.proofs.StackSpares.{range-spare, spare-low}
+use Rattle.strm_laws.proofs.StepBooks.{serves-books}
 use Rattle.strm_pair.specs.Pairs.{state_in}
 use Rattle.strm_pair.proofs.streams.Streams.turn.Goals as goal
 

@@ -3,13 +3,13 @@ use Rattle.std.proofs.Common.{ℕ, true, false, ap, sym, ◌∙◌, arith}
 use Rattle.std.specs.Prelude.{not, ◌&&◌}
 use Rattle.strm_types.specs.declared.names.Way.TheVariants.{Up}
 use Rattle.strm_types.specs.Deliver.{tallied}
-use Rattle.strm_types.specs.Earlier.{driver_place}
+use Rattle.strm_laws.specs.Earlier.{driver_place}
 use Rattle.strm_types.specs.Message.{is_held}
 use Rattle.strm_types.specs.Names.{other}
-use Rattle.strm_types.specs.Past.{has_room_past, writer_waits}
-use Rattle.strm_types.specs.Spares.{spare}
-use Rattle.strm_types.specs.State.{stream}
-use Rattle.strm_types.specs.TurnOutcomes.{TurnOutcome}
+use Rattle.strm_laws.specs.Past.{has_room_past, writer_waits}
+use Rattle.strm_laws.specs.Spares.{spare}
+use Rattle.strm_laws.specs.State.{stream}
+use Rattle.strm_laws.specs.TurnOutcomes.{TurnOutcome}
 use Rattle.strm_pair.specs.Pairs.{state_in, end_at}
 use Rattle.strm_pair.proofs.TurnSteps.{taken-spare, turned-stopped, turned-moved, waits-spare}
 use Rattle.strm_pair.proofs.streams.Streams.turn_driver.Goals as goal

@@ -4,17 +4,18 @@ use Rattle.std.specs.Prelude.{not, ◌==◌}
 use Rattle.strm_types.specs.declared.answers.Turn.TheVariants.{Moved}
 use Rattle.strm_types.specs.Cells.{plain}
 use Rattle.strm_types.specs.Deliver.{tallied}
-use Rattle.strm_types.specs.Kept.{AreIdle}
-use Rattle.strm_types.specs.ModuleTurns.{module_turn_ended, module_turned}
-use Rattle.strm_types.specs.Ledgers.{FewBooked}
-use Rattle.strm_types.specs.Spares.{spare}
-use Rattle.strm_types.specs.TurnCalls.{bytes_left, ldterm_of, module_at}
-use Rattle.strm_types.specs.TurnOutcomes.{TurnOutcome}
-use Rattle.strm_types.proofs.Balances.{range-low, turn-few}
-use Rattle.strm_types.proofs.InOrder.{BooksMade}
-use Rattle.strm_types.proofs.StackSpares.{range-spare, same-spare, spare-low}
-use Rattle.strm_types.proofs.StepBooks.{ended-books, module-books}
-use Rattle.strm_types.proofs.ModuleTurnKeeps.{module_turned-rests}
+use Rattle.strm_laws.specs.Kept.{AreIdle}
+use Rattle.strm_laws.specs.ModuleTurns.{module_turn_ended, module_turned}
+use Rattle.strm_laws.specs.Ledgers.{FewBooked}
+use Rattle.strm_laws.specs.Spares.{spare}
+use Rattle.strm_types.specs.LdtermCalls.{bytes_left}
+use Rattle.strm_laws.specs.TurnCalls.{ldterm_of, module_at}
+use Rattle.strm_laws.specs.TurnOutcomes.{TurnOutcome}
+use Rattle.strm_laws.proofs.Balances.{range-low, turn-few}
+use Rattle.strm_laws.proofs.InOrder.{BooksMade}
+use Rattle.strm_laws.proofs.StackSpares.{range-spare, same-spare, spare-low}
+use Rattle.strm_laws.proofs.StepBooks.{ended-books, module-books}
+use Rattle.strm_laws.proofs.ModuleTurnKeeps.{module_turned-rests}
 use Rattle.strm_frame.proofs.Handing.{no-hand}
 use Rattle.strm_pair.specs.Framing.{rests}
 use Rattle.strm_pair.specs.Pairs.{state_in}

@@ -5,15 +5,15 @@ use Rattle.strm_types.specs.declared.books.Book.{Book}
 use Rattle.strm_types.specs.declared.names.Side.{Side}
 use Rattle.strm_types.specs.declared.names.Side.TheVariants.{Master, Slave}
 use Rattle.strm_types.specs.Books.{with_written}
-use Rattle.strm_types.specs.Calls.{Outcome}
+use Rattle.strm_laws.specs.Calls.{Outcome}
 use Rattle.strm_types.specs.Cells.{plain}
 use Rattle.strm_types.specs.Deliver.{Fate, tallied}
 use Rattle.strm_types.specs.Names.{direction_from}
-use Rattle.strm_types.specs.Spares.{spare}
-use Rattle.strm_types.specs.State.{State, book, with_book}
+use Rattle.strm_laws.specs.Spares.{spare}
+use Rattle.strm_laws.specs.State.{State, book, with_book}
 use Rattle.strm_types.specs.Write.{chunks_of}
-use Rattle.strm_types.specs.Writes.{Wrote}
-use Rattle.strm_types.proofs.Balances.{chunks-book}
+use Rattle.strm_laws.specs.Writes.{Wrote}
+use Rattle.strm_laws.proofs.Balances.{chunks-book}
 use Rattle.strm_pair.specs.PlainCalls.{wrote_plain}
 use Rattle.strm_pair.specs.Pairs.{state_in}
 use Rattle.strm_pair.proofs.PlainWrites.{none-counted, wrote-is, wrote-none, chunks-are, chunks-written, wrote-chunks}

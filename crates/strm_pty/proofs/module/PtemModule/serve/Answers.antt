@@ -1,6 +1,6 @@
 -- Nothing is done.
 use Rattle.strm_types.specs.Costs.{cost}
-use Rattle.strm_types.specs.Puts.{far}
+use Rattle.strm_types.specs.Far.{far}
 use Rattle.strm_frame.proofs.Handing.{still-hands, none-hands, none-chains, none-lower, no-parts, no-room}
 use Rattle.strm_pty.proofs.module.PtemModule.serve.Goals as goal
 

@@ -1,6 +1,6 @@
 use Rattle.std.proofs.Common.{◌≤◌, sym, subst}
 use Rattle.strm_types.specs.ModuleQueues.{messages_at}
-use Rattle.strm_types.specs.TurnOutcomes.{first_size}
+use Rattle.strm_types.specs.Queue.{first_size}
 use Rattle.strm_tests.specs.Toys.{stock_queue}
 use Rattle.strm_tests.specs.ToyLaws.{stock_in}
 use Rattle.strm_frame.proofs.FirstSizes.{first-few}

@@ -1,0 +1,111 @@
+-- No answer has more bytes than its call may have.
+use Rattle.std.proofs.Common.{ℕ, ◌≡◌, ◌≤◌, ◌+◌, Bool, true, false, cond, List, length, refl, arith, length-append}
+use Rattle.std.specs.Prelude.{min, Option, None, Some, option_map}
+use Rattle.std.proofs.lemmas.List.{length-map}
+use Rattle.strm_types.specs.declared.events.Caller.{Caller}
+use Rattle.strm_types.specs.declared.events.Event.TheVariants.{OpenMaster, Unlock, OpenSlave, Shut, Push, Pop, Look, Flush, Write, Read, Put, Get, Mode, Nread, Ioctl, IoctlResult, Signals}
+use Rattle.strm_types.specs.declared.answers.Answer.TheVariants.{Done, Bytes}
+use Rattle.strm_types.specs.declared.limits.TheConstants.{READ_MAX, CONTENT_MAX, IOCTL_MAX}
+use Rattle.strm_types.specs.declared.modes.Wanted.{Wanted}
+use Rattle.strm_types.specs.declared.names.ModuleName.{ModuleName}
+use Rattle.strm_types.specs.declared.names.Side.{Side}
+use Rattle.strm_types.specs.declared.names.Way.TheVariants.{Down}
+use Rattle.strm_types.specs.declared.slots.Slot.TheVariants.{Free, Waiting, Acked, Nacked}
+use Rattle.strm_types.specs.Events.{Request, content_of}
+use Rattle.strm_laws.specs.Calls.{called, get_at, ioctl_begun, ioctl_sent, name_told, read_at}
+use Rattle.strm_types.specs.Cells.{Cells, bytes_of}
+use Rattle.strm_types.specs.Gets.{head_get}
+use Rattle.strm_types.specs.Ioctls.{asking, ioctl_message}
+use Rattle.strm_types.specs.Journal.{content_max}
+use Rattle.strm_types.specs.Message.{part}
+use Rattle.strm_laws.specs.Pushes.{top_on}
+use Rattle.strm_types.specs.Reads.{head_draw}
+use Rattle.strm_types.specs.Slots.{PlainSlot, answer_bytes, gives_nothing, told_of}
+use Rattle.strm_laws.specs.State.{State, stream}
+use Rattle.strm_laws.specs.Within.{AreWithin}
+use Rattle.strm_laws.proofs.GetKeeps.{get-control, get-data}
+use Rattle.strm_types.proofs.ReadKeeps.{head_draw-most}
+use Rattle.strm_types.proofs.SignalRoom.{signals-fit}
+use Rattle.strm_laws.proofs.WithinHeads.{begun-within, side-within}
+use Rattle.strm_laws.proofs.WithinSteps.{delivered-within}
+
+module _ {C : Type 0} (cells : Cells C) where
+  part-bytes : (o : Option (List C)) → length (part (option_map (bytes_of cells) o)) ≡ length (part o)
+  part-bytes None = refl
+  part-bytes (Some xs) = length-map xs cells.byte
+
+  read-fits : (side : Side) (n : ℕ) (s : State C) → length (content_of (read_at cells side n s).answer) ≤ min n READ_MAX
+  read-fits side n s =
+      let h = (stream side s).head in
+      let most = min n READ_MAX in
+      omega (arith, length-map (head_draw h.read_mode h.control_mode most h.queue.messages).given cells.byte, head_draw-most h.read_mode h.control_mode most h.queue.messages)
+
+  get-fits : (side : Side) (wanted : Wanted) (cmax dmax : ℕ) (s : State C) → length (content_of (get_at cells side wanted cmax dmax s).answer) ≤ min cmax READ_MAX + min dmax READ_MAX
+  get-fits side wanted cmax dmax s =
+      let q = (stream side s).head.queue.messages in
+      let c = min cmax READ_MAX in
+      let d = min dmax READ_MAX in
+      let g = head_get wanted c d q in
+      omega (
+        arith,
+        length-append (part (option_map (bytes_of cells) g.control)) (part (option_map (bytes_of cells) g.body)),
+        part-bytes g.control,
+        part-bytes g.body,
+        get-control wanted c d q,
+        get-data wanted c d q,
+      )
+
+  answer-fits : (slot : PlainSlot) → length (answer_bytes slot) ≤ IOCTL_MAX → length (content_of (told_of slot)) ≤ IOCTL_MAX
+  answer-fits Free fits = omega arith
+  answer-fits (Waiting number command) fits = omega arith
+  answer-fits (Nacked number command refusal) fits = omega arith
+  answer-fits (Acked number command body) fits = at (gives_nothing command)
+    where
+      at : (none : Bool) → length (content_of (cond none Done (Bytes body))) ≤ IOCTL_MAX
+      at true = omega arith
+      at false = fits
+
+  name-fits : (name : Option ModuleName) → length (content_of (name_told name)) ≤ 0
+  name-fits None = omega arith
+  name-fits (Some name) = omega arith
+
+  pub content-fits : (caller : Caller) (asked : Request) (s : State C) → AreWithin s → length (content_of (called cells caller asked s).answer) ≤ content_max asked
+  content-fits caller OpenMaster s within = omega arith
+  content-fits caller Unlock s within = omega arith
+  content-fits caller OpenSlave s within = omega arith
+  content-fits caller Shut s within = omega arith
+  content-fits caller (Push name) s within = omega arith
+  content-fits caller Pop s within = omega arith
+  content-fits caller Look s within = name-fits (top_on caller.side s)
+  content-fits caller (Flush what band) s within = omega arith
+  content-fits caller (Write bytes) s within = omega arith
+  content-fits caller (Read n) s within = read-fits caller.side n s
+  content-fits caller (Put prio control body) s within = omega arith
+  content-fits caller (Get wanted cmax dmax) s within = get-fits caller.side wanted cmax dmax s
+  content-fits caller (Mode mode) s within = omega arith
+  content-fits caller Nread s within = omega arith
+  content-fits caller (Ioctl command body) s within =
+      let sent = (ioctl_sent cells caller.side command body s).state in
+      answer-fits (stream caller.side sent).head.ioctl
+      (side-within caller.side sent (delivered-within cells (record { side = caller.side; at = 1; way = Down }) (ioctl_message (asking command s.next_ioctl) body) (ioctl_begun caller.side command s) (begun-within caller.side command s within))).answer
+  content-fits caller (IoctlResult number) s within = answer-fits (stream caller.side s).head.ioctl (side-within caller.side s within).answer
+  content-fits caller Signals s within = omega (arith, signals-fit (stream caller.side s).head.signals (side-within caller.side s within).signals)
+
+pub content-bounded : (asked : Request) → content_max asked ≤ CONTENT_MAX
+content-bounded (Read n) = omega arith
+content-bounded (Get wanted cmax dmax) = omega arith
+content-bounded OpenMaster = omega arith
+content-bounded Unlock = omega arith
+content-bounded OpenSlave = omega arith
+content-bounded Shut = omega arith
+content-bounded (Push name) = omega arith
+content-bounded Pop = omega arith
+content-bounded Look = omega arith
+content-bounded (Flush what band) = omega arith
+content-bounded (Write bytes) = omega arith
+content-bounded (Put prio control body) = omega arith
+content-bounded (Mode mode) = omega arith
+content-bounded Nread = omega arith
+content-bounded (Ioctl command body) = omega arith
+content-bounded (IoctlResult number) = omega arith
+content-bounded Signals = omega arith

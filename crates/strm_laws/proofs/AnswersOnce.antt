@@ -1,0 +1,93 @@
+-- The answer of an ioctl is given once.
+use Rattle.std.proofs.Common.{ℕ, ◌≡◌, ◌⊎◌, inl, inr, Bool, true, false, cond, List, refl, ap, ◌∙◌, arith}
+use Rattle.std.specs.Prelude.{◌==◌, Option, None, Some}
+use Rattle.std.proofs.lemmas.Bool.Decides.{nat_tests}
+use Rattle.strm_types.specs.declared.answers.Answer.TheVariants.{Done, Bytes, Pending}
+use Rattle.strm_types.specs.declared.events.Caller.{Caller}
+use Rattle.strm_types.specs.declared.events.Event.TheVariants.{Ioctl, IoctlResult}
+use Rattle.strm_types.specs.declared.names.Side.{Side}
+use Rattle.strm_types.specs.declared.names.Side.TheVariants.{Master, Slave}
+use Rattle.strm_types.specs.declared.refusals.Refusal.{Refusal}
+use Rattle.strm_types.specs.declared.refusals.Refusal.TheVariants.{Einval, Eagain}
+use Rattle.strm_types.specs.declared.slots.Slot.TheVariants.{Free, Waiting, Acked, Nacked}
+use Rattle.strm_types.specs.Events.{Reply}
+use Rattle.strm_laws.specs.Calls.{called, ioctl_sent, ioctl_told}
+use Rattle.strm_types.specs.Cells.{Cells}
+use Rattle.strm_laws.specs.Refusals.{refused_by_state}
+use Rattle.strm_types.specs.Refused.{unless}
+use Rattle.strm_types.specs.Slots.{PlainSlot, gives_nothing, is_free, result_refusal, slot_behind, told_of, unless_same}
+use Rattle.strm_laws.specs.State.{State, stream, with_ioctl}
+
+-- a slot that is answered is free behind that
+answered-free : (number : ℕ) (slot : PlainSlot) → result_refusal number slot ≡ None → slot_behind slot ≡ Free
+answered-free number Free none = refl
+answered-free number (Waiting n command) none = at (n == number) none
+  where
+    at : (same : Bool) → cond same (Some Eagain) (Some Einval) ≡ None → ◌≡◌ {A = PlainSlot} (Waiting n command) Free
+    at true is = absurd (cc)
+    at false is = absurd (cc)
+answered-free number (Acked n command body) none = refl
+answered-free number (Nacked n command refusal) none = refl
+
+-- the number of a slot that waits
+same-number : (n : ℕ) (same : Option Refusal) → unless_same n n same ≡ same
+same-number n same = at (n == n) refl
+  where
+    at : (b : Bool) → (n == n) ≡ b → cond b same (Some Einval) ≡ same
+    at true is = refl
+    at false is = absurd (grind (arith, nat_tests))
+
+waits-told : (number : ℕ) (slot : PlainSlot) → told_of slot ≡ Pending number → result_refusal number (slot_behind slot) ≡ Some Eagain
+waits-told number Free is = absurd (cc)
+waits-told number (Waiting n command) is = let same : number ≡ n = cc in ap (λ k. unless_same n k (Some Eagain)) same ∙ same-number n (Some Eagain)
+waits-told number (Acked n command body) is = at (gives_nothing command) is
+  where
+    at : (none : Bool) → ◌≡◌ {A = Reply} (cond none Done (Bytes body)) (Pending number) → Some Einval ≡ Some Eagain
+    at true is = absurd (cc)
+    at false is = absurd (cc)
+waits-told number (Nacked n command refusal) is = absurd (cc)
+
+free-or-waits : (asked : ℕ) (slot : PlainSlot) → (result_refusal asked (slot_behind slot) ≡ Some Einval) ⊎ ((number : ℕ) × (told_of slot ≡ Pending number))
+free-or-waits asked Free = inl refl
+free-or-waits asked (Waiting n command) = inr (n, refl)
+free-or-waits asked (Acked n command body) = inl refl
+free-or-waits asked (Nacked n command refusal) = inl refl
+
+module _ {C : Type 0} where
+  slot-there : (side : Side) (slot : PlainSlot) (s : State C) → (stream side (with_ioctl side slot s)).head.ioctl ≡ slot
+  slot-there Master slot s = refl
+  slot-there Slave slot s = refl
+
+  abbrev slot_of : Side → State C → PlainSlot
+  slot_of side s = (stream side s).head.ioctl
+
+  result-behind : (asked : ℕ) (side : Side) (s : State C) → result_refusal asked (slot_of side (ioctl_told side s).state) ≡ result_refusal asked (slot_behind (slot_of side s))
+  result-behind asked side s = ap (λ (slot : PlainSlot). result_refusal asked slot) (slot-there side (slot_behind (slot_of side s)) s)
+
+  pub told-once : (cells : Cells C) (caller : Caller) (number asked : ℕ) (s : State C) → refused_by_state s caller (IoctlResult number) ≡ None
+      → refused_by_state (called cells caller (IoctlResult number) s).state caller (IoctlResult asked) ≡ Some Einval
+  told-once cells caller number asked s none =
+      result-behind asked caller.side s ∙ ap (λ (slot : PlainSlot). result_refusal asked slot) (answered-free number (slot_of caller.side s) none)
+
+  pub told-next : (cells : Cells C) (caller : Caller) (number command : ℕ) (body : List ℕ) (s : State C) → refused_by_state s caller (IoctlResult number) ≡ None
+      → refused_by_state (called cells caller (IoctlResult number) s).state caller (Ioctl command body) ≡ None
+  told-next cells caller number command body s none =
+      ap (λ (slot : PlainSlot). unless (is_free slot) Eagain) (slot-there caller.side (slot_behind (slot_of caller.side s)) s ∙ answered-free number (slot_of caller.side s) none)
+
+  pub told-pending : (cells : Cells C) (caller : Caller) (command number : ℕ) (body : List ℕ) (s : State C) → (called cells caller (Ioctl command body) s).answer ≡ Pending number
+      → refused_by_state (called cells caller (Ioctl command body) s).state caller (IoctlResult number) ≡ Some Eagain
+  told-pending cells caller command number body s is =
+      let sent = (ioctl_sent cells caller.side command body s).state in
+      result-behind number caller.side sent ∙ waits-told number (slot_of caller.side sent) is
+
+  told-or-waits : (asked : ℕ) (side : Side) (s : State C) → (result_refusal asked (slot_of side (ioctl_told side s).state) ≡ Some Einval) ⊎ ((number : ℕ) × ((ioctl_told side s).answer ≡ Pending number))
+  told-or-waits asked side s = at (free-or-waits asked (slot_of side s))
+    where
+      at : (result_refusal asked (slot_behind (slot_of side s)) ≡ Some Einval) ⊎ ((number : ℕ) × (told_of (slot_of side s) ≡ Pending number))
+          → (result_refusal asked (slot_of side (ioctl_told side s).state) ≡ Some Einval) ⊎ ((number : ℕ) × ((ioctl_told side s).answer ≡ Pending number))
+      at (inl is) = inl (result-behind asked side s ∙ is)
+      at (inr waits) = inr waits
+
+  pub told-at-once : (cells : Cells C) (caller : Caller) (command asked : ℕ) (body : List ℕ) (s : State C) → let t = called cells caller (Ioctl command body) s in
+      (refused_by_state t.state caller (IoctlResult asked) ≡ Some Einval) ⊎ ((number : ℕ) × (t.answer ≡ Pending number))
+  told-at-once cells caller command asked body s = told-or-waits asked caller.side (ioctl_sent cells caller.side command body s).state

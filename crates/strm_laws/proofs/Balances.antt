@@ -1,0 +1,505 @@
+-- What stands on the queues of a pair and in its lines, with what has gone, is what its books say: of each direction, and of each byte.
+use Rattle.std.proofs.Common.{ℕ, zero, suc, ◌≡◌, ◌<◌, ◌≤◌, ◌^◌, ◌+◌, Bool, true, false, cond, List, [], ◌∷◌, ◌++◌, length, refl, sym, ap, subst, ◌∙◌, length-append, arith}
+use Rattle.std.specs.Prelude.{◌&&◌, ◌||◌, nat_lt, count_by, drop, min, take, Option, None, Some}
+use Rattle.std.proofs.lemmas.Bool.Decides.{nat_tests}
+use Rattle.std.proofs.lemmas.List.{length-drop, length-take}
+use Rattle.strm_types.specs.declared.books.Book.{Book}
+use Rattle.strm_types.specs.declared.books.TheConstants.{BOOK_MAX}
+use Rattle.strm_types.specs.declared.entries.Entry.TheVariants.{Called, Turned}
+use Rattle.strm_types.specs.declared.events.Caller.{Caller}
+use Rattle.strm_types.specs.declared.events.FlushQueues.{FlushQueues}
+use Rattle.strm_types.specs.declared.kinds.Band.{Band}
+use Rattle.strm_types.specs.declared.events.Event.TheVariants.{OpenMaster, Unlock, OpenSlave, Shut, Push, Pop, Look, Flush, Write, Read, Put, Get, Mode, Nread, Ioctl, IoctlResult, Signals}
+use Rattle.strm_types.specs.declared.limits.TheConstants.{CONTROL_MAX, DATA_MAX, READ_MAX}
+use Rattle.strm_types.specs.declared.modes.Prio.{Prio}
+use Rattle.strm_types.specs.declared.names.Dir.{Dir}
+use Rattle.strm_types.specs.declared.names.Dir.TheVariants.{MasterToSlave, SlaveToMaster}
+use Rattle.strm_types.specs.declared.names.Side.{Side}
+use Rattle.strm_types.specs.declared.names.Side.TheVariants.{Master, Slave}
+use Rattle.strm_types.specs.declared.names.Way.TheVariants.{Down}
+use Rattle.strm_types.specs.declared.refusals.Refusal.{Refusal}
+use Rattle.strm_types.specs.declared.refusals.Refusal.TheVariants.{Einval, Enxio, Erange}
+use Rattle.strm_types.specs.declared.rules.Rule.TheVariants.{EndClosed}
+use Rattle.strm_types.specs.declared.spots.Spot.{Spot}
+use Rattle.strm_types.specs.Books as books
+use Rattle.strm_types.specs.Books.{with_written}
+use Rattle.strm_types.specs.Events.{Reply, Request}
+use Rattle.strm_laws.specs.Calls.{called, delivers, get_at, ioctl_begun, ioctl_sent, ioctl_told, message_put, mode_set, put_at, read_at, signals_told, write_sent}
+use Rattle.strm_types.specs.Cells.{Cells, cells_written}
+use Rattle.strm_laws.specs.Closes.{closed_at, driver_emptied, ended, head_emptied, hung_up_at, stream_emptied}
+use Rattle.strm_types.specs.Deliver.{Fate, Goes, Comes}
+use Rattle.strm_types.specs.Emptied.{of_all}
+use Rattle.strm_types.specs.Flushing.{asked_of, flush_bytes, flush_message}
+use Rattle.strm_types.specs.Ioctls.{asking, ioctl_message}
+use Rattle.strm_types.specs.Journal.{PlainEntry}
+use Rattle.strm_laws.specs.Kept.{count_came, gone}
+use Rattle.strm_laws.specs.Ledgers.{FewBooked}
+use Rattle.strm_types.specs.Message.{Message, cells_of, data_message, part}
+use Rattle.strm_types.specs.Names.{direction_from, direction_of, head_of, is_open}
+use Rattle.strm_laws.specs.Places.{weight_made}
+use Rattle.strm_types.specs.PutMsg.{is_no_prio, is_too_long, put_refusal}
+use Rattle.strm_laws.specs.Pushes.{head_above, ioctl_dropped, named_by, with_modules}
+use Rattle.strm_laws.specs.Puts.{delivered, flushed_on}
+use Rattle.strm_laws.specs.Refusals.{blocks_asked, goes_down, in_range, may_ask, refused_at_once, refused_by_state}
+use Rattle.strm_types.specs.Refused.{is_a_band, or_else, unless}
+use Rattle.strm_laws.specs.Stacked.{Module}
+use Rattle.strm_laws.specs.State.{State, book, stream, with_book}
+use Rattle.strm_laws.specs.Step.{after}
+use Rattle.strm_laws.specs.Turns.{turned}
+use Rattle.strm_types.specs.Write.{chunk_count, chunks_of}
+use Rattle.strm_laws.specs.Writes.{Wrote, below_head, cells_sent, chunks_sent, is_full_below}
+use Rattle.strm_laws.proofs.ChangesMake.{close-none, get-none, pop-none, push-none, read-none}
+use Rattle.strm_laws.proofs.InOrder.{AreNext, BooksMade, InOrder, Numbered, books-both}
+use Rattle.strm_types.proofs.MadeCells.{made-long}
+use Rattle.strm_laws.proofs.PushHolds.{Survives, modules_emptied-holds, pop-holds, push-holds}
+use Rattle.strm_laws.proofs.PutsBook.{SameBooks, books-are, books-on, booked-before, booked-behind, delivered-books, head-same, none-booked, none-changed, nothing-booked}
+use Rattle.strm_laws.proofs.StepBooks.{turn-books}
+use Rattle.strm_laws.proofs.TurnOrder.{all_made}
+
+-- a push, a pop, a close and what a head is told book nothing
+module _ {C : Type 0} where
+  abbrev AnyModules : List (Module C) → Type 0
+  AnyModules ps = Unit {0}
+
+  books-survive : (s : State C) (side : Side) → Survives side (SameBooks s) AnyModules
+  books-survive s side = record {
+    named = λ names t same. record { from_master = same.from_master; from_slave = same.from_slave };
+    apart = λ ps t good same. books-on s t (with_modules side ps t) same (apart side ps t);
+    given = λ m t same. books-on s t _ same (head-same side (head_above side) m t);
+    good = λ t same. tt;
+    dropped = λ ms t same. books-on s t (ioctl_dropped side ms t) same (dropped side ms t);
+    below = λ q ps good. tt;
+  }
+    where
+      apart : (side : Side) (ps : List (Module C)) (t : State C) → SameBooks t (with_modules side ps t)
+      apart Master ps t = record { from_master = refl; from_slave = refl }
+      apart Slave ps t = record { from_master = refl; from_slave = refl }
+
+      dropped : (side : Side) (ms : List (Message C)) (t : State C) → SameBooks t (ioctl_dropped side ms t)
+      dropped Master ms t = record { from_master = refl; from_slave = refl }
+      dropped Slave ms t = record { from_master = refl; from_slave = refl }
+
+  head-books : (side : Side) (s : State C) → SameBooks s (head_emptied EndClosed of_all side s).state
+  head-books Master s = record { from_master = refl; from_slave = refl }
+  head-books Slave s = record { from_master = refl; from_slave = refl }
+
+  driver-books : (side : Side) (s : State C) → SameBooks s (driver_emptied EndClosed of_all side s).state
+  driver-books Master s = record { from_master = refl; from_slave = refl }
+  driver-books Slave s = record { from_master = refl; from_slave = refl }
+
+  emptied-books : (side : Side) (s : State C) → SameBooks s (stream_emptied side s).state
+  emptied-books side s = modules_emptied-holds side (SameBooks s) AnyModules (books-survive s side) EndClosed (head_emptied EndClosed of_all side s).state (head-books side s)
+
+  ended-books : (side : Side) (s : State C) → SameBooks s (ended side s)
+  ended-books Master s = record { from_master = refl; from_slave = refl }
+  ended-books Slave s = record { from_master = refl; from_slave = refl }
+
+  hung_up-books : (s : State C) → SameBooks s (hung_up_at Slave s)
+  hung_up-books s = at (is_open s.slave.opened)
+    where
+      at : (opened : Bool) → SameBooks s (cond opened (record s { slave = record s.slave { head = record s.slave.head { hung_up = true } } }) s)
+      at true = record { from_master = refl; from_slave = refl }
+      at false = none-changed s
+
+  close-books : (side : Side) (s : State C) → SameBooks s (closed_at side s).state
+  close-books Slave s = books-on s (stream_emptied Slave s).state _ (emptied-books Slave s) (ended-books Slave (stream_emptied Slave s).state)
+  close-books Master s =
+      let heads = (stream_emptied Master s).state in
+      let one = (driver_emptied EndClosed of_all Master heads).state in
+      let all = (driver_emptied EndClosed of_all Slave one).state in
+      books-on s heads _ (emptied-books Master s)
+      (books-on heads one _ (driver-books Master heads)
+      (books-on one all _ (driver-books Slave one)
+      (books-on all (ended Master all) _ (ended-books Master all) (hung_up-books (ended Master all)))))
+
+  -- what is done on either side
+  on-side : (side : Side) (s : State C) (t : Side → State C) → SameBooks s (t Master) → SameBooks s (t Slave) → SameBooks s (t side)
+  on-side Master s t master slave = master
+  on-side Slave s t master slave = slave
+
+  begun-books : (side : Side) (command : ℕ) (s : State C) → SameBooks s (ioctl_begun side command s)
+  begun-books Master command s = record { from_master = refl; from_slave = refl }
+  begun-books Slave command s = record { from_master = refl; from_slave = refl }
+
+  pub told-books : (side : Side) (s : State C) → SameBooks s (ioctl_told side s).state
+  told-books Master s = record { from_master = refl; from_slave = refl }
+  told-books Slave s = record { from_master = refl; from_slave = refl }
+
+-- a call books what it tells as made, and what it writes
+module _ {C : Type 0} (cells : Cells C) where
+  abbrev Books : State C → List (Fate C) → State C → Type 0
+  Books s told t = BooksMade cells s told t
+
+  -- a call that delivers nothing books nothing, and makes nothing
+  pub still-same : (caller : Caller) (asked : Request) (s : State C) → delivers asked ≡ false → SameBooks s (called cells caller asked s).state
+  still-same caller OpenMaster s still = record { from_master = refl; from_slave = refl }
+  still-same caller Unlock s still = record { from_master = refl; from_slave = refl }
+  still-same caller OpenSlave s still = record { from_master = refl; from_slave = refl }
+  still-same caller Shut s still = close-books caller.side s
+  still-same caller (Push name) s still = push-holds caller.side (SameBooks s) AnyModules (books-survive s caller.side) (named_by name) s (λ q. tt) (none-changed s)
+  still-same caller Pop s still = pop-holds caller.side (SameBooks s) AnyModules (books-survive s caller.side) s (none-changed s)
+  still-same caller Look s still = none-changed s
+  still-same caller (Flush what band) s still = absurd (cc)
+  still-same caller (Write bytes) s still = absurd (cc)
+  still-same caller (Read n) s still = on-side caller.side s (λ side. (read_at cells side n s).state) (record { from_master = refl; from_slave = refl }) (record { from_master = refl; from_slave = refl })
+  still-same caller (Put prio control body) s still = absurd (cc)
+  still-same caller (Get wanted cmax dmax) s still = on-side caller.side s (λ side. (get_at cells side wanted cmax dmax s).state) (record { from_master = refl; from_slave = refl }) (record { from_master = refl; from_slave = refl })
+  still-same caller (Mode mode) s still = on-side caller.side s (λ side. mode_set side mode s) (record { from_master = refl; from_slave = refl }) (record { from_master = refl; from_slave = refl })
+  still-same caller Nread s still = none-changed s
+  still-same caller (Ioctl command body) s still = absurd (cc)
+  still-same caller (IoctlResult number) s still = told-books caller.side s
+  still-same caller Signals s still = on-side caller.side s (λ side. (signals_told side s).state) (record { from_master = refl; from_slave = refl }) (record { from_master = refl; from_slave = refl })
+
+  still-none : (caller : Caller) (asked : Request) (answer : Reply) (s : State C) → delivers asked ≡ false → all_made (gone cells s (Called caller asked answer)) ≡ 0
+  still-none caller Shut answer s still = close-none (λ d c. true) caller.side s
+  still-none caller (Push name) answer s still = push-none (λ d c. true) caller.side (named_by name) s
+  still-none caller Pop answer s still = pop-none (λ d c. true) caller.side s
+  still-none caller (Read n) answer s still =
+      let h = (stream caller.side s).head in
+      read-none (λ d c. true) (direction_of (head_of caller.side)) h.read_mode h.control_mode (min n READ_MAX) h.queue.messages
+  still-none caller (Get wanted cmax dmax) answer s still = get-none (λ d c. true) (direction_of (head_of caller.side)) wanted (min cmax READ_MAX) (min dmax READ_MAX) (stream caller.side s).head.queue.messages
+  still-none caller (Flush what band) answer s still = absurd (cc)
+  still-none caller (Write bytes) answer s still = absurd (cc)
+  still-none caller (Put prio control body) answer s still = absurd (cc)
+  still-none caller (Ioctl command body) answer s still = absurd (cc)
+  still-none caller OpenMaster answer s still = refl
+  still-none caller Unlock answer s still = refl
+  still-none caller OpenSlave answer s still = refl
+  still-none caller Look answer s still = refl
+  still-none caller (Mode mode) answer s still = refl
+  still-none caller Nread answer s still = refl
+  still-none caller (IoctlResult number) answer s still = refl
+  still-none caller Signals answer s still = refl
+
+  -- a flush and an ioctl book what their deliveries make
+  flush-books : (side : Side) (what : FlushQueues) (band : Option Band) (s : State C) → let t = flushed_on cells band side what s in Books s t.gone t.state
+  flush-books side what band s = delivered-books cells (record { side = side; at = 1; way = Down }) (flush_message (flush_bytes (asked_of what band))) s
+
+  ioctl-books : (side : Side) (command : ℕ) (body : List ℕ) (s : State C) → let t = ioctl_sent cells side command body s in Books s t.gone (ioctl_told side t.state).state
+  ioctl-books side command body s =
+      let begun = ioctl_begun side command s in
+      let t = ioctl_sent cells side command body s in
+      booked-before cells s begun _ t.gone (begun-books side command s)
+      (booked-behind cells begun t.state (ioctl_told side t.state).state t.gone (delivered-books cells (record { side = side; at = 1; way = Down }) (ioctl_message (asking command s.next_ioctl) body) begun) (told-books side t.state))
+
+  -- the chunks of a write
+  pub chunks-book : (side : Side) (chunks : List (List C)) (s : State C) → let t = chunks_sent cells side chunks s in Books s t.gone t.state
+  chunks-book side [] s = nothing-booked cells s s (none-changed s)
+  chunks-book side (chunk ∷ chunks) s =
+      let t = delivered cells (below_head side) (data_message chunk) s in
+      let more = chunks_sent cells side chunks t.state in
+      either-books (is_full_below 0 side s) _ _ (nothing-booked cells s s (none-changed s))
+      (books-both cells s t.state more.state t.gone more.gone (delivered-books cells (below_head side) (data_message chunk) s) (chunks-book side chunks t.state))
+    where
+      either-books : (full : Bool) (one another : Wrote C) → Books s one.gone one.state → Books s another.gone another.state → Books s (cond full one another).gone (cond full one another).state
+      either-books true one another first second = first
+      either-books false one another first second = second
+
+-- cells that are written
+module _ {C : Type 0} (cells : Cells C) where
+  pub written-long : (dir : Dir) (n : ℕ) (bytes : List ℕ) → length (cells_written cells dir n bytes) ≡ length bytes
+  written-long dir n [] = refl
+  written-long dir n (b ∷ bytes) = let more = written-long dir (suc n) bytes in omega arith
+
+  take-written : (k : ℕ) (dir : Dir) (n : ℕ) (bytes : List ℕ) → take k (cells_written cells dir n bytes) ≡ cells_written cells dir n (take k bytes)
+  take-written zero dir n bytes = refl
+  take-written (suc k) dir n [] = refl
+  take-written (suc k) dir n (b ∷ bytes) = ap (λ xs. cells.written dir n b ∷ xs) (take-written k dir (suc n) bytes)
+
+  join-written : (dir : Dir) (n : ℕ) (xs ys : List ℕ) → cells_written cells dir n xs ++ cells_written cells dir (n + length xs) ys ≡ cells_written cells dir n (xs ++ ys)
+  join-written dir n [] ys = ap (λ k. cells_written cells dir k ys) (let e : n + 0 ≡ n = omega arith in e)
+  join-written dir n (x ∷ xs) ys =
+      ap (λ zs. cells.written dir n x ∷ zs)
+      (ap (λ k. cells_written cells dir (suc n) xs ++ cells_written cells dir k ys) (let e : n + length (x ∷ xs) ≡ suc n + length xs = omega arith in e) ∙ join-written dir (suc n) xs ys)
+
+  -- the cells of a putmsg are the next ones
+  put-written : (side : Side) (prio : Prio) (control body : Option (List ℕ)) (s : State C) →
+      cells_of (message_put cells side prio control body s) ≡ cells_written cells (direction_from side) (book (direction_from side) s).written (part control ++ part body)
+  unfolding cells_of
+  put-written side prio None None s = refl
+  put-written side prio None (Some body) s = ap (λ n. cells_written cells (direction_from side) n body) (let e : (book (direction_from side) s).written + 0 ≡ (book (direction_from side) s).written = omega arith in e)
+  put-written side prio (Some control) None s = join-written (direction_from side) (book (direction_from side) s).written control []
+  put-written side prio (Some control) (Some body) s = join-written (direction_from side) (book (direction_from side) s).written control body
+
+module _ {C : Type 0} (cells : Cells C) where
+  -- a write takes no more than it is given
+  chunks-few : (side : Side) (count : ℕ) (xs : List C) (s : State C) → (chunks_sent cells side (chunks_of count xs) s).taken ≤ length xs
+  chunks-few side zero xs s = omega arith
+  chunks-few side (suc count) xs s =
+      let t = delivered cells (below_head side) (data_message (take 256 xs)) s in
+      let more = chunks-few side count (drop 256 xs) t.state in
+      either-few (is_full_below 0 side s) _ _ (omega arith) (omega (arith, more, length-take 256 xs, length-drop 256 xs))
+    where
+      either-few : (full : Bool) (one another : Wrote C) → one.taken ≤ length xs → another.taken ≤ length xs → (cond full one another).taken ≤ length xs
+      either-few true one another first second = first
+      either-few false one another first second = second
+
+  sent-few : (side : Side) (xs : List C) (s : State C) → (cells_sent cells side xs s).taken ≤ length xs
+  sent-few side xs s = chunks-few side (chunk_count (length xs)) xs s
+
+module _ {C : Type 0} (cells : Cells C) (p : Dir → C → Bool) (numbered : Numbered cells p) where
+  -- how many cells pass the test of those that a book numbers, and both books
+  abbrev pub upto : Dir → Book → ℕ
+  upto dir b = numbered.upto_written dir b.written + numbered.upto_made dir b.made
+
+  abbrev pub total : State C → ℕ
+  total s = upto MasterToSlave s.from_master + upto SlaveToMaster s.from_slave
+
+  -- the numbers of two books
+  by-numbers : (dir : Dir) (w w' m m' : ℕ) → w ≡ w' → m ≡ m' → numbered.upto_written dir w + numbered.upto_made dir m ≡ numbered.upto_written dir w' + numbered.upto_made dir m'
+  by-numbers dir w w' m m' e f = ap (λ n. numbered.upto_written dir n + numbered.upto_made dir m) e ∙ ap (λ n. numbered.upto_written dir w' + numbered.upto_made dir n) f
+
+  -- what is told as made is counted by the books
+  next-counts : (dir : Dir) (n : ℕ) (xs : List C) → AreNext cells dir n xs → count_by (p dir) xs + numbered.upto_made dir n ≡ numbered.upto_made dir (n + length xs)
+  next-counts dir n xs next =
+      let is = next.is in
+      let bytes = next.bytes in
+      let long : length xs ≡ length bytes = ap (λ ys. length ys) is ∙ made-long cells dir n bytes in
+      ap (λ ys. count_by (p dir) ys + numbered.upto_made dir n) is ∙ numbered.made dir n bytes ∙ ap (λ k. numbered.upto_made dir (n + k)) (sym long)
+
+  made-counts : (told : List (Fate C)) (a b c d : ℕ) → InOrder cells MasterToSlave a told b → InOrder cells SlaveToMaster c told d
+      → weight_made p told + (numbered.upto_made MasterToSlave a + numbered.upto_made SlaveToMaster c) ≡ numbered.upto_made MasterToSlave b + numbered.upto_made SlaveToMaster d
+  made-counts [] a b c d one two = omega (arith, ap (λ n. numbered.upto_made MasterToSlave n) one, ap (λ n. numbered.upto_made SlaveToMaster n) two)
+  made-counts (Goes dir rule xs ∷ told) a b c d one two = omega (arith, made-counts told a b c d one two)
+  made-counts (Comes MasterToSlave xs ∷ told) a b c d one two = omega (arith, next-counts MasterToSlave a xs one.0, made-counts told (a + length xs) b c d one.1 two)
+  made-counts (Comes SlaveToMaster xs ∷ told) a b c d one two = omega (arith, next-counts SlaveToMaster c xs two.0, made-counts told a b (c + length xs) d one two.1)
+
+  books-count : (s t : State C) (told : List (Fate C)) → BooksMade cells s told t → weight_made p told + total s ≡ total t
+  books-count s t told books =
+      omega (
+        arith,
+        made-counts told s.from_master.made t.from_master.made s.from_slave.made t.from_slave.made (books.made MasterToSlave) (books.made SlaveToMaster),
+        ap (λ n. numbered.upto_written MasterToSlave n) (books.written MasterToSlave),
+        ap (λ n. numbered.upto_written SlaveToMaster n) (books.written SlaveToMaster),
+      )
+
+  -- what is written is counted by the book of its direction
+  written-counts : (dir : Dir) (bytes : List ℕ) (s t : State C) (told : List (Fate C)) → BooksMade cells s told t → let n = (book dir s).written in
+      count_by (p dir) (cells_written cells dir n bytes) + weight_made p told + total s ≡ total (with_book dir (with_written (length bytes) (book dir t)) t)
+  written-counts MasterToSlave bytes s t told books =
+      let same = books.written MasterToSlave in
+      omega (
+        arith,
+        books-count s t told books,
+        numbered.written MasterToSlave s.from_master.written bytes,
+        ap (λ n. numbered.upto_written MasterToSlave n) same,
+        ap (λ n. numbered.upto_written MasterToSlave (n + length bytes)) same,
+      )
+  written-counts SlaveToMaster bytes s t told books =
+      let same = books.written SlaveToMaster in
+      omega (
+        arith,
+        books-count s t told books,
+        numbered.written SlaveToMaster s.from_slave.written bytes,
+        ap (λ n. numbered.upto_written SlaveToMaster n) same,
+        ap (λ n. numbered.upto_written SlaveToMaster (n + length bytes)) same,
+      )
+
+  -- what a call came to
+  abbrev Counts : Caller → Request → Reply → State C → Type 0
+  Counts caller asked answer s =
+      let entry = Called caller asked answer in
+      count_came cells p s entry + weight_made p (gone cells s entry) + total s ≡ total (called cells caller asked s).state
+
+  write-counts : (caller : Caller) (bytes : List ℕ) (answer : Reply) (s : State C) → Counts caller (Write bytes) answer s
+  write-counts caller bytes answer s =
+      let side = caller.side in
+      let dir = direction_from side in
+      let n = (book dir s).written in
+      let t = write_sent cells side bytes s in
+      let xs = cells_written cells dir n bytes in
+      let few = sent-few cells side xs s in
+      let long : length (take t.taken bytes) ≡ t.taken = omega (arith, length-take t.taken bytes, few, written-long cells dir n bytes) in
+      ap (λ ys. count_by (p dir) ys + weight_made p t.gone + total s) (take-written cells t.taken dir n bytes)
+      ∙ written-counts dir (take t.taken bytes) s t.state t.gone (chunks-book cells side (chunks_of (chunk_count (length xs)) xs) s)
+      ∙ ap (λ k. total (with_book dir (with_written k (book dir t.state)) t.state)) long
+
+  put-counts : (caller : Caller) (prio : Prio) (control body : Option (List ℕ)) (answer : Reply) (s : State C) → Counts caller (Put prio control body) answer s
+  put-counts caller prio control body answer s =
+      ap (λ xs. count_by (p dir) xs + weight_made p (put_at cells side prio control body s).gone + total s) (put-written cells side prio control body s) ∙ at control body
+    where
+      side : Side
+      side = caller.side
+
+      dir : Dir
+      dir = direction_from side
+
+      sent-counts : (xs ys : List ℕ) (m : Message C) → let t = delivered cells (record { side = side; at = 1; way = Down }) m s in
+          count_by (p dir) (cells_written cells dir (book dir s).written (xs ++ ys)) + weight_made p t.gone + total s ≡ total (with_book dir (with_written (length xs + length ys) (book dir t.state)) t.state)
+      sent-counts xs ys m =
+          let to : Spot = record { side = side; at = 1; way = Down } in
+          let t = delivered cells to m s in
+          written-counts dir (xs ++ ys) s t.state t.gone (delivered-books cells to m s) ∙ ap (λ k. total (with_book dir (with_written k (book dir t.state)) t.state)) (length-append xs ys)
+
+      at : (c b : Option (List ℕ)) → let t = put_at cells side prio c b s in count_by (p dir) (cells_written cells dir (book dir s).written (part c ++ part b)) + weight_made p t.gone + total s ≡ total t.state
+      at None None = omega arith
+      at None (Some ys) = sent-counts [] ys (message_put cells side prio None (Some ys) s)
+      at (Some xs) b = sent-counts xs (part b) (message_put cells side prio (Some xs) b s)
+
+  still-counts : (caller : Caller) (asked : Request) (answer : Reply) (s : State C) → delivers asked ≡ false → weight_made p (gone cells s (Called caller asked answer)) + total s ≡ total (called cells caller asked s).state
+  still-counts caller asked answer s still =
+      let told = gone cells s (Called caller asked answer) in
+      let t = (called cells caller asked s).state in
+      books-count s t told (none-booked cells s t told (still-same cells caller asked s still) (still-none cells caller asked answer s still))
+
+  -- a call
+  call-counts : (caller : Caller) (asked : Request) (answer : Reply) (s : State C) → Counts caller asked answer s
+  call-counts caller (Write bytes) answer s = write-counts caller bytes answer s
+  call-counts caller (Put prio control body) answer s = put-counts caller prio control body answer s
+  call-counts caller OpenMaster answer s = omega (arith, still-counts caller OpenMaster answer s refl)
+  call-counts caller Unlock answer s = omega (arith, still-counts caller Unlock answer s refl)
+  call-counts caller OpenSlave answer s = omega (arith, still-counts caller OpenSlave answer s refl)
+  call-counts caller Shut answer s = omega (arith, still-counts caller Shut answer s refl)
+  call-counts caller (Push name) answer s = omega (arith, still-counts caller (Push name) answer s refl)
+  call-counts caller Pop answer s = omega (arith, still-counts caller Pop answer s refl)
+  call-counts caller Look answer s = omega (arith, still-counts caller Look answer s refl)
+  call-counts caller (Flush what band) answer s = omega (arith, books-count s (flushed_on cells band caller.side what s).state (flushed_on cells band caller.side what s).gone (flush-books cells caller.side what band s))
+  call-counts caller (Read n) answer s = omega (arith, still-counts caller (Read n) answer s refl)
+  call-counts caller (Get wanted cmax dmax) answer s = omega (arith, still-counts caller (Get wanted cmax dmax) answer s refl)
+  call-counts caller (Mode mode) answer s = omega (arith, still-counts caller (Mode mode) answer s refl)
+  call-counts caller Nread answer s = omega (arith, still-counts caller Nread answer s refl)
+  call-counts caller (Ioctl command body) answer s = omega (arith, books-count s (called cells caller (Ioctl command body) s).state (ioctl_sent cells caller.side command body s).gone (ioctl-books cells caller.side command body s))
+  call-counts caller (IoctlResult number) answer s = omega (arith, still-counts caller (IoctlResult number) answer s refl)
+  call-counts caller Signals answer s = omega (arith, still-counts caller Signals answer s refl)
+
+  -- a step
+  pub step-counts : (s : State C) (entry : PlainEntry) → count_came cells p s entry + weight_made p (gone cells s entry) + total s ≡ total (after cells s entry)
+  step-counts s (Called caller asked answer) = call-counts caller asked answer s
+  step-counts s (Turned name turn) = omega (arith, books-count s (turned cells name turn s).state (turned cells name turn s).gone (turn-books cells name turn s))
+
+both-true : (a b : Bool) → (a && b) ≡ true → (a ≡ true) × (b ≡ true)
+both-true true true is = (refl, refl)
+both-true true false is = absurd (cc)
+both-true false b is = absurd (cc)
+
+has-room : (b : Book) → books.has_room b ≡ true → (b.written < BOOK_MAX) × (b.made < BOOK_MAX)
+has-room b room =
+    let parts = both-true (nat_lt b.written BOOK_MAX) (nat_lt b.made BOOK_MAX) room in
+    (let first = parts.0 in grind (arith, nat_tests), let second = parts.1 in grind (arith, nat_tests))
+
+-- a write is of few bytes
+abbrev pub WritesFew : Request → Type 0
+WritesFew (Write bytes) = length bytes < 2 ^ 62
+WritesFew asked = Unit {0}
+
+-- what is asked of so many blocks: each has 256 bytes at most
+pub written-by-blocks : (asked : Request) (n : ℕ) → n ≤ 65536 → blocks_asked asked ≤ n → WritesFew asked
+unfolding chunk_count
+written-by-blocks (Write bytes) n few enough = omega (arith, few, enough)
+written-by-blocks OpenMaster n few enough = tt
+written-by-blocks Unlock n few enough = tt
+written-by-blocks OpenSlave n few enough = tt
+written-by-blocks Shut n few enough = tt
+written-by-blocks (Push name) n few enough = tt
+written-by-blocks Pop n few enough = tt
+written-by-blocks Look n few enough = tt
+written-by-blocks (Flush what band) n few enough = tt
+written-by-blocks (Read most) n few enough = tt
+written-by-blocks (Put prio control body) n few enough = tt
+written-by-blocks (Get wanted cmax dmax) n few enough = tt
+written-by-blocks (Mode mode) n few enough = tt
+written-by-blocks Nread n few enough = tt
+written-by-blocks (Ioctl command body) n few enough = tt
+written-by-blocks (IoctlResult number) n few enough = tt
+written-by-blocks Signals n few enough = tt
+
+-- a write and a putmsg that aren't refused find room in the books
+ranged : (goes : Bool) (first : Option Refusal) (range : Bool) (rest : Option Refusal) → or_else (or_else (unless goes Enxio) (or_else first (unless range Erange))) rest ≡ None → range ≡ true
+ranged true None true rest allowed = refl
+ranged true None false rest allowed = absurd (cc)
+ranged true (Some r) range rest allowed = absurd (cc)
+ranged false first range rest allowed = absurd (cc)
+
+pub parts-few : (prio : Prio) (control body : Option (List ℕ)) → put_refusal prio control body ≡ None → length (part control) + length (part body) < 2 ^ 62
+parts-few prio control body none = at (is_no_prio prio control) (is_too_long control body) refl none
+  where
+    few : (a b : Bool) → (a || b) ≡ false → (a ≡ false) × (b ≡ false)
+    few false false is = (refl, refl)
+    few true b is = absurd (cc)
+    few false true is = absurd (cc)
+
+    at : (wrong long : Bool) → is_too_long control body ≡ long → cond wrong (Some Einval) (cond long (Some Erange) None) ≡ None → length (part control) + length (part body) < 2 ^ 62
+    at true long is none = absurd (cc)
+    at false true is none = absurd (cc)
+    at false false is none =
+        let parts = few (nat_lt CONTROL_MAX (length (part control))) (nat_lt DATA_MAX (length (part body))) is in
+        let first = parts.0 in
+        let second = parts.1 in
+        let one : length (part control) ≤ CONTROL_MAX = grind (arith, nat_tests) in
+        let two : length (part body) ≤ DATA_MAX = grind (arith, nat_tests) in
+        omega (arith, one, two)
+
+-- where an ioctl isn't refused, more may be booked
+ioctl-ranged : (goes may range : Bool) (rest : Option Refusal) → or_else (or_else (unless goes Enxio) (unless (may && range) Erange)) rest ≡ None → range ≡ true
+ioctl-ranged true true true rest allowed = refl
+ioctl-ranged true true false rest allowed = absurd (cc)
+ioctl-ranged true false range rest allowed = absurd (cc)
+ioctl-ranged false may range rest allowed = absurd (cc)
+
+put-allowed : (goes : Bool) (first : Option Refusal) (range : Bool) (rest : Option Refusal) → or_else (or_else (unless goes Enxio) (or_else first (unless range Erange))) rest ≡ None → first ≡ None
+put-allowed true None range rest allowed = refl
+put-allowed true (Some r) range rest allowed = absurd (cc)
+put-allowed false first range rest allowed = absurd (cc)
+
+module _ {C : Type 0} where
+  pub range-low : (dir : Dir) (s : State C) → in_range s ≡ true → ((book dir s).written < BOOK_MAX) × ((book dir s).made < BOOK_MAX)
+  range-low MasterToSlave s room = has-room s.from_master (both-true (books.has_room s.from_master) (books.has_room s.from_slave) room).0
+  range-low SlaveToMaster s room = has-room s.from_slave (both-true (books.has_room s.from_master) (books.has_room s.from_slave) room).1
+
+  -- a turn books nothing as written, and where it makes few bytes
+  pub turn-few : (cells : Cells C) (s t : State C) (told : List (Fate C)) → in_range s ≡ true → BooksMade cells s told t → ((dir : Dir) → (book dir t).made < 2 ^ 63) → FewBooked t
+  turn-few cells s t told room books made dir = let low = range-low dir s room in let less = made dir in omega (arith, low.0, books.written dir, less)
+
+  -- where no more is made than a book may hold
+  abbrev MadeFew : State C → Type 0
+  MadeFew t = (dir : Dir) → (book dir t).made < 2 ^ 63
+
+  same-few : (s t : State C) → SameBooks s t → FewBooked s → FewBooked t
+  same-few s t same few dir = subst (λ b. b.written + b.made < 2 ^ 64) (sym (books-are s t same dir)) (few dir)
+
+  written-few : (cells : Cells C) (dir : Dir) (n : ℕ) (s t : State C) (told : List (Fate C)) → in_range s ≡ true → n < 2 ^ 62 → BooksMade cells s told t → (let u = with_book dir (with_written n (book dir t)) t in MadeFew u → FewBooked u)
+  written-few cells MasterToSlave n s t told room less books made MasterToSlave = let low = range-low MasterToSlave s room in let same = books.written MasterToSlave in let most = made MasterToSlave in omega (arith, low.0, same, most, less)
+  written-few cells MasterToSlave n s t told room less books made SlaveToMaster = let low = range-low SlaveToMaster s room in let same = books.written SlaveToMaster in let most = made SlaveToMaster in omega (arith, low.0, same, most)
+  written-few cells SlaveToMaster n s t told room less books made MasterToSlave = let low = range-low MasterToSlave s room in let same = books.written MasterToSlave in let most = made MasterToSlave in omega (arith, low.0, same, most)
+  written-few cells SlaveToMaster n s t told room less books made SlaveToMaster = let low = range-low SlaveToMaster s room in let same = books.written SlaveToMaster in let most = made SlaveToMaster in omega (arith, low.0, same, most, less)
+
+  pub call-few : (cells : Cells C) (caller : Caller) (asked : Request) (s : State C) → or_else (refused_at_once s caller asked) (refused_by_state s caller asked) ≡ None → WritesFew asked → FewBooked s
+      → (in_range s ≡ true → MadeFew (called cells caller asked s).state) → FewBooked (called cells caller asked s).state
+  call-few cells caller (Write bytes) s allowed less few made =
+      let dir = direction_from caller.side in
+      let xs = cells_written cells dir (book dir s).written bytes in
+      let t = write_sent cells caller.side bytes s in
+      let range = ranged (goes_down caller.side s) None (in_range s) _ allowed in
+      written-few cells dir t.taken s t.state t.gone range
+      (omega (arith, sent-few cells caller.side xs s, written-long cells dir (book dir s).written bytes, less)) (chunks-book cells caller.side (chunks_of (chunk_count (length xs)) xs) s) (made range)
+  call-few cells caller (Put prio control body) s allowed less few made =
+      let range = ranged (goes_down caller.side s) (put_refusal prio control body) (in_range s) _ allowed in
+      at control body range (parts-few prio control body (put-allowed (goes_down caller.side s) (put_refusal prio control body) (in_range s) _ allowed)) (made range)
+    where
+      sent : (n : ℕ) (m : Message C) → in_range s ≡ true → n < 2 ^ 62 → (let t = delivered cells (record { side = caller.side; at = 1; way = Down }) m s in
+          let u = with_book (direction_from caller.side) (with_written n (book (direction_from caller.side) t.state)) t.state in MadeFew u → FewBooked u)
+      sent n m room less made = written-few cells (direction_from caller.side) n s _ _ room less (delivered-books cells (record { side = caller.side; at = 1; way = Down }) m s) made
+
+      at : (c b : Option (List ℕ)) → in_range s ≡ true → length (part c) + length (part b) < 2 ^ 62 → MadeFew (put_at cells caller.side prio c b s).state → FewBooked (put_at cells caller.side prio c b s).state
+      at None None room less made = few
+      at None (Some ys) room less made = sent (0 + length ys) (message_put cells caller.side prio None (Some ys) s) room less made
+      at (Some xs) b room less made = sent (length xs + length (part b)) (message_put cells caller.side prio (Some xs) b s) room less made
+  call-few cells caller (Flush what band) s allowed less few made =
+      let range = ranged (goes_down caller.side s) (unless (is_a_band band) Einval) (in_range s) _ allowed in
+      turn-few cells s (flushed_on cells band caller.side what s).state (flushed_on cells band caller.side what s).gone range (flush-books cells caller.side what band s) (made range)
+  call-few cells caller (Ioctl command body) s allowed less few made =
+      let range = ioctl-ranged (goes_down caller.side s) (may_ask body s) (in_range s) _ allowed in
+      turn-few cells s (called cells caller (Ioctl command body) s).state (ioctl_sent cells caller.side command body s).gone range (ioctl-books cells caller.side command body s) (made range)
+  call-few cells caller OpenMaster s allowed less few made = same-few s _ (still-same cells caller OpenMaster s refl) few
+  call-few cells caller Unlock s allowed less few made = same-few s _ (still-same cells caller Unlock s refl) few
+  call-few cells caller OpenSlave s allowed less few made = same-few s _ (still-same cells caller OpenSlave s refl) few
+  call-few cells caller Shut s allowed less few made = same-few s _ (still-same cells caller Shut s refl) few
+  call-few cells caller (Push name) s allowed less few made = same-few s _ (still-same cells caller (Push name) s refl) few
+  call-few cells caller Pop s allowed less few made = same-few s _ (still-same cells caller Pop s refl) few
+  call-few cells caller Look s allowed less few made = same-few s _ (still-same cells caller Look s refl) few
+  call-few cells caller (Read n) s allowed less few made = same-few s _ (still-same cells caller (Read n) s refl) few
+  call-few cells caller (Get wanted cmax dmax) s allowed less few made = same-few s _ (still-same cells caller (Get wanted cmax dmax) s refl) few
+  call-few cells caller (Mode mode) s allowed less few made = same-few s _ (still-same cells caller (Mode mode) s refl) few
+  call-few cells caller Nread s allowed less few made = same-few s _ (still-same cells caller Nread s refl) few
+  call-few cells caller (IoctlResult number) s allowed less few made = same-few s _ (still-same cells caller (IoctlResult number) s refl) few
+  call-few cells caller Signals s allowed less few made = same-few s _ (still-same cells caller Signals s refl) few

@@ -1,0 +1,92 @@
+-- What is booked of cells that were made, and what their counts tell, which go modulo 2^64.
+use Rattle.std.proofs.Common.{ℕ, ◌≡◌, ◌<◌, ◌+◌, ◌-◌, List, [], ◌∷◌, length, refl, ap, ◌∙◌, arith}
+use Rattle.std.specs.Prelude.{◌%◌, ◌^◌}
+use Rattle.strm_types.specs.declared.names.Dir.{Dir}
+use Rattle.strm_types.specs.declared.names.Dir.TheVariants.{MasterToSlave, SlaveToMaster}
+use Rattle.strm_types.specs.declared.names.QueueName.{QueueName}
+use Rattle.strm_types.specs.declared.names.Side.{Side}
+use Rattle.strm_types.specs.declared.names.Side.TheVariants.{Master, Slave}
+use Rattle.strm_types.specs.declared.rules.Fates.{Fates}
+use Rattle.strm_types.specs.Books.{with_made}
+use Rattle.strm_types.specs.Deliver.{Fate, Goes, Comes, counted_with, tallied}
+use Rattle.strm_types.specs.Input.{made_of}
+use Rattle.strm_laws.specs.Puts.{booked}
+use Rattle.strm_laws.specs.State.{State, Stream, book, with_stream}
+
+-- how many cells were made in a direction, of what is told
+abbrev pub made_in : Dir → List (Fate ℕ) → ℕ
+made_in dir [] = 0
+made_in dir (Goes other rule cells ∷ told) = made_in dir told
+made_in MasterToSlave (Comes MasterToSlave cells ∷ told) = length cells + made_in MasterToSlave told
+made_in MasterToSlave (Comes SlaveToMaster cells ∷ told) = made_in MasterToSlave told
+made_in SlaveToMaster (Comes MasterToSlave cells ∷ told) = made_in SlaveToMaster told
+made_in SlaveToMaster (Comes SlaveToMaster cells ∷ told) = length cells + made_in SlaveToMaster told
+
+pub made-within : (told : List (Fate ℕ)) → made_in MasterToSlave told + made_in SlaveToMaster told ≡ made_of told
+made-within [] = refl
+made-within (Goes dir rule cells ∷ told) = made-within told
+made-within (Comes MasterToSlave cells ∷ told) = let rest = made-within told in omega arith
+made-within (Comes SlaveToMaster cells ∷ told) = let rest = made-within told in omega arith
+
+-- books with so many more made in both directions
+abbrev pub both_made : ℕ → ℕ → State ℕ → State ℕ
+both_made m n s = record s { from_master = with_made m s.from_master; from_slave = with_made n s.from_slave }
+
+same-made : (m n m' n' : ℕ) (s : State ℕ) → m ≡ m' → n ≡ n' → both_made m n s ≡ both_made m' n' s
+same-made m n m' n' s e f = ap (λ k. both_made k n s) e ∙ ap (λ k. both_made m' k s) f
+
+first-more : (a m n : ℕ) (s : State ℕ) → both_made m n (record s { from_master = with_made a s.from_master }) ≡ both_made (a + m) n s
+first-more a m n s = ap (λ (k : ℕ). record s { from_master = record s.from_master { made = k }; from_slave = with_made n s.from_slave }) (let e : s.from_master.made + a + m ≡ s.from_master.made + (a + m) = omega arith in e)
+
+second-more : (a m n : ℕ) (s : State ℕ) → both_made m n (record s { from_slave = with_made a s.from_slave }) ≡ both_made m (a + n) s
+second-more a m n s = ap (λ (k : ℕ). record s { from_master = with_made m s.from_master; from_slave = record s.from_slave { made = k } }) (let e : s.from_slave.made + a + n ≡ s.from_slave.made + (a + n) = omega arith in e)
+
+none-made : (s : State ℕ) → s ≡ both_made 0 0 s
+none-made s =
+    ap (λ (k : ℕ). record s { from_master = record s.from_master { made = k } }) (let e : s.from_master.made ≡ s.from_master.made + 0 = omega arith in e)
+    ∙ ap (λ (k : ℕ). record s { from_master = with_made 0 s.from_master; from_slave = record s.from_slave { made = k } }) (let e : s.from_slave.made ≡ s.from_slave.made + 0 = omega arith in e)
+
+pub booked-is : (told : List (Fate ℕ)) (s : State ℕ) → booked told s ≡ both_made (made_in MasterToSlave told) (made_in SlaveToMaster told) s
+booked-is [] s = none-made s
+booked-is (Goes dir rule cells ∷ told) s = booked-is told s
+booked-is (Comes MasterToSlave cells ∷ told) s = booked-is told (record s { from_master = with_made (length cells) s.from_master }) ∙ first-more (length cells) _ _ s
+booked-is (Comes SlaveToMaster cells ∷ told) s = booked-is told (record s { from_slave = with_made (length cells) s.from_slave }) ∙ second-more (length cells) _ _ s
+
+-- the same of a stream of one side that changed, with other queues enabled
+pub booked-on : (side : Side) (t : Stream ℕ) (names : List QueueName) (told : List (Fate ℕ)) (s : State ℕ) → booked told (record (with_stream side t s) { enabled = names })
+    ≡ record (with_stream side t s) { enabled = names; from_master = with_made (made_in MasterToSlave told) s.from_master; from_slave = with_made (made_in SlaveToMaster told) s.from_slave }
+booked-on Master t names told s = booked-is told (record (with_stream Master t s) { enabled = names })
+booked-on Slave t names told s = booked-is told (record (with_stream Slave t s) { enabled = names })
+
+pub book-made : (dir : Dir) (told : List (Fate ℕ)) (s : State ℕ) → (book dir (booked told s)).made ≡ (book dir s).made + made_in dir told
+book-made MasterToSlave told s = ap (λ (v : State ℕ). v.from_master.made) (booked-is told s)
+book-made SlaveToMaster told s = ap (λ (v : State ℕ). v.from_slave.made) (booked-is told s)
+
+-- so the counts tell, modulo 2^64
+wraps-on : (a b n : ℕ) → ((a + b) % 2 ^ 64 + n) % 2 ^ 64 ≡ (a + (b + n)) % 2 ^ 64
+wraps-on a b n = omega arith
+
+stays-low : (a : ℕ) → a < 2 ^ 64 → a ≡ (a + 0) % 2 ^ 64
+stays-low a low = omega arith
+
+pub master-told : (told : List (Fate ℕ)) (f : Fates) → f.made_from_master < 2 ^ 64 → (tallied told f).made_from_master ≡ (f.made_from_master + made_in MasterToSlave told) % 2 ^ 64
+master-told [] f low = stays-low f.made_from_master low
+master-told (Goes MasterToSlave rule cells ∷ told) f low = master-told told (counted_with (Goes MasterToSlave rule cells) f) low
+master-told (Goes SlaveToMaster rule cells ∷ told) f low = master-told told (counted_with (Goes SlaveToMaster rule cells) f) low
+master-told (Comes MasterToSlave cells ∷ told) f low =
+    let g = counted_with (Comes MasterToSlave cells) f in
+    master-told told g (let e : (f.made_from_master + length cells) % 2 ^ 64 < 2 ^ 64 = omega arith in e) ∙ wraps-on f.made_from_master (length cells) (made_in MasterToSlave told)
+master-told (Comes SlaveToMaster cells ∷ told) f low = master-told told (counted_with (Comes SlaveToMaster cells) f) low
+
+pub slave-told : (told : List (Fate ℕ)) (f : Fates) → f.made_from_slave < 2 ^ 64 → (tallied told f).made_from_slave ≡ (f.made_from_slave + made_in SlaveToMaster told) % 2 ^ 64
+slave-told [] f low = stays-low f.made_from_slave low
+slave-told (Goes MasterToSlave rule cells ∷ told) f low = slave-told told (counted_with (Goes MasterToSlave rule cells) f) low
+slave-told (Goes SlaveToMaster rule cells ∷ told) f low = slave-told told (counted_with (Goes SlaveToMaster rule cells) f) low
+slave-told (Comes MasterToSlave cells ∷ told) f low = slave-told told (counted_with (Comes MasterToSlave cells) f) low
+slave-told (Comes SlaveToMaster cells ∷ told) f low =
+    let g = counted_with (Comes SlaveToMaster cells) f in
+    slave-told told g (let e : (f.made_from_slave + length cells) % 2 ^ 64 < 2 ^ 64 = omega arith in e) ∙ wraps-on f.made_from_slave (length cells) (made_in SlaveToMaster told)
+
+-- how many lie between two counts
+pub between-counts : (a n : ℕ) → a < 2 ^ 64 → n < 2 ^ 64 → ((a + n) % 2 ^ 64 + (2 ^ 64 - a)) % 2 ^ 64 ≡ n
+between-counts a n low few = omega arith

@@ -1,0 +1,46 @@
+-- Deliveries in a pair, and with them flushes of a stream, lose no cell, and leave a side that isn't open nothing to be read.
+use Rattle.std.proofs.Common.{◌≡◌, ◌≤◌, ◌+◌, Bool, arith}
+use Rattle.std.specs.Prelude.{Option}
+use Rattle.strm_types.specs.declared.events.FlushQueues.{FlushQueues}
+use Rattle.strm_types.specs.declared.kinds.Band.{Band}
+use Rattle.strm_types.specs.declared.limits.TheConstants.{HOPS}
+use Rattle.strm_types.specs.declared.names.Side.{Side}
+use Rattle.strm_types.specs.declared.names.Way.TheVariants.{Down}
+use Rattle.strm_types.specs.declared.spots.Spot.{Spot}
+use Rattle.strm_types.specs.declared.names.Dir.{Dir}
+use Rattle.strm_types.specs.Cells.{Cells}
+use Rattle.strm_types.specs.Names.{direction_from}
+use Rattle.strm_types.specs.Flushing.{asked_of, flush_bytes, flush_message}
+use Rattle.strm_laws.specs.Kept.{NothingUnread, state_weight}
+use Rattle.strm_types.specs.Message.{Message, weight_of}
+use Rattle.strm_laws.specs.Places.{weight_gone, weight_made, direction_to}
+use Rattle.strm_laws.specs.Puts.{SameButMade, delivered, flushed_on, put_in}
+use Rattle.strm_types.specs.Far.{far}
+use Rattle.strm_laws.specs.State.{State}
+use Rattle.strm_laws.proofs.DeliveryKeeps.{carried-keeps}
+use Rattle.strm_laws.proofs.PutParts.{delivered-holds}
+use Rattle.strm_laws.proofs.PutsFall.{far-within, puts-fall}
+use Rattle.strm_laws.proofs.PutsKeep.{puts-keep, same-itself, same-stays, unread-stays}
+use Rattle.strm_laws.proofs.PutWeights.{weight-flush}
+
+module _ {C : Type 0} (cells : Cells C) where
+  pub delivered-keeps : (p : Dir → C → Bool) (to : Spot) (m : Message C) (s : State C) → to.at ≤ 4 →
+      state_weight p (delivered cells to m s).state + weight_gone p (delivered cells to m s).gone
+      ≡ state_weight p s + (weight_of (p (direction_to to)) m + weight_made p (delivered cells to m s).gone)
+  delivered-keeps p to m s low = carried-keeps p (state_weight p) far (put_in cells) (puts-keep p cells) (puts-fall cells) HOPS (record { to = to; message = m }) (far-within to m low) s
+
+  pub delivered-unread : (to : Spot) (m : Message C) (s : State C) → NothingUnread s → NothingUnread (delivered cells to m s).state
+  delivered-unread to m s unread = delivered-holds NothingUnread unread-stays cells to m s unread
+
+  pub delivered-same : (to : Spot) (m : Message C) (s : State C) → SameButMade s (delivered cells to m s).state
+  delivered-same to m s = delivered-holds (SameButMade s) (same-stays s) cells to m s (same-itself s)
+
+  pub flushed_on-keeps : (p : Dir → C → Bool) (band : Option Band) (side : Side) (what : FlushQueues) (s : State C) →
+      state_weight p (flushed_on cells band side what s).state + weight_gone p (flushed_on cells band side what s).gone
+      ≡ state_weight p s + weight_made p (flushed_on cells band side what s).gone
+  flushed_on-keeps p band side what s =
+      let bytes = flush_bytes (asked_of what band) in
+      omega (arith, delivered-keeps p (record { side = side; at = 1; way = Down }) (flush_message bytes) s (omega arith), weight-flush (p (direction_from side)) bytes)
+
+  pub flushed_on-unread : (band : Option Band) (side : Side) (what : FlushQueues) (s : State C) → NothingUnread s → NothingUnread (flushed_on cells band side what s).state
+  flushed_on-unread band side what s unread = delivered-unread (record { side = side; at = 1; way = Down }) (flush_message (flush_bytes (asked_of what band))) s unread

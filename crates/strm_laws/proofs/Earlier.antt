@@ -1,0 +1,90 @@
+-- The nearest earlier queue is the same where the origins of cells are forgotten, and where no module stands it is the one by name.
+use Rattle.std.proofs.Common.{ℕ, suc, arith, ◌≡◌, ◌-◌, false, cond, List, [], ◌∷◌, length, map, take, drop, refl, ap, ◌∙◌}
+use Rattle.std.specs.Prelude.{min, nat_le, Option, None, Some}
+use Rattle.std.proofs.lemmas.Bool.Decides.{nat_tests}
+use Rattle.std.proofs.lemmas.List.{take-map, drop-map, length-map}
+use Rattle.strm_types.specs.declared.limits.TheConstants.{MODULES}
+use Rattle.strm_types.specs.declared.names.Side.{Side}
+use Rattle.strm_types.specs.declared.names.Side.TheVariants.{Master, Slave}
+use Rattle.strm_types.specs.declared.names.Way.{Way}
+use Rattle.strm_types.specs.declared.names.Way.TheVariants.{Up, Down}
+use Rattle.strm_laws.specs.Earlier.{NoModules, before_among, before_at, before_by, before_driver, before_head, modules_on, places_of}
+use Rattle.strm_types.specs.ModuleQueues.{first_place, has_queue, last_place, place_before, place_past}
+use Rattle.strm_types.specs.Names.{place_of}
+use Rattle.strm_laws.specs.Stacked.{Module, OfLdterm, OfPtem, OfPckt, map_module, module_name, module_queue}
+use Rattle.strm_laws.specs.State.{State, stream, map_state}
+
+module _ {C D : Type 0} (f : C → D) where
+  abbrev images : List (Module C) → List (Module D)
+  images ps = map (map_module f) ps
+
+  pub queue-forgets : (way : Way) (p : Module C) → has_queue module_queue way (map_module f p) ≡ has_queue module_queue way p
+  queue-forgets way (OfLdterm l) = refl
+  queue-forgets way (OfPtem p) = refl
+  queue-forgets way (OfPckt p) = refl
+
+  pub name-forgets : (p : Module C) → module_name (map_module f p) ≡ module_name p
+  name-forgets (OfLdterm l) = refl
+  name-forgets (OfPtem p) = refl
+  name-forgets (OfPckt p) = refl
+
+  first-forgets : (way : Way) (place : ℕ) (ps : List (Module C)) → first_place module_queue way place (images ps) ≡ first_place module_queue way place ps
+  first-forgets way place [] = refl
+  first-forgets way place (p ∷ ps) =
+      ap (λ b. cond b (Some place) (first_place module_queue way (suc place) (images ps))) (queue-forgets way p)
+      ∙ ap (λ o. cond (has_queue module_queue way p) (Some place) o) (first-forgets way (suc place) ps)
+
+  last-forgets : (way : Way) (place : ℕ) (last : Option ℕ) (ps : List (Module C)) → last_place module_queue way place last (images ps) ≡ last_place module_queue way place last ps
+  last-forgets way place last [] = refl
+  last-forgets way place last (p ∷ ps) =
+      ap (λ b. last_place module_queue way (suc place) (cond b (Some place) last) (images ps)) (queue-forgets way p)
+      ∙ last-forgets way (suc place) (cond (has_queue module_queue way p) (Some place) last) ps
+
+  place-forgets : (way : Way) (at : ℕ) (ps : List (Module C)) → place_before module_queue way at (images ps) ≡ place_before module_queue way at ps
+  place-forgets Down at ps = ap (λ qs. last_place module_queue Down 1 None qs) (take-map (map_module f) (at - 1) ps) ∙ last-forgets Down 1 None (take (at - 1) ps)
+  place-forgets Up at ps = ap (λ qs. first_place module_queue Up (suc at) qs) (drop-map (map_module f) at ps) ∙ first-forgets Up (suc at) (drop at ps)
+
+  pub place_past-forgets : (way : Way) (at : ℕ) (ps : List (Module C)) → place_past module_queue way at (images ps) ≡ place_past module_queue way at ps
+  place_past-forgets Down at ps = ap (λ qs. first_place module_queue Down (suc at) qs) (drop-map (map_module f) at ps) ∙ first-forgets Down (suc at) (drop at ps)
+  place_past-forgets Up at ps = ap (λ qs. last_place module_queue Up 1 None qs) (take-map (map_module f) (at - 1) ps) ∙ last-forgets Up 1 None (take (at - 1) ps)
+
+  pub places-forget : (ps : List (Module C)) → places_of (images ps) ≡ places_of ps
+  places-forget [] = refl
+  places-forget (p ∷ ps) = ap (λ name. place_of name ∷ places_of (images ps)) (name-forgets p) ∙ ap (λ qs. place_of (module_name p) ∷ qs) (places-forget ps)
+
+  before_among-forgets : (side : Side) (way : Way) (at : ℕ) (ps : List (Module C)) → before_among side way at (images ps) ≡ before_among side way at ps
+  before_among-forgets side way at ps =
+      ap (λ qs. before_by side way at qs (place_before module_queue way at (images ps))) (places-forget ps)
+      ∙ ap (λ o. before_by side way at (places_of ps) o) (place-forgets way at ps)
+
+  pub before_at-forgets : (side : Side) (way : Way) (at : ℕ) (s : State C) → before_at side way at (map_state f s) ≡ before_at side way at s
+  before_at-forgets Master way at s = before_among-forgets Master way at s.master.modules
+  before_at-forgets Slave way at s = before_among-forgets Slave way at s.slave.modules
+
+  pub modules_on-forgets : (side : Side) (s : State C) → modules_on side (map_state f s) ≡ modules_on side s
+  modules_on-forgets Master s = ap (λ n. min MODULES n) (length-map s.master.modules (map_module f))
+  modules_on-forgets Slave s = ap (λ n. min MODULES n) (length-map s.slave.modules (map_module f))
+
+  pub before_head-forgets : (side : Side) (s : State C) → before_head side (map_state f s) ≡ before_head side s
+  before_head-forgets side s = before_at-forgets side Up 0 s
+
+  pub before_driver-forgets : (side : Side) (s : State C) → before_driver side (map_state f s) ≡ before_driver side s
+  before_driver-forgets side s =
+      ap (λ n. before_at side Down (suc n) (map_state f s)) (modules_on-forgets side s)
+      ∙ before_at-forgets side Down (suc (modules_on side s)) s
+
+-- where no module stands on a pair
+module _ {C : Type 0} where
+  pub none-among : (side : Side) (s : State C) → NoModules s → (stream side s).modules ≡ []
+  none-among Master s none = none.master
+  none-among Slave s none = none.slave
+
+  pub none-on : (side : Side) (s : State C) → NoModules s → modules_on side s ≡ 0
+  none-on side s none = ap (λ (ps : List (Module C)). min MODULES (length ps)) (none-among side s none)
+
+-- no module's place is behind that of three
+few-among : (count : ℕ) → nat_le (suc MODULES) (min MODULES count) ≡ false
+few-among count = grind (arith, nat_tests)
+
+pub few-behind : {C : Type 0} (side : Side) (s : State C) → nat_le (suc MODULES) (modules_on side s) ≡ false
+few-behind side s = few-among (length (stream side s).modules)

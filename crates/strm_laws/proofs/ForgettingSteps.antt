@@ -1,0 +1,232 @@
+-- Forgetting the origins of cells commutes with whole calls, whole turns and the replay of a journal.
+use Rattle.std.proofs.Common.{ℕ, ◌≡◌, Bool, List, [], ◌∷◌, length, map, refl, sym, ap, ◌∙◌}
+use Rattle.std.specs.Prelude.{min, not, Option, None, Some, option_map}
+use Rattle.std.proofs.lemmas.List.{length-map}
+use Rattle.strm_types.specs.declared.limits.TheConstants.{READ_MAX}
+use Rattle.strm_types.specs.declared.answers.Answer.TheVariants.{Done, Count, Bytes, Msg, Sizes}
+use Rattle.strm_types.specs.declared.answers.Turn.{Turn}
+use Rattle.strm_types.specs.declared.entries.Entry.TheVariants.{Called, Turned}
+use Rattle.strm_types.specs.declared.events.Caller.{Caller}
+use Rattle.strm_types.specs.declared.events.Event.TheVariants.{OpenMaster, Unlock, OpenSlave, Shut, Push, Pop, Look, Flush, Write, Read, Put, Get, Mode, Nread, Ioctl, IoctlResult}
+use Rattle.strm_types.specs.declared.events.Event.TheVariants as events
+use Rattle.strm_types.specs.declared.modes.Mode as modes
+use Rattle.strm_types.specs.declared.modes.Mode.TheVariants as chosen
+use Rattle.strm_types.specs.declared.modes.Prio.{Prio}
+use Rattle.strm_types.specs.declared.modes.Wanted.{Wanted}
+use Rattle.strm_types.specs.declared.names.ModuleName.{ModuleName}
+use Rattle.strm_types.specs.declared.names.Side.{Side}
+use Rattle.strm_types.specs.declared.names.Side.TheVariants.{Master, Slave}
+use Rattle.strm_types.specs.declared.names.Openness.TheVariants.{Open}
+use Rattle.strm_types.specs.declared.names.Place.{Place}
+use Rattle.strm_types.specs.declared.names.Place.TheVariants as places
+use Rattle.strm_types.specs.declared.names.QueueName.{QueueName}
+use Rattle.strm_types.specs.Cells.{Cells, AreCells, plain, cells_written, bytes_of}
+use Rattle.strm_laws.specs.Earlier.{before_head}
+use Rattle.strm_types.specs.Names.{driver_of, direction_from, without, enable_if, enable_some}
+use Rattle.strm_types.specs.Gets.{Got, prio_got, first_data, head_get, map_got}
+use Rattle.strm_types.specs.GetQueues.{get_queue, get_lets_go}
+use Rattle.strm_types.specs.Message.{Message, part, map_message}
+use Rattle.strm_types.specs.Queue.{Queue, map_messages, map_queue}
+use Rattle.strm_types.specs.Heads.{Head, new_head, map_head}
+use Rattle.strm_laws.specs.State.{State, stream, with_stream, with_head_queue, book, with_book, map_state}
+use Rattle.strm_types.specs.Books.{with_written}
+use Rattle.strm_laws.specs.Writes.{Wrote, cells_sent, map_wrote}
+use Rattle.strm_types.specs.Reads.{Drawn, head_draw, read_queue, read_lets_go}
+use Rattle.strm_laws.specs.TurnOutcomes.{TurnOutcome, map_turn_outcome}
+use Rattle.strm_laws.specs.Turns.{turned_at, turned}
+use Rattle.strm_laws.specs.Calls.{Outcome, map_outcome, done, read_at, wrote, get_at, mode_set, name_told, sizes_at, ioctl_sent, ioctl_told, called}
+use Rattle.strm_types.specs.Events.{Request, Reply}
+use Rattle.strm_types.specs.Journal.{PlainEntry}
+use Rattle.strm_laws.specs.Step.{after, replay}
+use Rattle.strm_types.specs.Deliver.{Carried}
+use Rattle.strm_laws.proofs.Earlier.{before_head-forgets}
+use Rattle.strm_laws.proofs.Forgetting.{none-forgets}
+use Rattle.strm_laws.proofs.ClosesForget.{closed_at-forgets}
+use Rattle.strm_laws.proofs.WriteSteps.{cells_sent-forgets}
+use Rattle.strm_types.proofs.PlainCells.{written-plain, bytes-plain, written-bytes}
+use Rattle.strm_laws.proofs.IoctlCalls.{ioctl_told-forgets, sent-forgets, signals-forget}
+use Rattle.strm_laws.proofs.ModuleTurnForgets.{module_turned-forgets}
+use Rattle.strm_laws.proofs.PushForgets.{pop-forgets, push-forgets, top-forgets}
+use Rattle.strm_laws.proofs.PutsForget.{flushed_on-forgets}
+use Rattle.strm_laws.proofs.GetKeeps.{get-forgets}
+use Rattle.strm_laws.proofs.GotQueues.{get_queue-forgets, get_lets_go-forgets}
+use Rattle.strm_laws.proofs.PutMessages.{put_at-forgets}
+use Rattle.strm_laws.proofs.ReadForgets.{body-forgets, head_draw-forgets, read_queue-forgets, read_lets_go-forgets}
+use Rattle.strm_laws.proofs.TurnForgets.{driver_turned-forgets}
+
+-- what a write makes of what was sent
+abbrev sent_on : {C : Type 0} → Side → Wrote C → Outcome C
+sent_on side t = let dir = direction_from side in record { answer = Count t.taken; state = with_book dir (with_written t.taken (book dir t.state)) t.state }
+
+-- what a read makes of what was taken, with this answer
+abbrev taken_with : {C : Type 0} → Side → State C → Reply → Queue C → Bool → Option QueueName → Outcome C
+taken_with side s answer q lets earlier = record {
+  answer = answer;
+  state = record (with_stream side (with_head_queue q (stream side s)) s) {
+    enabled = enable_some lets earlier s.enabled;
+  };
+}
+
+abbrev pub taken_from : {C : Type 0} → Side → State C → Reply → Queue C → Bool → Outcome C
+taken_from side s answer q lets = taken_with side s answer q lets (before_head side s)
+
+-- what a get answers
+abbrev msg_of : Prio → Option (List ℕ) → Option (List ℕ) → Bool → Bool → Reply
+msg_of prio control body more_control more_data = Msg prio control body more_control more_data
+
+abbrev got_answer : {C : Type 0} → Cells C → Got C → Reply
+got_answer cells g = msg_of (prio_got g) (option_map (bytes_of cells) g.control) (option_map (bytes_of cells) g.body) g.more_control g.more_data
+
+-- what is told of the messages at a head
+abbrev told_of : {C : Type 0} → State C → ℕ → ℕ → Outcome C
+told_of s first messages = record { answer = Sizes first messages; state = s }
+
+-- what a look answers
+abbrev name_answered : {C : Type 0} → Option ModuleName → State C → Outcome C
+name_answered name s = record { answer = name_told name; state = s }
+
+module _ {C D : Type 0} (f : C → D) where
+  -- modes that are set, and what is told of a head
+  mode-forgets : (side : Side) (mode : modes.Mode) (s : State C) → mode_set side mode (map_state f s) ≡ map_state f (mode_set side mode s)
+  mode-forgets Master (chosen.Read mode) s = refl
+  mode-forgets Master (chosen.Control mode) s = refl
+  mode-forgets Slave (chosen.Read mode) s = refl
+  mode-forgets Slave (chosen.Control mode) s = refl
+
+  first-forgets : (q : List (Message C)) → first_data (map_messages f q) ≡ first_data q
+  first-forgets [] = refl
+  first-forgets (m ∷ q) = ap length (body-forgets f m) ∙ length-map (part m.body) f
+
+  told-forgets : (q : List (Message C)) (t : State D) → told_of t (first_data (map_messages f q)) (length (map_messages f q)) ≡ told_of t (first_data q) (length q)
+  told-forgets q t = ap (λ n. told_of t n (length (map_messages f q))) (first-forgets q) ∙ ap (λ n. told_of t (first_data q) n) (length-map q (map_message f))
+
+  sizes-forgets : (side : Side) (s : State C) → sizes_at side (map_state f s) ≡ map_outcome f (sizes_at side s)
+  sizes-forgets Master s = told-forgets s.master.head.queue.messages (map_state f s)
+  sizes-forgets Slave s = told-forgets s.slave.head.queue.messages (map_state f s)
+
+  -- a write
+  sent_on-forgets : (side : Side) (t : Wrote C) → sent_on side (map_wrote f t) ≡ map_outcome f (sent_on side t)
+  sent_on-forgets Master t = refl
+  sent_on-forgets Slave t = refl
+
+  -- a read
+  taken_with-forgets : (side : Side) (s : State C) (answer : Reply) (q : Queue C) (lets : Bool) (earlier : Option QueueName)
+      → taken_with side (map_state f s) answer (map_queue f q) lets earlier ≡ map_outcome f (taken_with side s answer q lets earlier)
+  taken_with-forgets Master s answer q lets earlier = refl
+  taken_with-forgets Slave s answer q lets earlier = refl
+
+  taken_from-forgets : (side : Side) (s : State C) (answer : Reply) (q : Queue C) (lets : Bool) → taken_from side (map_state f s) answer (map_queue f q) lets ≡ map_outcome f (taken_from side s answer q lets)
+  taken_from-forgets side s answer q lets =
+      ap (λ e. taken_with side (map_state f s) answer (map_queue f q) lets e) (before_head-forgets f side s)
+      ∙ taken_with-forgets side s answer q lets (before_head side s)
+
+module _ {C : Type 0} (cells : Cells C) (are : AreCells cells) where
+  -- where origins are forgotten, what is written are the bytes
+  write-forgets : (side : Side) (bytes : List ℕ) (s : State C) → wrote plain side bytes (map_state cells.byte s) ≡ map_outcome cells.byte (wrote cells side bytes s)
+  write-forgets side bytes s =
+      let dir = direction_from side in
+      let n = (book dir s).written in
+      let base = map_state cells.byte s in
+      let written = cells_written cells dir n bytes in
+      ap (λ (xs : List ℕ). sent_on side (cells_sent plain side xs base)) (written-plain dir (book dir base).written bytes ∙ sym (written-bytes cells are dir n bytes))
+      ∙ ap (λ (t : Wrote ℕ). sent_on side t) (cells_sent-forgets cells are side written s)
+      ∙ sent_on-forgets cells.byte side (cells_sent cells side written s)
+
+  -- a read, which gives the bytes of its cells
+  read_at-forgets : (side : Side) (n : ℕ) (s : State C) → read_at plain side n (map_state cells.byte s) ≡ map_outcome cells.byte (read_at cells side n s)
+  read_at-forgets side n s = over side ∙ taken_from-forgets cells.byte side s (Bytes (bytes_of cells (head_draw h.read_mode h.control_mode most h.queue.messages).given)) (read_queue h.read_mode h.control_mode most h.queue) (read_lets_go h.read_mode h.control_mode most h.queue)
+    where
+      h : Head C
+      h = (stream side s).head
+
+      most : ℕ
+      most = min n READ_MAX
+
+      drawn-is : (k : ℕ) (g : Head C) → bytes_of plain (head_draw g.read_mode g.control_mode k (map_messages cells.byte g.queue.messages)).given ≡ bytes_of cells (head_draw g.read_mode g.control_mode k g.queue.messages).given
+      drawn-is k g = bytes-plain (head_draw g.read_mode g.control_mode k (map_messages cells.byte g.queue.messages)).given ∙ ap (λ (d : Drawn ℕ). d.given) (sym (head_draw-forgets cells.byte g.read_mode g.control_mode k g.queue.messages))
+
+      from-head : (side : Side) (k : ℕ) (g : Head C) → let image = map_head cells.byte g in
+          taken_from side (map_state cells.byte s) (Bytes (bytes_of plain (head_draw g.read_mode g.control_mode k image.queue.messages).given)) (read_queue g.read_mode g.control_mode k image.queue) (read_lets_go g.read_mode g.control_mode k image.queue)
+          ≡ taken_from side (map_state cells.byte s) (Bytes (bytes_of cells (head_draw g.read_mode g.control_mode k g.queue.messages).given)) (map_queue cells.byte (read_queue g.read_mode g.control_mode k g.queue)) (read_lets_go g.read_mode g.control_mode k g.queue)
+      from-head side k g =
+          let image = map_head cells.byte g in
+          ap (λ (xs : List ℕ). taken_from side (map_state cells.byte s) (Bytes xs) (read_queue g.read_mode g.control_mode k image.queue) (read_lets_go g.read_mode g.control_mode k image.queue)) (drawn-is k g)
+          ∙ ap (λ (q : Queue ℕ). taken_from side (map_state cells.byte s) (Bytes (bytes_of cells (head_draw g.read_mode g.control_mode k g.queue.messages).given)) q (read_lets_go g.read_mode g.control_mode k image.queue)) (read_queue-forgets cells.byte g.read_mode g.control_mode k g.queue)
+          ∙ ap (λ (go : Bool). taken_from side (map_state cells.byte s) (Bytes (bytes_of cells (head_draw g.read_mode g.control_mode k g.queue.messages).given)) (map_queue cells.byte (read_queue g.read_mode g.control_mode k g.queue)) go) (read_lets_go-forgets cells.byte g.read_mode g.control_mode k g.queue)
+
+      over : (side : Side) → let g = (stream side s).head in let k = min n READ_MAX in
+          read_at plain side n (map_state cells.byte s) ≡ taken_from side (map_state cells.byte s) (Bytes (bytes_of cells (head_draw g.read_mode g.control_mode k g.queue.messages).given)) (map_queue cells.byte (read_queue g.read_mode g.control_mode k g.queue)) (read_lets_go g.read_mode g.control_mode k g.queue)
+      over Master = from-head Master (min n READ_MAX) s.master.head
+      over Slave = from-head Slave (min n READ_MAX) s.slave.head
+
+  -- a get, which gives the bytes of its cells
+  bytes-forget : (o : Option (List C)) → option_map (bytes_of plain) (option_map (map cells.byte) o) ≡ option_map (bytes_of cells) o
+  bytes-forget None = refl
+  bytes-forget (Some xs) = ap Some (bytes-plain (map cells.byte xs))
+
+  answer-forgets : (g : Got C) → got_answer plain (map_got cells.byte g) ≡ got_answer cells g
+  answer-forgets g =
+      ap (λ o. msg_of (prio_got g) o (option_map (bytes_of plain) (option_map (map cells.byte) g.body)) g.more_control g.more_data) (bytes-forget g.control)
+      ∙ ap (λ o. msg_of (prio_got g) (option_map (bytes_of cells) g.control) o g.more_control g.more_data) (bytes-forget g.body)
+
+  get_at-forgets : (side : Side) (wanted : Wanted) (cmax dmax : ℕ) (s : State C) → get_at plain side wanted cmax dmax (map_state cells.byte s) ≡ map_outcome cells.byte (get_at cells side wanted cmax dmax s)
+  get_at-forgets side wanted cmax dmax s =
+      let q = (stream side s).head.queue in
+      let c = min cmax READ_MAX in
+      let d = min dmax READ_MAX in
+      over side ∙ taken_from-forgets cells.byte side s (got_answer cells (head_get wanted c d q.messages)) (get_queue wanted c d q) (get_lets_go wanted c d q)
+    where
+      from-queue : (side : Side) (c d : ℕ) (q : Queue C) → let image = map_queue cells.byte q in
+          taken_from side (map_state cells.byte s) (got_answer plain (head_get wanted c d image.messages)) (get_queue wanted c d image) (get_lets_go wanted c d image)
+          ≡ taken_from side (map_state cells.byte s) (got_answer cells (head_get wanted c d q.messages)) (map_queue cells.byte (get_queue wanted c d q)) (get_lets_go wanted c d q)
+      from-queue side c d q =
+          let image = map_queue cells.byte q in
+          ap (λ (g : Got ℕ). taken_from side (map_state cells.byte s) (got_answer plain g) (get_queue wanted c d image) (get_lets_go wanted c d image)) (sym (get-forgets cells.byte wanted c d q.messages))
+          ∙ ap (λ (a : Reply). taken_from side (map_state cells.byte s) a (get_queue wanted c d image) (get_lets_go wanted c d image)) (answer-forgets (head_get wanted c d q.messages))
+          ∙ ap (λ (b : Queue ℕ). taken_from side (map_state cells.byte s) (got_answer cells (head_get wanted c d q.messages)) b (get_lets_go wanted c d image)) (get_queue-forgets cells.byte wanted c d q)
+          ∙ ap (λ (go : Bool). taken_from side (map_state cells.byte s) (got_answer cells (head_get wanted c d q.messages)) (map_queue cells.byte (get_queue wanted c d q)) go) (get_lets_go-forgets cells.byte wanted c d q)
+
+      over : (side : Side) → let q = (stream side s).head.queue in let c = min cmax READ_MAX in let d = min dmax READ_MAX in
+          get_at plain side wanted cmax dmax (map_state cells.byte s) ≡ taken_from side (map_state cells.byte s) (got_answer cells (head_get wanted c d q.messages)) (map_queue cells.byte (get_queue wanted c d q)) (get_lets_go wanted c d q)
+      over Master = from-queue Master (min cmax READ_MAX) (min dmax READ_MAX) s.master.head.queue
+      over Slave = from-queue Slave (min cmax READ_MAX) (min dmax READ_MAX) s.slave.head.queue
+
+  pub call-forgets : (caller : Caller) (asked : Request) (s : State C) → called plain caller asked (map_state cells.byte s) ≡ map_outcome cells.byte (called cells caller asked s)
+  call-forgets caller OpenMaster s = refl
+  call-forgets caller Unlock s = refl
+  call-forgets caller OpenSlave s = ap (λ (none : Bool). opened-with none) (none-forgets {D = ℕ} cells.byte (map_message cells.byte) s.master.driver.queue.messages)
+    where
+      opened-with : Bool → Outcome ℕ
+      opened-with none = record { answer = Done; state = map_state cells.byte (record s { slave = record s.slave { opened = Open; head = new_head }; enabled = enable_if (not none) (driver_of Master) s.enabled }) }
+  call-forgets caller Shut s = ap (λ (t : Carried ℕ (State ℕ)). done t.state) (closed_at-forgets cells.byte caller.side s)
+  call-forgets caller (Push name) s = ap (λ (t : Carried ℕ (State ℕ)). done t.state) (push-forgets cells.byte caller.side name s)
+  call-forgets caller Pop s = ap (λ (t : Carried ℕ (State ℕ)). done t.state) (pop-forgets cells.byte caller.side s)
+  call-forgets caller Look s = ap (λ (name : Option ModuleName). name_answered name (map_state cells.byte s)) (top-forgets cells.byte caller.side s)
+  call-forgets caller (Flush what band) s = ap (λ (t : Carried ℕ (State ℕ)). done t.state) (flushed_on-forgets cells are band caller.side what s)
+  call-forgets caller (Write bytes) s = write-forgets caller.side bytes s
+  call-forgets caller (Read n) s = read_at-forgets caller.side n s
+  call-forgets caller (Put prio control body) s = ap (λ (t : Carried ℕ (State ℕ)). done t.state) (put_at-forgets cells are caller.side prio control body s)
+  call-forgets caller (Get wanted cmax dmax) s = get_at-forgets caller.side wanted cmax dmax s
+  call-forgets caller (Mode mode) s = ap (λ (t : State ℕ). done t) (mode-forgets cells.byte caller.side mode s)
+  call-forgets caller Nread s = sizes-forgets cells.byte caller.side s
+  call-forgets caller (Ioctl command body) s =
+      ap (λ (t : Carried ℕ (State ℕ)). ioctl_told caller.side t.state) (sent-forgets cells are caller.side command body s)
+      ∙ ioctl_told-forgets cells.byte caller.side (ioctl_sent cells caller.side command body s).state
+  call-forgets caller (IoctlResult number) s = ioctl_told-forgets cells.byte caller.side s
+  call-forgets caller events.Signals s = signals-forget cells.byte caller.side s
+
+  pub turn-forgets : (name : QueueName) (turn : Turn) (s : State C) → turned plain name turn (map_state cells.byte s) ≡ map_turn_outcome cells.byte (turned cells name turn s)
+  turn-forgets name turn s = at name.place (record s { enabled = without name s.enabled })
+    where
+      at : (place : Place) (s : State C) → turned_at plain place name turn (map_state cells.byte s) ≡ map_turn_outcome cells.byte (turned_at cells place name turn s)
+      at places.Driver s = driver_turned-forgets cells are name.side s
+      at places.Head s = refl
+      at places.Ldterm s = module_turned-forgets cells are name turn s
+
+  pub after-forgets : (s : State C) (e : PlainEntry) → after plain (map_state cells.byte s) e ≡ map_state cells.byte (after cells s e)
+  after-forgets s (Called caller asked answer) = ap (λ (o : Outcome ℕ). o.state) (call-forgets caller asked s)
+  after-forgets s (Turned name turn) = ap (λ (o : TurnOutcome ℕ). o.state) (turn-forgets name turn s)
+
+  pub replay-forgets : (s : State C) (es : List PlainEntry) → replay plain (map_state cells.byte s) es ≡ map_state cells.byte (replay cells s es)
+  replay-forgets s [] = refl
+  replay-forgets s (e ∷ es) = ap (λ (t : State ℕ). replay plain t es) (after-forgets s e) ∙ replay-forgets (after cells s e) es

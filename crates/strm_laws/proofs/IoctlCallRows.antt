@@ -1,0 +1,249 @@
+-- Ioctls as calls of a pair, from the call to its answer, as worked out by hand from streamio(7I) (I_STR).
+use Rattle.std.proofs.Common.{ℕ, ◌≡◌, Bool, true, false, List, [], ◌∷◌, ◌++◌, length, map, refl, replicate}
+use Rattle.std.specs.Prelude.{Option, None, Some}
+use Rattle.strm_types.specs.declared.answers.Answer.TheVariants.{Done, Bytes, Pending, Nak}
+use Rattle.strm_types.specs.declared.answers.Turn.TheVariants.{Moved}
+use Rattle.strm_types.specs.declared.books.Book.{Book}
+use Rattle.strm_types.specs.declared.entries.Entry.TheVariants.{Called, Turned}
+use Rattle.strm_types.specs.declared.events.Caller.{Caller}
+use Rattle.strm_types.specs.declared.events.Event.TheVariants.{Ioctl, IoctlResult}
+use Rattle.strm_types.specs.declared.ioctls.TheConstants.{TIOCGWINSZ}
+use Rattle.strm_types.specs.declared.kinds.MsgKind.TheVariants as kinds
+use Rattle.strm_types.specs.declared.limits.Config.{Config}
+use Rattle.strm_types.specs.declared.names.Openness.{Openness}
+use Rattle.strm_types.specs.declared.names.Openness.TheVariants.{Never, Open, Closed}
+use Rattle.strm_types.specs.declared.names.QueueName.{QueueName}
+use Rattle.strm_types.specs.declared.names.Side.{Side}
+use Rattle.strm_types.specs.declared.names.Side.TheVariants.{Master, Slave}
+use Rattle.strm_types.specs.declared.refusals.Refusal.{Refusal}
+use Rattle.strm_types.specs.declared.refusals.Refusal.TheVariants.{Einval, Eagain, Enxio, Enosr, Erange, JournalFull}
+use Rattle.strm_types.specs.declared.slots.Slot.TheVariants.{Free, Waiting, Acked, Nacked}
+use Rattle.strm_types.specs.Books.{new_book}
+use Rattle.strm_types.specs.Events.{Request, content_of, map_answer, map_event, payload_of}
+use Rattle.strm_laws.specs.Calls.{called}
+use Rattle.strm_types.specs.Cells.{plain}
+use Rattle.strm_types.specs.Deliver.{carried}
+use Rattle.strm_types.specs.Drivers.{crosses}
+use Rattle.strm_types.specs.Journal.{PlainEntry, content_max, entries_in, room_of}
+use Rattle.strm_laws.specs.Kept.{came, gone}
+use Rattle.strm_types.specs.Message.{Message, band_of, cells_of, is_high_priority, is_held, rank_of, size_of}
+use Rattle.strm_types.specs.Names.{driver_of}
+use Rattle.strm_laws.specs.Refusals.{blocks_asked, blocks_taken, refused, refused_at_once, refused_by_state}
+use Rattle.strm_types.specs.Slots.{PlainSlot}
+use Rattle.strm_laws.specs.State.{State, Stream}
+use Rattle.strm_laws.specs.Step.{IsLegal, replay}
+use Rattle.strm_laws.specs.Turns.{turned, whole_turn}
+use Rattle.strm_laws.proofs.Samples.{head_with, header, ordinary, queue, without_parts}
+
+-- In a pair, whose sides have these ioctls under way, and whose drivers these messages.
+
+abbrev end : Openness → PlainSlot → List (Message ℕ) → Stream ℕ
+end opened slot driver = record { opened = opened; head = record (head_with (queue [] []) false) { ioctl = slot }; modules = []; driver = record { queue = queue driver [] } }
+
+abbrev pair : Stream ℕ → Stream ℕ → List QueueName → ℕ → State ℕ
+pair master slave enabled next = record {
+  master = master;
+  slave = slave;
+  locked = false;
+  enabled = enabled;
+  next_ioctl = next;
+  from_master = new_book;
+  from_slave = new_book;
+}
+
+abbrev none : Stream ℕ
+none = end Open Free []
+
+-- free, waiting, and answered in both ways
+abbrev slots : List PlainSlot
+slots = Free ∷ Waiting 7 5 ∷ Acked 7 5 (200 ∷ []) ∷ Nacked 7 5 Enxio ∷ []
+
+abbrev caller : Side → Caller
+caller side = record { side = side }
+
+abbrev asks : Request
+asks = Ioctl TIOCGWINSZ (200 ∷ [])
+
+-- Nobody below the slave knows the command, so its driver answers in the call. The number is used all the same.
+pub slave-is-answered-at-once : called plain (caller Slave) asks (pair none none [] 1) ≡ record { answer = Nak Einval; state = pair none none [] 2 }
+unfolding carried
+slave-is-answered-at-once = refl
+
+-- nor is there anybody where the slave isn't open
+pub master-is-answered-at-once : map (λ opened. called plain (caller Master) asks (pair none (end opened Free []) [] 1)) (Never ∷ Closed ∷ [])
+    ≡ record { answer = Nak Einval; state = pair none (end Never Free []) [] 2 } ∷ record { answer = Nak Einval; state = pair none (end Closed Free []) [] 2 } ∷ []
+unfolding carried
+master-is-answered-at-once = refl
+
+-- else it waits on the master's driver, behind data of band 0, and the driver is enabled
+pub master-waits : map (λ ms. called plain (caller Master) asks (pair (end Open Free ms) none [] 3)) ([] ∷ (ordinary (7 ∷ []) ∷ []) ∷ [])
+    ≡ record { answer = Pending 3; state = pair (end Open (Waiting 3 5) (without_parts kinds.Ioctl (header 5 3 0 ++ 200 ∷ []) ∷ [])) none (driver_of Master ∷ []) 4 }
+    ∷ record { answer = Pending 3; state = pair (end Open (Waiting 3 5) (ordinary (7 ∷ []) ∷ without_parts kinds.Ioctl (header 5 3 0 ++ 200 ∷ []) ∷ [])) none (driver_of Master ∷ []) 4 } ∷ []
+unfolding carried rank_of band_of is_high_priority
+master-waits = refl
+
+-- its turn: the slave's head sends an M_IOCNAK down, which the slave's driver has for the master, before its data
+abbrev asked : List (Message ℕ) → State ℕ
+asked ms = pair (end Open (Waiting 1 5) (without_parts kinds.Ioctl (header 5 1 0 ++ 200 ∷ []) ∷ [])) (end Open Free ms) (driver_of Master ∷ []) 2
+
+abbrev answered : List (Message ℕ) → State ℕ
+answered ms = pair (end Open (Waiting 1 5) []) (end Open Free (without_parts kinds.Iocnak (header 5 1 1) ∷ ms)) (driver_of Slave ∷ []) 2
+
+pub ioctl-goes-across : map (λ ms. turned plain (driver_of Master) (Moved 17) (asked ms)) ([] ∷ (ordinary (7 ∷ []) ∷ []) ∷ []) ≡ record { turn = Moved 17; state = answered []; gone = [] } ∷ record { turn = Moved 17; state = answered (ordinary (7 ∷ []) ∷ []); gone = [] } ∷ []
+unfolding carried crosses is_held rank_of band_of size_of cells_of is_high_priority
+ioctl-goes-across = refl
+
+-- and that one's
+pub answer-goes-back : turned plain (driver_of Slave) (Moved 16) (answered []) ≡ record { turn = Moved 16; state = pair (end Open (Nacked 1 5 Einval) []) none [] 2; gone = [] }
+unfolding carried crosses is_held rank_of band_of size_of cells_of is_high_priority
+answer-goes-back = refl
+
+pub whole-turns-of-ioctls : whole_turn (driver_of Master) (asked []) ∷ whole_turn (driver_of Slave) (answered []) ∷ [] ≡ Moved 17 ∷ Moved 16 ∷ []
+unfolding size_of cells_of
+whole-turns-of-ioctls = refl
+
+-- the answer is given, and the other side's ioctl stays
+abbrev both : PlainSlot → State ℕ
+both slot = pair (end Open slot []) (end Open (Acked 2 1 (9 ∷ [])) []) [] 3
+
+pub answer-is-told : map (λ slot. called plain (caller Master) (IoctlResult 1) (both slot)) (Acked 1 5 (200 ∷ []) ∷ Acked 1 6 (200 ∷ []) ∷ Nacked 1 5 Enxio ∷ [])
+    ≡ record { answer = Bytes (200 ∷ []); state = both Free } ∷ record { answer = Done; state = both Free } ∷ record { answer = Nak Enxio; state = both Free } ∷ []
+answer-is-told = refl
+
+-- From the call to its answer: `ioctl m TIOCGWINSZ`, two turns, `poll m 1`, and then `ioctl s TIOCGWINSZ`. A second ioctl finds the
+-- first one under way, and the slave's is no more when it was answered.
+
+abbrev from_call : List PlainEntry
+from_call = Called (caller Master) (Ioctl TIOCGWINSZ []) (Pending 1) ∷ []
+
+abbrev to_answer : List PlainEntry
+to_answer =
+    Turned (driver_of Master) (Moved 16)
+    ∷ Turned (driver_of Slave) (Moved 16)
+    ∷ Called (caller Master) (IoctlResult 1) (Nak Einval)
+    ∷ Called (caller Slave) (Ioctl TIOCGWINSZ []) (Nak Einval)
+    ∷ []
+
+abbrev begun : State ℕ
+begun = pair (end Open (Waiting 1 5) (without_parts kinds.Ioctl (header 5 1 0) ∷ [])) none (driver_of Master ∷ []) 2
+
+pub call-begins : IsLegal plain (pair none none [] 1) from_call
+unfolding carried crosses is_held rank_of band_of size_of cells_of is_high_priority
+call-begins = (record { allowed = refl; answered = refl; leads = refl }, tt)
+
+pub call-leads-there : replay plain (pair none none [] 1) from_call ≡ begun
+unfolding carried crosses is_held rank_of band_of size_of cells_of is_high_priority
+call-leads-there = refl
+
+pub second-call-waits : refused_by_state begun (caller Master) (Ioctl TIOCGWINSZ []) ≡ Some Eagain
+second-call-waits = refl
+
+pub answer-comes : IsLegal plain begun to_answer
+unfolding carried crosses is_held rank_of band_of size_of cells_of is_high_priority
+answer-comes = (
+  record { enabled = refl; in_range = refl; answered = refl; leads = refl },
+  (
+    record { enabled = refl; in_range = refl; answered = refl; leads = refl },
+    (
+      record { allowed = refl; answered = refl; leads = refl },
+      (record { allowed = refl; answered = refl; leads = refl }, tt),
+    ),
+  ),
+)
+
+pub answer-leads-there : replay plain begun to_answer ≡ pair none none [] 3
+unfolding carried crosses is_held rank_of band_of size_of cells_of is_high_priority
+answer-leads-there = refl
+
+pub no-answer-is-left : refused_by_state (pair none none [] 3) (caller Slave) (IoctlResult 1) ≡ Some Einval
+no-answer-is-left = refl
+
+-- What refuses them. A side that isn't open or is hung up, then the size and the number, then the books; and behind a full journal
+-- and too few blocks one that is under way.
+
+abbrev refuses : Openness → Bool → ℕ → Book → Request → Option Refusal
+refuses opened hung_up next book x = refused_at_once (record (pair none (record none { opened = opened; head = head_with (queue [] []) hung_up }) [] next) { from_master = book }) (caller Slave) x
+
+abbrev sized : ℕ → Request
+sized n = Ioctl 99 (replicate n 97)
+
+pub ioctls-of-256-bytes : map (λ n. refuses Open false 1 new_book (sized n)) (0 ∷ 256 ∷ 257 ∷ []) ≡ None ∷ None ∷ Some Erange ∷ []
+ioctls-of-256-bytes = refl
+
+pub numbers-end : map (λ next. refuses Open false next new_book asks) (4294967294 ∷ 4294967295 ∷ []) ≡ None ∷ Some Erange ∷ []
+numbers-end = refl
+
+abbrev full : Book
+full = record { written = 0; made = 4611686018427387904 }
+
+pub ioctls-want-room-in-the-books : map (refuses Open false 1 full) (asks ∷ IoctlResult 1 ∷ []) ≡ Some Erange ∷ None ∷ []
+ioctls-want-room-in-the-books = refl
+
+-- ENXIO before ERANGE; an answer is given behind a hang-up too
+pub nothing-is-asked-of-a-side-that-is-hung-up : map (λ next. map (refuses Open true next full) (sized 0 ∷ sized 257 ∷ IoctlResult 1 ∷ [])) (1 ∷ 4294967295 ∷ []) ≡ replicate 2 (Some Enxio ∷ Some Enxio ∷ None ∷ [])
+nothing-is-asked-of-a-side-that-is-hung-up = refl
+
+pub nothing-is-asked-of-a-closed-side : map (λ opened. map (refuses opened false 4294967295 full) (sized 0 ∷ sized 257 ∷ IoctlResult 1 ∷ [])) (Never ∷ Closed ∷ []) ≡ replicate 2 (replicate 3 (Some Enxio))
+nothing-is-asked-of-a-closed-side = refl
+
+pub one-ioctl-at-a-time : map (λ slot. refused_by_state (pair (end Open slot []) none [] 9) (caller Master) asks) slots ≡ None ∷ Some Eagain ∷ Some Eagain ∷ Some Eagain ∷ []
+one-ioctl-at-a-time = refl
+
+pub ioctl-of-the-other-side : refused_by_state (pair none (end Open (Waiting 7 5) []) [] 9) (caller Master) asks ≡ None
+ioctl-of-the-other-side = refl
+
+pub answers-of-a-side : map (λ slot. map (λ number. refused_by_state (pair (end Open slot []) none [] 9) (caller Master) (IoctlResult number)) (7 ∷ 8 ∷ [])) slots
+    ≡ (Some Einval ∷ Some Einval ∷ []) ∷ (Some Eagain ∷ Some Einval ∷ []) ∷ (None ∷ Some Einval ∷ []) ∷ (None ∷ Some Einval ∷ []) ∷ []
+answers-of-a-side = refl
+
+abbrev sizes : ℕ → ℕ → Config
+sizes events bytes = record { mblks = 0; dblks = 0; journal_events = events; journal_bytes = bytes }
+
+-- with a journal that has room and blocks that are free, with a journal that is full, with too few blocks, with both
+abbrev in_order : ℕ → Request → List (Option Refusal)
+in_order next x =
+    let s = pair (end Open (Waiting 7 5) []) none [] next in
+    refused s [] (sizes 1 9999) true (caller Master) x ∷ refused s [] (sizes 0 9999) true (caller Master) x ∷ refused s [] (sizes 1 9999) false (caller Master) x ∷ refused s [] (sizes 0 9999) false (caller Master) x ∷ []
+
+pub refusals-of-ioctls-in-order : in_order 9 asks ∷ in_order 4294967295 asks ∷ in_order 9 (IoctlResult 8) ∷ []
+    ≡ (Some Eagain ∷ Some JournalFull ∷ Some Enosr ∷ Some JournalFull ∷ []) ∷ replicate 4 (Some Erange) ∷ (Some Einval ∷ Some JournalFull ∷ Some Enosr ∷ Some JournalFull ∷ []) ∷ []
+refusals-of-ioctls-in-order = refl
+
+-- the journal has room for what is sent and for an answer of 256 bytes
+pub room-for-an-ioctl : map (λ bytes. refused (pair none none [] 1) [] (sizes 1 bytes) true (caller Master) (sized 3)) (259 ∷ 258 ∷ []) ≡ None ∷ Some JournalFull ∷ []
+room-for-an-ioctl = refl
+
+pub room-for-an-answer : map (λ bytes. refused (pair (end Open (Acked 7 5 []) []) none [] 9) [] (sizes 1 bytes) true (caller Master) (IoctlResult 7)) (256 ∷ 255 ∷ []) ≡ None ∷ Some JournalFull ∷ []
+room-for-an-answer = refl
+
+-- blocks: the header and the body take one of each kind, and 32 have to be free beside
+abbrev both_calls : List Request
+both_calls = sized 0 ∷ sized 256 ∷ IoctlResult 7 ∷ []
+
+pub blocks-of-ioctls : map blocks_taken both_calls ∷ map blocks_asked both_calls ∷ map content_max both_calls ∷ [] ≡ (2 ∷ 2 ∷ 0 ∷ []) ∷ (34 ∷ 34 ∷ 0 ∷ []) ∷ (256 ∷ 256 ∷ 256 ∷ []) ∷ []
+blocks-of-ioctls = refl
+
+-- No cell comes or goes by them. In the journal what is sent stands before the answer.
+
+pub ioctls-are-no-cells : map (λ x. came plain (pair none none [] 1) (Called (caller Master) x Done)) both_calls ≡ [] ∷ [] ∷ [] ∷ []
+ioctls-are-no-cells = refl
+
+pub no-cells-go-with-ioctls : map (λ x. gone plain (pair none none [] 1) (Called (caller Master) x Done)) (asks ∷ IoctlResult 7 ∷ []) ≡ [] ∷ [] ∷ []
+unfolding carried
+no-cells-go-with-ioctls = refl
+
+pub bytes-of-ioctls : map payload_of (asks ∷ IoctlResult 7 ∷ []) ∷ map content_of (Bytes (8 ∷ []) ∷ Pending 7 ∷ Nak Enxio ∷ []) ∷ [] ≡ ((200 ∷ []) ∷ [] ∷ []) ∷ ((8 ∷ []) ∷ [] ∷ [] ∷ []) ∷ []
+bytes-of-ioctls = refl
+
+pub room-of-ioctls : map room_of (Called (caller Master) asks (Bytes (8 ∷ 9 ∷ [])) ∷ Called (caller Master) (IoctlResult 7) (Bytes (8 ∷ [])) ∷ Called (caller Slave) asks (Pending 7) ∷ []) ≡ 3 ∷ 1 ∷ 1 ∷ []
+room-of-ioctls = refl
+
+pub ioctls-over-other-bytes : map (λ (x : Request). map_event (λ bytes. length bytes) x) (asks ∷ IoctlResult 7 ∷ []) ≡ Ioctl 5 1 ∷ IoctlResult 7 ∷ []
+ioctls-over-other-bytes = refl
+
+pub told-over-other-bytes : map (map_answer {A = ℕ} {B = ℕ} (λ n. 9)) (Pending 7 ∷ Nak Enxio ∷ []) ≡ Pending 7 ∷ Nak Enxio ∷ []
+told-over-other-bytes = refl
+
+pub stored-ioctls : entries_in (Called (caller Master) (Ioctl 5 2) (Bytes 1) ∷ Called (caller Slave) (Ioctl 6 1) (Pending 3) ∷ Called (caller Slave) (IoctlResult 3) (Bytes 2) ∷ Called (caller Master) (IoctlResult 4) (Nak Enxio) ∷ []) (97 ∷ 98 ∷ 99 ∷ 100 ∷ 101 ∷ 102 ∷ [])
+    ≡ Called (caller Master) (Ioctl 5 (97 ∷ 98 ∷ [])) (Bytes (99 ∷ [])) ∷ Called (caller Slave) (Ioctl 6 (100 ∷ [])) (Pending 3) ∷ Called (caller Slave) (IoctlResult 3) (Bytes (101 ∷ 102 ∷ [])) ∷ Called (caller Master) (IoctlResult 4) (Nak Enxio) ∷ []
+stored-ioctls = refl

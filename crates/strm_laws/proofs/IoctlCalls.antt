@@ -1,0 +1,99 @@
+-- An ioctl on a side's stream loses no cell, leaves a side that isn't open nothing to be read, and forgetting the origins of
+-- cells commutes with it; and so with the calls that are told an answer, or the signals.
+use Rattle.std.proofs.Common.{ℕ, ◌≡◌, ◌+◌, Bool, List, refl, sym, ap, ◌∙◌, arith}
+use Rattle.strm_types.specs.declared.ioctls.Ioc.{Ioc}
+use Rattle.strm_types.specs.declared.names.Side.{Side}
+use Rattle.strm_types.specs.declared.names.Side.TheVariants.{Master, Slave}
+use Rattle.strm_types.specs.declared.names.Way.TheVariants.{Down}
+use Rattle.strm_types.specs.declared.spots.Spot.{Spot}
+use Rattle.strm_types.specs.declared.names.Dir.{Dir}
+use Rattle.strm_types.specs.Cells.{AreCells, Cells, plain}
+use Rattle.strm_types.specs.Names.{direction_from}
+use Rattle.strm_laws.specs.Calls.{ioctl_begun, ioctl_sent, ioctl_told, signals_told, map_outcome}
+use Rattle.strm_types.specs.Ioctls.{asking, ioctl_message}
+use Rattle.strm_laws.specs.Kept.{NothingUnread, state_weight}
+use Rattle.strm_types.specs.Message.{Message, cells_of, map_message, weight_of}
+use Rattle.strm_types.specs.Origins.{map_carried}
+use Rattle.strm_laws.specs.Places.{weight_gone, weight_made}
+use Rattle.strm_laws.specs.Puts.{delivered}
+use Rattle.strm_types.specs.Slots.{PlainSlot}
+use Rattle.strm_laws.specs.State.{State, map_state, with_ioctl, with_signals}
+use Rattle.strm_laws.proofs.Deliveries.{delivered-keeps, delivered-unread}
+use Rattle.strm_laws.proofs.PutsForget.{delivered-forgets}
+
+abbrev below : Side → Spot
+below side = record { side = side; at = 1; way = Down }
+
+weight-ioctl : {C : Type 0} (p : C → Bool) (ioc : Ioc) (body : List ℕ) → weight_of p (ioctl_message ioc body) ≡ 0
+unfolding weight_of cells_of
+weight-ioctl p ioc body = refl
+
+module _ {C : Type 0} where
+  module _ (p : Dir → C → Bool) where
+    begun-keeps : (side : Side) (command : ℕ) (s : State C) → state_weight p (ioctl_begun side command s) ≡ state_weight p s
+    begun-keeps Master command s = refl
+    begun-keeps Slave command s = refl
+
+    pub ioctl-keeps : (side : Side) (slot : PlainSlot) (s : State C) → state_weight p (with_ioctl side slot s) ≡ state_weight p s
+    ioctl-keeps Master slot s = refl
+    ioctl-keeps Slave slot s = refl
+
+    pub signals-keep : (side : Side) (signals : List ℕ) (s : State C) → state_weight p (with_signals side signals s) ≡ state_weight p s
+    signals-keep Master signals s = refl
+    signals-keep Slave signals s = refl
+
+    pub told-keeps : (side : Side) (s : State C) → state_weight p (ioctl_told side s).state ≡ state_weight p s
+    told-keeps Master s = refl
+    told-keeps Slave s = refl
+
+    pub sent-keeps : (cells : Cells C) (side : Side) (command : ℕ) (body : List ℕ) (s : State C) → let t = ioctl_sent cells side command body s in
+        state_weight p (ioctl_told side t.state).state + weight_gone p t.gone ≡ state_weight p s + weight_made p t.gone
+    sent-keeps cells side command body s =
+        let ioc = asking command s.next_ioctl in
+        let m : Message C = ioctl_message ioc body in
+        let begun = ioctl_begun side command s in
+        omega (arith, told-keeps side (delivered cells (below side) m begun).state, delivered-keeps cells p (below side) m begun (omega arith), weight-ioctl (p (direction_from side)) ioc body, begun-keeps side command s)
+
+  begun-unread : (side : Side) (command : ℕ) (s : State C) → NothingUnread s → NothingUnread (ioctl_begun side command s)
+  begun-unread Master command s unread = record { master = unread.master; slave = unread.slave }
+  begun-unread Slave command s unread = record { master = unread.master; slave = unread.slave }
+
+  pub told-unread : (side : Side) (s : State C) → NothingUnread s → NothingUnread (ioctl_told side s).state
+  told-unread Master s unread = record { master = unread.master; slave = unread.slave }
+  told-unread Slave s unread = record { master = unread.master; slave = unread.slave }
+
+  pub signals-unread : (side : Side) (s : State C) → NothingUnread s → NothingUnread (signals_told side s).state
+  signals-unread Master s unread = record { master = unread.master; slave = unread.slave }
+  signals-unread Slave s unread = record { master = unread.master; slave = unread.slave }
+
+  pub sent-unread : (cells : Cells C) (side : Side) (command : ℕ) (body : List ℕ) (s : State C) → NothingUnread s → NothingUnread (ioctl_sent cells side command body s).state
+  sent-unread cells side command body s unread =
+      delivered-unread cells (below side) (ioctl_message (asking command s.next_ioctl) body) (ioctl_begun side command s) (begun-unread side command s unread)
+
+module _ {C D : Type 0} (f : C → D) where
+  message-forgets : (ioc : Ioc) (body : List ℕ) → map_message f (ioctl_message ioc body) ≡ ioctl_message ioc body
+  unfolding map_message
+  message-forgets ioc body = refl
+
+  begun-forgets : (side : Side) (command : ℕ) (s : State C) → ioctl_begun side command (map_state f s) ≡ map_state f (ioctl_begun side command s)
+  begun-forgets Master command s = refl
+  begun-forgets Slave command s = refl
+
+  pub ioctl_told-forgets : (side : Side) (s : State C) → ioctl_told side (map_state f s) ≡ map_outcome f (ioctl_told side s)
+  ioctl_told-forgets Master s = refl
+  ioctl_told-forgets Slave s = refl
+
+  pub signals-forget : (side : Side) (s : State C) → signals_told side (map_state f s) ≡ map_outcome f (signals_told side s)
+  signals-forget Master s = refl
+  signals-forget Slave s = refl
+
+module _ {C : Type 0} (cells : Cells C) (are : AreCells cells) where
+  abbrev f : C → ℕ
+  f = cells.byte
+
+  pub sent-forgets : (side : Side) (command : ℕ) (body : List ℕ) (s : State C) → ioctl_sent plain side command body (map_state f s) ≡ map_carried f (map_state f) (ioctl_sent cells side command body s)
+  sent-forgets side command body s =
+      let m = ioctl_message (asking command s.next_ioctl) body in
+      ap (λ (t : State ℕ). delivered plain (below side) (ioctl_message (asking command s.next_ioctl) body) t) (begun-forgets f side command s)
+      ∙ ap (λ x. delivered plain (below side) x (map_state f (ioctl_begun side command s))) (sym (message-forgets f (asking command s.next_ioctl) body))
+      ∙ delivered-forgets cells are (below side) m (ioctl_begun side command s)

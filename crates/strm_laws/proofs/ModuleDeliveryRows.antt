@@ -1,0 +1,81 @@
+-- What deliveries over the modules of a pair's streams compute, as worked out by hand.
+use Rattle.std.proofs.Common.{ℕ, ◌≡◌, ◌∷◌, [], refl}
+use Rattle.strm_types.specs.declared.kinds.MsgKind.TheVariants as kinds
+use Rattle.strm_types.specs.declared.names.Dir.TheVariants.{MasterToSlave, SlaveToMaster}
+use Rattle.strm_types.specs.declared.names.Side.TheVariants.{Master, Slave}
+use Rattle.strm_types.specs.declared.names.Way.TheVariants.{Up, Down}
+use Rattle.strm_types.specs.declared.refusals.Refusal.TheVariants.{Einval}
+use Rattle.strm_types.specs.declared.rules.Rule.TheVariants.{Flushed}
+use Rattle.strm_types.specs.declared.slots.Slot.TheVariants.{Waiting, Nacked}
+use Rattle.strm_types.specs.Cells.{plain}
+use Rattle.strm_types.specs.Deliver.{Goes, carried}
+use Rattle.strm_types.specs.Drivers.{crosses}
+use Rattle.strm_types.specs.Flush.{is_data_kind}
+use Rattle.strm_types.specs.Flushing.{flush_message}
+use Rattle.strm_types.specs.Message.{Message, band_of, cells_of, is_held, is_high_priority, rank_of, size_of}
+use Rattle.strm_types.specs.Names.{driver_of}
+use Rattle.strm_laws.specs.Puts.{delivered}
+use Rattle.strm_types.specs.Slots.{PlainSlot}
+use Rattle.strm_laws.specs.State.{State, Stream}
+use Rattle.strm_laws.specs.Turns.{driver_serves}
+use Rattle.strm_laws.proofs.PutAmongRows.{bare, end, ldterm, one, pair, spot, with_these}
+use Rattle.strm_laws.proofs.Samples.{header, ordinary, without_parts}
+
+-- M_DATA that goes down from the head waits at the first module, whose write queue is enabled
+pub data-waits-at-the-first : delivered plain (spot Master 1 Down) (ordinary (7 ∷ [])) (pair (end [] (bare ∷ bare ∷ []) []) (end [] [] []) [])
+    ≡ record { state = pair (end [] (with_these [] (one 7) ∷ bare ∷ []) []) (end [] [] []) (ldterm Master Down ∷ []); gone = [] }
+unfolding carried rank_of is_high_priority band_of
+data-waits-at-the-first = refl
+
+-- what a driver moves across waits at the lowest module of the other side, and goes to the head where there is none
+pub data-moves-to-the-lowest : (driver_serves plain Master (one 7) (pair (end [] [] (one 7)) (end [] (bare ∷ bare ∷ []) []) [])).state
+    ≡ pair (end [] [] []) (end [] (bare ∷ with_these (one 7) [] ∷ []) []) (ldterm Slave Up ∷ [])
+unfolding carried is_held band_of size_of is_high_priority rank_of cells_of
+data-moves-to-the-lowest = refl
+
+pub data-moves-to-the-head : (driver_serves plain Slave (one 7) (pair (end [] [] []) (end [] (bare ∷ []) (one 7)) [])).state
+    ≡ pair (end (one 7) [] []) (end [] (bare ∷ []) []) []
+unfolding carried is_held band_of size_of is_high_priority rank_of cells_of
+data-moves-to-the-head = refl
+
+-- An M_FLUSH for both that goes down the master's stream with one module, where the slave's has two, and a byte stands on each queue. FLUSHR
+-- and FLUSHW at the module; FLUSHW at the driver; up the slave's stream: its lower module, its upper one, and its head; then the
+-- driver across, and up the master's stream its module, where nothing stands any more, and its head.
+abbrev filled : State ℕ
+filled = pair (end (one 1) (with_these (one 2) (one 3) ∷ []) (one 4)) (end (one 5) (with_these (one 6) (one 7) ∷ with_these (one 8) (one 9) ∷ []) (one 10)) []
+
+pub flush-goes-over-modules : delivered plain (spot Master 1 Down) (flush_message (3 ∷ [])) filled ≡ record {
+  state = pair (end [] (bare ∷ []) []) (end [] (with_these [] (one 7) ∷ with_these [] (one 9) ∷ []) []) [];
+  gone = Goes SlaveToMaster Flushed (2 ∷ []) ∷ Goes MasterToSlave Flushed (3 ∷ []) ∷ Goes MasterToSlave Flushed (4 ∷ [])
+      ∷ Goes MasterToSlave Flushed (8 ∷ []) ∷ Goes MasterToSlave Flushed (6 ∷ []) ∷ Goes MasterToSlave Flushed (5 ∷ [])
+      ∷ Goes SlaveToMaster Flushed (10 ∷ []) ∷ Goes SlaveToMaster Flushed [] ∷ Goes SlaveToMaster Flushed (1 ∷ []) ∷ [];
+}
+unfolding carried is_data_kind cells_of size_of
+flush-goes-over-modules = refl
+
+-- An M_FLUSH for writers that comes up from the driver: both modules obey it, from the lower one; the head turns it round, and both find
+-- nothing any more; then the driver, and across the module and the head for their readers.
+pub flush-comes-up-and-round : delivered plain (spot Slave 2 Up) (flush_message (2 ∷ [])) filled ≡ record {
+  state = pair (end [] (with_these [] (one 3) ∷ []) (one 4)) (end (one 5) (with_these (one 6) [] ∷ with_these (one 8) [] ∷ []) []) [];
+  gone = Goes SlaveToMaster Flushed (9 ∷ []) ∷ Goes SlaveToMaster Flushed (7 ∷ []) ∷ Goes SlaveToMaster Flushed [] ∷ Goes SlaveToMaster Flushed []
+      ∷ Goes SlaveToMaster Flushed (10 ∷ []) ∷ Goes SlaveToMaster Flushed (2 ∷ []) ∷ Goes SlaveToMaster Flushed (1 ∷ []) ∷ [];
+}
+unfolding carried is_data_kind cells_of size_of
+flush-comes-up-and-round = refl
+
+-- An M_IOCTL that goes down the slave's stream passes both modules; the driver's answer comes up past them to the head, where its caller waits.
+abbrev asks : Message ℕ
+asks = without_parts kinds.Ioctl (header 5 7 0)
+
+abbrev waits : PlainSlot → State ℕ
+waits slot = let slave : Stream ℕ = end [] (bare ∷ bare ∷ []) [] in pair (end [] [] []) (record slave { head = record slave.head { ioctl = slot } }) []
+
+pub ioctl-goes-round : delivered plain (spot Slave 1 Down) asks (waits (Waiting 7 5)) ≡ record { state = waits (Nacked 7 5 Einval); gone = [] }
+unfolding carried
+ioctl-goes-round = refl
+
+-- One that comes up passes them to the head, whose answer goes down to the driver's queue.
+pub ioctl-comes-up : delivered plain (spot Slave 2 Up) asks (pair (end [] [] []) (end [] (bare ∷ bare ∷ []) []) [])
+    ≡ record { state = pair (end [] [] []) (end [] (bare ∷ bare ∷ []) (without_parts kinds.Iocnak (header 5 7 1) ∷ [])) (driver_of Slave ∷ []); gone = [] }
+unfolding carried crosses rank_of is_high_priority band_of
+ioctl-comes-up = refl

@@ -1,0 +1,135 @@
+-- A put at one of the modules of a stream: it loses no cell, makes none but those that it tells, does the same where the origins of cells are forgotten, and
+-- sends on nothing but to the next place.
+use Rattle.std.proofs.Common.{ℕ, zero, suc, ◌≡◌, ◌<◌, ◌≤◌, ◌+◌, Bool, true, false, cond, List, [], ◌∷◌, length, map, refl, ap, arith}
+use Rattle.std.specs.Prelude.{◌&&◌, ◌==◌, not, Option, None}
+use Rattle.std.proofs.lemmas.List.Sums.{sum_by-cons}
+use Rattle.strm_types.specs.declared.flushing.FlushAsked.{FlushAsked}
+use Rattle.strm_types.specs.declared.ioctls.TheConstants.{TCSETSF}
+use Rattle.strm_types.specs.declared.kinds.Band.{Band}
+use Rattle.strm_types.specs.declared.limits.TheConstants.{MODULES}
+use Rattle.strm_types.specs.declared.names.Way.TheVariants.{Up, Down}
+use Rattle.strm_types.specs.declared.rules.Rule.TheVariants.{Flushed}
+use Rattle.strm_types.specs.declared.spots.Spot.{Spot}
+use Rattle.strm_types.specs.declared.termios.Termios.{Termios}
+use Rattle.strm_types.specs.declared.names.Dir.{Dir}
+use Rattle.strm_types.specs.Names.{direction_at}
+use Rattle.strm_types.specs.Cells.{AreCells, Cells, plain}
+use Rattle.strm_types.specs.Deliver.{Acted, AreLower, Parcel}
+use Rattle.strm_types.specs.Far.{far}
+use Rattle.strm_types.specs.Flushing.{asked_by, flush_message, read_flush}
+use Rattle.strm_types.specs.LdtermPuts.{ldterm_puts}
+use Rattle.strm_types.specs.Ldterms.{Ldterm, both, flush_passes, line_flushed, onward, queue_flushed, read_flushed, sends, takes_band_0, without_line, write_flushed}
+use Rattle.strm_types.specs.Message.{Message, map_message, weight_of}
+use Rattle.strm_types.specs.Modules.{put_among}
+use Rattle.strm_types.specs.Origins.{map_acted}
+use Rattle.strm_laws.specs.Places.{weight_gone, weight_made, weight_sent}
+use Rattle.strm_types.specs.Service.{line_gone}
+use Rattle.strm_laws.specs.Stacked.{Module, OfLdterm, OfPtem, OfPckt, done_by, map_module, module_puts, module_weight, modules_weight}
+use Rattle.strm_types.specs.TakenUp.{input_flushed, taken_up, termios_taken}
+use Rattle.strm_types.specs.Typing.{up_alone}
+use Rattle.strm_laws.proofs.DeliveryKeeps.{made-append}
+use Rattle.strm_types.proofs.LdtermPuts.{either, puts-each}
+use Rattle.strm_laws.proofs.LdtermKeeps.{lost-made, puts-hold}
+use Rattle.strm_types.proofs.LdtermLower.{ldterm-lower}
+use Rattle.strm_laws.proofs.LdtermPutForgets.{puts-forget}
+use Rattle.strm_laws.proofs.PcktKeeps.{puts-keep as pckt-keeps, puts-forget as pckt-forgets}
+use Rattle.strm_types.proofs.PcktPuts.{puts-lower as pckt-lower}
+use Rattle.strm_laws.proofs.PtemPuts.{puts-gone, puts-sent, puts-forget as ptem-forgets, puts-lower as ptem-lower}
+
+module _ {C : Type 0} (p : Dir → C → Bool) where
+  abbrev MakesNone : Acted C (Ldterm C) → Type 0
+  MakesNone t = weight_made p t.gone ≡ 0
+
+  both-none : (t : Acted C (Ldterm C)) (next : Ldterm C → Acted C (Ldterm C)) → MakesNone t → MakesNone (next t.state) → MakesNone (both t next)
+  both-none t next first second = let all = made-append p t.gone (next t.state).gone in omega arith
+
+  line-none : (here : Spot) (band : Option Band) (l : Ldterm C) → MakesNone (line_flushed here band l)
+  line-none here band l = either MakesNone (takes_band_0 band) (record (sends [] (without_line l)) { gone = line_gone here.side Flushed l.line }) (sends [] l) (lost-made p here.side Flushed l.line) refl
+
+  read-none : (here : Spot) (asked : FlushAsked) (l : Ldterm C) → MakesNone (read_flushed here asked l)
+  read-none here asked l = either MakesNone asked.for_read (both (queue_flushed Up here asked.band l) (line_flushed here asked.band)) (sends [] l)
+      (both-none (queue_flushed Up here asked.band l) (line_flushed here asked.band) refl (line-none here asked.band (queue_flushed Up here asked.band l).state))
+      refl
+
+  write-none : (here : Spot) (asked : FlushAsked) (l : Ldterm C) → MakesNone (write_flushed here asked l)
+  write-none here asked l = at asked.for_write
+    where
+      at : (b : Bool) → MakesNone (cond b (queue_flushed Down here asked.band (record l { echoing = l.echoing && not (takes_band_0 asked.band) })) (sends [] l))
+      at true = refl
+      at false = refl
+
+  flush-none : (here : Spot) (m : Message C) (l : Ldterm C) → MakesNone (flush_passes here m l)
+  flush-none here m l =
+      let asked = asked_by m.plain in
+      let first = read_flushed here asked l in
+      let behind = both first (write_flushed here asked) in
+      both-none behind (sends (onward here.way here m ∷ [])) (both-none first (write_flushed here asked) (read-none here asked l) (write-none here asked first.state)) refl
+
+  taken-none : (here : Spot) (command : ℕ) (t : Termios) (m : Message C) (l : Ldterm C) → MakesNone (taken_up here command t m l)
+  taken-none here command t m l =
+      let read = read_flushed here up_alone l in
+      let told : Ldterm C → Acted C (Ldterm C) = sends (onward Up here (flush_message (read_flush None)) ∷ []) in
+      both-none (input_flushed here command l) (termios_taken here t m) (either MakesNone (command == TCSETSF) (both read told) (sends [] l) (both-none read told (read-none here up_alone l) refl) refl) refl
+
+  pub ldterm-none : (here : Spot) (m : Message C) (l : Ldterm C) → MakesNone (ldterm_puts here m l)
+  ldterm-none here m l = puts-each here m l MakesNone (record {
+    waits = λ is. refl;
+    flushes = λ is. flush-none here m l;
+    passes = refl;
+    taken = λ way is ioc t. taken-none here ioc.command t m l;
+  })
+
+  module _ (cells : Cells C) (made : ℕ) where
+    module-keeps : (here : Spot) (m : Message C) (q : Module C) → let t = module_puts cells made here m q in
+        module_weight p here.side t.state + (weight_sent p t.sent + weight_gone p t.gone) ≡ module_weight p here.side q + weight_of (p (direction_at here.way here.side)) m + weight_made p t.gone
+    module-keeps here m (OfLdterm l) = omega (arith, puts-hold p here m l, ldterm-none here m l)
+    module-keeps here m (OfPtem q) =
+        let sent = puts-sent p here m q in
+        let gone = ap (λ gone. weight_gone p gone) (puts-gone here m q) in
+        let made = ap (λ gone. weight_made p gone) (puts-gone here m q) in
+        omega arith
+    module-keeps here m (OfPckt q) = let kept = pckt-keeps p cells made here m in omega arith
+
+    -- a put at one of several modules
+    pub among-keeps : (i : ℕ) (here : Spot) (m : Message C) (ps : List (Module C)) → i < length ps → let t = put_among (module_puts cells made) i here m ps in
+        modules_weight p here.side t.state + (weight_sent p t.sent + weight_gone p t.gone) ≡ modules_weight p here.side ps + weight_of (p (direction_at here.way here.side)) m + weight_made p t.gone
+    among-keeps i here m [] within = absurd (omega arith)
+    among-keeps zero here m (l ∷ ls) within =
+        let t = module_puts cells made here m l in
+        omega (arith, module-keeps here m l, sum_by-cons (module_weight p here.side) l ls, sum_by-cons (module_weight p here.side) t.state ls)
+    among-keeps (suc i) here m (l ∷ ls) within =
+        let t = put_among (module_puts cells made) i here m ls in
+        omega (arith, among-keeps i here m ls (omega arith), sum_by-cons (module_weight p here.side) l ls, sum_by-cons (module_weight p here.side) l t.state)
+
+module _ {C : Type 0} (cells : Cells C) (are : AreCells cells) (made : ℕ) where
+  abbrev f : C → ℕ
+  f = cells.byte
+
+  abbrev image : Acted C (List (Module C)) → Acted ℕ (List (Module ℕ))
+  image t = map_acted f (map (map_module f)) t
+
+  module-forgets : (here : Spot) (m : Message C) (q : Module C) → module_puts plain made here (map_message f m) (map_module f q) ≡ map_acted f (map_module f) (module_puts cells made here m q)
+  module-forgets here m (OfLdterm l) = ap (done_by OfLdterm) (puts-forget f here m l)
+  module-forgets here m (OfPtem q) = ap (done_by OfPtem) (ptem-forgets f here m q)
+  module-forgets here m (OfPckt q) = ap (done_by OfPckt) (pckt-forgets cells are made here m)
+
+  pub among-forgets : (i : ℕ) (here : Spot) (m : Message C) (ps : List (Module C))
+      → put_among (module_puts plain made) i here (map_message f m) (map (map_module f) ps) ≡ image (put_among (module_puts cells made) i here m ps)
+  among-forgets i here m [] = refl
+  among-forgets zero here m (l ∷ ls) = ap (λ (t : Acted ℕ (Module ℕ)). record { state = t.state ∷ map (map_module f) ls; notes = t.notes; sent = t.sent; gone = t.gone }) (module-forgets here m l)
+  among-forgets (suc i) here m (l ∷ ls) = ap (λ (t : Acted ℕ (List (Module ℕ))). record { state = map_module f l ∷ t.state; notes = t.notes; sent = t.sent; gone = t.gone }) (among-forgets i here m ls)
+
+module _ {C : Type 0} (here : Spot) (m : Message C) (some : 0 < here.at) (few : here.at ≤ MODULES) where
+  abbrev Lower : List (Parcel C) → Type 0
+  Lower sent = AreLower far (far here m) sent
+
+  module _ (cells : Cells C) (made : ℕ) where
+    module-lower : (q : Module C) → Lower (module_puts cells made here m q).sent
+    module-lower (OfLdterm l) = ldterm-lower here m some few l
+    module-lower (OfPtem q) = ptem-lower here m q some few
+    module-lower (OfPckt q) = pckt-lower cells made here m some few
+
+    pub among-lower : (i : ℕ) (ps : List (Module C)) → Lower (put_among (module_puts cells made) i here m ps).sent
+    among-lower i [] = tt
+    among-lower zero (l ∷ ls) = module-lower l
+    among-lower (suc i) (l ∷ ls) = among-lower i ls

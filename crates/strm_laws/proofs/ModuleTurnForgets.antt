@@ -1,0 +1,311 @@
+-- Forgetting the origins of cells commutes with turns of the queues of modules.
+use Rattle.std.proofs.Common.{ℕ, zero, suc, ◌≡◌, ◌+◌, ◌-◌, Bool, true, false, cond, List, [], ◌∷◌, ◌++◌, map, take, refl, sym, ap, ◌∙◌}
+use Rattle.std.specs.Prelude.{◌==◌, ◌*◌, ◌&&◌, not, min, slice_index_or, is_some, Option, None, Some, option_map}
+use Rattle.std.proofs.lemmas.List.{take-map}
+use Rattle.strm_types.specs.declared.answers.Turn.{Turn}
+use Rattle.strm_types.specs.declared.answers.Turn.TheVariants.{Moved, Blocked, Idle}
+use Rattle.strm_types.specs.declared.limits.TheConstants.{MODULES, HOPS}
+use Rattle.strm_types.specs.declared.names.Place.{Place}
+use Rattle.strm_types.specs.declared.names.QueueName.{QueueName}
+use Rattle.strm_types.specs.declared.names.Side.{Side}
+use Rattle.strm_types.specs.declared.names.Side.TheVariants.{Master, Slave}
+use Rattle.strm_types.specs.declared.names.Way.{Way}
+use Rattle.strm_types.specs.declared.names.Way.TheVariants.{Up, Down}
+use Rattle.strm_types.specs.declared.spots.Asks.{Asks}
+use Rattle.strm_types.specs.declared.spots.Asks.TheVariants as asked
+use Rattle.strm_types.specs.declared.spots.Spot.{Spot}
+use Rattle.strm_types.specs.Asking.{asked_by, asked_first}
+use Rattle.strm_types.specs.Cells.{Cells, AreCells, plain}
+use Rattle.strm_types.specs.Deliver.{Acted, Carried, Took, carried, in_turn}
+use Rattle.strm_laws.specs.Earlier.{places_of}
+use Rattle.strm_laws.specs.LdtermOrigins.{map_ldterm, map_serving, map_stage}
+use Rattle.strm_types.specs.Ldterms.{is_between, Between, Begun, Answered, Stage}
+use Rattle.strm_types.specs.Message.{Message, map_message}
+use Rattle.strm_types.specs.ModuleQueues.{at_place, messages_at, queue_changed}
+use Rattle.strm_laws.specs.ModuleTurns.{Calls, again_at, asked_turn, bytes_at, call_at, calls, made_below, module_called, module_turn_ended, module_turned, moved_by, moved_on, moved_within, named_from, place_named, queue_ended, stayed_at, turned_named, turned_there, waits_there}
+use Rattle.strm_types.specs.Modules.{act_among, change_among}
+use Rattle.strm_types.specs.Names.{enable_if, enable_some}
+use Rattle.strm_types.specs.Origins.{map_acted, map_carried, map_fate, map_parcel, map_took}
+use Rattle.strm_laws.specs.Past.{has_room_past, writer_waits}
+use Rattle.strm_laws.specs.Puts.{earlier_at, module_acted, put_in}
+use Rattle.strm_types.specs.Queue.{Queue, is_none_left, map_messages, map_queue, relieved, first_size}
+use Rattle.strm_types.specs.Service.{Serving, end_relieves, has_more, turn_ended, turn_relieves}
+use Rattle.strm_laws.specs.Stacked.{Module, OfLdterm, OfPtem, OfPckt, map_module, module_asks, module_queue, module_rests, module_serves, served_by, with_module_queue}
+use Rattle.strm_laws.specs.State.{State, Stream, stream, with_stream, map_state, map_stream}
+use Rattle.strm_laws.specs.TurnOutcomes.{TurnOutcome, map_turn_outcome, stayed_put}
+use Rattle.strm_laws.proofs.DeliveryForgets.{carried-agrees, in_turn-agrees, map-join}
+use Rattle.strm_laws.proofs.Earlier.{before_at-forgets, places-forget}
+use Rattle.strm_laws.proofs.EmptiedForgets.{stream-forgets}
+use Rattle.strm_laws.proofs.Forgetting.{kind-forgets, named_band-forgets, none-forgets, relieved-forgets, relieves_from-forgets, size-forgets}
+use Rattle.strm_laws.proofs.LdtermServes.{serves-forget}
+use Rattle.strm_laws.proofs.Past.{room-forgets, with_stream-same, writer_waits-forgets}
+use Rattle.strm_laws.proofs.PutsForget.{acted-same, puts-forget}
+
+module _ {C D : Type 0} (f : C → D) where
+  abbrev images : List (Module C) → List (Module D)
+  images ps = map (map_module f) ps
+
+  -- what is said of a place, where it is the same of each module
+  said-same : {A : Type 0} (say : Module C → A) (say' : Module D → A) → ((p : Module C) → say' (map_module f p) ≡ say p) → (ps : List (Module C)) → map say' (images ps) ≡ map say ps
+  said-same say say' same [] = refl
+  said-same say say' same (p ∷ ps) = ap (λ x. x ∷ map say' (images ps)) (same p) ∙ ap (λ xs. say p ∷ xs) (said-same say say' same ps)
+
+  at_place-same : {A : Type 0} (say : Module C → A) (say' : Module D → A) → ((p : Module C) → say' (map_module f p) ≡ say p) → (otherwise : A) (place : ℕ) (ps : List (Module C))
+      → at_place say' otherwise place (images ps) ≡ at_place say otherwise place ps
+  at_place-same say say' same otherwise place ps = ap (λ xs. slice_index_or xs (place - 1) otherwise) (said-same say say' same ps)
+
+  -- a change of one of several
+  change-same : (change : Module C → Module C) (change' : Module D → Module D) → ((p : Module C) → change' (map_module f p) ≡ map_module f (change p)) → (i : ℕ) (ps : List (Module C))
+      → change_among change' i (images ps) ≡ images (change_among change i ps)
+  change-same change change' same i [] = refl
+  change-same change change' same zero (p ∷ ps) = ap (λ q. q ∷ images ps) (same p)
+  change-same change change' same (suc i) (p ∷ ps) = ap (λ qs. map_module f p ∷ qs) (change-same change change' same i ps)
+
+  -- what a module's queue asks, and whether it rests
+  asked-same : (way : Way) (stopped : Bool) (ms : List (Message C)) → asked_first way stopped (map_messages f ms) ≡ asked_first way stopped ms
+  asked-same way stopped [] = refl
+  asked-same way stopped (m ∷ ms) = ap (λ kind. asked_by way stopped kind (map_message f m).band) (kind-forgets f m) ∙ ap (λ band. asked_by way stopped m.kind band) (named_band-forgets f m)
+
+  asks-same : (way : Way) (p : Module C) → module_asks way (map_module f p) ≡ module_asks way p
+  asks-same Up (OfLdterm l) = asked-same Up l.stopped l.read_queue.messages
+  asks-same Down (OfLdterm l) = asked-same Down l.stopped l.write_queue.messages
+  asks-same way (OfPtem p) = refl
+  asks-same way (OfPckt p) = refl
+
+  between-same : (x : Stage C) → is_between (map_stage f x) ≡ is_between x
+  between-same Between = refl
+  between-same (Begun started c) = refl
+  between-same (Answered echo) = refl
+
+  work-same : (o : Option (Message C)) → is_some (option_map (map_message f) o) ≡ is_some o
+  work-same None = refl
+  work-same (Some m) = refl
+
+  gathered-same : (xs : List C) → is_none_left (map f xs) ≡ is_none_left xs
+  gathered-same [] = refl
+  gathered-same (x ∷ xs) = refl
+
+  rests-same : (p : Module C) → module_rests (map_module f p) ≡ module_rests p
+  rests-same (OfPtem p) = refl
+  rests-same (OfPckt p) = refl
+  rests-same (OfLdterm p) =
+      ap (λ b. not b && (is_none_left (map f p.gathered) && (not p.echoing && is_between (map_stage f p.stage)))) (work-same p.in_work)
+      ∙ ap (λ b. not (is_some p.in_work) && (b && (not p.echoing && is_between (map_stage f p.stage)))) (gathered-same p.gathered)
+      ∙ ap (λ b. not (is_some p.in_work) && (is_none_left p.gathered && (not p.echoing && b))) (between-same p.stage)
+
+  first-same : (ms : List (Message C)) → first_size (map_messages f ms) ≡ first_size ms
+  first-same [] = refl
+  first-same (m ∷ ms) = size-forgets f m
+
+  size-same : (way : Way) (p : Module C) → first_size (messages_at module_queue way (map_module f p)) ≡ first_size (messages_at module_queue way p)
+  size-same Up (OfLdterm l) = first-same l.read_queue.messages
+  size-same Down (OfLdterm l) = first-same l.write_queue.messages
+  size-same way (OfPtem p) = refl
+  size-same way (OfPckt p) = refl
+
+  -- the end of a turn
+  ended-same : (took : Bool) (q : Queue C) → turn_ended took (map_queue f q) ≡ map_queue f (turn_ended took q)
+  ended-same took q =
+      ap (λ none. cond took (relieved (record (map_queue f q) { want_read = none })) (record (map_queue f q) { want_read = none })) (none-forgets f (map_message f) q.messages)
+      ∙ at took
+    where
+      at : (took : Bool) → cond took (relieved (map_queue f (record q { want_read = is_none_left q.messages }))) (map_queue f (record q { want_read = is_none_left q.messages })) ≡ map_queue f (turn_ended took q)
+      at true = sym (relieved-forgets f (record q { want_read = is_none_left q.messages }))
+      at false = refl
+
+  changed-same : (way : Way) (took : Bool) (p : Module C) → queue_changed module_queue with_module_queue way (turn_ended took) (map_module f p) ≡ map_module f (queue_changed module_queue with_module_queue way (turn_ended took) p)
+  changed-same Up took (OfLdterm l) = ap (λ q. OfLdterm (record (map_ldterm f l) { read_queue = q })) (ended-same took l.read_queue)
+  changed-same Down took (OfLdterm l) = ap (λ q. OfLdterm (record (map_ldterm f l) { write_queue = q })) (ended-same took l.write_queue)
+  changed-same way took (OfPtem p) = refl
+  changed-same way took (OfPckt p) = refl
+
+  queue_ended-same : (here : Spot) (took : Bool) (t : Stream C) → queue_ended here took (map_stream f t) ≡ map_stream f (queue_ended here took t)
+  queue_ended-same here took t =
+      ap (λ (ps : List (Module D)). record (map_stream f t) { modules = ps })
+      (change-same (queue_changed module_queue with_module_queue here.way (turn_ended took)) (queue_changed module_queue with_module_queue here.way (turn_ended took)) (changed-same here.way took) (here.at - 1) t.modules)
+
+  ended_at-same : (here : Spot) (took : Bool) (s : State C) → with_stream here.side (queue_ended here took (stream here.side (map_state f s))) (map_state f s) ≡ map_state f (with_stream here.side (queue_ended here took (stream here.side s)) s)
+  ended_at-same here took s =
+      ap (λ t. with_stream here.side (queue_ended here took t) (map_state f s)) (stream-forgets f here.side s)
+      ∙ ap (λ t. with_stream here.side t (map_state f s)) (queue_ended-same here took (stream here.side s))
+      ∙ with_stream-same f here.side (queue_ended here took (stream here.side s)) s
+
+  relieves-same : (took : Bool) (q : Queue C) → turn_relieves took (map_queue f q) ≡ turn_relieves took q
+  relieves-same took q = ap (λ b. took && b) (relieves_from-forgets f 0 q.messages q.flows)
+
+  end_relieves-same : (took : Bool) (way : Way) (p : Module C) → end_relieves module_queue took way (map_module f p) ≡ end_relieves module_queue took way p
+  end_relieves-same took Up (OfLdterm l) = relieves-same took l.read_queue
+  end_relieves-same took Down (OfLdterm l) = relieves-same took l.write_queue
+  end_relieves-same took way (OfPtem p) = refl
+  end_relieves-same took way (OfPckt p) = refl
+
+  more-same : (way : Way) (p : Module C) → has_more module_queue way (map_module f p) ≡ has_more module_queue way p
+  more-same Up (OfLdterm l) = ap (λ none. not none) (none-forgets f (map_message f) l.read_queue.messages)
+  more-same Down (OfLdterm l) = ap (λ none. not none) (none-forgets f (map_message f) l.write_queue.messages)
+  more-same way (OfPtem p) = refl
+  more-same way (OfPckt p) = refl
+
+  abbrev with_enabled : {E : Type 0} → List QueueName → State E → State E
+  with_enabled names s = record s { enabled = names }
+
+  turn_ended-same : (name : QueueName) (here : Spot) (took : Bool) (s : State C) → module_turn_ended name here took (map_state f s) ≡ map_state f (module_turn_ended name here took s)
+  turn_ended-same name here took s =
+      let on = stream here.side s in
+      let names : Bool → Bool → Option QueueName → List QueueName = λ more goes earlier. enable_if more name (enable_some goes earlier s.enabled) in
+      let ended = with_stream here.side (queue_ended here took (stream here.side (map_state f s))) (map_state f s) in
+      let earlier = earlier_at here.side here.at s here.way in
+      let goes = at_place (end_relieves module_queue took here.way) false here.at on.modules in
+      let more = at_place (has_more module_queue here.way) false here.at on.modules in
+      ap (λ (t : Stream D). with_enabled (names (at_place (has_more module_queue here.way) false here.at t.modules) (at_place (end_relieves module_queue took here.way) false here.at t.modules) (earlier_at here.side here.at (map_state f s) here.way)) ended) (stream-forgets f here.side s)
+      ∙ ap (λ b. with_enabled (names b (at_place (end_relieves module_queue took here.way) false here.at (images on.modules)) (earlier_at here.side here.at (map_state f s) here.way)) ended) (at_place-same (has_more module_queue here.way) (has_more module_queue here.way) (more-same here.way) false here.at on.modules)
+      ∙ ap (λ b. with_enabled (names more b (earlier_at here.side here.at (map_state f s) here.way)) ended) (at_place-same (end_relieves module_queue took here.way) (end_relieves module_queue took here.way) (end_relieves-same took here.way) false here.at on.modules)
+      ∙ ap (λ e. with_enabled (names more goes e) ended) (before_at-forgets f here.side here.way here.at s)
+      ∙ ap (λ x. with_enabled (names more goes earlier) x) (ended_at-same here took s)
+
+  -- how many were made
+  made-same : (side : Side) (s : State C) → made_below side (map_state f s) ≡ made_below side s
+  made-same Master s = refl
+  made-same Slave s = refl
+
+  -- one of several acts
+  among-same : (acts : Module C → Acted C (Module C)) (acts' : Module D → Acted D (Module D)) → ((p : Module C) → acts' (map_module f p) ≡ map_acted f (map_module f) (acts p)) → (i : ℕ) (ps : List (Module C))
+      → act_among acts' i (images ps) ≡ map_acted f (map (map_module f)) (act_among acts i ps)
+  among-same acts acts' same i [] = refl
+  among-same acts acts' same zero (p ∷ ps) = ap (λ (t : Acted D (Module D)). record { state = t.state ∷ images ps; notes = t.notes; sent = t.sent; gone = t.gone }) (same p)
+  among-same acts acts' same (suc i) (p ∷ ps) = ap (λ (t : Acted D (List (Module D))). record { state = map_module f p ∷ t.state; notes = t.notes; sent = t.sent; gone = t.gone }) (among-same acts acts' same i ps)
+
+  abbrev map_calls : Calls C → Calls D
+  map_calls t = record { state = map_state f t.state; gone = map (map_fate f) t.gone; bytes = t.bytes; ended = t.ended }
+
+  either-same : (b : Bool) (one another : TurnOutcome C) (one' another' : TurnOutcome D) → one' ≡ map_turn_outcome f one → another' ≡ map_turn_outcome f another → cond b one' another' ≡ map_turn_outcome f (cond b one another)
+  either-same true one another one' another' first second = first
+  either-same false one another one' another' first second = second
+
+  stayed-same : (turn : Turn) (here : Spot) (s : State C) → stayed_at turn here (map_state f s) ≡ map_turn_outcome f (stayed_at turn here s)
+  stayed-same turn here s = ap (λ x. stayed_put turn x) (ended_at-same here false s)
+
+  waits-same : (band : ℕ) (here : Spot) (s : State C) → waits_there band here (map_state f s) ≡ map_turn_outcome f (waits_there band here s)
+  waits-same band here s = ap (λ x. stayed_at Blocked here x) (writer_waits-forgets f here.side here.way here.at band s) ∙ stayed-same Blocked here (writer_waits here.side here.way here.at band s)
+
+  -- the place of the module whose queues have a name
+  named-same : (place : Place) (ps : List (Module C)) → place_named place (images ps) ≡ place_named place ps
+  named-same place ps =
+      ap (λ qs. named_from place 1 (places_of qs)) (take-map (map_module f) MODULES ps) ∙ ap (λ places. named_from place 1 places) (places-forget f (take MODULES ps))
+
+module _ {C : Type 0} (cells : Cells C) (are : AreCells cells) where
+  abbrev f : C → ℕ
+  f = cells.byte
+
+  module-serves : (here : Spot) (made : ℕ) (again : Bool) (left : ℕ) (p : Module C) → module_serves plain here made again (Some left) (map_module f p) ≡ map_serving f (map_module f) (module_serves cells here made again (Some left) p)
+  module-serves here made again left (OfLdterm l) = ap (served_by OfLdterm) (serves-forget cells are here made again (Some left) l)
+  module-serves here made again left (OfPtem p) = refl
+  module-serves here made again left (OfPckt p) = refl
+
+  acts-same : (here : Spot) (made : ℕ) (again : Bool) (left : ℕ) (p : Module C) → (module_serves plain here made again (Some left) (map_module f p)).acted ≡ map_acted f (map_module f) (module_serves cells here made again (Some left) p).acted
+  acts-same here made again left p = ap (λ (t : Serving ℕ (Module ℕ)). t.acted) (module-serves here made again left p)
+
+  bytes-same : (here : Spot) (made : ℕ) (again : Bool) (left : ℕ) (p : Module C) → (module_serves plain here made again (Some left) (map_module f p)).bytes ≡ (module_serves cells here made again (Some left) p).bytes
+  bytes-same here made again left p = ap (λ (t : Serving ℕ (Module ℕ)). t.bytes) (module-serves here made again left p)
+
+  again-same : (here : Spot) (made : ℕ) (again : Bool) (left : ℕ) (p : Module C) → (module_serves plain here made again (Some left) (map_module f p)).again ≡ (module_serves cells here made again (Some left) p).again
+  again-same here made again left p = ap (λ (t : Serving ℕ (Module ℕ)). t.again) (module-serves here made again left p)
+
+  -- one call, and what it sent
+  called-same : (here : Spot) (again : Bool) (left : ℕ) (s : State C) → module_called plain here again left (map_state f s) ≡ map_took f (map_state f) (module_called cells here again left s)
+  called-same here again left s =
+      let ps = (stream here.side s).modules in
+      let made = made_below here.side s in
+      ap (λ (t : Stream ℕ). module_acted here (call_at plain here (made_below here.side (map_state f s)) again left t.modules) (map_state f s)) (stream-forgets f here.side s)
+      ∙ ap (λ n. module_acted here (call_at plain here n again left (map (map_module f) ps)) (map_state f s)) (made-same f here.side s)
+      ∙ ap (λ t. module_acted here t (map_state f s))
+      (among-same f (λ p. (module_serves cells here made again (Some left) p).acted) (λ p. (module_serves plain here made again (Some left) p).acted) (acts-same here made again left) (here.at - 1) ps)
+      ∙ acted-same f here (call_at cells here made again left ps) s
+
+  sent-same : (t : Took C (State C)) → in_turn (carried (put_in plain) HOPS) (map (map_parcel f) t.sent) (map_state f t.state) ≡ map_carried f (map_state f) (in_turn (carried (put_in cells) HOPS) t.sent t.state)
+  sent-same t = in_turn-agrees f (map_state f) (carried (put_in cells) HOPS) (carried (put_in plain) HOPS) (carried-agrees f (map_state f) (put_in cells) (put_in plain) (puts-forget cells are) HOPS) t.sent t.state
+
+  -- what a call and those behind it come to
+  abbrev went_on : {E : Type 0} → Bool → ℕ → Took E (State E) → Carried E (State E) → Calls E → Calls E
+  went_on again bytes t u v =
+      cond again (record { state = v.state; gone = t.gone ++ u.gone ++ v.gone; bytes = bytes + v.bytes; ended = v.ended })
+      (record { state = u.state; gone = t.gone ++ u.gone; bytes = bytes; ended = true })
+
+  went_on-same : (again : Bool) (bytes : ℕ) (t : Took C (State C)) (u : Carried C (State C)) (v : Calls C)
+      → went_on again bytes (map_took f (map_state f) t) (map_carried f (map_state f) u) (map_calls f v) ≡ map_calls f (went_on again bytes t u v)
+  went_on-same true bytes t u v =
+      ap (λ gone. record { state = map_state f v.state; gone = gone; bytes = bytes + v.bytes; ended = v.ended })
+      (ap (λ gone. gone ++ map (map_fate f) v.gone) (sym (map-join (map_fate f) t.gone u.gone)) ∙ sym (map-join (map_fate f) (t.gone ++ u.gone) v.gone))
+  went_on-same false bytes t u v =
+      ap (λ gone. record { state = map_state f u.state; gone = gone; bytes = bytes; ended = true }) (sym (map-join (map_fate f) t.gone u.gone))
+
+  calls-same : (here : Spot) (n : ℕ) (again : Bool) (left : ℕ) (s : State C) → calls plain here n again left (map_state f s) ≡ map_calls f (calls cells here n again left s)
+  calls-same here zero again left s = refl
+  calls-same here (suc more) again left s =
+      let ps = (stream here.side s).modules in
+      let made = made_below here.side s in
+      let t = module_called cells here again left s in
+      let u = in_turn (carried (put_in cells) HOPS) t.sent t.state in
+      let bytes = bytes_at cells here made again left ps in
+      let goes = again_at cells here made again left ps in
+      let next : Bool → ℕ → Took ℕ (State ℕ) → Calls ℕ = λ b n x. (let y = in_turn (carried (put_in plain) HOPS) x.sent x.state in went_on b n x y (calls plain here more true (left - n) y.state)) in
+      ap (λ (on : Stream ℕ). next (again_at plain here (made_below here.side (map_state f s)) again left on.modules) (bytes_at plain here (made_below here.side (map_state f s)) again left on.modules) (module_called plain here again left (map_state f s))) (stream-forgets f here.side s)
+      ∙ ap (λ n. next (again_at plain here n again left (map (map_module f) ps)) (bytes_at plain here n again left (map (map_module f) ps)) (module_called plain here again left (map_state f s))) (made-same f here.side s)
+      ∙ ap (λ b. next b (bytes_at plain here made again left (map (map_module f) ps)) (module_called plain here again left (map_state f s)))
+      (at_place-same f (λ p. (module_serves cells here made again (Some left) p).again) (λ p. (module_serves plain here made again (Some left) p).again) (again-same here made again left) false here.at ps)
+      ∙ ap (λ n. next goes n (module_called plain here again left (map_state f s)))
+      (at_place-same f (λ p. (module_serves cells here made again (Some left) p).bytes) (λ p. (module_serves plain here made again (Some left) p).bytes) (bytes-same here made again left) 0 here.at ps)
+      ∙ ap (λ x. next goes bytes x) (called-same here again left s)
+      ∙ ap (λ (y : Carried ℕ (State ℕ)). went_on goes bytes (map_took f (map_state f) t) y (calls plain here more true (left - bytes) y.state)) (sent-same t)
+      ∙ ap (λ v. went_on goes bytes (map_took f (map_state f) t) (map_carried f (map_state f) u) v) (calls-same here more true (left - bytes) u.state)
+      ∙ went_on-same goes bytes t u (calls cells here more true (left - bytes) u.state)
+
+  -- a turn that treats bytes
+  abbrev moved_so : {E : Type 0} → QueueName → Spot → Calls E → State E → TurnOutcome E
+  moved_so name here t s =
+      cond t.ended (record { turn = Moved t.bytes; state = module_turn_ended name here (not (t.bytes == 0)) t.state; gone = t.gone }) (stayed_put Blocked s)
+
+  moved-same : (here : Spot) (name : QueueName) (bytes : ℕ) (s : State C) → moved_on plain here name bytes (map_state f s) ≡ map_turn_outcome f (moved_on cells here name bytes s)
+  moved-same here name bytes s =
+      let t = calls cells here (3 * bytes + 1) false bytes s in
+      ap (λ x. moved_so name here x (map_state f s)) (calls-same here (3 * bytes + 1) false bytes s)
+      ∙ either-same f t.ended (record { turn = Moved t.bytes; state = module_turn_ended name here (not (t.bytes == 0)) t.state; gone = t.gone }) (stayed_put Blocked s) _ _
+      (ap (λ x. record { turn = Moved t.bytes; state = x; gone = map (map_fate f) t.gone }) (turn_ended-same f name here (not (t.bytes == 0)) t.state)) refl
+
+  within-same : (here : Spot) (name : QueueName) (turn : Turn) (s : State C) → moved_within plain here name turn (map_state f s) ≡ map_turn_outcome f (moved_within cells here name turn s)
+  within-same here name turn s =
+      let ps = (stream here.side s).modules in
+      let size = at_place (λ p. first_size (messages_at module_queue here.way p)) 0 here.at ps in
+      ap (λ (t : Stream ℕ). moved_on plain here name (min (moved_by turn) (at_place (λ p. first_size (messages_at module_queue here.way p)) 0 here.at t.modules)) (map_state f s)) (stream-forgets f here.side s)
+      ∙ ap (λ n. moved_on plain here name (min (moved_by turn) n) (map_state f s))
+      (at_place-same f (λ p. first_size (messages_at module_queue here.way p)) (λ p. first_size (messages_at module_queue here.way p)) (size-same f here.way) 0 here.at ps)
+      ∙ moved-same here name (min (moved_by turn) size) s
+
+  asked-turn-same : (here : Spot) (asks : Asks) (name : QueueName) (turn : Turn) (s : State C) → asked_turn plain here asks name turn (map_state f s) ≡ map_turn_outcome f (asked_turn cells here asks name turn s)
+  asked-turn-same here asked.Empty name turn s = stayed-same f Idle here s
+  asked-turn-same here asked.Held name turn s = stayed-same f Blocked here s
+  asked-turn-same here asked.Free name turn s = within-same here name turn s
+  asked-turn-same here (asked.Room band) name turn s =
+      let room = has_room_past here.side here.way here.at band.0 s in
+      ap (λ b. cond b (moved_within plain here name turn (map_state f s)) (waits_there band.0 here (map_state f s))) (room-forgets f here.side here.way here.at band.0 s)
+      ∙ either-same f room (moved_within cells here name turn s) (waits_there band.0 here s) _ _ (within-same here name turn s) (waits-same f band.0 here s)
+
+  there-same : (here : Spot) (name : QueueName) (turn : Turn) (s : State C) → turned_there plain here name turn (map_state f s) ≡ map_turn_outcome f (turned_there cells here name turn s)
+  there-same here name turn s =
+      let ps = (stream here.side s).modules in
+      let rests = at_place module_rests false here.at ps in
+      let asks = at_place (module_asks here.way) asked.Empty here.at ps in
+      let image = map_state f s in
+      ap (λ (t : Stream ℕ). cond (at_place module_rests false here.at t.modules) (asked_turn plain here (at_place (module_asks here.way) asked.Empty here.at t.modules) name turn image) (stayed_put Blocked image)) (stream-forgets f here.side s)
+      ∙ ap (λ b. cond b (asked_turn plain here (at_place (module_asks here.way) asked.Empty here.at (map (map_module f) ps)) name turn image) (stayed_put Blocked image)) (at_place-same f module_rests module_rests (rests-same f) false here.at ps)
+      ∙ ap (λ o. cond rests (asked_turn plain here o name turn image) (stayed_put Blocked image)) (at_place-same f (module_asks here.way) (module_asks here.way) (asks-same f here.way) asked.Empty here.at ps)
+      ∙ either-same f rests (asked_turn cells here asks name turn s) (stayed_put Blocked s) _ _ (asked-turn-same here asks name turn s) refl
+
+  turned_named-same : (name : QueueName) (turn : Turn) (s : State C) (at : Option ℕ) → turned_named plain name turn (map_state f s) at ≡ map_turn_outcome f (turned_named cells name turn s at)
+  turned_named-same name turn s None = refl
+  turned_named-same name turn s (Some at) = there-same (record { side = name.side; at = at; way = name.way }) name turn s
+
+  pub module_turned-forgets : (name : QueueName) (turn : Turn) (s : State C) → module_turned plain name turn (map_state f s) ≡ map_turn_outcome f (module_turned cells name turn s)
+  module_turned-forgets name turn s =
+      ap (λ (t : Stream ℕ). turned_named plain name turn (map_state f s) (place_named name.place t.modules)) (stream-forgets f name.side s)
+      ∙ ap (λ at. turned_named plain name turn (map_state f s) at) (named-same f name.place (stream name.side s).modules)
+      ∙ turned_named-same name turn s (place_named name.place (stream name.side s).modules)

@@ -1,0 +1,340 @@
+-- A turn of a module's queue loses no cell, and behind it nothing of a turn is under way at any module.
+use Rattle.std.proofs.Common.{ℕ, zero, suc, ◌≡◌, ◌≤◌, ◌<◌, ◌+◌, ◌-◌, ◌*◌, Bool, true, false, cond, List, [], ◌∷◌, ◌++◌, length, take, refl, arith}
+use Rattle.std.specs.Prelude.{◌==◌, not, slice_index_or, Option, None, Some}
+use Rattle.std.specs.List.{AllByRecursion}
+use Rattle.std.proofs.lemmas.Bool.{false≢true}
+use Rattle.std.proofs.lemmas.List.{length-map, length-take}
+use Rattle.strm_types.specs.declared.answers.Turn.{Turn}
+use Rattle.strm_types.specs.declared.answers.Turn.TheVariants.{Moved, Blocked}
+use Rattle.strm_types.specs.declared.limits.TheConstants.{MODULES, HOPS}
+use Rattle.strm_types.specs.declared.names.Dir.{Dir}
+use Rattle.strm_types.specs.declared.names.Place.{Place}
+use Rattle.strm_types.specs.declared.names.QueueName.{QueueName}
+use Rattle.strm_types.specs.declared.names.Side.{Side}
+use Rattle.strm_types.specs.declared.names.Side.TheVariants.{Master, Slave}
+use Rattle.strm_types.specs.declared.spots.Asks.{Asks}
+use Rattle.strm_types.specs.declared.spots.Asks.TheVariants as asked
+use Rattle.strm_types.specs.declared.spots.Spot.{Spot}
+use Rattle.strm_types.specs.Cells.{Cells}
+use Rattle.strm_types.specs.Deliver.{Acted, Carried, Parcel, carried, in_turn}
+use Rattle.strm_laws.specs.Earlier.{places_of}
+use Rattle.strm_laws.specs.Kept.{AreIdle, state_weight}
+use Rattle.strm_laws.specs.LdtermWeights.{IgnoresMapping}
+use Rattle.strm_types.specs.Message.{Message}
+use Rattle.strm_types.specs.ModuleQueues.{at_place}
+use Rattle.strm_laws.specs.ModuleTurns.{Calls, again_at, asked_turn, bytes_at, call_at, calls, made_below, module_called, module_turn_ended, module_turned, moved_on, moved_within, named_from, place_named, queue_ended, turned_named, turned_there, waits_there}
+use Rattle.strm_types.specs.Modules.{put_among}
+use Rattle.strm_types.specs.Names.{place_of, same_place}
+use Rattle.strm_laws.specs.Past.{has_room_past, writer_waits}
+use Rattle.strm_laws.specs.Places.{CarryKeeps, weight_gone, weight_made}
+use Rattle.strm_laws.specs.Puts.{earlier_at, noted, put_in}
+use Rattle.strm_types.specs.Far.{far}
+use Rattle.strm_types.specs.Queue.{Queue}
+use Rattle.strm_types.specs.Service.{turn_ended}
+use Rattle.strm_laws.specs.Stacked.{Module, module_asks, module_name, module_puts, module_rests, modules_weight}
+use Rattle.strm_laws.specs.State.{State, stream, with_stream}
+use Rattle.strm_laws.specs.TurnOutcomes.{TurnOutcome, stayed_put}
+use Rattle.strm_types.proofs.DeliveryHolds.{carried-holds, in_turn-holds}
+use Rattle.strm_laws.proofs.DeliveryKeeps.{carried-keeps, gone-append, in_turn-keeps, made-append}
+use Rattle.strm_types.proofs.LdtermPuts.{either}
+use Rattle.strm_laws.proofs.ModuleCalls.{IsReadyAt, OneIs, among-goes, among-keeps, among-near, among-rests, first-ready, one-of-idle, one-puts, puts-ready}
+use Rattle.strm_laws.proofs.ModulesHold.{OnBoth, books-good, puts-good}
+use Rattle.strm_laws.proofs.ModulesIdle.{AllIdle, among-idle}
+use Rattle.strm_laws.proofs.Past.{waits-idle, waits-keeps}
+use Rattle.strm_laws.proofs.PutsFall.{far-within, puts-fall}
+use Rattle.strm_laws.proofs.PutsKeep.{booked-keeps, puts-keep}
+use Rattle.strm_laws.proofs.PutParts.{booked-holds}
+use Rattle.strm_laws.proofs.QueueChanges.{changes-idle, changes-keep}
+
+module _ {C : Type 0} where
+  -- What holds of the modules of a side's stream in a turn there: on the other stream nothing of a turn is under way.
+  abbrev OnOne : Side → (List (Module C) → Type 0) → Side → List (Module C) → Type 0
+  OnOne Master On Master ps = On ps
+  OnOne Master On Slave ps = AllIdle ps
+  OnOne Slave On Master ps = AllIdle ps
+  OnOne Slave On Slave ps = On ps
+
+  abbrev InTurn : Side → (List (Module C) → Type 0) → State C → Type 0
+  InTurn side On s = OnBoth (OnOne side On) s
+
+  -- nothing of a turn is under way, before it and behind it
+  turn-of-idle : (side : Side) (On : List (Module C) → Type 0) (s : State C) → (AllIdle (stream side s).modules → On (stream side s).modules) → AreIdle s → InTurn side On s
+  turn-of-idle Master On s on idle = (on idle.master, idle.slave)
+  turn-of-idle Slave On s on idle = (idle.master, on idle.slave)
+
+  idle-of-turn : (side : Side) (s : State C) → InTurn side AllIdle s → AreIdle s
+  idle-of-turn Master s both = record { master = both.0; slave = both.1 }
+  idle-of-turn Slave s both = record { master = both.0; slave = both.1 }
+
+  -- the modules of the stream of the turn
+  turn-on : (side : Side) (On : List (Module C) → Type 0) (s : State C) → InTurn side On s → On (stream side s).modules
+  turn-on Master On s both = both.0
+  turn-on Slave On s both = both.1
+
+  -- other modules stand there
+  turn-with : (side : Side) (Was On : List (Module C) → Type 0) (ps : List (Module C)) (names : List QueueName) (s : State C) → InTurn side Was s → On ps
+      → InTurn side On (record (with_stream side (record (stream side s) { modules = ps }) s) { enabled = names })
+  turn-with Master Was On ps names s both on = (on, both.1)
+  turn-with Slave Was On ps names s both on = (both.0, on)
+
+  -- what is sent is delivered
+  module _ (cells : Cells C) where
+    -- what a put at one of several modules keeps
+    abbrev PutsStay : (List (Module C) → Type 0) → Type 0
+    PutsStay On = (made i : ℕ) (here : Spot) (m : Message C) (ps : List (Module C)) → On ps → On (put_among (module_puts cells made) i here m ps).state
+
+    on-one-puts : (side : Side) (On : List (Module C) → Type 0) → PutsStay On
+        → (of : Side) (made i : ℕ) (here : Spot) (m : Message C) (ps : List (Module C)) → OnOne side On of ps → OnOne side On of (put_among (module_puts cells made) i here m ps).state
+    on-one-puts Master On stays Master made i here m ps on = stays made i here m ps on
+    on-one-puts Master On stays Slave made i here m ps on = among-idle cells made i here m ps on
+    on-one-puts Slave On stays Master made i here m ps on = among-idle cells made i here m ps on
+    on-one-puts Slave On stays Slave made i here m ps on = stays made i here m ps on
+
+    turn-sent : (side : Side) (On : List (Module C) → Type 0) → PutsStay On
+        → (sent : List (Parcel C)) (s : State C) → InTurn side On s → InTurn side On (in_turn (carried (put_in cells) HOPS) sent s).state
+    turn-sent side On stays sent s both =
+        let puts = puts-good (OnOne side On) cells (on-one-puts side On stays) in
+        in_turn-holds (InTurn side On) (carried (put_in cells) HOPS) (carried-holds (InTurn side On) (put_in cells) puts HOPS) sent s both
+
+  -- the queues that are enabled behind a call, and what stands behind it before it is booked
+  abbrev names_behind : Spot → Acted C (List (Module C)) → State C → List QueueName
+  names_behind here t s = noted here.side (slice_index_or (places_of (stream here.side s).modules) (here.at - 1) None) (earlier_at here.side here.at s) t.notes s.enabled
+
+  abbrev stands_behind : Spot → Acted C (List (Module C)) → State C → State C
+  stands_behind here t s =
+      let on = stream here.side s in
+      record (with_stream here.side (record on { modules = t.state }) s) { enabled = names_behind here t s }
+
+  -- the end of a turn
+  ended-messages : (took : Bool) (q : Queue C) → (turn_ended took q).messages ≡ q.messages
+  ended-messages true q = refl
+  ended-messages false q = refl
+
+  ended-idle : (here : Spot) (took : Bool) (s : State C) → AreIdle s → AreIdle (with_stream here.side (queue_ended here took (stream here.side s)) s)
+  ended-idle here took s idle = at here.side
+    where
+      at : (side : Side) → AreIdle (with_stream side (queue_ended here took (stream side s)) s)
+      at Master = record { master = changes-idle (turn_ended took) here.way (here.at - 1) s.master.modules idle.master; slave = idle.slave }
+      at Slave = record { master = idle.master; slave = changes-idle (turn_ended took) here.way (here.at - 1) s.slave.modules idle.slave }
+
+-- a module with a name is one of the first three
+named-low : (place : Place) (from : ℕ) (places : List (Option Place)) (at : ℕ) → named_from place from places ≡ Some at → at < from + length places
+named-low place from [] at is = absurd (cc)
+named-low place from (None ∷ places) at is = let low = named-low place (suc from) places at is in omega arith
+named-low place from (Some other ∷ places) at is = by (same_place other place) is (λ more. named-low place (suc from) places at more)
+  where
+    by : (same : Bool) → cond same (Some from) (named_from place (suc from) places) ≡ Some at → (named_from place (suc from) places ≡ Some at → at < suc from + length places) → at < from + suc (length places)
+    by true is low = let same : from ≡ at = cc in omega arith
+    by false is low = let more = low is in omega arith
+
+placed-low : {C : Type 0} (place : Place) (ps : List (Module C)) (at : ℕ) → place_named place ps ≡ Some at → at ≤ MODULES
+placed-low {C} place ps at is =
+    let first = take MODULES ps in
+    omega (arith, named-low place 1 (places_of first) at is, length-map first (λ (p : Module C). place_of (module_name p)), length-take MODULES ps)
+
+module _ {C : Type 0} (cells : Cells C) (here : Spot) where
+  -- the module whose queue has the turn is ready for a call
+  abbrev HasCall : Bool → ℕ → List (Module C) → Type 0
+  HasCall again left ps = OneIs (λ l. IsReadyAt again here.way left l) (here.at - 1) ps
+
+  call-stays : (again : Bool) (left : ℕ) → PutsStay cells (HasCall again left)
+  call-stays again left made i to m ps one = one-puts cells made (λ l. IsReadyAt again here.way left l) (puts-ready cells made again here.way left) (here.at - 1) i to m ps one
+
+  -- what a call leads to, with what it sent
+  abbrev called_out : Bool → ℕ → State C → Carried C (State C)
+  called_out again left s =
+      let t = module_called cells here again left s in
+      in_turn (carried (put_in cells) HOPS) t.sent t.state
+
+  module _ (again : Bool) (left : ℕ) (s : State C) (turn : InTurn here.side (HasCall again left) s) where
+    abbrev on_it : List (Module C)
+    on_it = (stream here.side s).modules
+
+    abbrev call : Acted C (List (Module C))
+    call = call_at cells here (made_below here.side s) again left on_it
+
+    called-turn : (On : List (Module C) → Type 0) → On call.state → InTurn here.side On (module_called cells here again left s).state
+    called-turn On on = booked-holds (OnBoth (OnOne here.side On)) (books-good (OnOne here.side On)) call.gone (stands_behind here call s) (turn-with here.side (HasCall again left) On call.state (names_behind here call s) s turn on)
+
+    out-goes : again_at cells here (made_below here.side s) again left on_it ≡ true
+        → InTurn here.side (HasCall true (left - bytes_at cells here (made_below here.side s) again left on_it)) (called_out again left s).state
+    out-goes works =
+        let t = module_called cells here again left s in
+        let less = left - bytes_at cells here (made_below here.side s) again left on_it in
+        turn-sent cells here.side (HasCall true less) (call-stays true less) t.sent t.state
+        (called-turn (HasCall true less) (among-goes cells here (made_below here.side s) again left (here.at - 1) on_it (turn-on here.side (HasCall again left) s turn) works))
+
+    out-rests : again_at cells here (made_below here.side s) again left on_it ≡ false → InTurn here.side AllIdle (called_out again left s).state
+    out-rests over =
+        let t = module_called cells here again left s in
+        turn-sent cells here.side AllIdle (among-idle cells) t.sent t.state
+        (called-turn AllIdle (among-rests cells here (made_below here.side s) again left (here.at - 1) on_it (turn-on here.side (HasCall again left) s turn) over))
+
+  -- where nothing of a turn is under way, one may begin
+  begun : (left : ℕ) (s : State C) → AreIdle s → InTurn here.side (HasCall false left) s
+  begun left s idle = turn-of-idle here.side (HasCall false left) s (one-of-idle (λ l. IsReadyAt false here.way left l) (first-ready here.way left) (here.at - 1) (stream here.side s).modules) idle
+
+  -- calls, up to the end of the turn
+  calls-rest : (n : ℕ) (again : Bool) (left : ℕ) (s : State C) → InTurn here.side (HasCall again left) s → let v = calls cells here n again left s in v.ended ≡ true → InTurn here.side AllIdle v.state
+  calls-rest zero again left s turn ended = absurd (false≢true ended)
+  calls-rest (suc more) again left s turn ended = at (again_at cells here made again left ps) refl (λ goes. calls-rest more true (left - bytes_at cells here made again left ps) (called_out again left s).state goes) ended
+    where
+      ps : List (Module C)
+      ps = (stream here.side s).modules
+
+      made : ℕ
+      made = made_below here.side s
+
+      less : ℕ
+      less = left - bytes_at cells here made again left ps
+
+      at : (goes : Bool) → again_at cells here made again left ps ≡ goes
+          → (InTurn here.side (HasCall true less) (called_out again left s).state → let v = calls cells here more true less (called_out again left s).state in v.ended ≡ true → InTurn here.side AllIdle v.state)
+          → (let t = module_called cells here again left s in
+          let u = called_out again left s in
+          let v = calls cells here more true less u.state in
+          let bytes = bytes_at cells here made again left ps in
+          let w : Calls C = cond goes (record { state = v.state; gone = t.gone ++ u.gone ++ v.gone; bytes = bytes + v.bytes; ended = v.ended }) (record { state = u.state; gone = t.gone ++ u.gone; bytes = bytes; ended = true }) in
+          w.ended ≡ true → InTurn here.side AllIdle w.state)
+      at true works behind ended = behind (out-goes again left s turn works) ended
+      at false over behind ended = out-rests again left s turn over
+
+  abbrev Rests : TurnOutcome C → Type 0
+  Rests t = AreIdle t.state
+
+  moved-rests : (name : QueueName) (bytes : ℕ) (s : State C) → AreIdle s → Rests (moved_on cells here name bytes s)
+  moved-rests name bytes s idle = at t.ended (λ ended. idle-of-turn here.side t.state (calls-rest (3 * bytes + 1) false bytes s (begun bytes s idle) ended))
+    where
+      t : Calls C
+      t = calls cells here (3 * bytes + 1) false bytes s
+
+      at : (ended : Bool) → (ended ≡ true → AreIdle t.state) → Rests (cond ended (record { turn = Moved t.bytes; state = module_turn_ended name here (not (t.bytes == 0)) t.state; gone = t.gone }) (stayed_put Blocked s))
+      at true behind = let rested = ended-idle here (not (t.bytes == 0)) t.state (behind refl) in record { master = rested.master; slave = rested.slave }
+      at false behind = idle
+
+  asked-rests : (asks : Asks) (name : QueueName) (turn : Turn) (s : State C) → AreIdle s → Rests (asked_turn cells here asks name turn s)
+  asked-rests asked.Empty name turn s idle = ended-idle here false s idle
+  asked-rests asked.Held name turn s idle = ended-idle here false s idle
+  asked-rests asked.Free name turn s idle = moved-rests name _ s idle
+  asked-rests (asked.Room band) name turn s idle =
+      let waiting = writer_waits here.side here.way here.at band.0 s in
+      either Rests (has_room_past here.side here.way here.at band.0 s) (moved_within cells here name turn s) (waits_there band.0 here s) (moved-rests name _ s idle)
+      (ended-idle here false waiting (waits-idle here.side here.way here.at band.0 s idle))
+
+  there-rests : (name : QueueName) (turn : Turn) (s : State C) → AreIdle s → Rests (turned_there cells here name turn s)
+  there-rests name turn s idle =
+      let ps = (stream here.side s).modules in
+      let asks = at_place (module_asks here.way) asked.Empty here.at ps in
+      either Rests (at_place module_rests false here.at ps) (asked_turn cells here asks name turn s) (stayed_put Blocked s) (asked-rests asks name turn s idle) idle
+
+module _ {C : Type 0} where
+  pub module_turned-rests : (cells : Cells C) (name : QueueName) (turn : Turn) (s : State C) → AreIdle s → AreIdle (module_turned cells name turn s).state
+  module_turned-rests cells name turn s idle = named (place_named name.place (stream name.side s).modules)
+    where
+      named : (o : Option ℕ) → AreIdle (turned_named cells name turn s o).state
+      named None = idle
+      named (Some at) = there-rests cells (record { side = name.side; at = at; way = name.way }) name turn s idle
+
+-- no cell is lost, and none made that isn't told
+module _ {C : Type 0} (p : Dir → C → Bool) where
+  -- other modules stand on a side's stream
+  with-keeps : (side : Side) (ps : List (Module C)) (names : List QueueName) (s : State C)
+      → state_weight p (record (with_stream side (record (stream side s) { modules = ps }) s) { enabled = names }) + modules_weight p side (stream side s).modules ≡ state_weight p s + modules_weight p side ps
+  with-keeps Master ps names s = omega arith
+  with-keeps Slave ps names s = omega arith
+
+  ended-keeps : (here : Spot) (took : Bool) (s : State C) → state_weight p (with_stream here.side (queue_ended here took (stream here.side s)) s) ≡ state_weight p s
+  ended-keeps here took s =
+      let ps = (stream here.side s).modules in
+      omega (arith, with-keeps here.side (queue_ended here took (stream here.side s)).modules s.enabled s, changes-keep (turn_ended took) p here.side (ended-messages took) here.way (here.at - 1) ps)
+
+  -- what goes to places next to a module's own is delivered
+  carries : (cells : Cells C) (at : ℕ) → at ≤ MODULES → (sent : List (Parcel C)) → AllByRecursion (λ (q : Parcel C). q.to.at ≤ suc at) sent → AllByRecursion (CarryKeeps p (state_weight p) (carried (put_in cells) HOPS)) sent
+  carries cells at low [] near = tt
+  carries cells at low (q ∷ sent) near =
+      let far_less = far-within q.to q.message (let next = near.0 in omega arith) in
+      (carried-keeps p (state_weight p) far (put_in cells) (puts-keep p cells) (puts-fall cells) HOPS q far_less, carries cells at low sent near.1)
+
+  module _ (cells : Cells C) (ignores : IgnoresMapping cells p) (here : Spot) (low : here.at ≤ MODULES) where
+    -- a call, with what it sent
+    out-keeps : (again : Bool) (left : ℕ) (s : State C) → InTurn here.side (HasCall cells here again left) s → let t = module_called cells here again left s in let u = called_out cells here again left s in
+        state_weight p u.state + weight_gone p (t.gone ++ u.gone) ≡ state_weight p s + weight_made p (t.gone ++ u.gone)
+    out-keeps again left s turn =
+        let ps = (stream here.side s).modules in
+        let made = made_below here.side s in
+        let t = module_called cells here again left s in
+        let u = called_out cells here again left s in
+        let acted = call_at cells here made again left ps in
+        let one = turn-on here.side (HasCall cells here again left) s turn in
+        omega (
+          arith,
+          among-keeps cells here made again left p ignores (here.at - 1) ps one,
+          booked-keeps p acted.gone (stands_behind here acted s),
+          with-keeps here.side acted.state (names_behind here acted s) s,
+          in_turn-keeps p (state_weight p) (carried (put_in cells) HOPS) t.sent (carries cells here.at low t.sent (among-near cells here made again left (here.at - 1) ps)) t.state,
+          gone-append p t.gone u.gone,
+          made-append p t.gone u.gone,
+        )
+
+    calls-keep : (n : ℕ) (again : Bool) (left : ℕ) (s : State C) → InTurn here.side (HasCall cells here again left) s → let v = calls cells here n again left s in
+        state_weight p v.state + weight_gone p v.gone ≡ state_weight p s + weight_made p v.gone
+    calls-keep zero again left s turn = omega arith
+    calls-keep (suc more) again left s turn = at (again_at cells here made again left ps) refl (λ goes. calls-keep more true (left - bytes_at cells here made again left ps) (called_out cells here again left s).state goes)
+      where
+        ps : List (Module C)
+        ps = (stream here.side s).modules
+
+        made : ℕ
+        made = made_below here.side s
+
+        less : ℕ
+        less = left - bytes_at cells here made again left ps
+
+        at : (goes : Bool) → again_at cells here made again left ps ≡ goes
+            → (let u = called_out cells here again left s in
+            InTurn here.side (HasCall cells here true less) u.state → let v = calls cells here more true less u.state in state_weight p v.state + weight_gone p v.gone ≡ state_weight p u.state + weight_made p v.gone)
+            → (let t = module_called cells here again left s in
+            let u = called_out cells here again left s in
+            let bytes = bytes_at cells here made again left ps in
+            let v = calls cells here more true (left - bytes) u.state in
+            let w : Calls C = cond goes (record { state = v.state; gone = t.gone ++ u.gone ++ v.gone; bytes = bytes + v.bytes; ended = v.ended }) (record { state = u.state; gone = t.gone ++ u.gone; bytes = bytes; ended = true }) in
+            state_weight p w.state + weight_gone p w.gone ≡ state_weight p s + weight_made p w.gone)
+        at true works behind =
+            let t = module_called cells here again left s in
+            let u = called_out cells here again left s in
+            let v = calls cells here more true less u.state in
+            omega (arith, out-keeps again left s turn, behind (out-goes cells here again left s turn works), gone-append p (t.gone ++ u.gone) v.gone, made-append p (t.gone ++ u.gone) v.gone)
+        at false over behind = out-keeps again left s turn
+
+    -- a turn in a pair that had so many cells
+    abbrev Keeps : ℕ → TurnOutcome C → Type 0
+    Keeps n t = state_weight p t.state + weight_gone p t.gone ≡ n + weight_made p t.gone
+
+    moved-keeps : (name : QueueName) (bytes : ℕ) (s : State C) → AreIdle s → Keeps (state_weight p s) (moved_on cells here name bytes s)
+    moved-keeps name bytes s idle =
+        let t = calls cells here (3 * bytes + 1) false bytes s in
+        let kept = calls-keep (3 * bytes + 1) false bytes s (begun cells here bytes s idle) in
+        either (Keeps (state_weight p s)) t.ended _ (stayed_put Blocked s) (omega (arith, kept, ended-keeps here (not (t.bytes == 0)) t.state)) (omega arith)
+
+    asked-keeps : (asks : Asks) (name : QueueName) (turn : Turn) (s : State C) → AreIdle s → Keeps (state_weight p s) (asked_turn cells here asks name turn s)
+    asked-keeps asked.Empty name turn s idle = omega (arith, ended-keeps here false s)
+    asked-keeps asked.Held name turn s idle = omega (arith, ended-keeps here false s)
+    asked-keeps asked.Free name turn s idle = moved-keeps name _ s idle
+    asked-keeps (asked.Room band) name turn s idle =
+        let waiting = writer_waits here.side here.way here.at band.0 s in
+        either (Keeps (state_weight p s)) (has_room_past here.side here.way here.at band.0 s) (moved_within cells here name turn s) (waits_there band.0 here s) (moved-keeps name _ s idle)
+        (omega (arith, ended-keeps here false waiting, waits-keeps p here.side here.way here.at band.0 s))
+
+    there-keeps : (name : QueueName) (turn : Turn) (s : State C) → AreIdle s → Keeps (state_weight p s) (turned_there cells here name turn s)
+    there-keeps name turn s idle =
+        let ps = (stream here.side s).modules in
+        let asks = at_place (module_asks here.way) asked.Empty here.at ps in
+        either (Keeps (state_weight p s)) (at_place module_rests false here.at ps) (asked_turn cells here asks name turn s) (stayed_put Blocked s) (asked-keeps asks name turn s idle) (omega arith)
+
+  pub module_turned-keeps : (cells : Cells C) → IgnoresMapping cells p → (name : QueueName) (turn : Turn) (s : State C) → AreIdle s → let t = module_turned cells name turn s in
+      state_weight p t.state + weight_gone p t.gone ≡ state_weight p s + weight_made p t.gone
+  module_turned-keeps cells ignores name turn s idle = named (place_named name.place (stream name.side s).modules) refl
+    where
+      named : (o : Option ℕ) → place_named name.place (stream name.side s).modules ≡ o → let t = turned_named cells name turn s o in state_weight p t.state + weight_gone p t.gone ≡ state_weight p s + weight_made p t.gone
+      named None is = omega arith
+      named (Some at) is = there-keeps cells ignores (record { side = name.side; at = at; way = name.way }) (placed-low name.place (stream name.side s).modules at is) name turn s idle

@@ -1,0 +1,47 @@
+-- A put at a module begins no turn: one of which nothing of a turn is under way stays so, and with it all that comes of a put in a pair.
+use Rattle.std.proofs.Common.{ℕ, zero, suc, List, [], ◌∷◌}
+use Rattle.std.specs.List.{AllByRecursion}
+use Rattle.strm_types.specs.declared.limits.TheConstants.{HOPS}
+use Rattle.strm_types.specs.declared.names.Side.{Side}
+use Rattle.strm_types.specs.declared.spots.Spot.{Spot}
+use Rattle.strm_types.specs.Cells.{Cells}
+use Rattle.strm_laws.specs.Kept.{AreIdle}
+use Rattle.strm_types.specs.LdtermPuts.{ldterm_puts}
+use Rattle.strm_types.specs.Message.{Message}
+use Rattle.strm_types.specs.Modules.{put_among}
+use Rattle.strm_laws.specs.Puts.{delivered, put_at_head, put_in}
+use Rattle.strm_laws.specs.Stacked.{Module, OfLdterm, OfPtem, OfPckt, IsAtRest, module_puts}
+use Rattle.strm_laws.specs.State.{State}
+use Rattle.strm_types.proofs.DeliveryHolds.{PutHolds, carried-holds}
+use Rattle.strm_types.proofs.LdtermPutStays.{idle-stays, puts-stay}
+use Rattle.strm_laws.proofs.ModulesHold.{head-good, puts-good}
+
+module _ {C : Type 0} where
+  pub puts-idle : (cells : Cells C) (made : ℕ) (here : Spot) (m : Message C) (q : Module C) → IsAtRest q → IsAtRest (module_puts cells made here m q).state
+  puts-idle cells made here m (OfLdterm l) idle = idle-stays l (ldterm_puts here m l).state (puts-stay here m l) idle
+  puts-idle cells made here m (OfPtem q) idle = tt
+  puts-idle cells made here m (OfPckt q) idle = tt
+
+  abbrev pub AllIdle : List (Module C) → Type 0
+  AllIdle ps = AllByRecursion (λ p. IsAtRest p) ps
+
+  pub among-idle : (cells : Cells C) (made i : ℕ) (here : Spot) (m : Message C) (ps : List (Module C)) → AllIdle ps → AllIdle (put_among (module_puts cells made) i here m ps).state
+  among-idle cells made i here m [] idle = tt
+  among-idle cells made zero here m (l ∷ ls) idle = (puts-idle cells made here m l idle.0, idle.1)
+  among-idle cells made (suc i) here m (l ∷ ls) idle = (idle.0, among-idle cells made i here m ls idle.1)
+
+  abbrev AllOn : Side → List (Module C) → Type 0
+  AllOn side ps = AllIdle ps
+
+  pub puts-rest : (cells : Cells C) → PutHolds {C = C} AreIdle (put_in cells)
+  puts-rest cells to m s idle =
+      let all = puts-good AllOn cells (λ side. among-idle cells) to m s (idle.master, idle.slave) in
+      record { master = all.0; slave = all.1 }
+
+  pub head-idle : (side : Side) (here : Spot) (m : Message C) (s : State C) → AreIdle s → AreIdle (put_at_head side here m s).state
+  head-idle side here m s idle =
+      let all = head-good AllOn side here m s (idle.master, idle.slave) in
+      record { master = all.0; slave = all.1 }
+
+  pub delivered-idle : (cells : Cells C) (to : Spot) (m : Message C) (s : State C) → AreIdle s → AreIdle (delivered cells to m s).state
+  delivered-idle cells to m s idle = carried-holds AreIdle (put_in cells) (puts-rest cells) HOPS (record { to = to; message = m }) s idle

@@ -1,0 +1,77 @@
+-- Output loses no cell and makes none that it doesn't tell, and does the same where origins are forgotten.
+use Rattle.std.proofs.Common.{ℕ, ◌≡◌, ◌+◌, Bool, cond, List, [], ◌∷◌, ◌++◌, map, replicate, refl, sym, ap, ◌∙◌, arith}
+use Rattle.std.proofs.lemmas.List.{map-append}
+use Rattle.std.specs.Prelude.{count_by}
+use Rattle.strm_types.specs.declared.names.Dir.{Dir}
+use Rattle.strm_types.specs.declared.output.Given.{Given}
+use Rattle.strm_types.specs.declared.output.Given.TheVariants.{Byte, Ended, Spaces, Nothing}
+use Rattle.strm_types.specs.declared.rules.Rule.TheVariants.{Replaced}
+use Rattle.strm_types.specs.declared.termios.Termios.{Termios}
+use Rattle.strm_types.specs.Cells.{Cells, AreCells, plain}
+use Rattle.strm_types.specs.Deliver.{Goes, Comes}
+use Rattle.strm_types.specs.Keys.{carriage_return, newline}
+use Rattle.strm_laws.specs.LdtermWeights.{IgnoresMapping}
+use Rattle.strm_types.specs.Origins.{map_fate}
+use Rattle.strm_types.specs.Output.{given_for, made_for, map_output, post, posts, return_made, space, told_for}
+use Rattle.strm_laws.specs.Places.{weight_gone, weight_made}
+use Rattle.strm_laws.proofs.DeliveryKeeps.{gone-append, made-append}
+use Rattle.strm_types.proofs.MadeCells.{made-forget}
+use Rattle.strm_types.proofs.Outputs.{in_front}
+use Rattle.strm_types.proofs.Weights.{count-join}
+
+-- cells are kept
+
+module _ {C : Type 0} (p : Dir → C → Bool) (cells : Cells C) (ignores : IgnoresMapping cells p) (dir : Dir) where
+  same : (b : ℕ) (c : C) → count_by (p dir) (cells.mapped b c ∷ []) ≡ count_by (p dir) (c ∷ [])
+  same b c = ap (λ x. 0 + cond x 1 0) (ignores dir b c)
+
+  first-keeps : (given : Given) (made : ℕ) (c : C) →
+      count_by (p dir) (given_for cells dir given made c) + weight_gone p (told_for cells dir given made c) ≡ count_by (p dir) (c ∷ []) + weight_made p (told_for cells dir given made c)
+  first-keeps (Byte b) made c = omega (arith, same b c)
+  first-keeps Ended made c = omega (arith, same newline c, count-join (p dir) (return_made cells dir made) (cells.mapped newline c ∷ []))
+  first-keeps (Spaces columns) made c = omega arith
+  first-keeps Nothing made c = omega arith
+
+  pub posts-keep : (made : ℕ) (t : Termios) (column : ℕ) (xs : List C) →
+      let u = posts cells dir made t column xs in count_by (p dir) u.given + weight_gone p u.told ≡ count_by (p dir) xs + weight_made p u.told
+  posts-keep made t column [] = refl
+  posts-keep made t column (c ∷ xs) =
+      let q = post t column (cells.byte c) in
+      let given = given_for cells dir q.given made c in
+      let told = told_for cells dir q.given made c in
+      let u = posts cells dir (made + made_for q.given) t q.column xs in
+      omega (arith, first-keeps q.given made c, posts-keep (made + made_for q.given) t q.column xs, count-join (p dir) given u.given, gone-append p told u.told, made-append p told u.told, count-join (p dir) (c ∷ []) xs)
+
+-- origins are forgotten
+
+module _ {C : Type 0} (cells : Cells C) (are : AreCells cells) (dir : Dir) where
+  abbrev f : C → ℕ
+  f = cells.byte
+
+  given-forgets : (given : Given) (made : ℕ) (c : C) → given_for plain dir given made (f c) ≡ map f (given_for cells dir given made c)
+  given-forgets (Byte b) made c = ap (λ x. x ∷ []) (sym (are.byte_mapped b c))
+  given-forgets Ended made c =
+      ap (λ xs. xs ++ newline ∷ []) (made-forget cells are dir made (carriage_return ∷ []))
+      ∙ ap (λ x. map f (return_made cells dir made) ++ x ∷ []) (sym (are.byte_mapped newline c))
+      ∙ sym (map-append f (return_made cells dir made) (cells.mapped newline c ∷ []))
+  given-forgets (Spaces columns) made c = made-forget cells are dir made (replicate columns space)
+  given-forgets Nothing made c = refl
+
+  told-forgets : (given : Given) (made : ℕ) (c : C) → told_for plain dir given made (f c) ≡ map (map_fate f) (told_for cells dir given made c)
+  told-forgets (Byte b) made c = refl
+  told-forgets Ended made c = ap (λ xs. Comes dir xs ∷ []) (made-forget cells are dir made (carriage_return ∷ []))
+  told-forgets (Spaces columns) made c = ap (λ xs. Comes dir xs ∷ Goes dir Replaced (f c ∷ []) ∷ []) (made-forget cells are dir made (replicate columns space))
+  told-forgets Nothing made c = refl
+
+  pub posts-forget : (made : ℕ) (t : Termios) (column : ℕ) (xs : List C) → posts plain dir made t column (map f xs) ≡ map_output f (posts cells dir made t column xs)
+  posts-forget made t column [] = refl
+  posts-forget made t column (c ∷ xs) =
+      let p = post t column (f c) in
+      let given = given_for cells dir p.given made c in
+      let told = told_for cells dir p.given made c in
+      let u = posts cells dir (made + made_for p.given) t p.column xs in
+      ap (λ v. in_front (given_for plain dir p.given made (f c)) (told_for plain dir p.given made (f c)) v) (posts-forget (made + made_for p.given) t p.column xs)
+      ∙ ap (λ g. in_front g (told_for plain dir p.given made (f c)) (map_output f u)) (given-forgets p.given made c)
+      ∙ ap (λ g. in_front (map f given) g (map_output f u)) (told-forgets p.given made c)
+      ∙ ap (λ g. record { given = g; column = u.column; told = map (map_fate f) told ++ map (map_fate f) u.told }) (sym (map-append f given u.given))
+      ∙ ap (λ g. record { given = map f (given ++ u.given); column = u.column; told = g }) (sym (map-append (map_fate f) told u.told))

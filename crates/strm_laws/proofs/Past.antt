@@ -1,0 +1,107 @@
+-- Room past a place is the same where the origins of cells are forgotten, and a writer that waits there changes nothing that stands.
+use Rattle.std.proofs.Common.{ℕ, zero, suc, ◌≡◌, ◌-◌, Bool, false, List, [], ◌∷◌, map, refl, ap, ◌∙◌, arith}
+use Rattle.std.specs.Prelude.{not, slice_index_or, Option, None, Some, unwrap_or}
+use Rattle.strm_types.specs.declared.names.Side.{Side}
+use Rattle.strm_types.specs.declared.names.Side.TheVariants.{Master, Slave}
+use Rattle.strm_types.specs.declared.names.Way.{Way}
+use Rattle.strm_types.specs.declared.names.Way.TheVariants.{Up, Down}
+use Rattle.strm_types.specs.declared.names.Dir.{Dir}
+use Rattle.strm_laws.specs.Kept.{AreIdle, state_weight, stream_weight}
+use Rattle.strm_types.specs.ModuleQueues.{can_pass, full_at, place_past, room_at, waits, with_waiting}
+use Rattle.strm_types.specs.Modules.{change_among}
+use Rattle.strm_laws.specs.Past.{end_queue, has_room_past, may_pass, waits_on, writer_waits}
+use Rattle.strm_types.specs.Queue.{is_full}
+use Rattle.strm_laws.specs.Stacked.{Module, OfLdterm, OfPtem, OfPckt, map_module, module_queue, with_module_queue}
+use Rattle.strm_laws.specs.State.{State, Stream, stream, with_stream, map_state, map_stream}
+use Rattle.strm_laws.proofs.Earlier.{place_past-forgets}
+use Rattle.strm_laws.proofs.EmptiedForgets.{stream-forgets}
+use Rattle.strm_laws.proofs.Forgetting.{full-forgets}
+use Rattle.strm_laws.proofs.ModulesIdle.{AllIdle}
+use Rattle.strm_laws.proofs.QueueChanges.{changes-idle, changes-keep}
+
+module _ {C D : Type 0} (f : C → D) where
+  abbrev images : List (Module C) → List (Module D)
+  images ps = map (map_module f) ps
+
+  -- room
+  full-same : (way : Way) (band : ℕ) (p : Module C) → full_at module_queue way band (map_module f p) ≡ full_at module_queue way band p
+  full-same Up band (OfLdterm l) = full-forgets f band l.read_queue
+  full-same Down band (OfLdterm l) = full-forgets f band l.write_queue
+  full-same way band (OfPtem p) = refl
+  full-same way band (OfPckt p) = refl
+
+  fulls-same : (way : Way) (band : ℕ) (ps : List (Module C)) → map (full_at module_queue way band) (images ps) ≡ map (full_at module_queue way band) ps
+  fulls-same way band [] = refl
+  fulls-same way band (p ∷ ps) =
+      ap (λ b. b ∷ map (full_at module_queue way band) (images ps)) (full-same way band p) ∙ ap (λ bs. full_at module_queue way band p ∷ bs) (fulls-same way band ps)
+
+  room-same : (way : Way) (band : ℕ) (ps : List (Module C)) (o : Option ℕ) → room_at module_queue way band (images ps) o ≡ room_at module_queue way band ps o
+  room-same way band ps None = refl
+  room-same way band ps (Some place) = ap (λ bs. Some (not (slice_index_or bs (place - 1) false))) (fulls-same way band ps)
+
+  can_pass-same : (way : Way) (band at : ℕ) (ps : List (Module C)) → can_pass module_queue way band at (images ps) ≡ can_pass module_queue way band at ps
+  can_pass-same way band at ps =
+      ap (λ o. room_at module_queue way band (images ps) o) (place_past-forgets f way at ps) ∙ room-same way band ps (place_past module_queue way at ps)
+
+  end-same : (way : Way) (band : ℕ) (t : Stream C) → is_full band (end_queue way (map_stream f t)) ≡ is_full band (end_queue way t)
+  end-same Up band t = full-forgets f band t.head.queue
+  end-same Down band t = full-forgets f band t.driver.queue
+
+  may_pass-same : (way : Way) (at band : ℕ) (t : Stream C) → may_pass way at band (map_stream f t) ≡ may_pass way at band t
+  may_pass-same way at band t =
+      ap (λ o. unwrap_or o (not (is_full band (end_queue way (map_stream f t))))) (can_pass-same way band at t.modules)
+      ∙ ap (λ b. unwrap_or (can_pass module_queue way band at t.modules) (not b)) (end-same way band t)
+
+  pub room-forgets : (side : Side) (way : Way) (at band : ℕ) (s : State C) → has_room_past side way at band (map_state f s) ≡ has_room_past side way at band s
+  room-forgets side way at band s = ap (λ t. may_pass way at band t) (stream-forgets f side s) ∙ may_pass-same way at band (stream side s)
+
+  -- a writer that waits
+  waits-same : (way : Way) (band : ℕ) (p : Module C) → waits module_queue with_module_queue way band (map_module f p) ≡ map_module f (waits module_queue with_module_queue way band p)
+  waits-same Up band (OfLdterm l) = refl
+  waits-same Down band (OfLdterm l) = refl
+  waits-same way band (OfPtem p) = refl
+  waits-same way band (OfPckt p) = refl
+
+  change-same : (way : Way) (band i : ℕ) (ps : List (Module C))
+      → change_among (waits module_queue with_module_queue way band) i (images ps) ≡ images (change_among (waits module_queue with_module_queue way band) i ps)
+  change-same way band i [] = refl
+  change-same way band zero (p ∷ ps) = ap (λ q. q ∷ images ps) (waits-same way band p)
+  change-same way band (suc i) (p ∷ ps) = ap (λ qs. map_module f p ∷ qs) (change-same way band i ps)
+
+  waits_on-same : (way : Way) (band : ℕ) (o : Option ℕ) (t : Stream C) → waits_on way band o (map_stream f t) ≡ map_stream f (waits_on way band o t)
+  waits_on-same Up band None t = refl
+  waits_on-same Down band None t = refl
+  waits_on-same way band (Some place) t = ap (λ (ps : List (Module D)). record (map_stream f t) { modules = ps }) (change-same way band (place - 1) t.modules)
+
+  pub with_stream-same : (side : Side) (t : Stream C) (s : State C) → with_stream side (map_stream f t) (map_state f s) ≡ map_state f (with_stream side t s)
+  with_stream-same Master t s = refl
+  with_stream-same Slave t s = refl
+
+  pub writer_waits-forgets : (side : Side) (way : Way) (at band : ℕ) (s : State C) → writer_waits side way at band (map_state f s) ≡ map_state f (writer_waits side way at band s)
+  writer_waits-forgets side way at band s =
+      let t = stream side s in
+      let past = place_past module_queue way at t.modules in
+      ap (λ x. with_stream side (waits_on way band (place_past module_queue way at x.modules) x) (map_state f s)) (stream-forgets f side s)
+      ∙ ap (λ o. with_stream side (waits_on way band o (map_stream f t)) (map_state f s)) (place_past-forgets f way at t.modules)
+      ∙ ap (λ x. with_stream side x (map_state f s)) (waits_on-same way band past t)
+      ∙ with_stream-same side (waits_on way band past t) s
+
+module _ {C : Type 0} where
+  idle-on : (way : Way) (band : ℕ) (o : Option ℕ) (t : Stream C) → AllIdle t.modules → AllIdle (waits_on way band o t).modules
+  idle-on Up band None t idle = idle
+  idle-on Down band None t idle = idle
+  idle-on way band (Some place) t idle = changes-idle (with_waiting band) way (place - 1) t.modules idle
+
+  pub waits-idle : (side : Side) (way : Way) (at band : ℕ) (s : State C) → AreIdle s → AreIdle (writer_waits side way at band s)
+  waits-idle Master way at band s idle = record { master = idle-on way band (place_past module_queue way at s.master.modules) s.master idle.master; slave = idle.slave }
+  waits-idle Slave way at band s idle = record { master = idle.master; slave = idle-on way band (place_past module_queue way at s.slave.modules) s.slave idle.slave }
+
+  module _ (p : Dir → C → Bool) where
+    weight-on : (side : Side) (way : Way) (band : ℕ) (o : Option ℕ) (t : Stream C) → stream_weight p side (waits_on way band o t) ≡ stream_weight p side t
+    weight-on side Up band None t = refl
+    weight-on side Down band None t = refl
+    weight-on side way band (Some place) t = let same = changes-keep (with_waiting band) p side (λ q. refl) way (place - 1) t.modules in omega arith
+
+    pub waits-keeps : (side : Side) (way : Way) (at band : ℕ) (s : State C) → state_weight p (writer_waits side way at band s) ≡ state_weight p s
+    waits-keeps Master way at band s = let same = weight-on Master way band (place_past module_queue way at s.master.modules) s.master in omega arith
+    waits-keeps Slave way at band s = let same = weight-on Slave way band (place_past module_queue way at s.slave.modules) s.slave in omega arith

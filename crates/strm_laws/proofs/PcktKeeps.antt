@@ -1,0 +1,131 @@
+-- A put at pckt loses no cell and makes none but those that it tells, and does the same where the origins of cells are forgotten.
+use Rattle.std.proofs.Common.{ℕ, suc, ◌≡◌, ◌+◌, Bool, true, false, cond, List, [], ◌∷◌, ◌++◌, map, refl, sym, ap, ◌∙◌, arith}
+use Rattle.std.proofs.lemmas.List.{map-append}
+use Rattle.std.specs.Prelude.{◌&&◌, not, None, Some, option_map, count_by}
+use Rattle.strm_types.specs.declared.kinds.MsgKind.{MsgKind}
+use Rattle.strm_types.specs.declared.kinds.MsgKind.TheVariants.{Proto}
+use Rattle.strm_types.specs.declared.names.Dir.{Dir}
+use Rattle.strm_types.specs.declared.names.Way.{Way}
+use Rattle.strm_types.specs.declared.names.Way.TheVariants.{Up, Down}
+use Rattle.strm_types.specs.declared.spots.Spot.{Spot}
+use Rattle.strm_types.specs.Cells.{AreCells, Cells, cells_made, plain}
+use Rattle.strm_types.specs.Deliver.{Acted, toward}
+use Rattle.strm_types.specs.Flushing.{asked_by, flush_bytes}
+use Rattle.strm_types.specs.Kinds.{kind_number}
+use Rattle.strm_types.specs.Message.{Message, band_of, cells_of, has_parts, map_message, weight_of}
+use Rattle.strm_types.specs.Names.{direction_at}
+use Rattle.strm_types.specs.Origins.{map_acted, map_parcel}
+use Rattle.strm_types.specs.Pckts.{Pckt, flush_passed, is_bare_packet, is_flush_passed, is_packed, is_stop_or_start, kind_made, packet, pckt_dir, pckt_on_way, pckt_packs, pckt_passes, pckt_puts, plain_made, plain_packed}
+use Rattle.strm_laws.specs.Places.{direction_to, weight_gone, weight_made, weight_sent}
+use Rattle.strm_laws.proofs.Forgetting.{cells-forget}
+use Rattle.strm_laws.proofs.LdtermKeeps.{onward-weighs}
+use Rattle.strm_types.proofs.MadeCells.{made-forget}
+use Rattle.strm_types.proofs.PcktPuts.{proto_made, passed_made, gone_up, packs_made, puts-each}
+use Rattle.strm_laws.proofs.PutForgets.{parts-forget}
+use Rattle.strm_laws.proofs.PutWeights.{no-parts, weight-flush}
+use Rattle.strm_types.proofs.Weights.{count-join, weight-whole}
+
+-- what has no data part in its packet has no cells
+bare-parts : (stops parts : Bool) → (stops && not parts) ≡ true → parts ≡ false
+bare-parts true false is = refl
+bare-parts true true is = absurd (cc)
+bare-parts false parts is = absurd (cc)
+
+module _ {C : Type 0} (p : C → Bool) where
+  -- a packet has the cells of its message and those that were made
+  module _ (cells : Cells C) (made : ℕ) (here : Spot) (m : Message C) where
+    packet-weight : weight_of p (packet cells made here m) ≡ weight_of p m + count_by p (kind_made cells made here m ∷ plain_made cells made here m)
+    unfolding weight_of cells_of
+    packet-weight = at (is_bare_packet m) refl
+      where
+        kind : C
+        kind = kind_made cells made here m
+
+        rest : List C
+        rest = cells_made cells (pckt_dir cells made here) (suc made) m.plain
+
+        at : (bare : Bool) → is_bare_packet m ≡ bare → weight_of p (record { kind = Proto; band = band_of m; control = Some (kind ∷ []); body = cond bare None (Some (cells_of m ++ cells_made cells (pckt_dir cells made here) (suc made) (cond bare [] m.plain))); plain = [] })
+            ≡ weight_of p m + count_by p (kind ∷ cells_made cells (pckt_dir cells made here) (suc made) (cond bare [] m.plain))
+        at true is = let none = no-parts p m (bare-parts (is_stop_or_start m.kind) (has_parts m) is) in omega (arith, none, count-join p (kind ∷ []) [])
+        at false is =
+            let all = count-join p (kind ∷ []) (cells_of m ++ rest) in
+            let both = count-join p (cells_of m) rest in
+            let new = count-join p (kind ∷ []) rest in
+            let whole = weight-whole p m in
+            omega arith
+
+module _ {C : Type 0} (p : Dir → C → Bool) where
+  passed-weight : (here : Spot) (kind : MsgKind) (bytes : List ℕ) → weight_sent p (flush_passed {C = C} here kind bytes) ≡ 0
+  passed-weight here kind bytes = at (is_flush_passed kind bytes)
+    where
+      at : (goes : Bool) → weight_sent {C = C} p (passed_made here bytes goes) ≡ 0
+      at true = omega (arith, weight-flush (p (direction_to (toward Up here))) (flush_bytes (record (asked_by bytes) { for_read = false })))
+      at false = refl
+
+  pub puts-keep : (cells : Cells C) (made : ℕ) (here : Spot) (m : Message C) → let t = pckt_puts cells made here m in
+      weight_sent p t.sent + weight_gone p t.gone ≡ weight_of (p (direction_at here.way here.side)) m + weight_made p t.gone
+  puts-keep cells made here m =
+      puts-each cells made here m (λ t. weight_sent p t.sent + weight_gone p t.gone ≡ weight_of (p (direction_at here.way here.side)) m + weight_made p t.gone) (omega (arith, onward-weighs p here.way here m))
+      (λ way is. omega (
+        arith,
+        onward-weighs p Up here (packet cells made here m),
+        packet-weight (p (direction_at Up here.side)) cells made here m,
+        passed-weight here m.kind m.plain,
+        ap (λ way. weight_of (p (direction_at way here.side)) m) way,
+      ))
+
+module _ {C D : Type 0} (f : C → D) where
+  abbrev image : Acted C Pckt → Acted D Pckt
+  image t = map_acted f (λ (q : Pckt). q) t
+
+  passed-forgets : (here : Spot) (kind : MsgKind) (bytes : List ℕ) → flush_passed here kind bytes ≡ map (map_parcel f) (flush_passed here kind bytes)
+  unfolding map_message
+  passed-forgets here kind bytes = at (is_flush_passed kind bytes)
+    where
+      at : (goes : Bool) → passed_made here bytes goes ≡ map (map_parcel f) (passed_made here bytes goes)
+      at true = refl
+      at false = refl
+
+  packs_made-forgets : (here : Spot) (kind : MsgKind) (bytes : List ℕ) (band : ℕ) (bare : Bool) (number : C) (own rest : List C) →
+      packs_made here kind bytes band bare (f number) (map f own) (map f rest) ≡ image (packs_made here kind bytes band bare number own rest)
+  unfolding map_message
+  packs_made-forgets here kind bytes band bare number own rest =
+      ap (λ passed. gone_up here (proto_made band (f number) (cond bare None (Some (map f own ++ map f rest)))) passed (f number ∷ map f rest)) (passed-forgets here kind bytes)
+      ∙ ap (λ body. gone_up here (proto_made band (f number) body) (map (map_parcel f) (flush_passed here kind bytes)) (f number ∷ map f rest)) (body bare)
+    where
+      body : (bare : Bool) → cond bare None (Some (map f own ++ map f rest)) ≡ option_map (map f) (cond bare None (Some (own ++ rest)))
+      body true = refl
+      body false = ap Some (sym (map-append f own rest))
+
+module _ {C : Type 0} (cells : Cells C) (are : AreCells cells) (made : ℕ) (here : Spot) (m : Message C) where
+  abbrev f : C → ℕ
+  f = cells.byte
+
+  bare-forgets : is_bare_packet (map_message f m) ≡ is_bare_packet m
+  unfolding map_message
+  bare-forgets = ap (λ parts. is_stop_or_start m.kind && not parts) (parts-forget f m)
+
+  packs-forget : pckt_packs plain made here (map_message f m) ≡ image f (pckt_packs cells made here m)
+  unfolding map_message band_of
+  packs-forget =
+      let number = kind_number m.kind in
+      let with_rest : Bool → List ℕ → Acted ℕ Pckt = λ bare rest. packs_made here m.kind m.plain (band_of m) bare number (cells_of (map_message f m)) rest in
+      let own = kind_made cells made here m in
+      let rest = plain_made cells made here m in
+      ap (λ bare. with_rest bare (cells_made plain (pckt_dir cells made here) (suc made) (cond bare [] m.plain))) bare-forgets
+      ∙ ap (with_rest (is_bare_packet m)) (made-forget cells are (pckt_dir cells made here) (suc made) (plain_packed m))
+      ∙ ap (λ n. packs_made here m.kind m.plain (band_of m) (is_bare_packet m) n (cells_of (map_message f m)) (map f rest)) (sym (are.byte_made (pckt_dir cells made here) made number))
+      ∙ ap (λ xs. packs_made here m.kind m.plain (band_of m) (is_bare_packet m) (f own) xs (map f rest)) (cells-forget f m)
+      ∙ packs_made-forgets f here m.kind m.plain (band_of m) (is_bare_packet m) own (cells_of m) rest
+
+  pub puts-forget : pckt_puts plain made here (map_message f m) ≡ image f (pckt_puts cells made here m)
+  unfolding map_message
+  puts-forget = at here.way
+    where
+      kinds : (packed : Bool) → cond packed (pckt_packs plain made here (map_message f m)) (pckt_passes here (map_message f m)) ≡ image f (cond packed (pckt_packs cells made here m) (pckt_passes here m))
+      kinds true = packs-forget
+      kinds false = refl
+
+      at : (way : Way) → pckt_on_way plain made here way (map_message f m) ≡ image f (pckt_on_way cells made here way m)
+      at Up = kinds (is_packed m.kind)
+      at Down = refl

@@ -1,0 +1,251 @@
+-- Pushes, pops and closes of streams with modules, worked out by hand (streamio(7I): I_PUSH, I_POP, I_LOOK; ldterm(7M); close(2)).
+use Rattle.std.proofs.Common.{ℕ, ◌≡◌, true, false, List, [], ◌∷◌, map, refl}
+use Rattle.std.specs.Prelude.{None, Some}
+use Rattle.strm_types.specs.declared.answers.Answer.TheVariants.{Done, Name}
+use Rattle.strm_types.specs.declared.modes.ReadMode.TheVariants.{ByteStream, MessageDiscard, MessageKeep}
+use Rattle.strm_types.specs.declared.names.ModuleName.TheVariants as names
+use Rattle.strm_types.specs.declared.names.Openness.TheVariants.{Open, Closed}
+use Rattle.strm_types.specs.declared.names.Place.TheVariants.{Ldterm}
+use Rattle.strm_types.specs.declared.names.QueueName.{QueueName}
+use Rattle.strm_types.specs.declared.names.Side.TheVariants.{Master, Slave}
+use Rattle.strm_types.specs.declared.names.Way.TheVariants.{Up, Down}
+use Rattle.strm_types.specs.declared.names.Dir.TheVariants.{MasterToSlave, SlaveToMaster}
+use Rattle.strm_types.specs.declared.rules.Rule.TheVariants.{EndClosed, ModulePopped}
+use Rattle.strm_types.specs.Books.{new_book}
+use Rattle.strm_laws.specs.Calls.{name_told}
+use Rattle.strm_laws.specs.Closes.{closed_at}
+use Rattle.strm_types.specs.Deliver.{Carried, Goes, carried}
+use Rattle.strm_types.specs.Ldterms.{new_ldterm}
+use Rattle.strm_types.specs.Message.{Message, cells_of, size_of, is_held, band_of, is_high_priority}
+use Rattle.strm_types.specs.Names.{driver_of}
+use Rattle.strm_types.specs.Options.{mode_number}
+use Rattle.strm_types.specs.Pckts.{new_pckt}
+use Rattle.strm_types.specs.Ptems.{new_ptem}
+use Rattle.strm_laws.specs.Pushes.{may_stand, named_by, popped, pushed, pushed_named, top_on}
+use Rattle.strm_types.specs.Queue.{Flow}
+use Rattle.strm_laws.specs.Refusals.{none_waits_up, at_end}
+use Rattle.strm_laws.specs.Past.{has_room_past, writer_waits}
+use Rattle.strm_laws.specs.Stacked.{Module, OfLdterm, OfPtem, OfPckt, module_line, module_name}
+use Rattle.strm_laws.specs.State.{State, Stream}
+use Rattle.strm_laws.proofs.Samples.{flow, head_with, ordinary, proto, queue, header, without_parts}
+use Rattle.strm_types.specs.Slots.{PlainSlot}
+use Rattle.strm_types.specs.declared.ioctls.TheConstants.{TCSETSW}
+use Rattle.strm_types.specs.declared.kinds.MsgKind.TheVariants.{Ioctl, Iocack}
+use Rattle.strm_types.specs.declared.refusals.Refusal.TheVariants.{Einval, Eagain}
+use Rattle.strm_types.specs.declared.slots.Slot.TheVariants.{Free, Waiting, Acked, Nacked}
+
+-- a module with these messages on its read queue, whose bands are so, and on its write queue, and this unfinished line
+abbrev holding : List (Message ℕ) → List Flow → List (Message ℕ) → List ℕ → Module ℕ
+holding above flows below line = OfLdterm (record new_ldterm { read_queue = queue above flows; write_queue = queue below []; line = line })
+
+abbrev flows_of : Module ℕ → List Flow
+flows_of (OfLdterm l) = l.read_queue.flows
+flows_of (OfPtem p) = []
+flows_of (OfPckt p) = []
+
+abbrev one : ℕ → List (Message ℕ)
+one b = ordinary (b ∷ []) ∷ []
+
+-- an open stream with these messages at its head, these modules, and these messages on its driver's queue
+abbrev end : List (Message ℕ) → List (Module ℕ) → List (Message ℕ) → Stream ℕ
+end above ps below = record { opened = Open; head = head_with (queue above []) false; modules = ps; driver = record { queue = queue below [] } }
+
+-- a pair of which the slave's stream has these modules, and these messages wait on the master's driver
+abbrev pair : List (Message ℕ) → List (Module ℕ) → List QueueName → State ℕ
+pair waits ps enabled = record {
+  master = end [] [] waits;
+  slave = end (one 1) ps (one 2);
+  locked = false;
+  enabled = enabled;
+  next_ioctl = 1;
+  from_master = new_book;
+  from_slave = new_book;
+}
+
+abbrev reads : QueueName
+reads = record { side = Slave; place = Ldterm; way = Up }
+
+abbrev writes : QueueName
+writes = record { side = Slave; place = Ldterm; way = Down }
+
+-- the module that is pushed stands on top, and the head reads messages from now on
+pub push-stands-on-top : map module_line (pushed Slave (OfLdterm new_ldterm) (pair [] (holding [] [] [] (9 ∷ []) ∷ []) [])).state.slave.modules ≡ [] ∷ (9 ∷ []) ∷ []
+unfolding carried cells_of size_of
+push-stands-on-top = refl
+
+pub push-sets-the-mode : (pushed Slave (OfLdterm new_ldterm) (pair [] [] [])).state.slave.head.read_mode ≡ MessageKeep
+unfolding carried cells_of size_of
+push-sets-the-mode = refl
+
+pub push-lets-nothing-go : (pushed Slave (OfLdterm new_ldterm) (pair (one 7) [] [])).gone ≡ []
+unfolding carried cells_of size_of
+push-lets-nothing-go = refl
+
+-- what waits on the other side's driver may come, where anything waits there; and nothing where it is the master's stream that grows
+pub push-lets-come : map (λ waits. (pushed Slave (OfLdterm new_ldterm) (pair waits [] [])).state.enabled) ([] ∷ one 7 ∷ []) ≡ [] ∷ (driver_of Master ∷ []) ∷ []
+unfolding carried cells_of size_of
+push-lets-come = refl
+
+pub push-on-the-other-side : (pushed Master (OfLdterm new_ldterm) (pair (one 7) [] [])).state.enabled ≡ driver_of Slave ∷ []
+unfolding carried cells_of size_of
+push-on-the-other-side = refl
+
+-- a module below with messages is let come before the driver
+pub push-above-a-module : (pushed Slave (OfLdterm new_ldterm) (pair (one 7) (holding (one 3) [] [] [] ∷ []) [])).state.enabled ≡ reads ∷ []
+unfolding carried cells_of size_of
+push-above-a-module = refl
+
+pub push-by-name : map (λ name. map module_line (pushed_named Slave (named_by name) (pair [] [] [])).state.slave.modules)
+    (None ∷ Some names.Ldterm ∷ Some names.Ptem ∷ Some names.Pckt ∷ []) ≡ [] ∷ ([] ∷ []) ∷ ([] ∷ []) ∷ ([] ∷ []) ∷ []
+unfolding carried cells_of size_of
+push-by-name = refl
+
+-- one of a name stands once, beside others
+pub stands-once : map (λ ps. may_stand {C = ℕ} (named_by (Some names.Ldterm)) ps) ([] ∷ (OfLdterm new_ldterm ∷ []) ∷ []) ≡ true ∷ false ∷ []
+stands-once = refl
+
+pub others-may-stand : map (λ name. map (λ ps. may_stand {C = ℕ} (named_by (Some name)) ps) ((OfLdterm new_ldterm ∷ []) ∷ (OfPtem new_ptem ∷ []) ∷ (OfPckt new_pckt ∷ []) ∷ []))
+    (names.Ldterm ∷ names.Ptem ∷ names.Pckt ∷ []) ≡ (false ∷ true ∷ true ∷ []) ∷ (true ∷ false ∷ true ∷ []) ∷ (true ∷ true ∷ false ∷ []) ∷ []
+others-may-stand = refl
+
+-- a ptem is pushed as it is made, tells the head nothing and lets nothing come; its pop takes nothing with it
+abbrev with_ptem : Carried ℕ (State ℕ)
+with_ptem = pushed_named Slave (named_by (Some names.Ptem)) (pair (one 7) (holding (one 3) [] (one 4) (5 ∷ []) ∷ []) [])
+
+pub ptem-stands-on-top : map module_name with_ptem.state.slave.modules ≡ names.Ptem ∷ names.Ldterm ∷ []
+ptem-stands-on-top = refl
+
+pub ptem-changes-no-more : record with_ptem.state { slave = record with_ptem.state.slave { modules = [] } } ≡ pair (one 7) [] []
+ptem-changes-no-more = refl
+
+pub ptem-is-popped : popped Slave with_ptem.state ≡ record { state = pair (one 7) (holding (one 3) [] (one 4) (5 ∷ []) ∷ []) []; gone = [] }
+unfolding carried cells_of size_of
+ptem-is-popped = refl
+
+pub modes-by-number : map mode_number (ByteStream ∷ MessageDiscard ∷ MessageKeep ∷ []) ≡ 0 ∷ 1 ∷ 2 ∷ []
+modes-by-number = refl
+
+-- a pop takes the one on top: what stood on its read queue goes, then its line, then what stood on its write queue
+abbrev taken_off : Carried ℕ (State ℕ)
+taken_off = popped Slave (pair [] (holding (one 3) [] (one 4) (5 ∷ 6 ∷ []) ∷ holding [] [] [] (9 ∷ []) ∷ []) (writes ∷ driver_of Master ∷ reads ∷ []))
+
+pub pop-takes-the-top : map module_line taken_off.state.slave.modules ≡ (9 ∷ []) ∷ []
+unfolding carried cells_of size_of
+pop-takes-the-top = refl
+
+pub pop-tells-what-goes : taken_off.gone
+    ≡ Goes MasterToSlave ModulePopped (3 ∷ []) ∷ Goes MasterToSlave ModulePopped (5 ∷ 6 ∷ []) ∷ Goes SlaveToMaster ModulePopped (4 ∷ []) ∷ []
+unfolding carried cells_of size_of
+pop-tells-what-goes = refl
+
+-- its queues have no turn any more
+pub popped-queues-have-no-turn : taken_off.state.enabled ≡ driver_of Master ∷ []
+unfolding carried cells_of size_of
+popped-queues-have-no-turn = refl
+
+pub pop-sets-the-mode : (popped Slave (record (pair [] (OfLdterm new_ldterm ∷ []) []) { slave = record (end [] (OfLdterm new_ldterm ∷ []) []) { head = record (head_with (queue [] []) false) { read_mode = MessageKeep } } })).state.slave.head.read_mode ≡ ByteStream
+unfolding carried cells_of size_of
+pop-sets-the-mode = refl
+
+pub pop-of-nothing : popped Slave (pair (one 7) [] []) ≡ record { state = pair (one 7) [] []; gone = [] }
+pop-of-nothing = refl
+
+-- a writer that waited for its read queue is let go, though nothing stands on that writer's queue; one for its write queue is the head's
+pub pop-lets-writers-go : (popped Slave (pair [] (holding (one 3) (flow 1 0 true ∷ []) (one 4) [] ∷ []) [])).state.enabled ≡ driver_of Master ∷ []
+unfolding carried cells_of size_of
+pop-lets-writers-go = refl
+
+-- The ioctl under way ends with its M_IOCTL, where that stands on the write queue of the module that is popped; not with one of another number,
+-- nor where it was answered, nor where none waits.
+abbrev asked : ℕ → Message ℕ
+asked number = without_parts Ioctl (header TCSETSW number 0)
+
+-- a pair whose slave waits in this slot, and whose ldterm has these messages on its write queue
+abbrev waiting : PlainSlot → List (Message ℕ) → State ℕ
+waiting slot ms =
+    let s = pair [] (holding [] [] ms [] ∷ []) [] in
+    record s { slave = record s.slave { head = record s.slave.head { ioctl = slot } } }
+
+abbrev slot_of : Carried ℕ (State ℕ) → PlainSlot
+slot_of t = t.state.slave.head.ioctl
+
+pub ioctl-goes-with-its-message : map (λ ms. slot_of (popped Slave (waiting (Waiting 7 TCSETSW) ms))) ((asked 7 ∷ []) ∷ (ordinary (1 ∷ []) ∷ asked 7 ∷ []) ∷ (asked 0 ∷ asked 7 ∷ asked 8 ∷ []) ∷ [])
+    ≡ Nacked 7 TCSETSW Einval ∷ Nacked 7 TCSETSW Einval ∷ Nacked 7 TCSETSW Einval ∷ []
+unfolding carried cells_of size_of
+ioctl-goes-with-its-message = refl
+
+pub ioctl-stays-without-it : map (λ ms. slot_of (popped Slave (waiting (Waiting 7 TCSETSW) ms))) ([] ∷ (asked 0 ∷ asked 8 ∷ []) ∷ (without_parts Iocack (header TCSETSW 7 0) ∷ []) ∷ (without_parts Ioctl [] ∷ []) ∷ (record (asked 7) { body = Some [] } ∷ []) ∷ [])
+    ≡ Waiting 7 TCSETSW ∷ Waiting 7 TCSETSW ∷ Waiting 7 TCSETSW ∷ Waiting 7 TCSETSW ∷ Waiting 7 TCSETSW ∷ []
+unfolding carried cells_of size_of
+ioctl-stays-without-it = refl
+
+pub other-slots-stay : map (λ slot. slot_of (popped Slave (waiting slot (asked 7 ∷ [])))) (Free ∷ Acked 7 TCSETSW (1 ∷ []) ∷ Nacked 7 TCSETSW Eagain ∷ []) ≡ Free ∷ Acked 7 TCSETSW (1 ∷ []) ∷ Nacked 7 TCSETSW Eagain ∷ []
+unfolding carried cells_of size_of
+other-slots-stay = refl
+
+-- what stands on the read queue, on a module below or on the other side is another matter
+pub only-below-the-top : map (λ ps. slot_of (popped Slave (let s = waiting (Waiting 7 TCSETSW) [] in record s { slave = record s.slave { modules = ps } }))) ((holding (asked 7 ∷ []) [] [] [] ∷ []) ∷ (OfPtem new_ptem ∷ holding [] [] (asked 7 ∷ []) [] ∷ []) ∷ [] ∷ []) ≡ Waiting 7 TCSETSW ∷ Waiting 7 TCSETSW ∷ Waiting 7 TCSETSW ∷ []
+unfolding carried cells_of size_of
+only-below-the-top = refl
+
+pub only-on-its-side : slot_of (popped Master (waiting (Waiting 7 TCSETSW) (asked 7 ∷ []))) ≡ Waiting 7 TCSETSW
+unfolding carried cells_of size_of
+only-on-its-side = refl
+
+pub look-names-the-top : map (λ ps. name_told (top_on Slave (pair [] ps []))) ([] ∷ (OfLdterm new_ldterm ∷ []) ∷ (OfPtem new_ptem ∷ OfLdterm new_ldterm ∷ []) ∷ []) ≡ Done ∷ Name names.Ldterm ∷ Name names.Ptem ∷ []
+look-names-the-top = refl
+
+-- A close takes the head's messages, then each module's from the top; the slave's driver keeps what it has.
+abbrev shut : Carried ℕ (State ℕ)
+shut = closed_at Slave (pair [] (holding (one 3) [] (one 4) (5 ∷ []) ∷ holding (one 6) [] [] [] ∷ []) (reads ∷ driver_of Slave ∷ []))
+
+pub close-takes-modules : shut.gone
+    ≡ Goes MasterToSlave EndClosed (1 ∷ [])
+    ∷ Goes MasterToSlave EndClosed (3 ∷ []) ∷ Goes MasterToSlave EndClosed (5 ∷ []) ∷ Goes SlaveToMaster EndClosed (4 ∷ [])
+    ∷ Goes MasterToSlave EndClosed (6 ∷ []) ∷ Goes SlaveToMaster EndClosed [] ∷ []
+unfolding cells_of size_of
+close-takes-modules = refl
+
+pub close-leaves-none : shut.state.slave.modules ≡ []
+close-leaves-none = refl
+
+pub close-ends-the-stream : shut.state.slave.opened ≡ Closed
+close-ends-the-stream = refl
+
+pub closed-queues-have-no-turn : shut.state.enabled ≡ driver_of Slave ∷ []
+unfolding cells_of size_of
+closed-queues-have-no-turn = refl
+
+-- The next queue past the master's driver is the module's read queue; below the slave's head, its write queue. One of another way
+-- isn't asked.
+abbrev crowded : State ℕ
+crowded = record (pair [] [] []) {
+  slave = record {
+    opened = Open;
+    head = head_with (queue (one 1) (flow 2 1 false ∷ [])) false;
+    modules = OfLdterm (record new_ldterm { read_queue = queue (one 3) (flow 1 0 false ∷ []); write_queue = queue [] (flow 1 0 false ∷ []) }) ∷ [];
+    driver = record { queue = queue (one 2) (flow 2 1 false ∷ []) };
+  };
+}
+
+pub modules-queue-is-asked : map (λ way. map (λ at. has_room_past Slave way at 0 crowded) (0 ∷ 1 ∷ 2 ∷ [])) (Up ∷ Down ∷ []) ≡ (true ∷ true ∷ false ∷ []) ∷ (true ∷ true ∷ true ∷ []) ∷ []
+unfolding cells_of size_of band_of is_high_priority
+modules-queue-is-asked = refl
+
+pub writer-waits-at-the-module : map flows_of (writer_waits Slave Up 2 0 crowded).slave.modules ≡ (flow 1 0 true ∷ []) ∷ []
+writer-waits-at-the-module = refl
+
+pub writer-waits-at-the-end : (writer_waits Slave Up 1 0 (record crowded { slave = record crowded.slave { head = head_with (queue [] (flow 5 1 false ∷ [])) false } })).slave.head.queue.flows ≡ flow 5 1 true ∷ []
+writer-waits-at-the-end = refl
+
+-- data that waits to go up at a module holds off the end of input; an unfinished line, and what waits to go down, don't
+pub what-waits-up : map (λ p. none_waits_up (p ∷ [])) (holding (one 3) [] [] [] ∷ holding (proto ∷ []) [] [] [] ∷ holding [] [] (one 4) (5 ∷ []) ∷ []) ≡ false ∷ false ∷ true ∷ []
+unfolding is_held
+what-waits-up = refl
+
+abbrev ending : List (Module ℕ) → State ℕ
+ending ps = record (pair [] [] []) { master = end [] ps []; slave = record (end [] [] []) { opened = Closed } }
+
+pub data-at-a-module-holds-off-the-end : map (λ ps. at_end Master (ending ps)) ([] ∷ (holding (one 3) [] [] [] ∷ []) ∷ (holding [] [] (one 4) (5 ∷ []) ∷ []) ∷ []) ≡ true ∷ false ∷ true ∷ []
+unfolding is_held
+data-at-a-module-holds-off-the-end = refl

@@ -1,0 +1,125 @@
+-- A putmsg on a side's stream loses no cell, leaves a side that isn't open nothing to be read, and forgetting the origins of
+-- cells commutes with it.
+use Rattle.std.proofs.Common.{ℕ, ◌≡◌, ◌+◌, Bool, true, false, cond, List, [], length, map, refl, sym, ap, ◌∙◌, arith}
+use Rattle.std.specs.Prelude.{Option, None, Some, option_map, count_by}
+use Rattle.strm_types.specs.declared.books.Book.{Book}
+use Rattle.strm_types.specs.declared.modes.Prio.{Prio}
+use Rattle.strm_types.specs.declared.modes.Prio.TheVariants.{High, Band}
+use Rattle.strm_types.specs.declared.names.Dir.{Dir}
+use Rattle.strm_types.specs.declared.names.Dir.TheVariants.{MasterToSlave, SlaveToMaster}
+use Rattle.strm_types.specs.declared.names.Side.{Side}
+use Rattle.strm_types.specs.declared.names.Side.TheVariants.{Master, Slave}
+use Rattle.strm_types.specs.declared.names.Way.TheVariants.{Down}
+use Rattle.strm_types.specs.declared.spots.Spot.{Spot}
+use Rattle.strm_types.specs.Books.{with_written}
+use Rattle.strm_laws.specs.Calls.{message_put, put_at}
+use Rattle.strm_types.specs.Cells.{Cells, AreCells, plain, cells_written}
+use Rattle.strm_types.specs.Deliver.{Carried}
+use Rattle.strm_laws.specs.Kept.{NothingUnread, state_weight}
+use Rattle.strm_types.specs.Message.{Message, part, cells_of, map_message}
+use Rattle.strm_types.specs.Names.{direction_from}
+use Rattle.strm_types.specs.Origins.{map_carried}
+use Rattle.strm_laws.specs.Places.{weight_gone, weight_made}
+use Rattle.strm_types.specs.PutMsg.{no_parts, put_message}
+use Rattle.strm_laws.specs.Puts.{delivered}
+use Rattle.strm_laws.specs.State.{State, book, with_book, map_state}
+use Rattle.strm_laws.proofs.Deliveries.{delivered-keeps, delivered-unread}
+use Rattle.strm_types.proofs.PlainCells.{written-plain, written-bytes}
+use Rattle.strm_laws.proofs.PutsForget.{delivered-forgets}
+use Rattle.strm_types.proofs.Weights.{weight-whole}
+
+-- the place below a side's head
+abbrev below : Side → Spot
+below side = record { side = side; at = 1; way = Down }
+
+module _ {C : Type 0} where
+  -- what a delivery leads to, where so many bytes are booked as written
+  abbrev booked : Dir → ℕ → Carried C (State C) → Carried C (State C)
+  booked dir n t = record { state = with_book dir (with_written n (book dir t.state)) t.state; gone = t.gone }
+
+  module _ (p : Dir → C → Bool) where
+    book-weight : (dir : Dir) (b : Book) (s : State C) → state_weight p (with_book dir b s) ≡ state_weight p s
+    book-weight MasterToSlave b s = refl
+    book-weight SlaveToMaster b s = refl
+
+    nothing-put : (cells : Cells C) (side : Side) (prio : Prio) (s : State C) → count_by (p (direction_from side)) (cells_of (message_put cells side prio None None s)) ≡ 0
+    unfolding cells_of
+    nothing-put cells side prio s = refl
+
+    module _ (cells : Cells C) where
+      sent-keeps : (side : Side) (n : ℕ) (m : Message C) (s : State C) → let t = booked (direction_from side) n (delivered cells (below side) m s) in
+          state_weight p t.state + weight_gone p t.gone ≡ state_weight p s + (count_by (p (direction_from side)) (cells_of m) + weight_made p t.gone)
+      sent-keeps side n m s =
+          let dir = direction_from side in
+          let led = (delivered cells (below side) m s).state in
+          omega (arith, book-weight dir (with_written n (book dir led)) led, delivered-keeps cells p (below side) m s (omega arith), weight-whole (p dir) m)
+
+      pub put_at-keeps : (side : Side) (prio : Prio) (control body : Option (List ℕ)) (s : State C) → let t = put_at cells side prio control body s in
+          state_weight p t.state + weight_gone p t.gone ≡ state_weight p s + (count_by (p (direction_from side)) (cells_of (message_put cells side prio control body s)) + weight_made p t.gone)
+      put_at-keeps side prio None None s = omega (arith, nothing-put cells side prio s)
+      put_at-keeps side prio None (Some xs) s = sent-keeps side (0 + length xs) (message_put cells side prio None (Some xs) s) s
+      put_at-keeps side prio (Some xs) body s = sent-keeps side (length xs + length (part body)) (message_put cells side prio (Some xs) body s) s
+
+  booked-unread : (dir : Dir) (b : Book) (s : State C) → NothingUnread s → NothingUnread (with_book dir b s)
+  booked-unread MasterToSlave b s unread = record { master = unread.master; slave = unread.slave }
+  booked-unread SlaveToMaster b s unread = record { master = unread.master; slave = unread.slave }
+
+  pub put_at-unread : (cells : Cells C) (side : Side) (prio : Prio) (control body : Option (List ℕ)) (s : State C) → NothingUnread s → NothingUnread (put_at cells side prio control body s).state
+  put_at-unread cells side prio None None s unread = unread
+  put_at-unread cells side prio None (Some xs) s unread =
+      let m = message_put cells side prio None (Some xs) s in
+      booked-unread (direction_from side) _ (delivered cells (below side) m s).state (delivered-unread cells (below side) m s unread)
+  put_at-unread cells side prio (Some xs) body s unread =
+      let m = message_put cells side prio (Some xs) body s in
+      booked-unread (direction_from side) _ (delivered cells (below side) m s).state (delivered-unread cells (below side) m s unread)
+
+put-forgets : {C D : Type 0} (f : C → D) (prio : Prio) (control body : Option (List C)) → put_message prio (option_map (map f) control) (option_map (map f) body) ≡ map_message f (put_message prio control body)
+unfolding map_message
+put-forgets f High control body = refl
+put-forgets f (Band band) None body = refl
+put-forgets f (Band band) (Some xs) body = refl
+
+booked-forgets : {C D : Type 0} (f : C → D) (dir : Dir) (n : ℕ) (t : Carried C (State C)) → booked dir n (map_carried f (map_state f) t) ≡ map_carried f (map_state f) (booked dir n t)
+booked-forgets f MasterToSlave n t = refl
+booked-forgets f SlaveToMaster n t = refl
+
+module _ {C : Type 0} (cells : Cells C) (are : AreCells cells) where
+  written-forgets : (dir : Dir) (n : ℕ) (o : Option (List ℕ)) → option_map (cells_written plain dir n) o ≡ option_map (map cells.byte) (option_map (cells_written cells dir n) o)
+  written-forgets dir n None = refl
+  written-forgets dir n (Some bytes) = ap Some (written-plain dir n bytes ∙ sym (written-bytes cells are dir n bytes))
+
+  -- the message of these parts, whose first byte is the nth that is written
+  abbrev message_of : {D : Type 0} → Cells D → Dir → ℕ → Prio → Option (List ℕ) → Option (List ℕ) → Message D
+  message_of kinds dir n prio control body = put_message prio (option_map (cells_written kinds dir n) control) (option_map (cells_written kinds dir (n + length (part control))) body)
+
+  message-forgets : (dir : Dir) (n : ℕ) (prio : Prio) (control body : Option (List ℕ)) → message_of plain dir n prio control body ≡ map_message cells.byte (message_of cells dir n prio control body)
+  message-forgets dir n prio control body =
+      ap (λ c. put_message prio c (option_map (cells_written plain dir (n + length (part control))) body)) (written-forgets dir n control)
+      ∙ ap (λ d. put_message prio (option_map (map cells.byte) (option_map (cells_written cells dir n) control)) d) (written-forgets dir (n + length (part control)) body)
+      ∙ put-forgets cells.byte prio (option_map (cells_written cells dir n) control) (option_map (cells_written cells dir (n + length (part control))) body)
+
+  pub put_at-forgets : (side : Side) (prio : Prio) (control body : Option (List ℕ)) (s : State C) → put_at plain side prio control body (map_state cells.byte s) ≡ map_carried cells.byte (map_state cells.byte) (put_at cells side prio control body s)
+  put_at-forgets side prio control body s = over side
+    where
+      image : State ℕ
+      image = map_state cells.byte s
+
+      size : ℕ
+      size = length (part control) + length (part body)
+
+      sent-forgets : (side : Side) (dir : Dir) (b : Book) → booked dir size (delivered plain (below side) (message_of plain dir b.written prio control body) image)
+          ≡ map_carried cells.byte (map_state cells.byte) (booked dir size (delivered cells (below side) (message_of cells dir b.written prio control body) s))
+      sent-forgets side dir b =
+          let m = message_of cells dir b.written prio control body in
+          ap (λ x. booked dir size (delivered plain (below side) x image)) (message-forgets dir b.written prio control body)
+          ∙ ap (λ t. booked dir size t) (delivered-forgets cells are (below side) m s)
+          ∙ booked-forgets cells.byte dir size (delivered cells (below side) m s)
+
+      at : (none : Bool) (side : Side) (dir : Dir) (b : Book) → cond none (record { state = image; gone = [] }) (booked dir size (delivered plain (below side) (message_of plain dir b.written prio control body) image))
+          ≡ map_carried cells.byte (map_state cells.byte) (cond none (record { state = s; gone = [] }) (booked dir size (delivered cells (below side) (message_of cells dir b.written prio control body) s)))
+      at true side dir b = refl
+      at false side dir b = sent-forgets side dir b
+
+      over : (side : Side) → put_at plain side prio control body image ≡ map_carried cells.byte (map_state cells.byte) (put_at cells side prio control body s)
+      over Master = at (no_parts control body) Master MasterToSlave s.from_master
+      over Slave = at (no_parts control body) Slave SlaveToMaster s.from_slave

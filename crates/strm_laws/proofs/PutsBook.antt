@@ -1,0 +1,190 @@
+-- What puts in a pair book: what is told as made, one after the other, and nothing else; and with them deliveries.
+use Rattle.std.proofs.Common.{ℕ, zero, suc, ◌≡◌, ◌-◌, Bool, true, false, cond, List, [], ◌∷◌, length, refl, sym, ap, subst, ◌∙◌}
+use Rattle.std.specs.Prelude.{◌==◌, ◌&&◌, nat_le}
+use Rattle.strm_types.specs.declared.limits.TheConstants.{HOPS, MODULES}
+use Rattle.strm_types.specs.declared.names.Dir.{Dir}
+use Rattle.strm_types.specs.declared.names.Dir.TheVariants.{MasterToSlave, SlaveToMaster}
+use Rattle.strm_types.specs.declared.names.QueueName.{QueueName}
+use Rattle.strm_types.specs.declared.names.Side.{Side}
+use Rattle.strm_types.specs.declared.names.Side.TheVariants.{Master, Slave}
+use Rattle.strm_types.specs.declared.names.Way.{Way}
+use Rattle.strm_types.specs.declared.names.Way.TheVariants.{Up, Down}
+use Rattle.strm_types.specs.declared.spots.Spot.{Spot}
+use Rattle.strm_types.specs.Books.{with_made}
+use Rattle.strm_types.specs.Cells.{Cells}
+use Rattle.strm_types.specs.Deliver.{Acted, Fate, Goes, Comes, Parcel, Took, carried, in_turn}
+use Rattle.strm_laws.specs.Earlier.{driver_place, modules_on}
+use Rattle.strm_types.specs.Kinds.{kind_number}
+use Rattle.strm_types.specs.Message.{Message}
+use Rattle.strm_types.specs.Modules.{put_among}
+use Rattle.strm_types.specs.Names.{direction_at, is_open, other}
+use Rattle.strm_types.specs.Pckts.{plain_packed}
+use Rattle.strm_laws.specs.Places.{weight_made}
+use Rattle.strm_laws.specs.Puts.{across_of, booked, delivered, made_above, module_acted, passed_up, put_at_driver, put_at_head, put_at_module, put_behind, put_below, put_in}
+use Rattle.strm_types.specs.Flushing.{is_bare_flush}
+use Rattle.strm_laws.specs.Stacked.{Module, OfLdterm, OfPtem, OfPckt, module_puts}
+use Rattle.strm_laws.specs.State.{State, Stream, book, stream, with_book, with_stream}
+use Rattle.strm_laws.proofs.EndsMake.{driver_put-none, head_put-none}
+use Rattle.strm_laws.proofs.InOrder.{BooksMade, InOrder, books-none, carried-books, in_turn-books}
+use Rattle.strm_laws.proofs.ModulePuts.{ldterm-none}
+use Rattle.strm_types.proofs.PcktPuts.{puts-each}
+use Rattle.strm_laws.proofs.PtemPuts.{puts-gone}
+use Rattle.strm_laws.proofs.TurnOrder.{TurnOrder, all_made, order-next, order-none}
+
+module _ {C : Type 0} where
+  -- the books of both directions stay
+  pub record SameBooks (s t : State C) : Type 0 where
+    pub from_master : t.from_master ≡ s.from_master
+    pub from_slave : t.from_slave ≡ s.from_slave
+
+  pub none-changed : (s : State C) → SameBooks s s
+  none-changed s = record { from_master = refl; from_slave = refl }
+
+  pub books-are : (s t : State C) → SameBooks s t → (dir : Dir) → book dir t ≡ book dir s
+  books-are s t same MasterToSlave = same.from_master
+  books-are s t same SlaveToMaster = same.from_slave
+
+  pub books-on : (s t u : State C) → SameBooks s t → SameBooks t u → SameBooks s u
+  books-on s t u first second = record { from_master = second.from_master ∙ first.from_master; from_slave = second.from_slave ∙ first.from_slave }
+
+  pub stream-books : (side : Side) (t : Stream C) (s : State C) → SameBooks s (with_stream side t s)
+  stream-books Master t s = record { from_master = refl; from_slave = refl }
+  stream-books Slave t s = record { from_master = refl; from_slave = refl }
+
+  either-same : (s : State C) (b : Bool) (one another : Took C (State C)) → SameBooks s one.state → SameBooks s another.state → SameBooks s (cond b one another).state
+  either-same s true one another first second = first
+  either-same s false one another first second = second
+
+  pub head-same : (side : Side) (here : Spot) (m : Message C) (s : State C) → SameBooks s (put_at_head side here m s).state
+  head-same Master here m s = either-same s (is_open s.master.opened) _ _ (record { from_master = refl; from_slave = refl }) (none-changed s)
+  head-same Slave here m s = either-same s (is_open s.slave.opened) _ _ (record { from_master = refl; from_slave = refl }) (none-changed s)
+
+  pub driver-same : (side : Side) (here : Spot) (m : Message C) (s : State C) → SameBooks s (put_at_driver side here m s).state
+  driver-same Master here m s = record { from_master = refl; from_slave = refl }
+  driver-same Slave here m s = record { from_master = refl; from_slave = refl }
+
+  either-none : (p : Dir → C → Bool) (b : Bool) (one another : Took C (State C)) → weight_made p one.gone ≡ 0 → weight_made p another.gone ≡ 0 → weight_made p (cond b one another).gone ≡ 0
+  either-none p true one another first second = first
+  either-none p false one another first second = second
+
+  pub head-none : (p : Dir → C → Bool) (side : Side) (here : Spot) (m : Message C) (s : State C) → weight_made p (put_at_head side here m s).gone ≡ 0
+  head-none p side here m s = either-none p (is_open (stream side s).opened) _ _ (head_put-none p here m (stream side s).head) refl
+
+  -- what is told as made is what the book has more then
+  booked-made : (dir : Dir) (told : List (Fate C)) (cells : Cells C) (s : State C) (m : ℕ) → InOrder cells dir (book dir s).made told m → m ≡ (book dir (booked told s)).made
+  booked-made dir [] cells s m is = sym is
+  booked-made dir (Goes other rule xs ∷ told) cells s m is = booked-made dir told cells s m is
+  booked-made MasterToSlave (Comes MasterToSlave xs ∷ told) cells s m is = booked-made MasterToSlave told cells (with_book MasterToSlave (with_made (length xs) s.from_master) s) m is.1
+  booked-made MasterToSlave (Comes SlaveToMaster xs ∷ told) cells s m is = booked-made MasterToSlave told cells (with_book SlaveToMaster (with_made (length xs) s.from_slave) s) m is
+  booked-made SlaveToMaster (Comes MasterToSlave xs ∷ told) cells s m is = booked-made SlaveToMaster told cells (with_book MasterToSlave (with_made (length xs) s.from_master) s) m is
+  booked-made SlaveToMaster (Comes SlaveToMaster xs ∷ told) cells s m is = booked-made SlaveToMaster told cells (with_book SlaveToMaster (with_made (length xs) s.from_slave) s) m is.1
+
+  booked-written : (dir : Dir) (told : List (Fate C)) (s : State C) → (book dir (booked told s)).written ≡ (book dir s).written
+  booked-written dir [] s = refl
+  booked-written dir (Goes other rule xs ∷ told) s = booked-written dir told s
+  booked-written MasterToSlave (Comes MasterToSlave xs ∷ told) s = booked-written MasterToSlave told (with_book MasterToSlave (with_made (length xs) s.from_master) s)
+  booked-written MasterToSlave (Comes SlaveToMaster xs ∷ told) s = booked-written MasterToSlave told (with_book SlaveToMaster (with_made (length xs) s.from_slave) s)
+  booked-written SlaveToMaster (Comes MasterToSlave xs ∷ told) s = booked-written SlaveToMaster told (with_book MasterToSlave (with_made (length xs) s.from_master) s)
+  booked-written SlaveToMaster (Comes SlaveToMaster xs ∷ told) s = booked-written SlaveToMaster told (with_book SlaveToMaster (with_made (length xs) s.from_slave) s)
+
+module _ {C : Type 0} (cells : Cells C) where
+  abbrev Books : State C → List (Fate C) → State C → Type 0
+  Books s told t = BooksMade cells s told t
+
+  pub none-booked : (s t : State C) (told : List (Fate C)) → SameBooks s t → all_made told ≡ 0 → Books s told t
+  none-booked s t told same none = books-none cells s t told (books-are s t same) none
+
+  pub nothing-booked : (s t : State C) → SameBooks s t → Books s [] t
+  nothing-booked s t same = none-booked s t [] same refl
+
+  -- what is booked behind a state with the same books, and before one
+  pub booked-behind : (s t u : State C) (told : List (Fate C)) → Books s told t → SameBooks t u → Books s told u
+  booked-behind s t u told first same = record {
+    written = λ dir. ap (λ b. b.written) (books-are t u same dir) ∙ first.written dir;
+    made = λ dir. subst (λ n. InOrder cells dir (book dir s).made told n) (sym (ap (λ b. b.made) (books-are t u same dir))) (first.made dir);
+  }
+
+  pub booked-before : (s t u : State C) (told : List (Fate C)) → SameBooks s t → Books t told u → Books s told u
+  booked-before s t u told same second = record {
+    written = λ dir. second.written dir ∙ ap (λ b. b.written) (books-are s t same dir);
+    made = λ dir. subst (λ n. InOrder cells dir n told (book dir u).made) (ap (λ b. b.made) (books-are s t same dir)) (second.made dir);
+  }
+
+  -- what a module does is booked as it is told
+  ordered-made : (side : Side) (told : List (Fate C)) (s : State C) → TurnOrder cells side (book (direction_at Down side) s).made told → (dir : Dir) → InOrder cells dir (book dir s).made told (book dir (booked told s)).made
+  ordered-made side told s order dir = at side dir order
+    where
+      goes : (dir : Dir) (m : ℕ) → InOrder cells dir (book dir s).made told m → InOrder cells dir (book dir s).made told (book dir (booked told s)).made
+      goes dir m is = subst (λ n. InOrder cells dir (book dir s).made told n) (booked-made dir told cells s m is) is
+
+      at : (side : Side) (dir : Dir) → TurnOrder cells side (book (direction_at Down side) s).made told → InOrder cells dir (book dir s).made told (book dir (booked told s)).made
+      at Master MasterToSlave order = goes MasterToSlave _ order.down
+      at Master SlaveToMaster order = goes SlaveToMaster _ (order.up s.from_slave.made)
+      at Slave MasterToSlave order = goes MasterToSlave _ (order.up s.from_master.made)
+      at Slave SlaveToMaster order = goes SlaveToMaster _ order.down
+
+  pub acted-books : (side : Side) (here : Spot) (t : Acted C (List (Module C))) (s : State C) → TurnOrder cells side (book (direction_at Down side) s).made t.gone → Books s t.gone (module_acted here t s).state
+  acted-books side here t s order = behind (with_stream here.side (record (stream here.side s) { modules = t.state }) s) _ (stream-books here.side (record (stream here.side s) { modules = t.state }) s)
+    where
+      behind : (stands : State C) (names : List QueueName) → SameBooks s stands → Books s t.gone (booked t.gone (record stands { enabled = names }))
+      behind stands names same =
+          let u : State C = record stands { enabled = names } in
+          let on : SameBooks s u = record { from_master = same.from_master; from_slave = same.from_slave } in
+          let made : (book (direction_at Down side) s).made ≡ (book (direction_at Down side) u).made = sym (ap (λ b. b.made) (books-are s u on (direction_at Down side))) in
+          booked-before s u (booked t.gone u) t.gone on (record {
+            written = λ dir. booked-written dir t.gone u;
+            made = ordered-made side t.gone u (subst (λ n. TurnOrder cells side n t.gone) made order);
+          })
+
+  -- A put at a module makes the next cells of the direction in which it sends up.
+  module _ (here : Spot) (m : Message C) where
+    abbrev Ordered : ℕ → List (Fate C) → Type 0
+    Ordered made told = TurnOrder cells (other here.side) made told
+
+    module-order : (made : ℕ) (q : Module C) → Ordered made (module_puts cells made here m q).gone
+    module-order made (OfLdterm l) = order-none cells (other here.side) made _ (ldterm-none (λ dir c. true) here m l)
+    module-order made (OfPtem q) = order-none cells (other here.side) made _ (ap all_made (puts-gone here m q))
+    module-order made (OfPckt q) =
+        puts-each cells made here m (λ t. Ordered made t.gone) (order-none cells (other here.side) made [] refl)
+        (λ up is. order-next cells (other here.side) made (kind_number m.kind ∷ plain_packed m) [] refl)
+
+    among-order : (made i : ℕ) (ps : List (Module C)) → Ordered made (put_among (module_puts cells made) i here m ps).gone
+    among-order made i [] = order-none cells (other here.side) made [] refl
+    among-order made zero (q ∷ ps) = module-order made q
+    among-order made (suc i) (q ∷ ps) = among-order made i ps
+
+  abbrev PutBooks : (Spot → Message C → State C → Took C (State C)) → Type 0
+  PutBooks put = (to : Spot) (m : Message C) (s : State C) → Books s (put to m s).gone (put to m s).state
+
+  stack-books : PutBooks (put_at_module cells)
+  stack-books here m s =
+      let made = made_above here.side s in
+      acted-books (other here.side) here (put_among (module_puts cells made) (here.at - 1) here m (stream here.side s).modules) s (among-order here m made (here.at - 1) (stream here.side s).modules)
+
+  either-books : (s : State C) (b : Bool) (one another : Took C (State C)) → Books s one.gone one.state → Books s another.gone another.state → Books s (cond b one another).gone (cond b one another).state
+  either-books s true one another first second = first
+  either-books s false one another first second = second
+
+  head-books : (side : Side) → PutBooks (put_at_head side)
+  head-books side here m s = none-booked s _ _ (head-same side here m s) (head-none (λ dir c. true) side here m s)
+
+  driver-books : (side : Side) → PutBooks (put_at_driver side)
+  driver-books side here m s =
+      none-booked s _ _ (driver-same side here m s) (driver_put-none (λ dir c. true) side (across_of side s) (record here { at = driver_place side s }) m (stream side s).driver.queue)
+
+  behind-books : (way : Way) → PutBooks (put_behind way)
+  behind-books Down here m s = driver-books here.side here m s
+  behind-books Up here m s =
+      either-books s (is_bare_flush m && here.at == suc MODULES) (put_at_driver here.side here m s) (passed_up here m s) (driver-books here.side here m s) (nothing-booked s s (none-changed s))
+
+  pub puts-book : PutBooks (put_in cells)
+  puts-book here m s =
+      either-books s (here.at == 0) (put_at_head here.side here m s) (put_below cells here.way here m s) (head-books here.side here m s)
+      (either-books s (nat_le here.at (modules_on here.side s)) (put_at_module cells here m s) (put_behind here.way here m s) (stack-books here m s) (behind-books here.way here m s))
+
+  -- a delivery, and several
+  pub delivered-books : (to : Spot) (m : Message C) (s : State C) → let t = delivered cells to m s in Books s t.gone t.state
+  delivered-books to m s = carried-books cells (put_in cells) puts-book HOPS (record { to = to; message = m }) s
+
+  pub sent-books : (ps : List (Parcel C)) (s : State C) → let t = in_turn (carried (put_in cells) HOPS) ps s in Books s t.gone t.state
+  sent-books ps s = in_turn-books cells (put_in cells) puts-book (carried (put_in cells) HOPS) (carried-books cells (put_in cells) puts-book HOPS) ps s

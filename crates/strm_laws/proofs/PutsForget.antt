@@ -1,0 +1,210 @@
+-- Forgetting the origins of cells commutes with puts in a pair, with deliveries there, and with flushes of a stream.
+use Rattle.std.proofs.Common.{ℕ, suc, ◌≡◌, ◌-◌, Bool, true, false, cond, List, [], ◌∷◌, length, map, refl, sym, ap, ◌∙◌}
+use Rattle.std.proofs.lemmas.List.{length-map}
+use Rattle.strm_types.specs.declared.names.Dir.{Dir}
+use Rattle.strm_types.specs.declared.names.Dir.TheVariants.{MasterToSlave, SlaveToMaster}
+use Rattle.std.specs.Prelude.{◌==◌, ◌&&◌, not, nat_le, slice_index_or, Option, None, Some}
+use Rattle.strm_types.specs.declared.events.FlushQueues.{FlushQueues}
+use Rattle.strm_types.specs.declared.kinds.Band.{Band}
+use Rattle.strm_types.specs.declared.limits.TheConstants.{MODULES, HOPS}
+use Rattle.strm_types.specs.declared.names.Place.{Place}
+use Rattle.strm_types.specs.declared.names.Place.TheVariants as places
+use Rattle.strm_types.specs.declared.names.QueueName.{QueueName}
+use Rattle.strm_types.specs.declared.names.Side.{Side}
+use Rattle.strm_types.specs.declared.names.Side.TheVariants.{Master, Slave}
+use Rattle.strm_types.specs.declared.names.Way.{Way}
+use Rattle.strm_types.specs.declared.names.Way.TheVariants.{Up, Down}
+use Rattle.strm_types.specs.declared.rules.Rule.TheVariants.{EndClosed}
+use Rattle.strm_types.specs.declared.spots.Note.{Note}
+use Rattle.strm_types.specs.declared.spots.Spot.{Spot}
+use Rattle.strm_types.specs.Books.{with_made}
+use Rattle.strm_types.specs.Cells.{AreCells, Cells, plain}
+use Rattle.strm_types.specs.Deliver.{Acted, Comes, Fate, Goes, Took}
+use Rattle.strm_types.specs.Drivers.{driver_put}
+use Rattle.strm_laws.specs.Earlier.{driver_place, modules_on, places_of}
+use Rattle.strm_types.specs.Flushing.{is_flush, asked_of, flush_bytes, flush_message, is_bare_flush}
+use Rattle.strm_types.specs.Heads.{head_put, Head, map_head}
+use Rattle.strm_types.specs.Message.{Message, cells_of, has_parts, map_message}
+use Rattle.strm_types.specs.Modules.{put_among}
+use Rattle.strm_types.specs.Names.{direction_at, is_closed, is_open, other}
+use Rattle.strm_types.specs.Origins.{PutsAgree, map_acted, map_carried, map_fate, map_took}
+use Rattle.strm_laws.specs.Puts.{booked, delivered, earlier_at, flushed_on, made_above, module_acted, noted, passed_up, put_at_driver, put_at_head, put_at_module, put_behind, put_below, put_in}
+use Rattle.strm_types.specs.Queue.{Queue, map_queue}
+use Rattle.strm_laws.specs.Stacked.{Module, map_module, module_puts}
+use Rattle.strm_laws.specs.State.{State, Stream, book, stream, with_book, with_stream, with_driver_queue, map_state}
+use Rattle.strm_laws.proofs.DeliveryForgets.{carried-agrees}
+use Rattle.strm_laws.proofs.EmptiedForgets.{stream-forgets}
+use Rattle.strm_laws.proofs.Earlier.{before_at-forgets, modules_on-forgets, places-forget}
+use Rattle.strm_laws.proofs.Forgetting.{cells-forget, kind-forgets}
+use Rattle.strm_laws.proofs.ModulePuts.{among-forgets}
+use Rattle.strm_laws.proofs.Noted.{noted-same}
+use Rattle.strm_laws.proofs.PutForgets.{driver_put-forgets, flush-forgets, head_put-forgets, parts-forget}
+
+-- a pair whose head of a side, where that is open, or whose driver has had a message; with these queues enabled
+abbrev head_took : {E : Type 0} → Side → Bool → Acted E (Head E) → List E → List QueueName → State E → Took E (State E)
+head_took side opened t cells names s =
+    cond opened (record { state = record (with_stream side (record (stream side s) { head = t.state }) s) { enabled = names }; sent = t.sent; gone = t.gone })
+    (record { state = s; sent = []; gone = Goes (direction_at Up side) EndClosed cells ∷ [] })
+
+abbrev driver_took : {E : Type 0} → Side → Acted E (Queue E) → List QueueName → State E → Took E (State E)
+driver_took side t names s = record { state = record (with_stream side (with_driver_queue t.state (stream side s)) s) { enabled = names }; sent = t.sent; gone = t.gone }
+
+module _ {C D : Type 0} (f : C → D) where
+  abbrev image : Took C (State C) → Took D (State D)
+  image t = map_took f (map_state f) t
+
+  either-agrees : (b : Bool) (one another : Took C (State C)) (one' another' : Took D (State D)) → one' ≡ image one → another' ≡ image another → cond b one' another' ≡ image (cond b one another)
+  either-agrees true one another one' another' first second = first
+  either-agrees false one another one' another' first second = second
+
+  head_took-forgets : (side : Side) (opened : Bool) (t : Acted C (Head C)) (cells : List C) (names : List QueueName) (s : State C)
+      → head_took side opened (map_acted f (map_head f) t) (map f cells) names (map_state f s) ≡ image (head_took side opened t cells names s)
+  head_took-forgets Master true t cells names s = refl
+  head_took-forgets Master false t cells names s = refl
+  head_took-forgets Slave true t cells names s = refl
+  head_took-forgets Slave false t cells names s = refl
+
+  driver_took-forgets : (side : Side) (t : Acted C (Queue C)) (names : List QueueName) (s : State C) → driver_took side (map_acted f (map_queue f) t) names (map_state f s) ≡ image (driver_took side t names s)
+  driver_took-forgets Master t names s = refl
+  driver_took-forgets Slave t names s = refl
+
+  -- what is noted of a place
+  pub notes-forget : (side : Side) (place : Option Place) (at : ℕ) (notes : List Note) (names : List QueueName) (s : State C)
+      → noted side place (earlier_at side at (map_state f s)) notes names ≡ noted side place (earlier_at side at s) notes names
+  notes-forget side place at notes names s = noted-same side place _ _ (λ way. before_at-forgets f side way at s) notes names
+
+  pub head-forgets : (side : Side) (here : Spot) (m : Message C) (s : State C) → put_at_head side here (map_message f m) (map_state f s) ≡ image (put_at_head side here m s)
+  head-forgets side here m s = over side
+    where
+      names : Side → State D → List Note → List QueueName
+      names side t notes = noted side (Some places.Head) (earlier_at side 0 t) notes s.enabled
+
+      from : (side : Side) (opened : Bool) (h : Head C) →
+          head_took side opened (head_put here (map_message f m) (map_head f h)) (cells_of (map_message f m)) (names side (map_state f s) (head_put here (map_message f m) (map_head f h)).notes) (map_state f s)
+          ≡ image (head_took side opened (head_put here m h) (cells_of m) (noted side (Some places.Head) (earlier_at side 0 s) (head_put here m h).notes s.enabled) s)
+      from side opened h =
+          let t = head_put here m h in
+          ap (λ x. head_took side opened x (cells_of (map_message f m)) (names side (map_state f s) x.notes) (map_state f s)) (head_put-forgets f here m h)
+          ∙ ap (λ cells. head_took side opened (map_acted f (map_head f) t) cells (names side (map_state f s) t.notes) (map_state f s)) (cells-forget f m)
+          ∙ ap (λ enabled. head_took side opened (map_acted f (map_head f) t) (map f (cells_of m)) enabled (map_state f s)) (notes-forget side (Some places.Head) 0 t.notes s.enabled s)
+          ∙ head_took-forgets side opened t (cells_of m) (noted side (Some places.Head) (earlier_at side 0 s) t.notes s.enabled) s
+
+      over : (side : Side) → put_at_head side here (map_message f m) (map_state f s) ≡ image (put_at_head side here m s)
+      over Master = from Master (is_open s.master.opened) s.master.head
+      over Slave = from Slave (is_open s.slave.opened) s.slave.head
+
+  -- the books
+  booked-same : (told : List (Fate C)) (s : State C) → booked (map (map_fate f) told) (map_state f s) ≡ map_state f (booked told s)
+  booked-same [] s = refl
+  booked-same (Goes dir rule cells ∷ told) s = booked-same told s
+  booked-same (Comes dir cells ∷ told) s =
+      ap (λ n. booked (map (map_fate f) told) (with_book dir (with_made n (book dir (map_state f s))) (map_state f s))) (length-map cells f)
+      ∙ ap (λ x. booked (map (map_fate f) told) x) (book-same dir (length cells) s)
+      ∙ booked-same told (with_book dir (with_made (length cells) (book dir s)) s)
+    where
+      book-same : (dir : Dir) (n : ℕ) (s : State C) → with_book dir (with_made n (book dir (map_state f s))) (map_state f s) ≡ map_state f (with_book dir (with_made n (book dir s)) s)
+      book-same MasterToSlave n s = refl
+      book-same SlaveToMaster n s = refl
+
+  -- modules that have acted
+  abbrev acted_so : {E : Type 0} → Spot → Acted E (List (Module E)) → List QueueName → State E → Took E (State E)
+  acted_so here t names s = record {
+    state = booked t.gone (record (with_stream here.side (record (stream here.side s) { modules = t.state }) s) { enabled = names });
+    sent = t.sent;
+    gone = t.gone;
+  }
+
+  with_modules-same : (side : Side) (ps : List (Module C)) (names : List QueueName) (s : State C)
+      → record (with_stream side (record (stream side (map_state f s)) { modules = map (map_module f) ps }) (map_state f s)) { enabled = names } ≡ map_state f (record (with_stream side (record (stream side s) { modules = ps }) s) { enabled = names })
+  with_modules-same Master ps names s = refl
+  with_modules-same Slave ps names s = refl
+
+  pub acted-same : (here : Spot) (t : Acted C (List (Module C))) (s : State C) → module_acted here (map_acted f (map (map_module f)) t) (map_state f s) ≡ map_took f (map_state f) (module_acted here t s)
+  acted-same here t s =
+      let on = stream here.side s in
+      let u = map_acted f (map (map_module f)) t in
+      let place = slice_index_or (places_of on.modules) (here.at - 1) None in
+      let names = noted here.side place (earlier_at here.side here.at s) t.notes s.enabled in
+      ap (λ (x : Stream D). acted_so here u (noted here.side (slice_index_or (places_of x.modules) (here.at - 1) None) (earlier_at here.side here.at (map_state f s)) t.notes s.enabled) (map_state f s)) (stream-forgets f here.side s)
+      ∙ ap (λ places. acted_so here u (noted here.side (slice_index_or places (here.at - 1) None) (earlier_at here.side here.at (map_state f s)) t.notes s.enabled) (map_state f s)) (places-forget f on.modules)
+      ∙ ap (λ ns. acted_so here u ns (map_state f s)) (notes-forget here.side place here.at t.notes s.enabled s)
+      ∙ ap (λ x. record { state = booked u.gone x; sent = u.sent; gone = u.gone }) (with_modules-same here.side t.state names s)
+      ∙ ap (λ x. record { state = x; sent = u.sent; gone = u.gone }) (booked-same t.gone (record (with_stream here.side (record on { modules = t.state }) s) { enabled = names }))
+
+  driver-forgets : (side : Side) (here : Spot) (m : Message C) (s : State C) → put_at_driver side here (map_message f m) (map_state f s) ≡ image (put_at_driver side here m s)
+  driver-forgets side here m s = over side
+    where
+      puts : {E : Type 0} → Side → Bool → ℕ → ℕ → Message E → Queue E → Acted E (Queue E)
+      puts side opened bottom at m q = driver_put side (record { is_open = opened; bottom = bottom; ended = is_closed s.master.opened }) (record here { at = at }) m q
+
+      took : Side → ℕ → Acted D (Queue D) → Took D (State D)
+      took side at t = driver_took side t (noted side (Some places.Driver) (earlier_at side at (map_state f s)) t.notes s.enabled) (map_state f s)
+
+      from : (side : Side) (opened : Bool) (q : Queue C) → let there = driver_place side (map_state f s) in let at = driver_place side s in
+          let t = puts side opened (modules_on (other side) s) at m q in
+          took side there (puts side opened (modules_on (other side) (map_state f s)) there (map_message f m) (map_queue f q))
+          ≡ image (driver_took side t (noted side (Some places.Driver) (earlier_at side at s) t.notes s.enabled) s)
+      from side opened q =
+          let at = driver_place side s in
+          let bottom = modules_on (other side) s in
+          let t = puts side opened bottom at m q in
+          ap (λ n. took side (suc n) (puts side opened (modules_on (other side) (map_state f s)) (suc n) (map_message f m) (map_queue f q))) (modules_on-forgets f side s)
+          ∙ ap (λ n. took side at (puts side opened n at (map_message f m) (map_queue f q))) (modules_on-forgets f (other side) s)
+          ∙ ap (λ u. took side at u) (driver_put-forgets f side (record { is_open = opened; bottom = bottom; ended = is_closed s.master.opened }) (record here { at = at }) m q)
+          ∙ ap (λ enabled. driver_took side (map_acted f (map_queue f) t) enabled (map_state f s)) (notes-forget side (Some places.Driver) at t.notes s.enabled s)
+          ∙ driver_took-forgets side t (noted side (Some places.Driver) (earlier_at side at s) t.notes s.enabled) s
+
+      over : (side : Side) → put_at_driver side here (map_message f m) (map_state f s) ≡ image (put_at_driver side here m s)
+      over Master = from Master (is_open s.slave.opened) s.master.driver.queue
+      over Slave = from Slave (is_open s.master.opened) s.slave.driver.queue
+
+  behind-forgets : (way : Way) (here : Spot) (m : Message C) (s : State C) → put_behind way here (map_message f m) (map_state f s) ≡ image (put_behind way here m s)
+  behind-forgets Down here m s = driver-forgets here.side here m s
+  behind-forgets Up here m s =
+      ap (λ kind. at (is_flush kind && not (has_parts (map_message f m)))) (kind-forgets f m)
+      ∙ ap (λ parts. at (is_flush m.kind && not parts)) (parts-forget f m)
+      ∙ either-agrees (is_bare_flush m && here.at == suc MODULES) (put_at_driver here.side here m s) (passed_up here m s)
+      (put_at_driver here.side here (map_message f m) (map_state f s)) (passed_up here (map_message f m) (map_state f s)) (driver-forgets here.side here m s)
+      (ap (λ n. record { state = map_state f s; sent = record { to = record here { at = n }; message = map_message f m } ∷ []; gone = [] }) (modules_on-forgets f here.side s))
+    where
+      at : Bool → Took D (State D)
+      at bare = cond (bare && here.at == suc MODULES) (put_at_driver here.side here (map_message f m) (map_state f s)) (passed_up here (map_message f m) (map_state f s))
+
+module _ {C : Type 0} (cells : Cells C) (are : AreCells cells) where
+  abbrev f : C → ℕ
+  f = cells.byte
+
+  above-same : (side : Side) (s : State C) → made_above side (map_state f s) ≡ made_above side s
+  above-same Master s = refl
+  above-same Slave s = refl
+
+  module-forgets : (here : Spot) (m : Message C) (s : State C) → put_at_module plain here (map_message f m) (map_state f s) ≡ map_took f (map_state f) (put_at_module cells here m s)
+  module-forgets here m s =
+      let i = here.at - 1 in
+      let ps = (stream here.side s).modules in
+      let made = made_above here.side s in
+      ap (λ (t : Stream ℕ). module_acted here (put_among (module_puts plain (made_above here.side (map_state f s))) i here (map_message f m) t.modules) (map_state f s)) (stream-forgets f here.side s)
+      ∙ ap (λ n. module_acted here (put_among (module_puts plain n) i here (map_message f m) (map (map_module f) ps)) (map_state f s)) (above-same here.side s)
+      ∙ ap (λ t. module_acted here t (map_state f s)) (among-forgets cells are made i here m ps)
+      ∙ acted-same f here (put_among (module_puts cells made) i here m ps) s
+
+  below-forgets : (way : Way) (here : Spot) (m : Message C) (s : State C) → put_below plain way here (map_message f m) (map_state f s) ≡ map_took f (map_state f) (put_below cells way here m s)
+  below-forgets way here m s =
+      let at = put_at_module plain here (map_message f m) (map_state f s) in
+      let behind = put_behind way here (map_message f m) (map_state f s) in
+      ap (λ n. cond (nat_le here.at n) at behind) (modules_on-forgets f here.side s)
+      ∙ either-agrees f (nat_le here.at (modules_on here.side s)) (put_at_module cells here m s) (put_behind way here m s) at behind (module-forgets here m s) (behind-forgets f way here m s)
+
+  pub puts-forget : PutsAgree f (map_state f) (put_in cells) (put_in plain)
+  puts-forget to m s =
+      either-agrees f (to.at == 0) (put_at_head to.side to m s) (put_below cells to.way to m s)
+      (put_at_head to.side to (map_message f m) (map_state f s)) (put_below plain to.way to (map_message f m) (map_state f s)) (head-forgets f to.side to m s) (below-forgets to.way to m s)
+
+  pub delivered-forgets : (to : Spot) (m : Message C) (s : State C) → delivered plain to (map_message f m) (map_state f s) ≡ map_carried f (map_state f) (delivered cells to m s)
+  delivered-forgets to m s = carried-agrees f (map_state f) (put_in cells) (put_in plain) puts-forget HOPS (record { to = to; message = m }) s
+
+  pub flushed_on-forgets : (band : Option Band) (side : Side) (what : FlushQueues) (s : State C) → flushed_on plain band side what (map_state f s) ≡ map_carried f (map_state f) (flushed_on cells band side what s)
+  flushed_on-forgets band side what s =
+      let to : Spot = record { side = side; at = 1; way = Down } in
+      let bytes = flush_bytes (asked_of what band) in
+      ap (λ m. delivered plain to m (map_state f s)) (sym (flush-forgets f bytes)) ∙ delivered-forgets to (flush_message bytes) s

@@ -1,0 +1,199 @@
+-- A put in a pair loses no cell, makes none that it doesn't tell, and leaves a side that isn't open nothing to be read.
+use Rattle.std.proofs.Common.{ℕ, zero, suc, ◌≡◌, ◌<◌, ◌≤◌, ◌+◌, ◌-◌, Bool, true, false, cond, List, [], ◌∷◌, length, refl, ap, arith}
+use Rattle.std.specs.Prelude.{◌==◌, ◌&&◌, not, min, nat_le}
+use Rattle.std.proofs.lemmas.Bool.Decides.{nat_tests}
+use Rattle.strm_types.specs.declared.limits.TheConstants.{MODULES}
+use Rattle.strm_types.specs.declared.names.Side.{Side}
+use Rattle.strm_types.specs.declared.names.Side.TheVariants.{Master, Slave}
+use Rattle.strm_types.specs.declared.names.Way.{Way}
+use Rattle.strm_types.specs.declared.names.Way.TheVariants.{Up, Down}
+use Rattle.strm_types.specs.declared.spots.Spot.{Spot}
+use Rattle.strm_types.specs.declared.names.Dir.{Dir}
+use Rattle.strm_types.specs.declared.names.Dir.TheVariants.{MasterToSlave, SlaveToMaster}
+use Rattle.strm_types.specs.Books.{with_made}
+use Rattle.strm_types.specs.Cells.{Cells}
+use Rattle.strm_types.specs.Deliver.{Acted, Comes, Fate, Goes, Took}
+use Rattle.strm_laws.specs.Earlier.{driver_place, modules_on}
+use Rattle.strm_types.specs.Flushing.{is_flush, is_bare_flush}
+use Rattle.strm_laws.specs.Kept.{NothingUnread, state_weight}
+use Rattle.strm_types.specs.Message.{Message, has_parts, weight_of}
+use Rattle.strm_types.specs.Names.{direction_at, is_open}
+use Rattle.strm_laws.specs.Places.{PutKeeps, direction_to, way_to, weight_sent, weight_gone, weight_made}
+use Rattle.strm_laws.specs.Puts.{SameButMade, across_of, booked, made_above, module_acted, put_at_driver, put_at_head, put_at_module, put_behind, put_below, put_in}
+use Rattle.strm_types.specs.Modules.{put_among}
+use Rattle.strm_laws.specs.Stacked.{Module, module_puts, modules_weight}
+use Rattle.strm_laws.specs.State.{State, stream, with_book, with_stream}
+use Rattle.strm_laws.proofs.ModulePuts.{among-keeps}
+use Rattle.strm_laws.proofs.LdtermKeeps.{way-up}
+use Rattle.strm_laws.proofs.PutParts.{BookHolds, Stays, either-holds, waiting}
+use Rattle.strm_laws.proofs.PutWeights.{driver_put-keeps, head_put-keeps, no-parts}
+use Rattle.strm_types.proofs.Weights.{weight-whole}
+
+-- a place below the head, and one at which a module stands
+pub not-head : (at : ℕ) → (at == 0) ≡ false → 0 < at
+not-head at is = let some : 0 < at = grind (arith, nat_tests) in some
+
+pub stands-among : (at count : ℕ) → nat_le at (min MODULES count) ≡ true → at ≤ min MODULES count
+stands-among at count is = let among : at ≤ min MODULES count = grind (arith, nat_tests) in among
+
+stands-within : (at count : ℕ) → 0 < at → nat_le at (min MODULES count) ≡ true → at - 1 < count
+stands-within at count some is = omega (arith, stands-among at count is, some)
+
+module _ {C : Type 0} (p : Dir → C → Bool) where
+  -- a put in a pair that had so many cells with those of the message
+  abbrev Keeps : Took C (State C) → ℕ → Type 0
+  Keeps t n = state_weight p t.state + (weight_sent p t.sent + weight_gone p t.gone) ≡ n + weight_made p t.gone
+
+  either-keeps : (n : ℕ) (b : Bool) (one another : Took C (State C)) → (b ≡ true → Keeps one n) → (b ≡ false → Keeps another n) → Keeps (cond b one another) n
+  either-keeps n true one another first second = first refl
+  either-keeps n false one another first second = second refl
+
+  -- a spot by its side
+  abbrev on : Side → Spot → Spot
+  on side here = record here { side = side }
+
+  -- how many cells a pair has with those of a message that goes in a direction
+  abbrev with_message : Way → Side → Message C → State C → ℕ
+  with_message way side m s = state_weight p s + weight_of (p (direction_at way side)) m
+
+  pub head-keeps : (side : Side) (here : Spot) (m : Message C) (s : State C) → Keeps (put_at_head side (on side here) m s) (with_message Up side m s)
+  head-keeps Master here m s = either-keeps _ (is_open s.master.opened) _ _ (λ _. omega (arith, head_put-keeps p (on Master here) m s.master.head)) (λ _. omega (arith, weight-whole (p (direction_at Up Master)) m))
+  head-keeps Slave here m s = either-keeps _ (is_open s.slave.opened) _ _ (λ _. omega (arith, head_put-keeps p (on Slave here) m s.slave.head)) (λ _. omega (arith, weight-whole (p (direction_at Up Slave)) m))
+
+  driver-keeps : (side : Side) (here : Spot) (m : Message C) (s : State C) → Keeps (put_at_driver side here m s) (with_message Down side m s)
+  driver-keeps Master here m s = omega (arith, driver_put-keeps p Master (across_of Master s) (record here { at = driver_place Master s }) m s.master.driver.queue)
+  driver-keeps Slave here m s = omega (arith, driver_put-keeps p Slave (across_of Slave s) (record here { at = driver_place Slave s }) m s.slave.driver.queue)
+
+  pub booked-keeps : (told : List (Fate C)) (s : State C) → state_weight p (booked told s) ≡ state_weight p s
+  booked-keeps [] s = refl
+  booked-keeps (Goes dir rule xs ∷ told) s = booked-keeps told s
+  booked-keeps (Comes MasterToSlave xs ∷ told) s = booked-keeps told (with_book MasterToSlave (with_made (length xs) s.from_master) s)
+  booked-keeps (Comes SlaveToMaster xs ∷ told) s = booked-keeps told (with_book SlaveToMaster (with_made (length xs) s.from_slave) s)
+
+  -- modules that have acted
+  acted-keeps : (here : Spot) (t : Acted C (List (Module C))) (s : State C) (n : ℕ)
+      → modules_weight p here.side t.state + (weight_sent p t.sent + weight_gone p t.gone) ≡ modules_weight p here.side (stream here.side s).modules + n + weight_made p t.gone
+      → Keeps (module_acted here t s) (state_weight p s + n)
+  acted-keeps here t s n kept = at here.side kept
+    where
+      at : (side : Side) → modules_weight p side t.state + (weight_sent p t.sent + weight_gone p t.gone) ≡ modules_weight p side (stream side s).modules + n + weight_made p t.gone
+          → Keeps (module_acted (on side here) t s) (state_weight p s + n)
+      at Master kept = omega (arith, kept, booked-keeps t.gone (record (with_stream Master (record s.master { modules = t.state }) s) { enabled = (module_acted (on Master here) (record t { gone = [] }) s).state.enabled }))
+      at Slave kept = omega (arith, kept, booked-keeps t.gone (record (with_stream Slave (record s.slave { modules = t.state }) s) { enabled = (module_acted (on Slave here) (record t { gone = [] }) s).state.enabled }))
+
+  -- an M_FLUSH that was sent across has no cells, in whichever direction
+  bare-weighs : (t : C → Bool) (b : Bool) (m : Message C) → (is_bare_flush m && b) ≡ true → weight_of t m ≡ 0
+  bare-weighs t b m is = no-parts t m (no-part (is_flush m.kind) (has_parts m) b is)
+    where
+      no-part : (flush parts b : Bool) → ((flush && not parts) && b) ≡ true → parts ≡ false
+      no-part true false b is = refl
+      no-part true true b is = absurd (cc)
+      no-part false parts b is = absurd (cc)
+
+  passed-weighs : (side : Side) (m : Message C) (at : ℕ) → weight_of (p (direction_to (record { side = side; at = at; way = Up }))) m ≡ weight_of (p (direction_at Up side)) m
+  passed-weighs side m at = ap (λ way. weight_of (p (direction_at way side)) m) (way-up at)
+
+  behind-keeps : (way : Way) (here : Spot) (m : Message C) (s : State C) → let to : Spot = record here { way = way } in Keeps (put_behind way to m s) (with_message way here.side m s)
+  behind-keeps Down here m s = driver-keeps here.side (record here { way = Down }) m s
+  behind-keeps Up here m s =
+      let up : Spot = record here { way = Up } in
+      either-keeps _ (is_bare_flush m && here.at == suc MODULES) _ _
+      (λ is. omega (arith, driver-keeps here.side up m s, bare-weighs (p (direction_at Up here.side)) (here.at == suc MODULES) m is, bare-weighs (p (direction_at Down here.side)) (here.at == suc MODULES) m is))
+      (λ _. omega (arith, passed-weighs here.side m (modules_on here.side s)))
+
+  -- the direction of what is put below a head is that of its way
+  below-weighs : (to : Spot) (m : Message C) → 0 < to.at → weight_of (p (direction_to to)) m ≡ weight_of (p (direction_at to.way to.side)) m
+  below-weighs to m some = at to.at some
+    where
+      at : (n : ℕ) → 0 < n → weight_of (p (direction_at (way_to n to.way) to.side)) m ≡ weight_of (p (direction_at to.way to.side)) m
+      at zero some = absurd (omega arith)
+      at (suc n) some = refl
+
+  top-weighs : (to : Spot) (m : Message C) → (to.at == 0) ≡ true → weight_of (p (direction_to to)) m ≡ weight_of (p (direction_at Up to.side)) m
+  top-weighs to m is = at to.at is
+    where
+      at : (n : ℕ) → (n == 0) ≡ true → weight_of (p (direction_at (way_to n to.way) to.side)) m ≡ weight_of (p (direction_at Up to.side)) m
+      at zero is = refl
+      at (suc n) is = absurd (let none : suc n ≡ 0 = grind (arith, nat_tests) in omega (arith, none))
+
+  module _ (cells : Cells C) where
+    module-keeps : (here : Spot) (m : Message C) (s : State C) → here.at - 1 < length (stream here.side s).modules → Keeps (put_at_module cells here m s) (with_message here.way here.side m s)
+    module-keeps here m s within =
+        let ps = (stream here.side s).modules in
+        let t = put_among (module_puts cells (made_above here.side s)) (here.at - 1) here m ps in
+        acted-keeps here t s (weight_of (p (direction_at here.way here.side)) m) (among-keeps p cells (made_above here.side s) (here.at - 1) here m ps within)
+
+    below-keeps : (way : Way) (here : Spot) (m : Message C) (s : State C) → 0 < here.at → let to : Spot = record here { way = way } in Keeps (put_below cells way to m s) (with_message way here.side m s)
+    below-keeps way here m s some =
+        either-keeps _ (nat_le here.at (modules_on here.side s)) _ _
+        (λ is. module-keeps (record here { way = way }) m s (stands-within here.at (length (stream here.side s).modules) some is))
+        (λ _. behind-keeps way here m s)
+
+    in-keeps : (to : Spot) (m : Message C) (s : State C) → Keeps (put_in cells to m s) (state_weight p s + weight_of (p (direction_to to)) m)
+    in-keeps to m s = either-keeps _ (to.at == 0) _ _
+        (λ is. omega (arith, top-weighs to m is, head-keeps to.side to m s))
+        (λ is. let some = not-head to.at is in omega (arith, below-weighs to m some, below-keeps to.way to m s some))
+
+    pub puts-keep : PutKeeps p (state_weight p) (put_in cells)
+    puts-keep to m s = let all = in-keeps to m s in omega arith
+
+-- a side that isn't open has nothing for its readers
+module _ {C : Type 0} where
+  open-holds : (Holds : State C → Type 0) (b : Bool) (one another : Took C (State C)) → (b ≡ true → Holds one.state) → Holds another.state → Holds (cond b one another).state
+  open-holds Holds true one another first second = first refl
+  open-holds Holds false one another first second = second
+
+  pub head-unread : (side : Side) (here : Spot) (m : Message C) (s : State C) → NothingUnread s → NothingUnread (put_at_head side here m s).state
+  head-unread Master here m s unread = open-holds NothingUnread (is_open s.master.opened) _ _ (λ opened. record { master = λ closed. absurd (cc); slave = unread.slave }) unread
+  head-unread Slave here m s unread = open-holds NothingUnread (is_open s.slave.opened) _ _ (λ opened. record { master = unread.master; slave = λ closed. absurd (cc) }) unread
+
+  pub unread-stays : Stays {C = C} NothingUnread
+  unread-stays = record { head = head-unread; driver = driver; modules = modules; names = λ names s unread. record { master = unread.master; slave = unread.slave }; books = books; waits = waits }
+    where
+      driver : (side : Side) (here : Spot) (m : Message C) (s : State C) → NothingUnread s → NothingUnread (put_at_driver side here m s).state
+      driver Master here m s unread = record { master = unread.master; slave = unread.slave }
+      driver Slave here m s unread = record { master = unread.master; slave = unread.slave }
+
+      modules : (side : Side) (ps : List (Module C)) (s : State C) → NothingUnread s → NothingUnread (with_stream side (record (stream side s) { modules = ps }) s)
+      modules Master ps s unread = record { master = unread.master; slave = unread.slave }
+      modules Slave ps s unread = record { master = unread.master; slave = unread.slave }
+
+      books : BookHolds {C = C} NothingUnread
+      books MasterToSlave n s unread = record { master = unread.master; slave = unread.slave }
+      books SlaveToMaster n s unread = record { master = unread.master; slave = unread.slave }
+
+      waits : (side : Side) (way : Way) (band : ℕ) (s : State C) → NothingUnread s → NothingUnread (waiting side way band s)
+      waits Master Up band s unread = record { master = unread.master; slave = unread.slave }
+      waits Master Down band s unread = record { master = unread.master; slave = unread.slave }
+      waits Slave Up band s unread = record { master = unread.master; slave = unread.slave }
+      waits Slave Down band s unread = record { master = unread.master; slave = unread.slave }
+
+-- which sides are open, the lock, the number of the next ioctl and what was written stay; cells may be made
+module _ {C : Type 0} (s : State C) where
+  pub same-itself : SameButMade s s
+  same-itself = record { master = refl; slave = refl; locked = refl; next_ioctl = refl; from_master = refl; from_slave = refl }
+
+  pub same-stays : Stays {C = C} (SameButMade s)
+  same-stays = record { head = head; driver = driver; modules = modules; names = λ names t same. record { master = same.master; slave = same.slave; locked = same.locked; next_ioctl = same.next_ioctl; from_master = same.from_master; from_slave = same.from_slave }; books = books; waits = waits }
+    where
+      head : (side : Side) (here : Spot) (m : Message C) (t : State C) → SameButMade s t → SameButMade s (put_at_head side here m t).state
+      head Master here m t same = either-holds (SameButMade s) (is_open t.master.opened) _ _ (record { master = same.master; slave = same.slave; locked = same.locked; next_ioctl = same.next_ioctl; from_master = same.from_master; from_slave = same.from_slave }) same
+      head Slave here m t same = either-holds (SameButMade s) (is_open t.slave.opened) _ _ (record { master = same.master; slave = same.slave; locked = same.locked; next_ioctl = same.next_ioctl; from_master = same.from_master; from_slave = same.from_slave }) same
+
+      driver : (side : Side) (here : Spot) (m : Message C) (t : State C) → SameButMade s t → SameButMade s (put_at_driver side here m t).state
+      driver Master here m t same = record { master = same.master; slave = same.slave; locked = same.locked; next_ioctl = same.next_ioctl; from_master = same.from_master; from_slave = same.from_slave }
+      driver Slave here m t same = record { master = same.master; slave = same.slave; locked = same.locked; next_ioctl = same.next_ioctl; from_master = same.from_master; from_slave = same.from_slave }
+
+      modules : (side : Side) (ps : List (Module C)) (t : State C) → SameButMade s t → SameButMade s (with_stream side (record (stream side t) { modules = ps }) t)
+      modules Master ps t same = record { master = same.master; slave = same.slave; locked = same.locked; next_ioctl = same.next_ioctl; from_master = same.from_master; from_slave = same.from_slave }
+      modules Slave ps t same = record { master = same.master; slave = same.slave; locked = same.locked; next_ioctl = same.next_ioctl; from_master = same.from_master; from_slave = same.from_slave }
+
+      books : BookHolds {C = C} (SameButMade s)
+      books MasterToSlave n t same = record { master = same.master; slave = same.slave; locked = same.locked; next_ioctl = same.next_ioctl; from_master = same.from_master; from_slave = same.from_slave }
+      books SlaveToMaster n t same = record { master = same.master; slave = same.slave; locked = same.locked; next_ioctl = same.next_ioctl; from_master = same.from_master; from_slave = same.from_slave }
+
+      waits : (side : Side) (way : Way) (band : ℕ) (t : State C) → SameButMade s t → SameButMade s (waiting side way band t)
+      waits Master Up band t same = record { master = same.master; slave = same.slave; locked = same.locked; next_ioctl = same.next_ioctl; from_master = same.from_master; from_slave = same.from_slave }
+      waits Master Down band t same = record { master = same.master; slave = same.slave; locked = same.locked; next_ioctl = same.next_ioctl; from_master = same.from_master; from_slave = same.from_slave }
+      waits Slave Up band t same = record { master = same.master; slave = same.slave; locked = same.locked; next_ioctl = same.next_ioctl; from_master = same.from_master; from_slave = same.from_slave }
+      waits Slave Down band t same = record { master = same.master; slave = same.slave; locked = same.locked; next_ioctl = same.next_ioctl; from_master = same.from_master; from_slave = same.from_slave }

@@ -1,0 +1,193 @@
+-- Whatever stands for bytes, a call is refused for the same, a turn goes on or not, and a journal is legal or not.
+use Rattle.std.proofs.Common.{ℕ, ◌≡◌, Bool, cond, List, [], ◌∷◌, length, map, refl, sym, ap, subst, ◌∙◌}
+use Rattle.std.specs.Prelude.{◌&&◌, ◌||◌, not, is_some, nat_lt, option_map, Option, None, Some}
+use Rattle.std.specs.List.{list_any}
+use Rattle.std.proofs.lemmas.List.{length-map}
+use Rattle.strm_types.specs.declared.entries.Entry.TheVariants.{Called, Turned}
+use Rattle.strm_types.specs.declared.events.Caller.{Caller}
+use Rattle.strm_types.specs.declared.events.Event.TheVariants.{OpenMaster, Unlock, OpenSlave, Shut, Push, Pop, Look, Flush, Write, Read, Put, Get, Mode, Nread, Ioctl, IoctlResult, Signals}
+use Rattle.strm_types.specs.declared.limits.TheConstants.{MODULES}
+use Rattle.strm_types.specs.declared.modes.Prio.{Prio}
+use Rattle.strm_types.specs.declared.modes.Prio.TheVariants as prios
+use Rattle.strm_types.specs.declared.modes.Wanted.{Wanted}
+use Rattle.strm_types.specs.declared.names.ModuleName.{ModuleName}
+use Rattle.strm_types.specs.declared.names.Side.{Side}
+use Rattle.strm_types.specs.declared.names.Side.TheVariants.{Master, Slave}
+use Rattle.strm_types.specs.declared.names.Way.TheVariants.{Up, Down}
+use Rattle.strm_types.specs.declared.refusals.Refusal.TheVariants.{Eagain, Einval, Enxio, Erange}
+use Rattle.strm_types.specs.Events.{Request}
+use Rattle.strm_types.specs.Cells.{AreCells, Cells, plain}
+use Rattle.strm_types.specs.Message.{is_held}
+use Rattle.strm_types.specs.Gets.{get_refusal}
+use Rattle.strm_types.specs.Journal.{PlainEntry}
+use Rattle.strm_types.specs.Message.{Message}
+use Rattle.strm_types.specs.ModuleQueues.{messages_at}
+use Rattle.strm_types.specs.Modules.{may_push, stands}
+use Rattle.strm_types.specs.Names.{is_closed, is_master, is_open, same_module}
+use Rattle.strm_types.specs.PutMsg.{no_parts, put_refusal, put_waits}
+use Rattle.strm_laws.specs.Pushes.{may_stand, named_by}
+use Rattle.strm_types.specs.Queue.{map_messages}
+use Rattle.strm_types.specs.Reads.{read_refusal}
+use Rattle.strm_laws.specs.Refusals.{asks_a_band, at_end, goes_down, in_range, is_known, may_ask, none_waits_up, refused_at_once, refused_by_state}
+use Rattle.strm_types.specs.Refused.{has_no_data, is_a_band, or_else, unless}
+use Rattle.strm_types.specs.Slots.{is_free, result_refusal}
+use Rattle.strm_laws.specs.Stacked.{Module, OfLdterm, OfPtem, OfPckt, map_module, module_name, module_queue}
+use Rattle.strm_laws.specs.State.{State, map_state, opening, stream}
+use Rattle.strm_laws.specs.Step.{IsLegal, Step, after}
+use Rattle.strm_laws.specs.Writes.{is_full_below}
+use Rattle.strm_laws.proofs.Forgetting.{kind-forgets}
+use Rattle.strm_laws.proofs.ForgettingSteps.{after-forgets, call-forgets, turn-forgets}
+use Rattle.strm_laws.proofs.GetKeeps.{wanted-forgets}
+use Rattle.strm_laws.proofs.Past.{room-forgets}
+use Rattle.strm_laws.proofs.PushForgets.{named_by-forgets, top-forgets}
+use Rattle.strm_laws.proofs.ReadForgets.{refusal-forgets}
+
+module _ {C D : Type 0} (f : C → D) where
+  abbrev images : List (Module C) → List (Module D)
+  images ps = map (map_module f) ps
+
+  goes-same : (side : Side) (s : State C) → goes_down side (map_state f s) ≡ goes_down side s
+  goes-same Master s = refl
+  goes-same Slave s = refl
+
+  open-same : (side : Side) (s : State C) → is_open (stream side (map_state f s)).opened ≡ is_open (stream side s).opened
+  open-same Master s = refl
+  open-same Slave s = refl
+
+  full-same : (side : Side) (band : ℕ) (s : State C) → is_full_below band side (map_state f s) ≡ is_full_below band side s
+  full-same side band s = ap (λ room. not room) (room-forgets f side Down 0 band s)
+
+  at-once : (s : State C) (caller : Caller) (asked : Request) → refused_at_once (map_state f s) caller asked ≡ refused_at_once s caller asked
+  at-once s caller OpenMaster = refl
+  at-once s caller Unlock = ap (λ b. or_else (unless b Enxio) (unless (is_master caller.side) Einval)) (open-same caller.side s)
+  at-once s caller OpenSlave = refl
+  at-once s caller (Write bytes) = ap (λ b. or_else (unless b Enxio) (unless (in_range s) Erange)) (goes-same caller.side s)
+  at-once s caller (Push name) = ap (λ b. or_else (unless b Enxio) (or_else (unless (is_known name) Einval) (unless (in_range s) Erange))) (goes-same caller.side s)
+  at-once s caller Pop = ap (λ b. or_else (unless b Enxio) (unless (in_range s) Erange)) (goes-same caller.side s)
+  at-once s caller (Flush what band) = ap (λ b. or_else (unless b Enxio) (or_else (unless (is_a_band band) Einval) (unless (in_range s) Erange))) (goes-same caller.side s)
+  at-once s caller (Put prio control body) = ap (λ b. or_else (unless b Enxio) (or_else (put_refusal prio control body) (unless (in_range s) Erange))) (goes-same caller.side s)
+  at-once s caller (Get wanted cmax dmax) = ap (λ b. or_else (unless b Enxio) (unless (asks_a_band wanted) Einval)) (open-same caller.side s)
+  at-once s caller (Ioctl command body) = ap (λ b. or_else (unless b Enxio) (unless (may_ask body s && in_range s) Erange)) (goes-same caller.side s)
+  at-once s caller Shut = ap (λ b. unless b Enxio) (open-same caller.side s)
+  at-once s caller Look = ap (λ b. unless b Enxio) (open-same caller.side s)
+  at-once s caller (Read n) = ap (λ b. unless b Enxio) (open-same caller.side s)
+  at-once s caller (Mode mode) = ap (λ b. unless b Enxio) (open-same caller.side s)
+  at-once s caller Nread = ap (λ b. unless b Enxio) (open-same caller.side s)
+  at-once s caller (IoctlResult number) = ap (λ b. unless b Enxio) (open-same caller.side s)
+  at-once s caller Signals = ap (λ b. unless b Enxio) (open-same caller.side s)
+
+  -- the end of input
+  any-held : (ms : List (Message C)) → list_any (λ m. is_held m.kind) (map_messages f ms) ≡ list_any (λ m. is_held m.kind) ms
+  any-held [] = refl
+  any-held (m ∷ ms) = ap (λ kind. is_held kind || list_any (λ m. is_held m.kind) (map_messages f ms)) (kind-forgets f m) ∙ ap (λ b. is_held m.kind || b) (any-held ms)
+
+  no-data : (ms : List (Message C)) → has_no_data (map_messages f ms) ≡ has_no_data ms
+  no-data ms = ap (λ b. not b) (any-held ms)
+
+  waits-up : (ps : List (Module C)) → list_any (λ p. not (has_no_data (messages_at module_queue Up p))) (images ps) ≡ list_any (λ p. not (has_no_data (messages_at module_queue Up p))) ps
+  waits-up [] = refl
+  waits-up (OfPtem p ∷ ps) = waits-up ps
+  waits-up (OfPckt p ∷ ps) = waits-up ps
+  waits-up (OfLdterm l ∷ ps) =
+      ap (λ b. not b || list_any (λ p. not (has_no_data (messages_at module_queue Up p))) (images ps)) (no-data l.read_queue.messages) ∙ ap (λ b. not (has_no_data l.read_queue.messages) || b) (waits-up ps)
+
+  end-same : (side : Side) (s : State C) → at_end side (map_state f s) ≡ at_end side s
+  end-same Slave s = refl
+  end-same Master s =
+      let hung = s.master.head.hung_up in
+      let closed = is_closed s.slave.opened in
+      ap (λ b. hung || (closed && (b && (none_waits_up (images s.master.modules) && has_no_data (map_messages f s.master.head.queue.messages))))) (no-data s.slave.driver.queue.messages)
+      ∙ ap (λ b. hung || (closed && (has_no_data s.slave.driver.queue.messages && (not b && has_no_data (map_messages f s.master.head.queue.messages))))) (waits-up s.master.modules)
+      ∙ ap (λ b. hung || (closed && (has_no_data s.slave.driver.queue.messages && (none_waits_up s.master.modules && b)))) (no-data s.master.head.queue.messages)
+
+  -- what the state says
+  read-same : (side : Side) (n : ℕ) (s : State C) → (let h = (stream side (map_state f s)).head in read_refusal h.control_mode (at_end side (map_state f s)) n h.queue.messages) ≡ (let h = (stream side s).head in read_refusal h.control_mode (at_end side s) n h.queue.messages)
+  read-same Master n s = ap (λ b. read_refusal s.master.head.control_mode b n (map_messages f s.master.head.queue.messages)) (end-same Master s) ∙ refusal-forgets f s.master.head.control_mode (at_end Master s) n s.master.head.queue.messages
+  read-same Slave n s = refusal-forgets f s.slave.head.control_mode (at_end Slave s) n s.slave.head.queue.messages
+
+  get-refusal : (wanted : Wanted) (end : Bool) (ms : List (Message C)) → get_refusal wanted end (map_messages f ms) ≡ get_refusal wanted end ms
+  get-refusal wanted end [] = refl
+  get-refusal wanted end (m ∷ ms) = ap (λ b. cond b None (Some Eagain)) (wanted-forgets f wanted m)
+
+  get-same : (side : Side) (wanted : Wanted) (s : State C) → get_refusal wanted (at_end side (map_state f s)) (stream side (map_state f s)).head.queue.messages ≡ get_refusal wanted (at_end side s) (stream side s).head.queue.messages
+  get-same Master wanted s = ap (λ b. get_refusal wanted b (map_messages f s.master.head.queue.messages)) (end-same Master s) ∙ get-refusal wanted (at_end Master s) s.master.head.queue.messages
+  get-same Slave wanted s = get-refusal wanted (at_end Slave s) s.slave.head.queue.messages
+
+  put-same : (prio : Prio) (control body : Option (List ℕ)) (side : Side) (s : State C) → put_waits prio control body (λ band. is_full_below band side (map_state f s)) ≡ put_waits prio control body (λ band. is_full_below band side s)
+  put-same prios.High control body side s = refl
+  put-same (prios.Band band) control body side s = ap (λ b. not (no_parts control body) && b) (full-same side band.0 s)
+
+  named-same : (p : Module C) → module_name (map_module f p) ≡ module_name p
+  named-same (OfLdterm l) = refl
+  named-same (OfPtem p) = refl
+  named-same (OfPckt p) = refl
+
+  stands-same : (name : ModuleName) (ps : List (Module C)) → stands module_name name (images ps) ≡ stands module_name name ps
+  stands-same name [] = refl
+  stands-same name (p ∷ ps) = ap (λ n. same_module n name || stands module_name name (images ps)) (named-same p) ∙ ap (λ b. same_module (module_name p) name || b) (stands-same name ps)
+
+  may-push : (p : Module C) (ps : List (Module C)) → may_push module_name (map_module f p) (images ps) ≡ may_push module_name p ps
+  may-push p ps =
+      ap (λ n. nat_lt n MODULES && not (stands module_name (module_name (map_module f p)) (images ps))) (length-map ps (map_module f))
+      ∙ ap (λ name. nat_lt (length ps) MODULES && not (stands module_name name (images ps))) (named-same p)
+      ∙ ap (λ b. nat_lt (length ps) MODULES && not b) (stands-same (module_name p) ps)
+
+  may-same : (p : Option (Module C)) (ps : List (Module C)) → may_stand (option_map (map_module f) p) (images ps) ≡ may_stand p ps
+  may-same None ps = refl
+  may-same (Some p) ps = may-push p ps
+
+  push-same : (side : Side) (name : Option ModuleName) (s : State C) → may_stand (named_by name) (stream side (map_state f s)).modules ≡ may_stand (named_by name) (stream side s).modules
+  push-same Master name s = ap (λ (p : Option (Module D)). may_stand p (images s.master.modules)) (named_by-forgets f name) ∙ may-same (named_by name) s.master.modules
+  push-same Slave name s = ap (λ (p : Option (Module D)). may_stand p (images s.slave.modules)) (named_by-forgets f name) ∙ may-same (named_by name) s.slave.modules
+
+  slot-same : (side : Side) (s : State C) → (stream side (map_state f s)).head.ioctl ≡ (stream side s).head.ioctl
+  slot-same Master s = refl
+  slot-same Slave s = refl
+
+  by-state : (s : State C) (caller : Caller) (asked : Request) → refused_by_state (map_state f s) caller asked ≡ refused_by_state s caller asked
+  by-state s caller OpenMaster = refl
+  by-state s caller OpenSlave = refl
+  by-state s caller (Write bytes) = ap (λ b. unless (not b) Eagain) (full-same caller.side 0 s)
+  by-state s caller (Read n) = read-same caller.side n s
+  by-state s caller (Put prio control body) = ap (λ b. unless (not b) Eagain) (put-same prio control body caller.side s)
+  by-state s caller (Get wanted cmax dmax) = get-same caller.side wanted s
+  by-state s caller (Ioctl command body) = ap (λ slot. unless (is_free slot) Eagain) (slot-same caller.side s)
+  by-state s caller (IoctlResult number) = ap (λ slot. result_refusal number slot) (slot-same caller.side s)
+  by-state s caller (Push name) = ap (λ b. unless b Einval) (push-same caller.side name s)
+  by-state s caller Pop = ap (λ name. unless (is_some name) Einval) (top-forgets f caller.side s)
+  by-state s caller Look = ap (λ name. unless (is_some name) Einval) (top-forgets f caller.side s)
+  by-state s caller Unlock = refl
+  by-state s caller Shut = refl
+  by-state s caller (Flush what band) = refl
+  by-state s caller (Mode mode) = refl
+  by-state s caller Nread = refl
+  by-state s caller Signals = refl
+
+  pub refusals-forget : (s : State C) (caller : Caller) (asked : Request) → or_else (refused_at_once (map_state f s) caller asked) (refused_by_state (map_state f s) caller asked) ≡ or_else (refused_at_once s caller asked) (refused_by_state s caller asked)
+  refusals-forget s caller asked = ap (λ r. or_else r (refused_by_state (map_state f s) caller asked)) (at-once s caller asked) ∙ ap (λ r. or_else (refused_at_once s caller asked) r) (by-state s caller asked)
+
+-- a legal journal of bytes is one of bytes with their origin
+module _ {C : Type 0} (cells : Cells C) (are : AreCells cells) where
+  abbrev forgotten : State C → State ℕ
+  forgotten s = map_state cells.byte s
+
+  step-same : (s : State C) (entry : PlainEntry) → Step plain (forgotten s) entry (after plain (forgotten s) entry) → Step cells s entry (after cells s entry)
+  step-same s (Called caller asked answer) step = record {
+    allowed = sym (refusals-forget cells.byte s caller asked) ∙ step.allowed;
+    answered = sym (ap (λ t. t.answer) (call-forgets cells are caller asked s)) ∙ step.answered;
+    leads = refl;
+  }
+  step-same s (Turned name turn) step = record {
+    enabled = step.enabled;
+    in_range = step.in_range;
+    answered = sym (ap (λ t. t.turn) (turn-forgets cells are name turn s)) ∙ step.answered;
+    leads = refl;
+  }
+
+  legal-same : (s : State C) (entries : List PlainEntry) → IsLegal plain (forgotten s) entries → IsLegal cells s entries
+  legal-same s [] legal = tt
+  legal-same s (entry ∷ entries) legal =
+      (step-same s entry legal.0, legal-same (after cells s entry) entries (subst (λ t. IsLegal plain t entries) (after-forgets cells are s entry) legal.1))
+
+  pub legal-with-origins : (entries : List PlainEntry) → IsLegal plain opening entries → IsLegal cells opening entries
+  legal-with-origins entries legal = legal-same opening entries legal

@@ -1,0 +1,72 @@
+-- Replaying longer journals, and what a call or a turn that isn't refused is.
+use Rattle.std.proofs.Common.{◌≡◌, Bool, true, false, List, [], ◌∷◌, ◌++◌, length, refl, sym, ap, subst, ◌∙◌}
+use Rattle.std.specs.Prelude.{Option, None, Some, ◌+◌}
+use Rattle.strm_types.specs.declared.events.Caller.{Caller}
+use Rattle.strm_types.specs.declared.limits.Config.{Config}
+use Rattle.strm_types.specs.declared.names.QueueName.{QueueName}
+use Rattle.strm_types.specs.declared.refusals.Refusal.{Refusal}
+use Rattle.strm_types.specs.declared.refusals.Refusal.TheVariants.{Einval, Enosr, Erange, JournalFull}
+use Rattle.strm_types.specs.Names.{is_enabled}
+use Rattle.strm_laws.specs.State.{State}
+use Rattle.strm_types.specs.Events.{Request, payload_of}
+use Rattle.strm_types.specs.declared.entries.Entry.TheVariants.{Called, Turned}
+use Rattle.strm_types.specs.Cells.{Cells}
+use Rattle.strm_types.specs.Journal.{PlainEntry, content_max}
+use Rattle.strm_laws.specs.Refusals.{in_range, has_room, refused, refused_at_once, refused_by_state, turn_refused}
+use Rattle.strm_types.specs.Refused.{or_else, unless}
+use Rattle.strm_laws.specs.Step.{Step, after, replay, IsLegal}
+
+module _ {C : Type 0} (cells : Cells C) where
+  -- a longer journal goes on from where the shorter one leads
+  pub replay-append : (s : State C) (es fs : List PlainEntry) → replay cells s (es ++ fs) ≡ replay cells (replay cells s es) fs
+  replay-append s [] fs = refl
+  replay-append s (e ∷ es) fs = replay-append (after cells s e) es fs
+
+  -- a step leads to the state behind its entry
+  pub after-step : (s t : State C) (e : PlainEntry) → Step cells s e t → after cells s e ≡ t
+  after-step s t (Called caller asked answer) step = step.leads
+  after-step s t (Turned name turn) step = step.leads
+
+  -- a legal journal stays legal with one more step
+  pub legal-push : (s : State C) (es : List PlainEntry) (e : PlainEntry) → IsLegal cells s es → Step cells (replay cells s es) e (after cells (replay cells s es) e) → IsLegal cells s (es ++ e ∷ [])
+  legal-push s [] e legal step = (step, tt)
+  legal-push s (f ∷ es) e legal step = (legal.0, legal-push (after cells s f) es e legal.1 step)
+
+  -- one more step after a legal journal: what it leads to is the replay, which is legal
+  pub kept-replayed : (base s t : State C) (es : List PlainEntry) (e : PlainEntry) → s ≡ replay cells base es → Step cells s e t → t ≡ replay cells base (es ++ e ∷ [])
+  kept-replayed base s t es e is step =
+      sym (after-step s t e step) ∙ ap (λ q. after cells q e) is ∙ sym (replay-append base es (e ∷ []))
+
+  pub kept-legal : (base s t : State C) (es : List PlainEntry) (e : PlainEntry) → s ≡ replay cells base es → Step cells s e t → IsLegal cells base es → IsLegal cells base (es ++ e ∷ [])
+  kept-legal base s t es e is step legal =
+      legal-push base es e legal (subst (λ q. Step cells q e (after cells q e)) is (subst (λ u. Step cells s e u) (sym (after-step s t e step)) step))
+
+-- a refusal that doesn't come
+pub unless-none : (b : Bool) (r : Refusal) → unless b r ≡ None → b ≡ true
+unless-none true r h = refl
+unless-none false r h = absurd (cc)
+
+pub or_else-none : (a b : Option Refusal) → or_else a b ≡ None → (a ≡ None) × (b ≡ None)
+or_else-none None b h = (refl, h)
+or_else-none (Some r) b h = absurd (cc)
+
+module _ {C : Type 0} where
+  -- a call that isn't refused: nothing refuses it at once or by the state, the journal has room, blocks are free
+  pub call-allowed : (s : State C) (es : List PlainEntry) (limits : Config) (has_blocks : Bool) (caller : Caller) (asked : Request) → refused s es limits has_blocks caller asked ≡ None
+      → (or_else (refused_at_once s caller asked) (refused_by_state s caller asked) ≡ None)
+      × (has_room es limits (length (payload_of asked) + content_max asked) ≡ true)
+      × (has_blocks ≡ true)
+  call-allowed s es limits has_blocks caller asked h =
+      let first = or_else-none (refused_at_once s caller asked) _ h in
+      let second = or_else-none (unless (has_room es limits (length (payload_of asked) + content_max asked)) JournalFull) _ first.1 in
+      let third = or_else-none (unless has_blocks Enosr) _ second.1 in
+      (ap (λ r. or_else r (refused_by_state s caller asked)) first.0 ∙ third.1, unless-none _ _ second.0, unless-none _ _ third.0)
+
+  -- a turn that isn't refused: its queue is enabled, no book is full, and the journal has room
+  pub turn-allowed : (s : State C) (es : List PlainEntry) (limits : Config) (has_blocks : Bool) (name : QueueName) → turn_refused s es limits has_blocks name ≡ None
+      → (is_enabled name s.enabled ≡ true) × (in_range s ≡ true) × (has_room es limits 0 ≡ true)
+  turn-allowed s es limits has_blocks name h =
+      let first = or_else-none (unless (is_enabled name s.enabled) Einval) _ h in
+      let second = or_else-none (unless (in_range s) Erange) _ first.1 in
+      let third = or_else-none (unless (has_room es limits 0) JournalFull) _ second.1 in
+      (unless-none _ _ first.0, unless-none _ _ second.0, unless-none _ _ third.0)

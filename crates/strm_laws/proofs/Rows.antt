@@ -1,0 +1,96 @@
+-- What the definitions compute, for a few scripts whose answers were worked out by hand from the manual pages.
+use Rattle.std.proofs.Common.{ℕ, ◌≡◌, [], ◌∷◌, refl, replicate}
+use Rattle.std.specs.Prelude.{None, Some}
+use Rattle.strm_types.specs.declared.kinds.MsgKind.TheVariants.{Data, Pcproto}
+use Rattle.strm_types.specs.declared.names.Side.TheVariants.{Master, Slave}
+use Rattle.strm_types.specs.declared.answers.Turn.TheVariants.{Moved, Idle}
+use Rattle.strm_types.specs.declared.refusals.Refusal.TheVariants.{Eagain, Enxio, Einval}
+use Rattle.strm_types.specs.Message.{Message, data_message, rank_of, band_of, size_of, cells_of, is_high_priority, is_held}
+use Rattle.strm_types.specs.Queue.{put, put_back}
+use Rattle.strm_types.specs.Names.{driver_of}
+use Rattle.strm_laws.specs.State.{State, opening}
+use Rattle.strm_types.specs.Write.{chunk_count}
+use Rattle.strm_types.specs.Deliver.{carried}
+use Rattle.strm_laws.specs.Turns.{turned}
+use Rattle.strm_types.specs.declared.events.Event.TheVariants.{OpenMaster, Unlock, OpenSlave, Write, Read}
+use Rattle.strm_types.specs.declared.answers.Answer.TheVariants.{Count, Bytes}
+use Rattle.strm_types.specs.Cells.{plain}
+use Rattle.strm_laws.specs.Calls.{called}
+use Rattle.strm_laws.specs.Refusals.{refused_by_state, refused_at_once}
+
+-- the state after the master was opened, the slave unlocked and opened
+abbrev opened : State ℕ
+opened = (called plain (record { side = Master }) OpenSlave (called plain (record { side = Master }) Unlock (called plain (record { side = Master }) OpenMaster opening).state).state).state
+
+-- a write, a turn and a read: `write m "abc"` takes 3, the turn moves 3, `read s 10` gives "abc"
+abbrev after-write : State ℕ
+after-write = (called plain (record { side = Master }) (Write (97 ∷ 98 ∷ 99 ∷ [])) opened).state
+
+pub write-takes : (called plain (record { side = Master }) (Write (97 ∷ 98 ∷ 99 ∷ [])) opened).answer ≡ Count 3
+unfolding chunk_count data_message rank_of band_of size_of cells_of is_high_priority
+write-takes = refl
+
+pub write-enables : after-write.enabled ≡ driver_of Master ∷ []
+unfolding carried chunk_count data_message rank_of band_of size_of cells_of is_high_priority
+write-enables = refl
+
+pub turn-moves : (turned plain (driver_of Master) Idle after-write).turn ≡ Moved 3
+unfolding carried chunk_count data_message rank_of band_of size_of cells_of is_high_priority is_held
+turn-moves = refl
+
+pub read-gives : (called plain (record { side = Slave }) (Read 10) (turned plain (driver_of Master) Idle after-write).state).answer ≡ Bytes (97 ∷ 98 ∷ 99 ∷ [])
+unfolding carried chunk_count data_message rank_of band_of size_of cells_of is_high_priority is_held
+read-gives = refl
+
+pub second-turn-is-refused : (turned plain (driver_of Master) Idle after-write).state.enabled ≡ []
+unfolding carried chunk_count data_message rank_of band_of size_of cells_of is_high_priority is_held
+second-turn-is-refused = refl
+
+-- 600 bytes: two chunks of 256 go, the third finds the band full; after a turn one more chunk may go
+abbrev after-long : State ℕ
+after-long = (called plain (record { side = Master }) (Write (replicate 600 122)) opened).state
+
+pub long-write-stops : (called plain (record { side = Master }) (Write (replicate 600 122)) opened).answer ≡ Count 512
+unfolding carried chunk_count data_message rank_of band_of size_of cells_of is_high_priority
+long-write-stops = refl
+
+pub full-is-refused : refused_by_state after-long (record { side = Master }) (Write (122 ∷ [])) ≡ Some Eagain
+unfolding carried chunk_count data_message rank_of band_of size_of cells_of is_high_priority
+full-is-refused = refl
+
+pub turn-makes-room : (turned plain (driver_of Master) Idle after-long).turn ≡ Moved 256
+unfolding carried chunk_count data_message rank_of band_of size_of cells_of is_high_priority is_held
+turn-makes-room = refl
+
+pub write-goes-on : (called plain (record { side = Master }) (Write (122 ∷ [])) (turned plain (driver_of Master) Idle after-long).state).answer ≡ Count 1
+unfolding carried chunk_count data_message rank_of band_of size_of cells_of is_high_priority is_held
+write-goes-on = refl
+
+-- messages of four ranks, as they are put: "a" of band 0, "b" of band 1, "c" of high priority, "d" of band 1
+abbrev of_band : ℕ → ℕ → Message ℕ
+of_band band byte = record { kind = Data; band = band; control = None; body = Some (byte ∷ []); plain = [] }
+
+abbrev of_high_priority : ℕ → Message ℕ
+of_high_priority byte = record { kind = Pcproto; band = 0; control = Some (byte ∷ []); body = None; plain = [] }
+
+pub ranks-in-order : put (of_band 1 100) (put (of_high_priority 99) (put (of_band 1 98) (put (of_band 0 97) []))) ≡ of_high_priority 99 ∷ of_band 1 98 ∷ of_band 1 100 ∷ of_band 0 97 ∷ []
+unfolding rank_of is_high_priority
+ranks-in-order = refl
+
+-- two put and a third put back: the third comes first
+pub put-back-is-first : put_back (of_band 0 99) (put (of_band 0 98) (put (of_band 0 97) [])) ≡ of_band 0 99 ∷ of_band 0 97 ∷ of_band 0 98 ∷ []
+unfolding rank_of is_high_priority
+put-back-is-first = refl
+
+-- the slave is refused before it is unlocked, and the master's second opening
+pub locked-slave-waits : refused_by_state {C = ℕ} (called plain (record { side = Master }) OpenMaster opening).state (record { side = Master }) OpenSlave ≡ Some Eagain
+locked-slave-waits = refl
+
+pub master-opens-once : refused_by_state {C = ℕ} opened (record { side = Master }) OpenMaster ≡ Some Einval
+master-opens-once = refl
+
+pub unlock-is-the-masters : refused_at_once {C = ℕ} opened (record { side = Slave }) Unlock ≡ Some Einval
+unlock-is-the-masters = refl
+
+pub nothing-before-open : refused_at_once {C = ℕ} opening (record { side = Master }) (Read 1) ≡ Some Enxio
+nothing-before-open = refl

@@ -1,0 +1,194 @@
+-- A put makes no more than what it takes of blocks says, so that the books have room for what it gives rise to.
+use Rattle.std.proofs.Common.{ℕ, zero, suc, ◌≡◌, ◌<◌, ◌≤◌, ◌+◌, ◌-◌, Bool, true, false, cond, List, [], ◌∷◌, length, map, refl, sym, ap, subst, ◌∙◌, arith}
+use Rattle.std.specs.Prelude.{min, ◌*◌, ◌/◌, ◌^◌, ◌==◌, ◌&&◌, None, slice_index_or}
+use Rattle.std.specs.Bool.{OnTrue}
+use Rattle.strm_types.specs.declared.books.Book.{Book}
+use Rattle.strm_types.specs.declared.events.Caller.{Caller}
+use Rattle.strm_types.specs.declared.limits.TheConstants.{MODULES}
+use Rattle.strm_types.specs.declared.names.Dir.{Dir}
+use Rattle.strm_types.specs.declared.names.Dir.TheVariants.{MasterToSlave, SlaveToMaster}
+use Rattle.strm_types.specs.declared.names.Side.{Side}
+use Rattle.strm_types.specs.declared.names.Way.{Way}
+use Rattle.strm_types.specs.declared.names.Way.TheVariants.{Up, Down}
+use Rattle.strm_types.specs.declared.spots.Spot.{Spot}
+use Rattle.strm_types.specs.Books.{with_made}
+use Rattle.strm_types.specs.Events.{Request}
+use Rattle.strm_laws.specs.Calls.{called, delivers}
+use Rattle.strm_types.specs.Cells.{Cells}
+use Rattle.strm_types.specs.Deliver.{Acted, Comes, Fate, Goes}
+use Rattle.strm_laws.specs.Earlier.{places_of}
+use Rattle.strm_types.specs.Input.{made_of}
+use Rattle.strm_types.specs.LdtermPuts.{ldterm_puts}
+use Rattle.strm_types.specs.Message.{Message}
+use Rattle.strm_types.specs.Pckts.{is_bare_packet, is_packed, pckt_on_way, pckt_packs, pckt_passes, plain_packed}
+use Rattle.strm_types.specs.ModuleQueues.{at_place}
+use Rattle.strm_types.specs.Modules.{put_among}
+use Rattle.strm_laws.specs.Puts.{booked, earlier_at, made_above, module_acted, noted, passed_up, put_at_driver, put_at_head, put_at_module, put_behind}
+use Rattle.strm_types.specs.Flushing.{is_bare_flush}
+use Rattle.strm_laws.specs.Refusals.{in_range}
+use Rattle.strm_laws.specs.Spares.{module_packs, packet_most, packs_on_way, spare, spare_behind}
+use Rattle.strm_laws.specs.Stacked.{Module, OfLdterm, OfPtem, OfPckt, module_puts}
+use Rattle.strm_laws.specs.State.{State, book, stream, with_book, with_stream}
+use Rattle.strm_laws.proofs.Balances.{range-low, still-same}
+use Rattle.strm_laws.proofs.ModulePuts.{ldterm-none}
+use Rattle.strm_types.proofs.PcktPuts.{packs-make}
+use Rattle.strm_laws.proofs.PtemPuts.{puts-gone}
+use Rattle.strm_laws.proofs.PutsBook.{SameBooks, driver-same, head-same, stream-books}
+use Rattle.strm_laws.proofs.TurnOrder.{made-all}
+
+-- a packet takes one unit at most
+spare-falls : (made more : ℕ) → more ≤ packet_most → spare_behind made ≤ spare_behind (made + more) + 1
+unfolding spare_behind
+spare-falls made more few = omega (arith, few)
+
+module _ {C : Type 0} where
+  pub book-falls : (dir : Dir) (n : ℕ) (s : State C) → n ≤ packet_most → spare s ≤ spare (with_book dir (with_made n (book dir s)) s) + 1
+  book-falls MasterToSlave n s few = let falls = spare-falls s.from_master.made n few in omega (arith, falls)
+  book-falls SlaveToMaster n s few = let falls = spare-falls s.from_slave.made n few in omega (arith, falls)
+
+-- where a unit is left, a packet fits the book
+pub spare-fits : (made more : ℕ) → 1 ≤ spare_behind made → more ≤ packet_most → made + more ≤ 18446744073709551615
+unfolding spare_behind
+spare-fits made more some few = omega (arith, some, few)
+
+module _ {C : Type 0} where
+  -- no more is booked than what is told as made
+  made-most : (told : List (Fate C)) (dir : Dir) (s : State C) → (book dir (booked told s)).made ≤ (book dir s).made + made_of told
+  made-most [] dir s = omega arith
+  made-most (Goes d rule xs ∷ told) dir s = let rest = made-most told dir s in omega (arith, rest)
+  made-most (Comes MasterToSlave xs ∷ told) MasterToSlave s = let rest = made-most told MasterToSlave (with_book MasterToSlave (with_made (length xs) s.from_master) s) in omega (arith, rest)
+  made-most (Comes MasterToSlave xs ∷ told) SlaveToMaster s = let rest = made-most told SlaveToMaster (with_book MasterToSlave (with_made (length xs) s.from_master) s) in omega (arith, rest)
+  made-most (Comes SlaveToMaster xs ∷ told) MasterToSlave s = let rest = made-most told MasterToSlave (with_book SlaveToMaster (with_made (length xs) s.from_slave) s) in omega (arith, rest)
+  made-most (Comes SlaveToMaster xs ∷ told) SlaveToMaster s = let rest = made-most told SlaveToMaster (with_book SlaveToMaster (with_made (length xs) s.from_slave) s) in omega (arith, rest)
+
+-- as many units less as were made
+less-behind : (made now more units : ℕ) → now ≤ made + more → more ≤ units * packet_most → spare_behind made ≤ spare_behind now + units
+unfolding spare_behind
+less-behind made now more units few low = omega (arith, few, low)
+
+-- what so many units are fits a book
+pub units-fit : (made more units : ℕ) → units ≤ spare_behind made → more ≤ units * packet_most → 0 < units → made + more < 18446744073709551616
+unfolding spare_behind
+units-fit made more units left low some = omega (arith, left, low, some)
+
+-- where a book may still take more, much is left, and where much is left, little was made
+range-behind : (made : ℕ) → made < 4611686018427387904 → 824000000000 ≤ spare_behind made
+unfolding spare_behind
+range-behind made low = omega (arith, low)
+
+behind-low : (made : ℕ) → 820000000000 ≤ spare_behind made → made < 2 ^ 63
+unfolding spare_behind
+behind-low made left = omega (arith, left)
+
+module _ {C : Type 0} where
+  pub range-spare : (s : State C) → in_range s ≡ true → 824000000000 ≤ spare s
+  range-spare s room =
+      let master = range-behind s.from_master.made (range-low MasterToSlave s room).1 in
+      let slave = range-behind s.from_slave.made (range-low SlaveToMaster s room).1 in
+      omega (arith, master, slave)
+
+  pub spare-low : (s : State C) → 820000000000 ≤ spare s → (dir : Dir) → (book dir s).made < 2 ^ 63
+  spare-low s left MasterToSlave = behind-low s.from_master.made (omega (arith, left))
+  spare-low s left SlaveToMaster = behind-low s.from_slave.made (omega (arith, left))
+
+module _ {C : Type 0} where
+  pub booked-falls : (told : List (Fate C)) (s : State C) (units : ℕ) → made_of told ≤ units * packet_most → spare s ≤ spare (booked told s) + units
+  booked-falls told s units few =
+      let master = less-behind s.from_master.made (booked told s).from_master.made (made_of told) units (made-most told MasterToSlave s) few in
+      let slave = less-behind s.from_slave.made (booked told s).from_slave.made (made_of told) units (made-most told SlaveToMaster s) few in
+      omega (arith, master, slave)
+
+  -- a put at a module
+  module _ (cells : Cells C) (made : ℕ) (here : Spot) (m : Message C) (small : length m.plain ≤ 16777216) where
+    abbrev units_by : Way → Bool → ℕ
+    units_by Up packed = cond packed 1 0
+    units_by Down packed = 0
+
+    units-one : (q : Module C) → module_packs here m q ≤ 1
+    units-one (OfLdterm l) = omega arith
+    units-one (OfPtem l) = omega arith
+    units-one (OfPckt l) = same here.way
+      where
+        at : (way : Way) (packed : Bool) → units_by way packed ≤ 1
+        at Up true = omega arith
+        at Up false = omega arith
+        at Down packed = omega arith
+
+        same : (way : Way) → packs_on_way way m ≤ 1
+        same Up = at Up (is_packed m.kind)
+        same Down = omega arith
+
+    plain-few : length (plain_packed m) ≤ 16777216
+    plain-few = at (is_bare_packet m)
+      where
+        at : (bare : Bool) → length (cond bare [] m.plain) ≤ 16777216
+        at true = omega arith
+        at false = small
+
+    module-makes : (q : Module C) → made_of (module_puts cells made here m q).gone ≤ module_packs here m q * packet_most
+    module-makes (OfLdterm l) = omega (arith, made-all (ldterm_puts here m l).gone, ldterm-none (λ direction c. true) here m l)
+    module-makes (OfPtem l) = omega (arith, ap made_of (puts-gone here m l))
+    module-makes (OfPckt l) = at here.way refl
+      where
+        up : (packed : Bool) → made_of (cond packed (pckt_packs cells made here m) (pckt_passes here m)).gone ≤ cond packed 1 0 * packet_most
+        up true = omega (arith, packs-make cells made here m, plain-few)
+        up false = omega arith
+
+        at : (way : Way) → here.way ≡ way → made_of (pckt_on_way cells made here way m).gone ≤ packs_on_way way m * packet_most
+        at Up is = up (is_packed m.kind)
+        at Down is = omega arith
+
+    pub among-makes : (i : ℕ) (ps : List (Module C)) → made_of (put_among (module_puts cells made) i here m ps).gone ≤ slice_index_or (map (module_packs here m) ps) i 0 * packet_most
+    among-makes i [] = omega arith
+    among-makes zero (q ∷ ps) = module-makes q
+    among-makes (suc i) (q ∷ ps) = among-makes i ps
+
+    pub among-one : (i : ℕ) (ps : List (Module C)) → slice_index_or (map (module_packs here m) ps) i 0 ≤ 1
+    among-one i [] = omega arith
+    among-one zero (q ∷ ps) = units-one q
+    among-one (suc i) (q ∷ ps) = among-one i ps
+
+  -- with the same books as much is left
+  pub same-spare : (s t : State C) → SameBooks s t → spare t ≡ spare s
+  same-spare s t same = ap (λ (b : Book). min (spare_behind b.made) (spare_behind t.from_slave.made)) same.from_master ∙ ap (λ (b : Book). min (spare_behind s.from_master.made) (spare_behind b.made)) same.from_slave
+
+  -- a module that acts makes so many at most
+  pub acted-falls : (here : Spot) (t : Acted C (List (Module C))) (s : State C) (units : ℕ) → made_of t.gone ≤ units * packet_most → spare s ≤ spare (module_acted here t s).state + units
+  acted-falls here t s units makes =
+      let ps = (stream here.side s).modules in
+      let on = with_stream here.side (record (stream here.side s) { modules = t.state }) s in
+      let same = same-spare s on (stream-books here.side (record (stream here.side s) { modules = t.state }) s) in
+      let falls = booked-falls t.gone (record on { enabled = noted here.side (slice_index_or (places_of ps) (here.at - 1) None) (earlier_at here.side here.at s) t.notes s.enabled }) units makes in
+      omega (arith, same, falls)
+
+  pub stack-falls : (cells : Cells C) (here : Spot) (m : Message C) (s : State C) → length m.plain ≤ 16777216
+      → spare s ≤ spare (put_at_module cells here m s).state + at_place (module_packs here m) 0 here.at (stream here.side s).modules
+  stack-falls cells here m s small =
+      let ps = (stream here.side s).modules in
+      acted-falls here (put_among (module_puts cells (made_above here.side s)) (here.at - 1) here m ps) s (at_place (module_packs here m) 0 here.at ps)
+      (among-makes cells (made_above here.side s) here m small (here.at - 1) ps)
+
+  pub head-spare : (side : Side) (here : Spot) (m : Message C) (s : State C) → spare (put_at_head side here m s).state ≡ spare s
+  head-spare side here m s = same-spare s (put_at_head side here m s).state (head-same side here m s)
+
+  pub driver-spare : (side : Side) (here : Spot) (m : Message C) (s : State C) → spare (put_at_driver side here m s).state ≡ spare s
+  driver-spare side here m s = same-spare s (put_at_driver side here m s).state (driver-same side here m s)
+
+  pub behind-spare : (way : Way) (here : Spot) (m : Message C) (s : State C) → spare (put_behind way here m s).state ≡ spare s
+  behind-spare Down here m s = driver-spare here.side here m s
+  behind-spare Up here m s = at (is_bare_flush m && here.at == suc MODULES)
+    where
+      at : (across : Bool) → spare (cond across (put_at_driver here.side here m s) (passed_up here m s)).state ≡ spare s
+      at true = driver-spare here.side here m s
+      at false = refl
+
+  -- behind a call of which is known what its deliveries take, little was made
+  pub call-low : (cells : Cells C) (caller : Caller) (asked : Request) (s : State C) → in_range s ≡ true → OnTrue (delivers asked) (spare s ≤ spare (called cells caller asked s).state + 30) → (dir : Dir) → (book dir (called cells caller asked s).state).made < 2 ^ 63
+  call-low cells caller asked s room falls = by (delivers asked) refl falls
+    where
+      behind : State C
+      behind = (called cells caller asked s).state
+
+      by : (sends : Bool) → delivers asked ≡ sends → OnTrue sends (spare s ≤ spare behind + 30) → (dir : Dir) → (book dir behind).made < 2 ^ 63
+      by true is falls = spare-low behind (omega (arith, range-spare s room, falls))
+      by false is falls = spare-low behind (omega (arith, range-spare s room, same-spare s behind (still-same cells caller asked s is)))

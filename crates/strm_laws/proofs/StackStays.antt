@@ -1,0 +1,105 @@
+-- The modules that stand on the streams are the same behind each put, and so each message costs what it did.
+use Rattle.std.proofs.Common.{ℕ, zero, suc, ◌≡◌, ◌-◌, Bool, List, [], ◌∷◌, map, refl, ap, ◌∙◌}
+use Rattle.std.specs.Prelude.{Option, None, Some}
+use Rattle.strm_types.specs.declared.names.Dir.{Dir}
+use Rattle.strm_types.specs.declared.names.Dir.TheVariants as dirs
+use Rattle.strm_types.specs.declared.names.QueueName.{QueueName}
+use Rattle.strm_types.specs.declared.names.Side.{Side}
+use Rattle.strm_types.specs.declared.names.Side.TheVariants.{Master, Slave}
+use Rattle.strm_types.specs.declared.names.Way.{Way}
+use Rattle.strm_types.specs.declared.spots.Spot.{Spot}
+use Rattle.strm_types.specs.Books.{with_made}
+use Rattle.strm_types.specs.Cells.{Cells}
+use Rattle.strm_types.specs.Deliver.{Acted}
+use Rattle.strm_types.specs.Message.{Message}
+use Rattle.strm_types.specs.ModuleQueues.{place_past, queue_changed, waits_at, waits_past, with_waiting}
+use Rattle.strm_types.specs.Modules.{act_among, change_among, put_among}
+use Rattle.strm_types.specs.Names.{is_open}
+use Rattle.strm_laws.specs.Puts.{made_above, put_at_driver, put_at_head, put_at_module, put_in}
+use Rattle.strm_types.specs.Queue.{Queue}
+use Rattle.strm_laws.specs.StackCosts.{Stands, stands_of}
+use Rattle.strm_laws.specs.Stacked.{Module, OfLdterm, OfPtem, OfPckt, module_name, module_puts, module_queue, module_serves, with_module_queue}
+use Rattle.strm_laws.specs.State.{State, Stream, book, stream, with_book, with_stream}
+use Rattle.strm_types.proofs.DeliveryHolds.{PutHolds}
+use Rattle.strm_laws.proofs.PutParts.{acted-holds, either-holds, parts-hold}
+
+module _ {C : Type 0} where
+  -- where one module acts, or changes, and keeps its name, all keep theirs
+  module _ (change : Module C → Module C) (same : (p : Module C) → module_name (change p) ≡ module_name p) where
+    change-names : (i : ℕ) (ps : List (Module C)) → map module_name (change_among change i ps) ≡ map module_name ps
+    change-names i [] = refl
+    change-names zero (p ∷ ps) = ap (λ n. n ∷ map module_name ps) (same p)
+    change-names (suc i) (p ∷ ps) = ap (λ ns. module_name p ∷ ns) (change-names i ps)
+
+  module _ (acts : Module C → Acted C (Module C)) (same : (p : Module C) → module_name (acts p).state ≡ module_name p) where
+    act-names : (i : ℕ) (ps : List (Module C)) → map module_name (act_among acts i ps).state ≡ map module_name ps
+    act-names i [] = refl
+    act-names zero (p ∷ ps) = ap (λ n. n ∷ map module_name ps) (same p)
+    act-names (suc i) (p ∷ ps) = ap (λ ns. module_name p ∷ ns) (act-names i ps)
+
+  -- a put, and a call of a service procedure
+  keeps-name : (cells : Cells C) (made : ℕ) (here : Spot) (m : Message C) (p : Module C) → module_name (module_puts cells made here m p).state ≡ module_name p
+  keeps-name cells made here m (OfLdterm l) = refl
+  keeps-name cells made here m (OfPtem l) = refl
+  keeps-name cells made here m (OfPckt l) = refl
+
+  pub keep-names : (cells : Cells C) (made i : ℕ) (here : Spot) (m : Message C) (ps : List (Module C)) → map module_name (put_among (module_puts cells made) i here m ps).state ≡ map module_name ps
+  keep-names cells made i here m ps = act-names (module_puts cells made here m) (keeps-name cells made here m) i ps
+
+  serves-name : (cells : Cells C) (here : Spot) (made : ℕ) (again : Bool) (stop : Option ℕ) (p : Module C) → module_name (module_serves cells here made again stop p).acted.state ≡ module_name p
+  serves-name cells here made again stop (OfLdterm l) = refl
+  serves-name cells here made again stop (OfPtem l) = refl
+  serves-name cells here made again stop (OfPckt l) = refl
+
+  pub serve-names : (cells : Cells C) (here : Spot) (made : ℕ) (again : Bool) (stop : Option ℕ) (i : ℕ) (ps : List (Module C))
+      → map module_name (act_among (λ p. (module_serves cells here made again stop p).acted) i ps).state ≡ map module_name ps
+  serve-names cells here made again stop i ps = act-names (λ p. (module_serves cells here made again stop p).acted) (serves-name cells here made again stop) i ps
+
+  -- a queue of one changes, or a writer waits at one
+  queue-name : (way : Way) (change : Queue C → Queue C) (p : Module C) → module_name (queue_changed module_queue with_module_queue way change p) ≡ module_name p
+  queue-name way change (OfLdterm l) = refl
+  queue-name way change (OfPtem l) = refl
+  queue-name way change (OfPckt l) = refl
+
+  pub queue-names : (way : Way) (change : Queue C → Queue C) (i : ℕ) (ps : List (Module C)) → map module_name (change_among (queue_changed module_queue with_module_queue way change) i ps) ≡ map module_name ps
+  queue-names way change i ps = change-names (queue_changed module_queue with_module_queue way change) (queue-name way change) i ps
+
+  pub waits-names : (way : Way) (band at : ℕ) (ps : List (Module C)) → map module_name (waits_past module_queue with_module_queue way band at ps) ≡ map module_name ps
+  waits-names way band at ps = by (place_past module_queue way at ps)
+    where
+      by : (place : Option ℕ) → map module_name (waits_at module_queue with_module_queue way band ps place) ≡ map module_name ps
+      by None = refl
+      by (Some place) = queue-names way (with_waiting band) (place - 1) ps
+
+  -- a stream with modules of the same names
+  same-names : (side : Side) (on : Stream C) (s : State C) → map module_name on.modules ≡ map module_name (stream side s).modules → stands_of (with_stream side on s) ≡ stands_of s
+  same-names Master on s is = ap (λ names. record { master = names; slave = map module_name s.slave.modules }) is
+  same-names Slave on s is = ap (λ names. record { master = map module_name s.master.modules; slave = names }) is
+
+  module _ (all : Stands) where
+    abbrev pub Stand : State C → Type 0
+    Stand s = stands_of s ≡ all
+
+    names-stand : (names : List QueueName) (s : State C) → Stand s → Stand (record s { enabled = names })
+    names-stand names s is = is
+
+    books-stand : (dir : Dir) (n : ℕ) (s : State C) → Stand s → Stand (with_book dir (with_made n (book dir s)) s)
+    books-stand dirs.MasterToSlave n s is = is
+    books-stand dirs.SlaveToMaster n s is = is
+
+    head-stands : (side : Side) (here : Spot) (m : Message C) (s : State C) → Stand s → Stand (put_at_head side here m s).state
+    head-stands side here m s is =
+        either-holds Stand (is_open (stream side s).opened) _ _ (same-names side (record (stream side s) { head = _ }) s refl ∙ is) is
+
+    driver-stands : (side : Side) (here : Spot) (m : Message C) (s : State C) → Stand s → Stand (put_at_driver side here m s).state
+    driver-stands Master here m s is = is
+    driver-stands Slave here m s is = is
+
+    stack-stands : (cells : Cells C) (here : Spot) (m : Message C) (s : State C) → Stand s → Stand (put_at_module cells here m s).state
+    stack-stands cells here m s is =
+        let t = put_among (module_puts cells (made_above here.side s)) (here.at - 1) here m (stream here.side s).modules in
+        let same = keep-names cells (made_above here.side s) (here.at - 1) here m (stream here.side s).modules in
+        acted-holds Stand names-stand books-stand here t s (same-names here.side (record (stream here.side s) { modules = t.state }) s same ∙ is)
+
+    pub puts-stand : (cells : Cells C) → PutHolds Stand (put_in cells)
+    puts-stand cells = parts-hold Stand cells (record { head = head-stands; stack = stack-stands cells; driver = driver-stands })

@@ -1,0 +1,71 @@
+-- What steps and the replay of a journal are: for a short journal, and for entries that are no steps.
+use Rattle.std.proofs.Common.{ℕ, ◌≡◌, Bool, List, [], ◌∷◌, refl, ap}
+use Rattle.strm_types.specs.declared.answers.Answer.TheVariants.{Done, Count}
+use Rattle.strm_types.specs.declared.answers.Turn.{Turn}
+use Rattle.strm_types.specs.declared.answers.Turn.TheVariants.{Idle}
+use Rattle.strm_types.specs.declared.entries.Entry.TheVariants.{Called, Turned}
+use Rattle.strm_types.specs.declared.events.Caller.{Caller}
+use Rattle.strm_types.specs.declared.events.Event.TheVariants.{OpenMaster, Unlock, Write}
+use Rattle.strm_types.specs.declared.names.Dir.TheVariants.{MasterToSlave, SlaveToMaster}
+use Rattle.strm_types.specs.declared.names.Side.{Side}
+use Rattle.strm_types.specs.declared.names.Side.TheVariants.{Master}
+use Rattle.strm_types.specs.declared.names.Dir.{Dir}
+use Rattle.strm_types.specs.Cells.{Cells, Made, Base, plain, tagged}
+use Rattle.strm_types.specs.Message.{data_message, rank_of, band_of, size_of, cells_of, is_high_priority}
+use Rattle.strm_types.specs.Names.{driver_of}
+use Rattle.strm_laws.specs.State.{State, opening}
+use Rattle.strm_types.specs.Write.{chunk_count}
+use Rattle.strm_laws.specs.Turns.{turned}
+use Rattle.strm_types.specs.Events.{Reply, Request}
+use Rattle.strm_laws.specs.Calls.{called}
+use Rattle.strm_types.specs.Journal.{PlainEntry}
+use Rattle.strm_laws.specs.Kept.{MayTest}
+use Rattle.strm_laws.specs.Step.{Step, replay, IsLegal}
+
+abbrev caller : Side → Caller
+caller side = record { side = side }
+
+-- a cell with another byte keeps its origin; one that is made has one of its own
+pub mapped-cells-keep-their-origin : tagged.mapped 98 (record { byte = 97; origin = Base MasterToSlave 4 }) ≡ record { byte = 98; origin = Base MasterToSlave 4 }
+mapped-cells-keep-their-origin = refl
+
+pub made-cells-have-their-origin : tagged.made SlaveToMaster 3 97 ≡ record { byte = 97; origin = Made SlaveToMaster 3 }
+made-cells-have-their-origin = refl
+
+-- a journal: the master is opened and writes, and its driver has a turn
+abbrev written_one : State ℕ
+written_one = (called plain (caller Master) (Write (97 ∷ [])) (called plain (caller Master) OpenMaster opening).state).state
+
+abbrev journal : List PlainEntry
+journal = Called (caller Master) OpenMaster Done ∷ Called (caller Master) (Write (97 ∷ [])) (Count 1) ∷ Turned (driver_of Master) Idle ∷ []
+
+pub journal-leads-to : replay plain opening journal ≡ (turned plain (driver_of Master) Idle written_one).state
+unfolding chunk_count data_message rank_of band_of size_of cells_of is_high_priority
+journal-leads-to = refl
+
+pub entries-that-are-steps : IsLegal plain opening (Called (caller Master) OpenMaster Done ∷ Called (caller Master) (Write (97 ∷ [])) (Count 1) ∷ [])
+unfolding chunk_count data_message rank_of band_of size_of cells_of is_high_priority
+entries-that-are-steps = (record { allowed = refl; answered = refl; leads = refl }, (record { allowed = refl; answered = refl; leads = refl }, tt))
+
+-- no step: a call that is refused, a wrong answer, a wrong state, and a turn of a queue that isn't enabled
+pub refused-call-is-no-step : IsLegal plain opening (Called (caller Master) Unlock Done ∷ []) → ⊥
+refused-call-is-no-step = λ legal. let first = legal.0 in let allowed = first.allowed in (cc)
+
+pub wrong-answer-is-no-step : IsLegal plain opening (Called (caller Master) OpenMaster (Count 0) ∷ []) → ⊥
+wrong-answer-is-no-step = λ legal. let first = legal.0 in let answered = first.answered in (cc)
+
+pub wrong-state-is-no-step : Step plain opening (Called (caller Master) OpenMaster Done) opening → ⊥
+wrong-state-is-no-step = λ step. let opened = ap (λ (s : State ℕ). s.master.opened) step.leads in (cc)
+
+pub turn-of-a-queue-that-rests-is-no-step : IsLegal plain opening (Called (caller Master) OpenMaster Done ∷ Turned (driver_of Master) Idle ∷ []) → ⊥
+turn-of-a-queue-that-rests-is-no-step = λ legal. let second = legal.1.0 in let enabled = second.enabled in (cc)
+
+pub illegal-entry-behind-a-legal-one : IsLegal plain opening (Called (caller Master) OpenMaster Done ∷ Called (caller Master) OpenMaster Done ∷ []) → ⊥
+illegal-entry-behind-a-legal-one = λ legal. let second = legal.1.0 in let allowed = second.allowed in (cc)
+
+-- whatever a test says of a byte, it is one of calls, and of a turn of a driver
+pub any-test-of-a-call : {C : Type 0} (cells : Cells C) (p : Dir → C → Bool) (c : Caller) (asked : Request) (answer : Reply) → MayTest cells p (Called c asked answer)
+any-test-of-a-call cells p c asked answer = tt
+
+pub any-test-of-a-driver : {C : Type 0} (cells : Cells C) (p : Dir → C → Bool) (side : Side) (turn : Turn) → MayTest cells p (Turned (driver_of side) turn)
+any-test-of-a-driver cells p side turn = tt

@@ -1,0 +1,117 @@
+-- Stored calls and answers read back as they were.
+use Rattle.std.proofs.Common.{ℕ, ◌≡◌, ◌+◌, List, ◌++◌, length, drop, refl, ap, ◌∙◌, arith, length-append}
+use Rattle.std.specs.Prelude.{Option, None, Some, option_map}
+use Rattle.std.proofs.lemmas.List.{append_assoc}
+use Rattle.std.proofs.Math.Seq.{take-append_seam, drop-append_seam}
+use Rattle.strm_types.specs.declared.answers.Answer.{Answer}
+use Rattle.strm_types.specs.declared.answers.Answer.TheVariants as told
+use Rattle.strm_types.specs.declared.entries.Entry.TheVariants.{Called}
+use Rattle.strm_types.specs.declared.events.Caller.{Caller}
+use Rattle.strm_types.specs.declared.events.Event.{Event}
+use Rattle.strm_types.specs.declared.events.Event.TheVariants as shapes
+use Rattle.strm_types.specs.Events.{Request, Reply, map_event, map_answer, payload_of, content_of}
+use Rattle.strm_types.specs.Journal.{part_len, part_in, event_len, answer_len, request_in, reply_in, entry_in}
+use Rattle.strm_types.specs.Message.{part}
+
+-- what is stored of a part, a call and an answer beside their bytes
+abbrev part_shape : Option (List ℕ) → Option ℕ
+part_shape o = option_map (λ bytes. length bytes) o
+
+abbrev shape_of : Request → Event ℕ
+shape_of asked = map_event (λ bytes. length bytes) asked
+
+abbrev told_of : Reply → Answer ℕ
+told_of reply = map_answer (λ bytes. length bytes) reply
+
+part-size : (o : Option (List ℕ)) → part_len (part_shape o) ≡ length (part o)
+part-size None = refl
+part-size (Some bytes) = refl
+
+part-back : (o : Option (List ℕ)) (more : List ℕ) → part_in (part_shape o) (part o ++ more) ≡ o
+part-back None more = refl
+part-back (Some bytes) more = ap Some (take-append_seam bytes more)
+
+-- of two parts, the first and the second
+first-back : (control body : Option (List ℕ)) (more : List ℕ) → part_in (part_shape control) ((part control ++ part body) ++ more) ≡ control
+first-back control body more = ap (λ bytes. part_in (part_shape control) bytes) (append_assoc (part control) (part body) more) ∙ part-back control (part body ++ more)
+
+second-back : (control body : Option (List ℕ)) (more : List ℕ) → part_in (part_shape body) (drop (part_len (part_shape control)) ((part control ++ part body) ++ more)) ≡ body
+second-back control body more =
+    ap (λ n. part_in (part_shape body) (drop n ((part control ++ part body) ++ more))) (part-size control)
+    ∙ ap (λ bytes. part_in (part_shape body) (drop (length (part control)) bytes)) (append_assoc (part control) (part body) more)
+    ∙ ap (λ bytes. part_in (part_shape body) bytes) (drop-append_seam (part control) (part body ++ more))
+    ∙ part-back body more
+
+both-size : (control body : Option (List ℕ)) → part_len (part_shape control) + part_len (part_shape body) ≡ length (part control ++ part body)
+both-size control body = omega (arith, part-size control, part-size body, length-append (part control) (part body))
+
+pub request-back : (asked : Request) (more : List ℕ) → request_in (shape_of asked) (payload_of asked ++ more) ≡ asked
+request-back shapes.OpenMaster more = refl
+request-back shapes.Unlock more = refl
+request-back shapes.OpenSlave more = refl
+request-back shapes.Shut more = refl
+request-back (shapes.Push name) more = refl
+request-back shapes.Pop more = refl
+request-back shapes.Look more = refl
+request-back (shapes.Flush what band) more = refl
+request-back (shapes.Write bytes) more = ap shapes.Write (take-append_seam bytes more)
+request-back (shapes.Read n) more = refl
+request-back (shapes.Put prio control body) more =
+    ap (λ c. shapes.Put prio c (part_in (part_shape body) (drop (part_len (part_shape control)) ((part control ++ part body) ++ more)))) (first-back control body more)
+    ∙ ap (λ d. shapes.Put prio control d) (second-back control body more)
+request-back (shapes.Get wanted cmax dmax) more = refl
+request-back (shapes.Mode mode) more = refl
+request-back shapes.Nread more = refl
+request-back (shapes.Ioctl command body) more = ap (λ xs. shapes.Ioctl command xs) (take-append_seam body more)
+request-back (shapes.IoctlResult number) more = refl
+request-back shapes.Signals more = refl
+
+pub request-size : (asked : Request) → event_len (shape_of asked) ≡ length (payload_of asked)
+request-size shapes.OpenMaster = refl
+request-size shapes.Unlock = refl
+request-size shapes.OpenSlave = refl
+request-size shapes.Shut = refl
+request-size (shapes.Push name) = refl
+request-size shapes.Pop = refl
+request-size shapes.Look = refl
+request-size (shapes.Flush what band) = refl
+request-size (shapes.Write bytes) = refl
+request-size (shapes.Read n) = refl
+request-size (shapes.Put prio control body) = both-size control body
+request-size (shapes.Get wanted cmax dmax) = refl
+request-size (shapes.Mode mode) = refl
+request-size shapes.Nread = refl
+request-size (shapes.Ioctl command body) = refl
+request-size (shapes.IoctlResult number) = refl
+request-size shapes.Signals = refl
+
+pub reply-back : (reply : Reply) (more : List ℕ) → reply_in (told_of reply) (content_of reply ++ more) ≡ reply
+reply-back told.Done more = refl
+reply-back (told.Name name) more = refl
+reply-back (told.Count n) more = refl
+reply-back (told.Bytes bytes) more = ap told.Bytes (take-append_seam bytes more)
+reply-back (told.Msg prio control body more_control more_data) more =
+    ap (λ c. told.Msg prio c (part_in (part_shape body) (drop (part_len (part_shape control)) ((part control ++ part body) ++ more))) more_control more_data) (first-back control body more)
+    ∙ ap (λ d. told.Msg prio control d more_control more_data) (second-back control body more)
+reply-back (told.Sizes first messages) more = refl
+reply-back (told.Pending number) more = refl
+reply-back (told.Nak refusal) more = refl
+reply-back (told.Signals bytes) more = ap told.Signals (take-append_seam bytes more)
+
+pub reply-size : (reply : Reply) → answer_len (told_of reply) ≡ length (content_of reply)
+reply-size told.Done = refl
+reply-size (told.Name name) = refl
+reply-size (told.Count n) = refl
+reply-size (told.Bytes bytes) = refl
+reply-size (told.Msg prio control body more_control more_data) = both-size control body
+reply-size (told.Sizes first messages) = refl
+reply-size (told.Pending number) = refl
+reply-size (told.Nak refusal) = refl
+reply-size (told.Signals bytes) = refl
+
+-- an entry, of an answer whose bytes stand behind those of its call
+pub entry-back : (caller : Caller) (asked : Request) (answer : Answer ℕ) (content : List ℕ) → entry_in (Called caller (shape_of asked) answer) (payload_of asked ++ content) ≡ Called caller asked (reply_in answer content)
+entry-back caller asked answer content =
+    ap (λ a. Called caller a (reply_in answer (drop (event_len (shape_of asked)) (payload_of asked ++ content)))) (request-back asked content)
+    ∙ ap (λ n. Called caller asked (reply_in answer (drop n (payload_of asked ++ content)))) (request-size asked)
+    ∙ ap (λ bytes. Called caller asked (reply_in answer bytes)) (drop-append_seam (payload_of asked) content)

@@ -1,0 +1,102 @@
+-- A turn loses no cell, and leaves the ends as they are and a side that isn't open nothing to be read.
+use Rattle.std.proofs.Common.{ℕ, ◌≡◌, ◌+◌, Bool, true, false, cond, List, [], ◌∷◌, length, refl, ap, arith}
+use Rattle.std.specs.Prelude.{◌==◌, not}
+use Rattle.strm_types.specs.declared.answers.Turn.{Turn}
+use Rattle.strm_types.specs.declared.names.Side.{Side}
+use Rattle.strm_types.specs.declared.names.Side.TheVariants.{Master, Slave}
+use Rattle.strm_types.specs.declared.names.Place.{Place}
+use Rattle.strm_types.specs.declared.names.Place.TheVariants.{Head, Ldterm, Driver}
+use Rattle.strm_types.specs.declared.names.QueueName.{QueueName}
+use Rattle.strm_types.specs.declared.names.Dir.{Dir}
+use Rattle.strm_laws.proofs.LdtermKeeps.{way-up}
+use Rattle.strm_types.specs.Cells.{Cells}
+use Rattle.strm_laws.specs.Kept.{AreIdle, NothingUnread, state_weight, tests_at}
+use Rattle.strm_types.specs.Message.{Message, size_of, band_of, weight_of}
+use Rattle.strm_types.specs.Names.{is_open, other, without, direction_at, direction_from}
+use Rattle.strm_laws.specs.Places.{weight_gone, weight_made, direction_to}
+use Rattle.strm_laws.specs.Puts.{SameButMade, delivered}
+use Rattle.strm_types.specs.Queue.{Queue, left_with, relieved, weight}
+use Rattle.strm_laws.specs.State.{State, stream}
+use Rattle.strm_laws.specs.TurnOutcomes.{TurnOutcome}
+use Rattle.strm_laws.specs.Turns.{blocked_across, driver_serves, held_back, is_stopped_across, moved_across, turned, turned_at, turned_queue, turn_ended, up_across, with_driver}
+use Rattle.strm_laws.proofs.TurnHolds.{any-holds, turn-holds, turns-stay}
+use Rattle.strm_laws.proofs.Deliveries.{delivered-keeps}
+use Rattle.strm_laws.proofs.PutsKeep.{same-itself, same-stays, unread-stays}
+use Rattle.strm_laws.proofs.ModuleTurnKeeps.{module_turned-keeps}
+use Rattle.strm_laws.proofs.PutsFall.{few-stand}
+use Rattle.strm_types.proofs.Weights.{weight-take}
+use Rattle.strm_laws.specs.Earlier.{driver_place, modules_on}
+use Rattle.strm_laws.proofs.Past.{waits-keeps}
+use Rattle.strm_types.specs.declared.names.Way.TheVariants.{Up, Down}
+
+module _ {C : Type 0} where
+  -- the end of a turn leaves all messages on its queue
+  left-there : (went : Bool) (q : Queue C) → (cond went (relieved q) q).messages ≡ q.messages
+  left-there true q = refl
+  left-there false q = refl
+
+  with-unread : (side : Side) (q : Queue C) (s : State C) → NothingUnread s → NothingUnread (with_driver side q s)
+  with-unread Master q s unread = record { master = unread.master; slave = unread.slave }
+  with-unread Slave q s unread = record { master = unread.master; slave = unread.slave }
+
+  pub turn-unread : (cells : Cells C) (name : QueueName) (turn : Turn) (s : State C) → NothingUnread s → NothingUnread (turned cells name turn s).state
+  turn-unread cells name turn s unread = turn-holds NothingUnread (turns-stay NothingUnread with-unread unread-stays) cells name turn s unread
+
+module _ {C : Type 0} (s : State C) where
+  with-same : (side : Side) (q : Queue C) (t : State C) → SameButMade s t → SameButMade s (with_driver side q t)
+  with-same Master q t same = record { master = same.master; slave = same.slave; locked = same.locked; next_ioctl = same.next_ioctl; from_master = same.from_master; from_slave = same.from_slave }
+  with-same Slave q t same = record { master = same.master; slave = same.slave; locked = same.locked; next_ioctl = same.next_ioctl; from_master = same.from_master; from_slave = same.from_slave }
+
+  pub turn-same : (cells : Cells C) (name : QueueName) (turn : Turn) → SameButMade s (turned cells name turn s).state
+  turn-same cells name turn =
+      turn-holds (SameButMade s) (turns-stay (SameButMade s) with-same (same-stays s)) cells name turn s
+      (same-itself s)
+
+module _ {C : Type 0} (p : Dir → C → Bool) where
+  -- a turn in a pair that had so many cells
+  abbrev Keeps : TurnOutcome C → ℕ → Type 0
+  Keeps t n = state_weight p t.state + weight_gone p t.gone ≡ n + weight_made p t.gone
+
+  same-weight : (t : C → Bool) (xs ys : List (Message C)) → xs ≡ ys → weight t xs ≡ weight t ys
+  same-weight t xs ys is = ap (λ (q : List (Message C)). weight t q) is
+
+  ended-keeps : (side : Side) (size : ℕ) (s : State C) → state_weight p (turn_ended side size s) ≡ state_weight p s
+  ended-keeps Master size s = omega (arith, same-weight (p (direction_at Down Master)) _ _ (left-there (not (size == 0)) (turned_queue s.master.driver.queue)))
+  ended-keeps Slave size s = omega (arith, same-weight (p (direction_at Down Slave)) _ _ (left-there (not (size == 0)) (turned_queue s.slave.driver.queue)))
+
+  taken-keeps : (side : Side) (m : Message C) (rest : List (Message C)) (s : State C) → (stream side s).driver.queue.messages ≡ m ∷ rest → state_weight p (with_driver side (left_with rest (stream side s).driver.queue) s) + weight_of (p (direction_from side)) m ≡ state_weight p s
+  taken-keeps Master m rest s is = omega (arith, same-weight (p (direction_at Down Master)) _ _ is, weight-take (p (direction_at Down Master)) m rest)
+  taken-keeps Slave m rest s is = omega (arith, same-weight (p (direction_at Down Slave)) _ _ is, weight-take (p (direction_at Down Slave)) m rest)
+
+  -- it goes on in its direction
+  across-weighs : (side : Side) (m : Message C) (at : ℕ) → weight_of (p (direction_to (record { side = other side; at = at; way = Up }))) m ≡ weight_of (p (direction_from side)) m
+  across-weighs Master m at = ap (λ way. weight_of (p (direction_at way Slave)) m) (way-up at)
+  across-weighs Slave m at = ap (λ way. weight_of (p (direction_at way Master)) m) (way-up at)
+
+  moved-keeps : (cells : Cells C) (side : Side) (m : Message C) (rest : List (Message C)) (s : State C) → (stream side s).driver.queue.messages ≡ m ∷ rest → Keeps (moved_across cells side m rest s) (state_weight p s)
+  moved-keeps cells side m rest s is =
+      let from = with_driver side (left_with rest (stream side s).driver.queue) s in
+      omega (arith, ended-keeps side (size_of m) (delivered cells (up_across side from) m from).state, delivered-keeps cells p (up_across side from) m from (omega (arith, few-stand (length (stream (other side) from).modules))), taken-keeps side m rest s is, across-weighs side m (modules_on (other side) from))
+
+  blocked-keeps : (side : Side) (m : Message C) (s : State C) → state_weight p (blocked_across side m s) ≡ state_weight p s
+  blocked-keeps side m s = waits-keeps p (other side) Up (driver_place (other side) s) (band_of m) s
+
+  held-keeps : (side : Side) (s : State C) (want : Bool) → state_weight p (with_driver side (record (stream side s).driver.queue { want_read = want }) s) ≡ state_weight p s
+  held-keeps Master s want = refl
+  held-keeps Slave s want = refl
+
+  serves-keeps : (cells : Cells C) (side : Side) (ms : List (Message C)) (s : State C) → (stream side s).driver.queue.messages ≡ ms → Keeps (driver_serves cells side ms s) (state_weight p s)
+  serves-keeps cells side [] s is = omega (arith, held-keeps side s true)
+  serves-keeps cells side (m ∷ rest) s is =
+      any-holds (λ t. Keeps t (state_weight p s)) (is_open (stream (other side) s).opened) (is_stopped_across side m s) _ _ _
+      (omega (arith, held-keeps side s false))
+      (omega (arith, held-keeps side s false, blocked-keeps side m (with_driver side (held_back (stream side s).driver.queue) s)))
+      (moved-keeps cells side m rest s is)
+
+  pub turn-keeps : (cells : Cells C) (name : QueueName) → tests_at cells p name.place → (turn : Turn) (s : State C) → AreIdle s → Keeps (turned cells name turn s) (state_weight p s)
+  turn-keeps cells name tests turn s idle = at name.place tests (record s { enabled = without name s.enabled }) (record { master = idle.master; slave = idle.slave })
+    where
+      at : (place : Place) → tests_at cells p place → (s : State C) → AreIdle s → Keeps (turned_at cells place name turn s) (state_weight p s)
+      at Driver tests s idle = serves-keeps cells name.side (stream name.side s).driver.queue.messages s refl
+      at Head tests s idle = omega arith
+      at Ldterm ignores s idle = module_turned-keeps p cells ignores name turn s idle

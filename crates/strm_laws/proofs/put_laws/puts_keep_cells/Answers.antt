@@ -1,0 +1,5 @@
+use Rattle.strm_laws.proofs.PutsKeep.{puts-keep}
+use Rattle.strm_laws.proofs.put_laws.puts_keep_cells.Goals as goal
+
+pub returns : goal.returns
+returns g c = λ p cells to m s. puts-keep p cells to m s

@@ -1,0 +1,96 @@
+-- The ledger of a direction: how many bytes were written and made there, how many stand on its queues and in its unfinished lines, and how
+-- many have gone by each rule; and in how many places a single byte is (STREAMS Programming Guide, "Message Queues"; termio(7I)).
+use Rattle.std.specs.Prelude.{ℕ, ◌+◌, ◌<◌, ◌^◌, ◌==◌, nat_lt, Bool, true, false, ◌&&◌, List, [], ◌∷◌, ◌++◌, length, sum_by}
+use Rattle.strm_types.specs.declared.ledger.Ledger.{Ledger}
+use Rattle.strm_types.specs.declared.names.Dir.{Dir}
+use Rattle.strm_types.specs.declared.names.Dir.TheVariants.{MasterToSlave, SlaveToMaster}
+use Rattle.strm_types.specs.declared.names.Place.TheVariants as places
+use Rattle.strm_types.specs.declared.names.QueueName.{QueueName}
+use Rattle.strm_types.specs.declared.names.Way.TheVariants.{Up, Down}
+use Rattle.strm_types.specs.declared.rules.Fates.{Fates}
+use Rattle.strm_types.specs.Cells.{Cells, Origin, Written, Made, Base, Tagged, tagged}
+use Rattle.strm_types.specs.Deliver.{Fate}
+use Rattle.strm_types.specs.Journal.{PlainEntry}
+use Rattle.strm_laws.specs.Kept.{gone, state_weight}
+use Rattle.strm_types.specs.Names.{other, side_from}
+use Rattle.strm_laws.specs.Places.{weight_gone}
+use Rattle.strm_laws.specs.Pushes.{messages_on}
+use Rattle.strm_types.specs.Queue.{weight}
+use Rattle.strm_types.specs.Rules.{fates_of}
+use Rattle.strm_laws.specs.Stacked.{module_line}
+use Rattle.strm_laws.specs.State.{State, book, opening, stream}
+use Rattle.strm_laws.specs.Step.{after, replay}
+
+abbrev pub same_dir : Dir → Dir → Bool
+same_dir MasterToSlave MasterToSlave = true
+same_dir SlaveToMaster SlaveToMaster = true
+same_dir _ _ = false
+
+-- the queues of a direction, those of the writer's stream first, each stream's from its head on
+abbrev pub queues_in : Dir → List QueueName
+queues_in dir =
+    let writer = side_from dir in
+    record { side = writer; place = places.Ldterm; way = Down } ∷ record { side = writer; place = places.Driver; way = Down }
+    ∷ record { side = other writer; place = places.Head; way = Up } ∷ record { side = other writer; place = places.Ldterm; way = Up } ∷ []
+
+module _ {C : Type 0} where
+  -- how many cells stand on a queue, and on all queues of a direction
+  abbrev pub cells_on : QueueName → State C → ℕ
+  cells_on name s = weight (λ c. true) (messages_on name s)
+
+  abbrev pub queued : Dir → State C → ℕ
+  queued dir s = sum_by (λ name. cells_on name s) (queues_in dir)
+
+  -- how many stand in the unfinished lines of a direction, which are its reader's
+  abbrev pub inline : Dir → State C → ℕ
+  inline dir s = sum_by (λ p. length (module_line p)) (stream (other (side_from dir)) s).modules
+
+-- the ledger of a direction, of a pair in a state of which so much has gone
+abbrev pub ledger_of : Dir → State ℕ → Fates → Ledger
+ledger_of dir s fates = record {
+  written = (book dir s).written;
+  made = (book dir s).made;
+  queued = queued dir s;
+  inline = inline dir s;
+  fates = fates_of dir fates;
+}
+
+-- what entries let go from a state on, one after the other, and make
+abbrev pub all_gone : {C : Type 0} → Cells C → State C → List PlainEntry → List (Fate C)
+all_gone cells s [] = []
+all_gone cells s (entry ∷ entries) = gone cells s entry ++ all_gone cells (after cells s entry) entries
+
+-- two origins are the same
+abbrev pub same_origin : Origin → Origin → Bool
+same_origin (Written d n) (Written e m) = same_dir d e && n == m
+same_origin (Made d n) (Made e m) = same_dir d e && n == m
+same_origin (Base d n) (Base e m) = same_dir d e && n == m
+same_origin _ _ = false
+
+abbrev pub direction_in : Origin → Dir
+direction_in (Written dir n) = dir
+direction_in (Made dir n) = dir
+direction_in (Base dir n) = dir
+
+-- whether a byte of this origin was booked so far
+abbrev pub is_booked : {C : Type 0} → Origin → State C → Bool
+is_booked (Written dir n) s = nat_lt n (book dir s).written
+is_booked (Made dir n) s = nat_lt n (book dir s).made
+is_booked (Base dir n) s = false
+
+-- in how many places the byte of an origin is behind a journal: on queues, in lines, and among what has gone
+abbrev pub places_of : Origin → List PlainEntry → ℕ
+places_of origin entries =
+    let test = λ (direction : Dir) (c : Tagged). same_origin c.origin origin in
+    state_weight test (replay tagged opening entries) + weight_gone test (all_gone tagged opening entries)
+
+-- in how many of the direction in which it was booked
+abbrev pub own_places_of : Origin → List PlainEntry → ℕ
+own_places_of origin entries =
+    let test = λ (direction : Dir) (c : Tagged). same_dir direction (direction_in origin) && same_origin c.origin origin in
+    state_weight test (replay tagged opening entries) + weight_gone test (all_gone tagged opening entries)
+
+-- No more than 2^64 bytes were written and made in a direction, so that no count of a ledger goes round: what may add to a book wants that it
+-- isn't full.
+abbrev pub FewBooked : {C : Type 0} → State C → Type 0
+FewBooked s = (dir : Dir) → (book dir s).written + (book dir s).made < 2 ^ 64

@@ -1,0 +1,55 @@
+-- A pair as its callers see it, and what a call or a turn adds to it.
+use Rattle.std.specs.Prelude.{◌≡◌, ℕ, List, [], ◌∷◌, ◌++◌, Option}
+use Rattle.strm_types.specs.declared.limits.Config.{Config}
+use Rattle.strm_types.specs.declared.events.Caller.{Caller}
+use Rattle.strm_types.specs.declared.names.QueueName.{QueueName}
+use Rattle.strm_types.specs.declared.refusals.Refusal.{Refusal}
+use Rattle.strm_laws.specs.State.{State, opening}
+use Rattle.strm_types.specs.Events.{Request}
+use Rattle.strm_types.specs.Journal.{PlainEntry}
+use Rattle.strm_laws.specs.Refusals.{Free, enough, blocks_asked, refused, turn_refused}
+use Rattle.strm_types.specs.Refused.{turn_blocks}
+use Rattle.strm_types.specs.Cells.{plain}
+use Rattle.strm_laws.specs.Step.{Step}
+use Rattle.strm_laws.specs.Kept.{gone}
+use Rattle.strm_types.specs.Deliver.{tallied}
+use Rattle.strm_types.specs.Rules.{no_fates}
+use Rattle.strm_types.specs.declared.rules.Fates.{Fates}
+
+-- A pair: its plain state, the state that its journal began at, the journal, the sizes that it was made with, how many
+-- blocks are free, and how many bytes have gone by each rule since the journal began.
+pub record PairState : Type 0 where
+  pub state : State ℕ
+  pub base : State ℕ
+  pub journal : List PlainEntry
+  pub limits : Config
+  pub free : Free
+  pub fates : Fates
+
+-- a pair as it is made
+abbrev pub new_pair : Config → PairState
+new_pair limits = record {
+  state = opening;
+  base = opening;
+  journal = [];
+  limits = limits;
+  free = record { mblks = limits.mblks; dblks = limits.dblks };
+  fates = no_fates;
+}
+
+-- the refusal of a call on a pair, if any
+abbrev pub call_refused : PairState → Caller → Request → Option Refusal
+call_refused p caller asked = refused p.state p.journal p.limits (enough (blocks_asked asked) p.free) caller asked
+
+-- the refusal of a turn of a pair's queue, if any
+abbrev pub queue_refused : PairState → QueueName → Option Refusal
+queue_refused p name = turn_refused p.state p.journal p.limits (enough (turn_blocks name.place) p.free) name
+
+-- The pair took a step, and its journal has gained the entry of it. What the step let go is told by its rules. The base and the
+-- sizes stay.
+pub record AddsEntry (old new : PairState) (entry : PlainEntry) : Type 0 where
+  pub journal : new.journal ≡ old.journal ++ entry ∷ []
+  pub step : Step plain old.state entry new.state
+  pub fates : new.fates ≡ tallied (gone plain old.state entry) old.fates
+  pub base : new.base ≡ old.base
+  pub limits : new.limits ≡ old.limits

@@ -1,0 +1,160 @@
+-- Which refusal a call or a turn meets: the first whose condition holds, in this order. A side that isn't open; an
+-- argument; a book that is full; a full journal; too few free blocks; what the state says.
+use Rattle.std.specs.Prelude.{ℕ, Bool, true, false, not, ◌&&◌, ◌||◌, nat_lt, nat_le, ◌+◌, ◌-◌, List, length, Option, None, Some, is_some}
+use Rattle.strm_types.specs.declared.limits.Config.{Config}
+use Rattle.strm_types.specs.declared.events.Caller.{Caller}
+use Rattle.strm_types.specs.declared.names.QueueName.{QueueName}
+use Rattle.strm_types.specs.declared.refusals.Refusal.{Refusal}
+use Rattle.strm_types.specs.declared.refusals.Refusal.TheVariants.{Einval, Eagain, Enxio, Enosr, Erange, JournalFull}
+use Rattle.strm_types.specs.declared.modes.Wanted.{Wanted}
+use Rattle.strm_types.specs.declared.modes.Wanted.TheVariants.{Any, High, Band}
+use Rattle.strm_types.specs.declared.names.Side.{Side}
+use Rattle.strm_types.specs.declared.names.Side.TheVariants.{Master, Slave}
+use Rattle.strm_types.specs.declared.names.ModuleName.{ModuleName}
+use Rattle.std.specs.List.{list_any}
+use Rattle.strm_types.specs.Names.{is_master, is_enabled, is_open, is_never, is_closed}
+use Rattle.strm_laws.specs.Pushes.{may_stand, named_by, top_on}
+use Rattle.strm_laws.specs.State.{State, stream}
+use Rattle.strm_types.specs.Slots.{is_free, result_refusal}
+use Rattle.strm_types.specs.Write.{chunk_count}
+use Rattle.strm_types.specs.Reads.{read_refusal}
+use Rattle.strm_types.specs.Gets.{get_refusal}
+use Rattle.strm_types.specs.PutMsg.{put_blocks, put_refusal, put_waits}
+use Rattle.strm_types.specs.declared.limits.TheConstants.{BANDS, WRITE_BLOCKS, CHANGE_BLOCKS, CLOSE_BLOCKS, IOCTL_BLOCKS, IOCTL_END, IOCTL_MAX}
+use Rattle.strm_types.specs.declared.events.Event.TheVariants.{OpenMaster, Unlock, OpenSlave, Shut, Push, Pop, Look, Flush, Write, Read, Put, Get, Ioctl, IoctlResult}
+use Rattle.strm_types.specs.Books as books
+use Rattle.strm_types.specs.Events.{Request, payload_of}
+use Rattle.strm_types.specs.Journal.{PlainEntry, content_max, room_used}
+use Rattle.strm_laws.specs.Writes.{is_full_below}
+use Rattle.strm_laws.specs.Stacked.{Module, module_queue}
+use Rattle.strm_types.specs.ModuleQueues.{messages_at}
+use Rattle.strm_types.specs.declared.names.Way.TheVariants.{Up}
+use Rattle.strm_types.specs.Refused.{or_else, unless, is_a_band, has_no_data}
+
+-- how many blocks of each kind are free
+pub record Free : Type 0 where
+  pub mblks : ℕ
+  pub dblks : ℕ
+
+-- the blocks that are free, where so many are used of each kind
+abbrev pub free_beside : ℕ → Config → Free
+free_beside used limits = record { mblks = limits.mblks - used; dblks = limits.dblks - used }
+
+-- so many blocks of each kind are free
+abbrev pub enough : ℕ → Free → Bool
+enough need free = nat_le need free.mblks && nat_le need free.dblks
+
+-- how many blocks of each kind a call may take: a write one for each of its messages, a putmsg one for each of its parts, an
+-- ioctl one for its header and one for what is sent with it
+abbrev pub blocks_taken : Request → ℕ
+blocks_taken (Write bytes) = chunk_count (length bytes)
+blocks_taken (Put prio control body) = put_blocks control body
+blocks_taken (Ioctl command body) = 2
+blocks_taken _ = 0
+
+-- how many blocks of each kind have to be free for a call: a write and a putmsg want 32 more than they may take, a flush, a
+-- push and a pop want 8, a close 2, an ioctl 34
+abbrev pub blocks_asked : Request → ℕ
+blocks_asked (Write bytes) = WRITE_BLOCKS + chunk_count (length bytes)
+blocks_asked (Put prio control body) = WRITE_BLOCKS + put_blocks control body
+blocks_asked (Push name) = CHANGE_BLOCKS
+blocks_asked Pop = CHANGE_BLOCKS
+blocks_asked (Flush what band) = CHANGE_BLOCKS
+blocks_asked Shut = CLOSE_BLOCKS
+blocks_asked (Ioctl command body) = IOCTL_BLOCKS
+blocks_asked _ = 0
+
+-- the journal takes one more entry with so many bytes
+abbrev pub has_room : List PlainEntry → Config → ℕ → Bool
+has_room entries limits bytes =
+    nat_lt (length entries) limits.journal_events && nat_le (room_used entries + bytes) limits.journal_bytes
+
+-- the name of a module that may be pushed: so far pckt isn't built
+abbrev pub is_known : Option ModuleName → Bool
+is_known None = false
+is_known (Some name) = true
+
+-- and so is a band that a get asks for
+abbrev pub asks_a_band : Wanted → Bool
+asks_a_band Any = true
+asks_a_band High = true
+asks_a_band (Band band) = nat_lt band.0 BANDS
+
+module _ {C : Type 0} where
+  -- the stream of a side is open, and the other end isn't gone
+  abbrev pub goes_down : Side → State C → Bool
+  goes_down side s = is_open (stream side s).opened && not (stream side s).head.hung_up
+
+  -- nor on the read queues of modules
+  abbrev pub none_waits_up : List (Module C) → Bool
+  none_waits_up ps = not (list_any (λ p. not (has_no_data (messages_at module_queue Up p))) ps)
+
+  -- The end of input at a side's head, where nothing is to be read there: the other end is gone, or the slave was closed and
+  -- no M_DATA or M_PROTO of it stands anywhere.
+  abbrev pub at_end : Side → State C → Bool
+  at_end Slave s = s.slave.head.hung_up
+  at_end Master s =
+      s.master.head.hung_up
+      || (is_closed s.slave.opened && (has_no_data s.slave.driver.queue.messages && (none_waits_up s.master.modules && has_no_data s.master.head.queue.messages)))
+
+  -- more may be written and made in both directions, as a call in one may make bytes in the other
+  abbrev pub in_range : State C → Bool
+  in_range s = books.has_room s.from_master && books.has_room s.from_slave
+
+  -- an ioctl sends no more than it may, and there is a number for it
+  abbrev pub may_ask : List ℕ → State C → Bool
+  may_ask body s = nat_le (length body) IOCTL_MAX && nat_lt s.next_ioctl IOCTL_END
+
+  -- what a call is refused for before all else: its side, then its arguments, and then the books
+  abbrev pub refused_at_once : State C → Caller → Request → Option Refusal
+  refused_at_once s caller OpenMaster = None
+  refused_at_once s caller Unlock =
+      or_else (unless (is_open (stream caller.side s).opened) Enxio) (unless (is_master caller.side) Einval)
+  refused_at_once s caller OpenSlave = unless (is_open s.master.opened) Enxio
+  refused_at_once s caller (Write bytes) = or_else (unless (goes_down caller.side s) Enxio) (unless (in_range s) Erange)
+  refused_at_once s caller (Push name) =
+      or_else (unless (goes_down caller.side s) Enxio) (or_else (unless (is_known name) Einval) (unless (in_range s) Erange))
+  refused_at_once s caller Pop = or_else (unless (goes_down caller.side s) Enxio) (unless (in_range s) Erange)
+  refused_at_once s caller (Flush what band) =
+      or_else (unless (goes_down caller.side s) Enxio) (or_else (unless (is_a_band band) Einval) (unless (in_range s) Erange))
+  refused_at_once s caller (Put prio control body) =
+      or_else (unless (goes_down caller.side s) Enxio) (or_else (put_refusal prio control body) (unless (in_range s) Erange))
+  refused_at_once s caller (Get wanted cmax dmax) =
+      or_else (unless (is_open (stream caller.side s).opened) Enxio) (unless (asks_a_band wanted) Einval)
+  refused_at_once s caller (Ioctl command body) =
+      or_else (unless (goes_down caller.side s) Enxio) (unless (may_ask body s && in_range s) Erange)
+  refused_at_once s caller _ = unless (is_open (stream caller.side s).opened) Enxio
+
+  -- what a call is refused for after all else: what the state says
+  abbrev pub refused_by_state : State C → Caller → Request → Option Refusal
+  refused_by_state s caller OpenMaster = unless (is_never s.master.opened) Einval
+  refused_by_state s caller OpenSlave =
+      or_else (unless (not (is_open s.slave.opened)) Einval) (unless (not s.locked) Eagain)
+  refused_by_state s caller (Write bytes) = unless (not (is_full_below 0 caller.side s)) Eagain
+  refused_by_state s caller (Read n) =
+      let h = (stream caller.side s).head in
+      read_refusal h.control_mode (at_end caller.side s) n h.queue.messages
+  refused_by_state s caller (Put prio control body) = unless (not (put_waits prio control body (λ band. is_full_below band caller.side s))) Eagain
+  refused_by_state s caller (Get wanted cmax dmax) = get_refusal wanted (at_end caller.side s) (stream caller.side s).head.queue.messages
+  refused_by_state s caller (Ioctl command body) = unless (is_free (stream caller.side s).head.ioctl) Eagain
+  refused_by_state s caller (IoctlResult number) = result_refusal number (stream caller.side s).head.ioctl
+  refused_by_state s caller (Push name) = unless (may_stand (named_by name) (stream caller.side s).modules) Einval
+  refused_by_state s caller Pop = unless (is_some (top_on caller.side s)) Einval
+  refused_by_state s caller Look = unless (is_some (top_on caller.side s)) Einval
+  refused_by_state s caller _ = None
+
+  -- the refusal of a call, if any, where the pool has enough blocks for it or not
+  abbrev pub refused : State C → List PlainEntry → Config → Bool → Caller → Request → Option Refusal
+  refused s entries limits has_blocks caller asked =
+      or_else (refused_at_once s caller asked)
+      (or_else (unless (has_room entries limits (length (payload_of asked) + content_max asked)) JournalFull)
+      (or_else (unless has_blocks Enosr)
+      (refused_by_state s caller asked)))
+
+  -- the refusal of a turn, if any, where the pool has enough blocks for it or not
+  abbrev pub turn_refused : State C → List PlainEntry → Config → Bool → QueueName → Option Refusal
+  turn_refused s entries limits has_blocks name =
+      or_else (unless (is_enabled name s.enabled) Einval)
+      (or_else (unless (in_range s) Erange)
+      (or_else (unless (has_room entries limits 0) JournalFull)
+      (unless has_blocks Enosr)))

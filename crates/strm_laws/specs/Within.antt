@@ -1,0 +1,17 @@
+-- That what a stream head keeps has a bounded size: the signals that wait, and the answer of the ioctl under way.
+use Rattle.std.specs.Prelude.{◌≤◌, length}
+use Rattle.strm_types.specs.declared.limits.TheConstants.{IOCTL_MAX}
+use Rattle.strm_types.specs.Signals.{AreSignals}
+use Rattle.strm_types.specs.Slots.{answer_bytes}
+use Rattle.strm_types.specs.Heads.{Head}
+use Rattle.strm_laws.specs.State.{State}
+
+-- each signal waits once, and the answer has at most 256 bytes
+pub record IsWithin {C : Type 0} (h : Head C) : Type 0 where
+  pub signals : AreSignals h.signals
+  pub answer : length (answer_bytes h.ioctl) ≤ IOCTL_MAX
+
+-- at both sides
+pub record AreWithin {C : Type 0} (s : State C) : Type 0 where
+  pub master : IsWithin s.master.head
+  pub slave : IsWithin s.slave.head

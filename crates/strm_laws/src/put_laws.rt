@@ -1,0 +1,101 @@
+//! What follows from the definitions of puts in a pair (STREAMS Programming Guide, "Put Procedures"): at its heads, at its
+//! drivers, and at places where nothing stands. Each law is the contract of a function that does nothing, and holds of bytes and
+//! of bytes with their origin alike.
+
+ghost use Rattle.std.specs.Prelude.{◌≡◌, ◌<◌, ◌≤◌, ◌+◌, Bool, List, count_by, map, take, true, false};
+ghost use Rattle.strm_types.specs.declared.limits.TheConstants.{HOPS};
+ghost use Rattle.strm_types.specs.declared.names.Side.{Side};
+ghost use Rattle.strm_types.specs.declared.names.Way.TheVariants.{Down};
+ghost use Rattle.strm_types.specs.declared.spots.Across.{Across};
+ghost use Rattle.strm_types.specs.declared.spots.Spot.{Spot};
+ghost use Rattle.strm_types.specs.declared.names.Dir.{Dir};
+ghost use Rattle.strm_types.specs.Cells.{AreCells, Cells, plain};
+ghost use Rattle.strm_laws.specs.CutOff.{IsCutOff};
+ghost use Rattle.strm_types.specs.Deliver.{Falls};
+ghost use Rattle.strm_types.specs.Drivers.{driver_put};
+ghost use Rattle.strm_laws.specs.Earlier.{NoModules};
+ghost use Rattle.strm_types.specs.Heads.{head_put, Head};
+ghost use Rattle.strm_types.specs.Journal.{PlainEntry};
+ghost use Rattle.strm_laws.specs.Kept.{NothingUnread, state_weight};
+ghost use Rattle.strm_types.specs.Message.{Message, has_parts};
+ghost use Rattle.strm_types.specs.Names.{is_closed, direction_from};
+ghost use Rattle.strm_types.specs.Origins.{PutsAgree};
+ghost use Rattle.strm_laws.specs.Places.{PutKeeps, weight_gone, weight_made};
+ghost use Rattle.strm_laws.specs.PutEffect.{put_effect, write_effect};
+ghost use Rattle.strm_laws.specs.Puts.{SameButMade, delivered, put_in};
+ghost use Rattle.strm_types.specs.Far.{far};
+ghost use Rattle.strm_types.specs.Queue.{Queue};
+ghost use Rattle.strm_laws.specs.Refusals.{goes_down};
+ghost use Rattle.strm_laws.specs.State.{State, map_state, opening};
+ghost use Rattle.strm_laws.specs.Step.{IsLegal, Step, replay};
+ghost use Rattle.strm_laws.specs.Writes.{cells_sent, chunks_sent, map_wrote};
+
+/// What a put sends on has less before it than what was put, wherever that was; and from the places of a stream, of which the
+/// driver's is the fourth below the head, no message has more before it than a delivery hands on.
+pub fn puts_fall<C>()
+    ensures fall { (cells : Cells C) → Falls far (put_in cells) }
+    ensures within { (to : Spot) (m : Message C) → to.at ≤ 4 → far to m < HOPS }
+{}
+
+/// No put loses a cell, or makes one that it doesn't tell: of any cells, those stand on the queues, are sent on, or have gone by a
+/// rule that stood there before, came with the message, or were made.
+pub fn puts_keep_cells<C>()
+    ensures { (p : Dir → C → Bool) (cells : Cells C) → PutKeeps p (state_weight p) (put_in cells) }
+{}
+
+/// Neither a head nor a driver makes a cell: only modules do.
+pub fn ends_make_nothing<C>()
+    ensures head { (p : Dir → C → Bool) (here : Spot) (m : Message C) (h : Head C) → weight_made p (head_put here m h).gone ≡ 0 }
+    ensures driver { (p : Dir → C → Bool) (side : Side) (across : Across) (here : Spot) (m : Message C) (q : Queue C) →
+        weight_made p (driver_put side across here m q).gone ≡ 0 }
+{}
+
+/// Puts do the same to cells and to their bytes, where their origins are forgotten and cells have the bytes that they were given.
+pub fn puts_forget_origins<C>()
+    ensures { (cells : Cells C) → AreCells cells → PutsAgree cells.byte (map_state cells.byte) (put_in cells) (put_in plain) }
+{}
+
+/// No delivery opens or closes a side, unlocks the slave, numbers an ioctl or books a byte as written, and a side that isn't open has
+/// nothing for its readers behind one, where it had nothing before.
+pub fn deliveries_leave_the_ends<C>()
+    ensures same { (cells : Cells C) (to : Spot) (m : Message C) (s : State C) → SameButMade s (delivered cells to m s).state }
+    ensures unread { (cells : Cells C) (to : Spot) (m : Message C) (s : State C) → NothingUnread s → NothingUnread (delivered cells to m s).state }
+{}
+
+/// Where no module stands on a pair's streams, a message with parts that goes down from a head, as that of a putmsg(2), is put on the
+/// driver's queue, which is enabled as putq(9F) has it. Nothing else changes and nothing goes. Its premise is that the master
+/// isn't closed, as then nothing crosses any more.
+pub fn puts_stand_at_the_driver<C>()
+    ensures { (cells : Cells C) (side : Side) (m : Message C) (s : State C) → has_parts m ≡ true → is_closed s.master.opened ≡ false → NoModules s →
+        delivered cells (record { side = side; at = 1; way = Down }) m s ≡ put_effect side m s }
+{}
+
+/// Chunks of a write that are delivered one after the other lose no cell, and make none but what is told: of any cells, those stand
+/// on the queues or have gone by a rule that stood there before, were taken, or were made.
+pub fn writes_keep_cells<C>()
+    ensures { (p : Dir → C → Bool) (cells : Cells C) (side : Side) (xs : List C) (s : State C) → let t = cells_sent cells side xs s in
+        state_weight p t.state + weight_gone p t.gone ≡
+        state_weight p s + (count_by (p (direction_from side)) (take t.taken xs) + weight_made p t.gone) }
+{}
+
+/// They do the same to cells and to their bytes.
+pub fn writes_forget_origins<C>()
+    ensures { (cells : Cells C) (side : Side) (xs : List C) (s : State C) → AreCells cells →
+        cells_sent plain side (map cells.byte xs) (map_state cells.byte s) ≡ map_wrote cells.byte (cells_sent cells side xs s) }
+{}
+
+/// Where no module stands on a pair's streams, the chunks of a write are put on the driver's queue one after the other, while its band 0 isn't
+/// full, and enable it as putq(9F) has it. Its premise is that the master isn't closed.
+pub fn writes_stand_at_the_driver<C>()
+    ensures { (cells : Cells C) (side : Side) (chunks : List (List C)) (s : State C) → is_closed s.master.opened ≡ false →
+        NoModules s → chunks_sent cells side chunks s ≡ write_effect side chunks s }
+{}
+
+/// Once the master is closed the slave isn't open or is hung up, so that nothing may go down its stream any more: it is so in a
+/// new pair, behind each step, and where any legal journal leads. A side whose stream messages may go down has a master that isn't closed.
+pub fn closed_masters_cut_off<C>()
+    ensures opening { (s : State C) → s ≡ opening → IsCutOff s }
+    ensures step { (cells : Cells C) (old new : State C) (entry : PlainEntry) → IsCutOff old → Step cells old entry new → IsCutOff new }
+    ensures journal { (cells : Cells C) (s : State C) (es : List PlainEntry) → IsCutOff s → IsLegal cells s es → IsCutOff (replay cells s es) }
+    ensures goes { (side : Side) (s : State C) → IsCutOff s → goes_down side s ≡ true → is_closed s.master.opened ≡ false }
+{}

@@ -1,5 +1,0 @@
-use Rattle.strm_types.proofs.FlushDelivered.{flush-delivered}
-use Rattle.strm_types.proofs.flush_laws.flush_takes_from_heads_and_drivers.Goals as goal
-
-pub returns : goal.returns
-returns g c = λ cells band side what s known none. flush-delivered cells band side what s known none

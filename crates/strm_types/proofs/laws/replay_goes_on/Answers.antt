@@ -1,5 +1,0 @@
-use Rattle.strm_types.proofs.Replay.{replay-append}
-use Rattle.strm_types.proofs.laws.replay_goes_on.Goals as goal
-
-pub returns : goal.returns
-returns g c = λ cells s es fs. replay-append cells s es fs

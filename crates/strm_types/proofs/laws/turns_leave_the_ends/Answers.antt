@@ -1,5 +1,0 @@
-use Rattle.strm_types.proofs.TurnKeeps.{turn-same}
-use Rattle.strm_types.proofs.laws.turns_leave_the_ends.Goals as goal
-
-pub returns : goal.returns
-returns g c = λ cells name turn s. turn-same s cells name turn

@@ -1,5 +1,0 @@
-use Rattle.strm_types.proofs.Standing.{line-stands}
-use Rattle.strm_types.proofs.line_laws.line_stands.Goals as goal
-
-pub returns : goal.returns
-returns g c = λ blank edits. line-stands blank edits

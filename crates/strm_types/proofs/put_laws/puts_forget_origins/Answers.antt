@@ -1,5 +1,0 @@
-use Rattle.strm_types.proofs.PutsForget.{puts-forget}
-use Rattle.strm_types.proofs.put_laws.puts_forget_origins.Goals as goal
-
-pub returns : goal.returns
-returns g c = λ cells are to m s. puts-forget cells are to m s

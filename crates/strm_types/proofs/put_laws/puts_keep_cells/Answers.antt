@@ -1,5 +1,0 @@
-use Rattle.strm_types.proofs.PutsKeep.{puts-keep}
-use Rattle.strm_types.proofs.put_laws.puts_keep_cells.Goals as goal
-
-pub returns : goal.returns
-returns g c = λ p cells to m s. puts-keep p cells to m s

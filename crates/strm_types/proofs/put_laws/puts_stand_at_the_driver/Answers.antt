@@ -1,5 +1,0 @@
-use Rattle.strm_types.proofs.PutDelivered.{put-delivered}
-use Rattle.strm_types.proofs.put_laws.puts_stand_at_the_driver.Goals as goal
-
-pub returns : goal.returns
-returns g c = λ cells side m s parts stays none. put-delivered cells side m s parts stays none

@@ -1,5 +1,0 @@
-use Rattle.strm_types.proofs.WriteSteps.{cells_sent-forgets}
-use Rattle.strm_types.proofs.put_laws.writes_forget_origins.Goals as goal
-
-pub returns : goal.returns
-returns g c = λ cells side xs s are. cells_sent-forgets cells are side xs s

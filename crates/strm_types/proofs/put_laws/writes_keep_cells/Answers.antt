@@ -1,5 +1,0 @@
-use Rattle.strm_types.proofs.WriteSteps.{cells_sent-keeps}
-use Rattle.strm_types.proofs.put_laws.writes_keep_cells.Goals as goal
-
-pub returns : goal.returns
-returns g c = λ p cells side xs s. cells_sent-keeps cells p side xs s
