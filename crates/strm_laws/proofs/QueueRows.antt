@@ -227,15 +227,3 @@ chunks-are-counted = refl
 
 pub chunks-are-of-256 : map (λ (chunk : List ℕ). length chunk) (chunks_of 3 (replicate {A = ℕ} 600 122)) ≡ 256 ∷ 256 ∷ 88 ∷ []
 chunks-are-of-256 = refl
-
-pub write-of-none-is-a-message : written [] (queue [] (flow 9 2 false ∷ [])) ≡ record { taken = 0; queue = queue (ordinary [] ∷ []) (flow 9 2 false ∷ []); enables = true }
-unfolding chunk_count data_message band_of size_of cells_of is_high_priority
-write-of-none-is-a-message = refl
-
-pub write-on-a-full-queue : written (97 ∷ []) (queue (ordinary (98 ∷ []) ∷ []) (flow 1 0 false ∷ [])) ≡ record { taken = 0; queue = queue (ordinary (98 ∷ []) ∷ []) (flow 1 0 false ∷ []); enables = false }
-unfolding chunk_count data_message band_of size_of cells_of is_high_priority
-write-on-a-full-queue = refl
-
-pub write-goes-behind-what-stands-there : written (97 ∷ []) (queue (ordinary (98 ∷ []) ∷ []) (flow 2 0 false ∷ [])) ≡ record { taken = 1; queue = queue (ordinary (98 ∷ []) ∷ ordinary (97 ∷ []) ∷ []) (flow 2 0 false ∷ []); enables = true }
-unfolding chunk_count data_message rank_of band_of size_of cells_of is_high_priority
-write-goes-behind-what-stands-there = refl
