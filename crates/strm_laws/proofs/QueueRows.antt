@@ -7,7 +7,7 @@ use Rattle.strm_types.specs.Kinds.{kind_number, is_control_kind, is_body_kind}
 use Rattle.strm_types.specs.Flush.{is_data_kind, is_flushed}
 use Rattle.strm_types.specs.Message.{Message, is_high_priority, is_held, cells_of, size_of, rank_of, band_of, data_message, weight_of, map_message}
 use Rattle.strm_types.specs.Queue.{Queue, count_of, bytes_of, flow_of, is_full, put_enables, left_with, relieved, relieves, with_writer_at, new_queue, map_queue}
-use Rattle.strm_types.specs.Write.{chunk_count, chunks_of, written}
+use Rattle.strm_types.specs.Write.{chunk_count, chunks_of}
 use Rattle.strm_types.specs.Head.{head_read}
 use Rattle.strm_laws.proofs.Samples.{proto, urgent, options, ordinary, flow, queue}
 
