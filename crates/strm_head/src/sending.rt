@@ -1,7 +1,6 @@
 //! What write(2), putmsg(2), putpmsg(2) and flushes send down a stream.
 
-ghost use Rattle.std.specs.Prelude.{◌≡◌, ◌≤◌, ◌<◌, true, false, is_ok, length, nat_lt, None, IfOk, MatchOption, OnErr, IfErr};
-ghost use Rattle.strm_types.specs.declared.refusals.Refusal.TheVariants.{Eagain};
+ghost use Rattle.std.specs.Prelude.{◌≡◌, ◌≤◌, ◌<◌, true, false, length, nat_lt, None, MatchOption};
 ghost use Rattle.strm_types.specs.Flushing.{flush_bytes, flush_message};
 ghost use Rattle.strm_types.specs.Message.{data_message, part};
 ghost use Rattle.strm_types.specs.PutMsg as puts;
@@ -111,21 +110,15 @@ pub fn make_message<B: Blocks>(
     Some(store.link(first, second))
 }
 
-/// Makes one chunk of a write(2), at most 256 bytes: an M_DATA message of band 0, in one block of each kind. `can_put` says whether
-/// band 0 of the queue below takes one (canput(9F)); where it doesn't, the chunk is refused as EAGAIN, and nothing is made.
-pub fn write<B: Blocks>(store: &mut B, can_put: bool, chunk: &[u8]) -> Result<B::Mp, Refusal>
+/// Makes one chunk of a write(2), at most 256 bytes: an M_DATA message of band 0, in one block of each kind. Whether the queue below has
+/// room for it (canput(9F)) is asked before.
+pub fn write<B: Blocks>(store: &mut B, chunk: &[u8]) -> B::Mp
     requires few { length chunk.now ≤ DATA_MAX }
     requires room_m { 0 < free_m (B.value store.old) }
     requires room_d { 0 < free_d (B.value store.old) }
-    ensures goes { is_ok result ≡ can_put }
-    ensures made { IfOk result (λ m. Sends (B.value store.old) (B.value store.new) (B.name m) (data_message chunk.now) 1) }
-    ensures refused { IfErr result (λ r. r ≡ Eagain) }
-    ensures same_store { OnErr result (B.value store.new ≡ B.value store.old) }
+    ensures { Sends (B.value store.old) (B.value store.new) (B.name result) (data_message chunk.now) 1 }
 {
-    if !can_put {
-        return Err(Refusal::Eagain);
-    }
-    Ok(make(store, MsgKind::Data, Band(0), chunk))
+    make(store, MsgKind::Data, Band(0), chunk)
 }
 
 /// Makes the M_FLUSH that I_FLUSH and I_FLUSHBAND send down (streamio(7I)), in one block of each kind.

@@ -17,7 +17,6 @@ pub mod StepsIdle
 pub mod ForgettingSteps
 pub mod EmptiedKeeps
 pub mod WriteSteps
-pub mod WritesStand
 pub mod Kept
 pub mod DeliveryKeeps
 pub mod DeliveryForgets
@@ -52,7 +51,6 @@ pub mod PutMessages
 pub mod IoctlCalls
 pub mod WithinHeads
 pub mod WithinSteps
-pub mod CutOff
 pub mod AnswersOnce
 pub mod AnswersFit
 pub mod Standing

@@ -12,7 +12,7 @@ use Rattle.strm_types.specs.declared.names.Dir.TheVariants.{MasterToSlave, Slave
 use Rattle.strm_types.specs.declared.names.Openness.TheVariants.{Never, Open, Closed}
 use Rattle.strm_types.specs.declared.refusals.Refusal.TheVariants.{Einval, Eagain, Enxio, Ebadmsg, Enosr, Erange, JournalFull, NoMinor, NoMemory, StillShared}
 use Rattle.strm_types.specs.Numbers.{number_of}
-use Rattle.strm_types.specs.Names.{other, is_master, direction_from, side_from, is_open, is_never, driver_of, head_of, has_service, line_of, nearest_before, direction_of, before, is_enabled, enable, enable_if, enable_some, without, times}
+use Rattle.strm_types.specs.Names.{other, is_master, direction_from, side_from, is_open, is_never, driver_of, head_of, has_service, direction_of, is_enabled, enable, enable_if, enable_some, without, times}
 
 pub refusals-have-numbers : map number_of (Einval ∷ Eagain ∷ Enxio ∷ Ebadmsg ∷ Enosr ∷ Erange ∷ JournalFull ∷ NoMinor ∷ NoMemory ∷ StillShared ∷ []) ≡ 1 ∷ 2 ∷ 3 ∷ 4 ∷ 5 ∷ 6 ∷ 7 ∷ 8 ∷ 9 ∷ 10 ∷ []
 refusals-have-numbers = refl
@@ -55,19 +55,8 @@ names-are-apart = refl
 pub heads-have-no-service : filter has_service (names_of Slave) ≡ named Slave Ldterm Up ∷ named Slave Ldterm Down ∷ named Slave Driver Up ∷ named Slave Driver Down ∷ []
 heads-have-no-service = refl
 
-pub lines-of-directions : map line_of (MasterToSlave ∷ SlaveToMaster ∷ []) ≡ (driver_of Master ∷ head_of Slave ∷ []) ∷ (driver_of Slave ∷ head_of Master ∷ []) ∷ []
-lines-of-directions = refl
-
 pub directions-of-queues : map direction_of (head_of Master ∷ driver_of Master ∷ head_of Slave ∷ driver_of Slave ∷ []) ≡ SlaveToMaster ∷ MasterToSlave ∷ MasterToSlave ∷ SlaveToMaster ∷ []
 directions-of-queues = refl
-
--- what is enabled when a queue has room again: for a head the other side's driver, for others nothing
-pub before-each-queue : map before all_names ≡ Some (driver_of Slave) ∷ None ∷ None ∷ None ∷ None ∷ None ∷ Some (driver_of Master) ∷ None ∷ None ∷ None ∷ None ∷ None ∷ []
-before-each-queue = refl
-
--- the nearest one with service: the line discipline before the head, and not the driver before that; heads are passed
-pub nearest-with-service : nearest_before (head_of Slave) None (driver_of Master ∷ named Slave Ldterm Up ∷ head_of Master ∷ head_of Slave ∷ named Master Ldterm Up ∷ []) ≡ Some (named Slave Ldterm Up)
-nearest-with-service = refl
 
 -- enabling: at the end, and once
 abbrev both : List QueueName

@@ -7,7 +7,7 @@ use Rattle.strm_types.specs.Kinds.{kind_number, is_control_kind, is_body_kind}
 use Rattle.strm_types.specs.Flush.{is_data_kind, is_flushed}
 use Rattle.strm_types.specs.Message.{Message, is_high_priority, is_held, cells_of, size_of, rank_of, band_of, data_message, weight_of, map_message}
 use Rattle.strm_types.specs.Queue.{Queue, count_of, bytes_of, flow_of, is_full, put_enables, left_with, relieved, relieves, with_writer_at, new_queue, map_queue}
-use Rattle.strm_types.specs.Write.{chunk_count, chunks_of, written}
+use Rattle.strm_types.specs.Write.{chunk_count, chunks_of}
 use Rattle.strm_types.specs.Head.{head_read}
 use Rattle.strm_laws.proofs.Samples.{proto, urgent, options, ordinary, flow, queue}
 
@@ -227,15 +227,3 @@ chunks-are-counted = refl
 
 pub chunks-are-of-256 : map (λ (chunk : List ℕ). length chunk) (chunks_of 3 (replicate {A = ℕ} 600 122)) ≡ 256 ∷ 256 ∷ 88 ∷ []
 chunks-are-of-256 = refl
-
-pub write-of-none-is-a-message : written [] (queue [] (flow 9 2 false ∷ [])) ≡ record { taken = 0; queue = queue (ordinary [] ∷ []) (flow 9 2 false ∷ []); enables = true }
-unfolding chunk_count data_message band_of size_of cells_of is_high_priority
-write-of-none-is-a-message = refl
-
-pub write-on-a-full-queue : written (97 ∷ []) (queue (ordinary (98 ∷ []) ∷ []) (flow 1 0 false ∷ [])) ≡ record { taken = 0; queue = queue (ordinary (98 ∷ []) ∷ []) (flow 1 0 false ∷ []); enables = false }
-unfolding chunk_count data_message band_of size_of cells_of is_high_priority
-write-on-a-full-queue = refl
-
-pub write-goes-behind-what-stands-there : written (97 ∷ []) (queue (ordinary (98 ∷ []) ∷ []) (flow 2 0 false ∷ [])) ≡ record { taken = 1; queue = queue (ordinary (98 ∷ []) ∷ ordinary (97 ∷ []) ∷ []) (flow 2 0 false ∷ []); enables = true }
-unfolding chunk_count data_message rank_of band_of size_of cells_of is_high_priority
-write-goes-behind-what-stands-there = refl

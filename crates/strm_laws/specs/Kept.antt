@@ -79,12 +79,16 @@ module _ {C : Type 0} where
   count_came cells p s (Called caller asked answer) = count_by (p (direction_from caller.side)) (came cells s (Called caller asked answer))
   count_came cells p s (Turned name turn) = 0
 
+  -- what goes by a read of up to n bytes on a side's stream
+  abbrev pub read_loses : Side → ℕ → State C → List (Fate C)
+  read_loses side n s =
+      let h = (stream side s).head in
+      read_gone (direction_of (head_of side)) h.read_mode h.control_mode (min n READ_MAX) h.queue.messages
+
   -- what an entry takes away, by its rules: what a read or a get gives, what a flush or a close takes, and what goes on its way;
   -- and what is made on the way
   abbrev pub gone : Cells C → State C → PlainEntry → List (Fate C)
-  gone cells s (Called caller (Read n) answer) =
-      let h = (stream caller.side s).head in
-      read_gone (direction_of (head_of caller.side)) h.read_mode h.control_mode (min n READ_MAX) h.queue.messages
+  gone cells s (Called caller (Read n) answer) = read_loses caller.side n s
   gone cells s (Called caller (Get wanted cmax dmax) answer) =
       get_gone (direction_of (head_of caller.side)) wanted (min cmax READ_MAX) (min dmax READ_MAX) (stream caller.side s).head.queue.messages
   gone cells s (Called caller (Write bytes) answer) = (write_sent cells caller.side bytes s).gone

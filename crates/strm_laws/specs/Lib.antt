@@ -15,7 +15,6 @@ pub mod Step
 pub mod Kept
 pub mod Pair
 pub mod Within
-pub mod CutOff
 pub mod Standing
 pub mod LdtermWeights
 pub mod LdtermOrigins

@@ -1,13 +1,11 @@
--- What becomes of a message with parts, and of the chunks of a write, that go down a side's stream, where no module stands on it (putq(9F)).
-use Rattle.std.specs.Prelude.{List, []}
+-- What becomes of a message with parts that goes down a side's stream, where no module stands on it (putq(9F)).
+use Rattle.std.specs.Prelude.{[]}
 use Rattle.strm_types.specs.declared.names.Side.{Side}
 use Rattle.strm_types.specs.Deliver.{Carried}
 use Rattle.strm_types.specs.Message.{Message}
 use Rattle.strm_types.specs.Names.{driver_of, enable_if}
 use Rattle.strm_types.specs.Queue.{put_on, put_enables}
 use Rattle.strm_laws.specs.State.{State, stream, with_stream, with_driver_queue}
-use Rattle.strm_types.specs.Write.{sent}
-use Rattle.strm_laws.specs.Writes.{Wrote}
 
 module _ {C : Type 0} where
   -- it stands on the driver's queue, which is enabled where the put does that, and nothing goes on the way
@@ -17,16 +15,5 @@ module _ {C : Type 0} where
       let q = below.driver.queue in
       record {
         state = record (with_stream side (with_driver_queue (put_on m q) below) s) { enabled = enable_if (put_enables m q) (driver_of side) s.enabled };
-        gone = [];
-      }
-
-  -- chunks that the driver's queue takes stand there, and enable it where a put does that
-  abbrev pub write_effect : Side → List (List C) → State C → Wrote C
-  write_effect side chunks s =
-      let below = stream side s in
-      let t = sent chunks below.driver.queue in
-      record {
-        taken = t.taken;
-        state = record (with_stream side (with_driver_queue t.queue below) s) { enabled = enable_if t.enables (driver_of side) s.enabled };
         gone = [];
       }

@@ -10,25 +10,21 @@ ghost use Rattle.strm_types.specs.declared.spots.Across.{Across};
 ghost use Rattle.strm_types.specs.declared.spots.Spot.{Spot};
 ghost use Rattle.strm_types.specs.declared.names.Dir.{Dir};
 ghost use Rattle.strm_types.specs.Cells.{AreCells, Cells, plain};
-ghost use Rattle.strm_laws.specs.CutOff.{IsCutOff};
 ghost use Rattle.strm_types.specs.Deliver.{Falls};
 ghost use Rattle.strm_types.specs.Drivers.{driver_put};
 ghost use Rattle.strm_laws.specs.Earlier.{NoModules};
 ghost use Rattle.strm_types.specs.Heads.{head_put, Head};
-ghost use Rattle.strm_types.specs.Journal.{PlainEntry};
 ghost use Rattle.strm_laws.specs.Kept.{NothingUnread, state_weight};
 ghost use Rattle.strm_types.specs.Message.{Message, has_parts};
 ghost use Rattle.strm_types.specs.Names.{is_closed, direction_from};
 ghost use Rattle.strm_types.specs.Origins.{PutsAgree};
 ghost use Rattle.strm_laws.specs.Places.{PutKeeps, weight_gone, weight_made};
-ghost use Rattle.strm_laws.specs.PutEffect.{put_effect, write_effect};
+ghost use Rattle.strm_laws.specs.PutEffect.{put_effect};
 ghost use Rattle.strm_laws.specs.Puts.{SameButMade, delivered, put_in};
 ghost use Rattle.strm_types.specs.Far.{far};
 ghost use Rattle.strm_types.specs.Queue.{Queue};
-ghost use Rattle.strm_laws.specs.Refusals.{goes_down};
-ghost use Rattle.strm_laws.specs.State.{State, map_state, opening};
-ghost use Rattle.strm_laws.specs.Step.{IsLegal, Step, replay};
-ghost use Rattle.strm_laws.specs.Writes.{cells_sent, chunks_sent, map_wrote};
+ghost use Rattle.strm_laws.specs.State.{State, map_state};
+ghost use Rattle.strm_laws.specs.Writes.{cells_sent, map_wrote};
 
 /// What a put sends on has less before it than what was put, wherever that was; and from the places of a stream, of which the
 /// driver's is the fourth below the head, no message has more before it than a delivery hands on.
@@ -82,20 +78,4 @@ pub fn writes_keep_cells<C>()
 pub fn writes_forget_origins<C>()
     ensures { (cells : Cells C) (side : Side) (xs : List C) (s : State C) → AreCells cells →
         cells_sent plain side (map cells.byte xs) (map_state cells.byte s) ≡ map_wrote cells.byte (cells_sent cells side xs s) }
-{}
-
-/// Where no module stands on a pair's streams, the chunks of a write are put on the driver's queue one after the other, while its band 0 isn't
-/// full, and enable it as putq(9F) has it. Its premise is that the master isn't closed.
-pub fn writes_stand_at_the_driver<C>()
-    ensures { (cells : Cells C) (side : Side) (chunks : List (List C)) (s : State C) → is_closed s.master.opened ≡ false →
-        NoModules s → chunks_sent cells side chunks s ≡ write_effect side chunks s }
-{}
-
-/// Once the master is closed the slave isn't open or is hung up, so that nothing may go down its stream any more: it is so in a
-/// new pair, behind each step, and where any legal journal leads. A side whose stream messages may go down has a master that isn't closed.
-pub fn closed_masters_cut_off<C>()
-    ensures opening { (s : State C) → s ≡ opening → IsCutOff s }
-    ensures step { (cells : Cells C) (old new : State C) (entry : PlainEntry) → IsCutOff old → Step cells old entry new → IsCutOff new }
-    ensures journal { (cells : Cells C) (s : State C) (es : List PlainEntry) → IsCutOff s → IsLegal cells s es → IsCutOff (replay cells s es) }
-    ensures goes { (side : Side) (s : State C) → IsCutOff s → goes_down side s ≡ true → is_closed s.master.opened ≡ false }
 {}

@@ -1,14 +1,19 @@
 -- A write chunk by chunk: a chunk is delivered, and the rest is a write of the other chunks.
 use Rattle.std.proofs.Common.{ℕ, zero, suc, ◌≡◌, Bool, true, false, List, [], length, take, drop, refl, sym, ap, ◌∙◌}
+use Rattle.strm_types.specs.declared.answers.Answer.TheVariants.{Count}
 use Rattle.strm_types.specs.declared.names.Side.{Side}
 use Rattle.strm_types.specs.declared.rules.Fates.{Fates}
+use Rattle.strm_types.specs.Books.{with_written}
 use Rattle.strm_types.specs.Cells.{plain}
+use Rattle.strm_types.specs.Names.{direction_from}
+use Rattle.strm_laws.specs.Calls.{Outcome, wrote, write_sent}
 use Rattle.strm_types.specs.Deliver.{tallied}
 use Rattle.strm_types.specs.Message.{data_message}
 use Rattle.strm_types.specs.Costs.{most_cost}
-use Rattle.strm_laws.specs.State.{State}
-use Rattle.strm_types.specs.Write.{chunks_of}
-use Rattle.strm_laws.specs.Writes.{Wrote, below_head, chunks_sent, is_full_below}
+use Rattle.strm_laws.specs.State.{State, book, with_book}
+use Rattle.strm_types.specs.Write.{chunk_count, chunks_of}
+use Rattle.strm_laws.specs.Writes.{Wrote, below_head, cells_sent, chunks_sent, is_full_below}
+use Rattle.strm_types.proofs.PlainCells.{written-plain}
 use Rattle.strm_laws.proofs.WriteSteps.{chunk_goes, went}
 use Rattle.strm_ldterm.proofs.Flushed.{tallied-append}
 
@@ -53,3 +58,20 @@ module _ (side : Side) (s : State ℕ) where
   pub chunks-told : (chunk : List ℕ) (more : Wrote ℕ) (old mid new : Fates) → mid ≡ tallied (chunk_goes plain side chunk s).gone old → new ≡ tallied more.gone mid → new ≡ tallied (chunk-then chunk more).gone old
   chunks-told chunk more old mid new one two =
       two ∙ ap (λ (f : Fates). tallied more.gone f) one ∙ sym (tallied-append (chunk_goes plain side chunk s).gone more.gone old)
+
+-- what a write makes of what was sent
+abbrev booked : Side → Wrote ℕ → Outcome ℕ
+booked side t = let dir = direction_from side in record { answer = Count t.taken; state = with_book dir (with_written t.taken (book dir t.state)) t.state }
+
+-- the chunks of a write
+abbrev pub chunks-written : Side → ℕ → List ℕ → State ℕ → Wrote ℕ
+chunks-written side n bytes s = chunks_sent plain side (chunks_of n bytes) s
+
+module _ (side : Side) (bytes : List ℕ) (s : State ℕ) (n : ℕ) (count : n ≡ chunk_count (length bytes)) where
+  pub chunks-are : write_sent plain side bytes s ≡ chunks-written side n bytes s
+  chunks-are =
+      ap (λ (xs : List ℕ). cells_sent plain side xs s) (written-plain (direction_from side) (book (direction_from side) s).written bytes)
+      ∙ ap (λ k. chunks-written side k bytes s) (sym count)
+
+  pub wrote-chunks : wrote plain side bytes s ≡ booked side (chunks-written side n bytes s)
+  wrote-chunks = ap (λ (t : Wrote ℕ). booked side t) chunks-are

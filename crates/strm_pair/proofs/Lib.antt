@@ -29,7 +29,6 @@ pub mod DataLemmas
 pub mod Sends
 pub mod JournalLemmas
 pub mod ReadBack
-mod PlainWrites
 pub mod ChunkSteps
 mod Refusing
 mod Fresh

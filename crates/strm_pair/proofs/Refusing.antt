@@ -1,11 +1,13 @@
 -- A refusal is the first one whose condition holds.
-use Rattle.std.proofs.Common.{ℕ, ◌≡◌, ◌<◌, ◌≤◌, ◌+◌, Bool, true, false, List, length, refl, sym, ap, ◌∙◌, arith}
+use Rattle.std.proofs.Common.{ℕ, ◌≡◌, ◌<◌, ◌≤◌, ◌+◌, Bool, true, false, cond, List, length, refl, sym, ap, ◌∙◌, arith}
 use Rattle.std.proofs.lemmas.Bool.Decides.{nat_tests}
 use Rattle.std.specs.Prelude.{◌&&◌, nat_le, Option, None, Some, Result, Err, MatchOption}
 use Rattle.strm_types.specs.declared.events.Caller.{Caller}
 use Rattle.strm_types.specs.declared.events.Event.TheVariants.{OpenMaster, Unlock, OpenSlave, Shut, Push, Pop, Look, Flush, Write, Read, Put, Get, Mode, Nread, Ioctl, IoctlResult, Signals}
 use Rattle.strm_types.specs.declared.refusals.Refusal.{Refusal}
-use Rattle.strm_types.specs.declared.refusals.Refusal.TheVariants.{Enosr, Enxio, Erange, JournalFull}
+use Rattle.strm_types.specs.declared.modes.Prio.{Prio}
+use Rattle.strm_types.specs.declared.modes.Prio.TheVariants.{High, Band}
+use Rattle.strm_types.specs.declared.refusals.Refusal.TheVariants.{Einval, Enosr, Enxio, Erange, JournalFull}
 use Rattle.strm_types.specs.declared.limits.TheConstants.{IOCTL_MAX}
 use Rattle.strm_types.specs.Events.{Request, payload_of}
 use Rattle.strm_types.specs.Journal.{content_max}
@@ -13,7 +15,9 @@ use Rattle.strm_laws.specs.Pair.{PairState, call_refused}
 use Rattle.strm_laws.specs.Refusals.{blocks_asked, enough, goes_down, has_room, in_range, may_ask, refused_at_once, refused_by_state}
 use Rattle.strm_types.specs.Refused.{or_else, unless}
 use Rattle.strm_laws.specs.State.{State}
+use Rattle.strm_types.specs.PutMsg.{is_too_long, put_refusal}
 use Rattle.strm_laws.proofs.Replay.{or_else-none, unless-none}
+use Rattle.strm_pair.specs.Parts.{IsLow}
 
 and-first : (a b : Bool) → (a && b) ≡ true → a ≡ true
 and-first true b is = refl
@@ -76,3 +80,23 @@ pub refused-over : (A B P Q : Type 0) (o : Option Refusal) (x : Refusal) → Mat
     → MatchOption o (false ≡ true) (λ r. ◌≡◌ {A = Result B Refusal} (Err x) (Err r) × P)
 refused-over A B P Q None x h = h
 refused-over A B P Q (Some r) x h = (ap (λ y. Err y) (refusal-is A x r h.0), h.1.0)
+
+-- where nothing refuses a putmsg at once, more may be written
+pub put-in_range : (s : State ℕ) (caller : Caller) (prio : Prio) (control body : Option (List ℕ)) → refused_at_once s caller (Put prio control body) ≡ None → in_range s ≡ true
+put-in_range s caller prio control body at_once =
+    let later = (or_else-none (unless (goes_down caller.side s) Enxio) _ at_once).1 in
+    unless-none (in_range s) Erange (or_else-none (put_refusal prio control body) (unless (in_range s) Erange) later).1
+
+-- and the band of its message is one of those that queues have
+low-band : (prio : Prio) (control body : Option (List ℕ)) → put_refusal prio control body ≡ None → IsLow prio
+low-band High control body goes = tt
+low-band (Band band) control body goes = by (nat_le 8 band.0) refl goes
+  where
+    by : (v : Bool) → nat_le 8 band.0 ≡ v → cond v (Some Einval) (cond (is_too_long control body) (Some Erange) None) ≡ None → band.0 < 8
+    by true e told = absurd (cc)
+    by false e told = grind (arith, nat_tests)
+
+pub put-low : (s : State ℕ) (caller : Caller) (prio : Prio) (control body : Option (List ℕ)) → refused_at_once s caller (Put prio control body) ≡ None → IsLow prio
+put-low s caller prio control body at_once =
+    let later = (or_else-none (unless (goes_down caller.side s) Enxio) _ at_once).1 in
+    low-band prio control body (or_else-none (put_refusal prio control body) (unless (in_range s) Erange) later).0

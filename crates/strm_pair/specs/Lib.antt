@@ -12,7 +12,6 @@ pub mod Named
 pub mod Nearest
 pub mod Pairs
 pub mod PairViews
-pub mod PlainCalls
 pub mod Shows
 pub mod Pool
 pub mod Parts

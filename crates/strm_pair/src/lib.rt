@@ -20,7 +20,6 @@ mod pair;
 mod putting;
 mod refusals;
 mod room;
-mod sending;
 mod serving;
 mod stacks;
 mod stored;

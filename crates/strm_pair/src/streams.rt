@@ -8,11 +8,10 @@ ghost use Rattle.strm_laws.specs.State.{opening, new_stream};
 ghost use Rattle.strm_types.specs.declared.answers.Answer.TheVariants.{Done, Bytes};
 ghost use Rattle.strm_types.specs.declared.names.Openness.TheVariants.{Open};
 ghost use Rattle.strm_types.specs.Events.{Reply, request};
-ghost use Rattle.strm_laws.specs.Calls.{called, delivers, mode_set, opened_slave};
-ghost use Rattle.strm_laws.specs.CutOff.{IsCutOff};
+ghost use Rattle.strm_laws.specs.Calls.{called, delivers, mode_set, opened_slave, read_at};
 ghost use Rattle.strm_types.specs.declared.entries.Entry.TheVariants.{Called};
 ghost use Rattle.strm_types.specs.Deliver.{tallied};
-ghost use Rattle.strm_laws.specs.Kept.{AreIdle, gone};
+ghost use Rattle.strm_laws.specs.Kept.{AreIdle, gone, read_loses};
 ghost use Rattle.strm_laws.specs.Turns.{turned};
 ghost use Rattle.strm_types.specs.declared.limits.TheConstants.{READ_MAX};
 ghost use Rattle.strm_frame.specs.Hands.{HasRoom};
@@ -23,7 +22,6 @@ ghost use Rattle.strm_types.specs.Journal.{reply_in, answer_len, content_max};
 ghost use Rattle.strm_blocks.specs.Blocks.{StoreValue, free_m, free_d, empty_store};
 ghost use Rattle.strm_pair.specs.Streams.{Modules, IsBlank, IsSide, stream_in};
 ghost use Rattle.strm_pair.specs.Parts.{longest_part};
-ghost use Rattle.strm_pair.specs.PlainCalls.{read_plain, read_lets};
 
 use crate::ends::End;
 use crate::stacks::Stacks;
@@ -140,13 +138,13 @@ impl<S: Drop> Streams<S> {
     )
         requires held { AreHeld B.view (B.value store.old) self.old }
         requires fresh { out.old.items ≡ [] }
-        ensures answer { Bytes out.new.items ≡ (read_plain side n (state_in B.view.modules (B.value store.old) self.old)).answer }
+        ensures answer { Bytes out.new.items ≡ (read_at plain side n (state_in B.view.modules (B.value store.old) self.old)).answer }
         ensures most { length out.new.items ≤ min n READ_MAX }
         ensures state { state_in B.view.modules (B.value store.new) self.new
-            ≡ (read_plain side n (state_in B.view.modules (B.value store.old) self.old)).state }
+            ≡ (read_at plain side n (state_in B.view.modules (B.value store.old) self.old)).state }
         ensures held { AreHeld B.view (B.value store.new) self.new }
         ensures pool { SamePool (B.value store.old) (B.value store.new) }
-        ensures told { told.new ≡ tallied (read_lets side n (state_in B.view.modules (B.value store.old) self.old)) told.old }
+        ensures told { told.new ≡ tallied (read_loses side n (state_in B.view.modules (B.value store.old) self.old)) told.old }
     {
         let wanted = (n as usize).min(READ_MAX);
         let direction = side.head().direction();
@@ -171,7 +169,6 @@ impl<S: Drop> Streams<S> {
         requires allowed { refused_at_once (state_in B.view.modules (B.value store.old) self.old) caller (request event.now) ≡ None }
         requires allowed_by_state { refused_by_state (state_in B.view.modules (B.value store.old) self.old) caller (request event.now) ≡ None }
         requires idle { AreIdle (state_in B.view.modules (B.value store.old) self.old) }
-        requires cut_off { IsCutOff (state_in B.view.modules (B.value store.old) self.old) }
         requires room_m { blocks_asked (request event.now) ≤ free_m (B.value store.old) }
         requires room_d { blocks_asked (request event.now) ≤ free_d (B.value store.old) }
         ensures answer { reply_in result out.new.items

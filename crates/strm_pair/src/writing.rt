@@ -6,10 +6,9 @@ ghost use Rattle.strm_types.specs.Books.{with_written};
 ghost use Rattle.strm_laws.specs.Calls.{wrote, write_sent};
 ghost use Rattle.strm_types.specs.Cells.{plain};
 ghost use Rattle.strm_types.specs.Deliver.{tallied};
-ghost use Rattle.strm_laws.specs.Earlier.{NoModules};
 ghost use Rattle.strm_laws.specs.Kept.{AreIdle};
 ghost use Rattle.strm_types.specs.Message.{data_message};
-ghost use Rattle.strm_types.specs.Names.{direction_from, is_closed};
+ghost use Rattle.strm_types.specs.Names.{direction_from};
 ghost use Rattle.strm_laws.specs.Puts.{delivered};
 ghost use Rattle.strm_laws.specs.Refusals.{in_range};
 ghost use Rattle.strm_laws.specs.Spares.{spare};
@@ -17,10 +16,8 @@ ghost use Rattle.strm_laws.specs.State.{book};
 ghost use Rattle.strm_types.specs.Write.{chunk_count, chunks_of};
 ghost use Rattle.strm_laws.specs.Writes.{below_head, chunks_sent};
 ghost use Rattle.strm_blocks.specs.Blocks.{StoreValue, free_m, free_d};
-ghost use Rattle.strm_pair.specs.PlainCalls.{wrote_plain};
 ghost use Rattle.strm_pair.specs.Streams.{Modules};
 
-use crate::sending::send;
 use crate::stacks::Stacks;
 use crate::streams::Streams;
 use strm_head::write;
@@ -73,9 +70,7 @@ impl<S: Drop> Streams<S> {
         ensures pool { SamePool (B.value store.old) (B.value store.new) }
         ensures left { spare (state_in B.view.modules (B.value store.old) self.old) ≤ spare (state_in B.view.modules (B.value store.new) self.new) }
     {
-        let Ok(message) = write(store, true, chunk) else {
-            unreachable!()
-        };
+        let message = write(store, chunk);
         let below = Spot {
             side,
             at: 1,
@@ -121,43 +116,6 @@ impl<S: Drop> Streams<S> {
         chunk.len() + more
     }
 
-    // A write where no module stands: the chunks are put on the driver's queue, which is what their deliveries come to while the
-    // master isn't closed.
-    fn write_alone<B: Stacks<Stack = S>>(
-        &mut self,
-        store: &mut B,
-        side: Side,
-        bytes: &[u8],
-    ) -> usize
-        requires held { AreHeld B.view (B.value store.old) self.old }
-        requires in_range { in_range (state_in B.view.modules (B.value store.old) self.old) ≡ true }
-        requires room_m { chunk_count (length bytes.now) ≤ free_m (B.value store.old) }
-        requires room_d { chunk_count (length bytes.now) ≤ free_d (B.value store.old) }
-        ensures answer { Count result ≡ (wrote_plain side bytes.now (state_in B.view.modules (B.value store.old) self.old)).answer }
-        ensures state { state_in B.view.modules (B.value store.new) self.new
-            ≡ (wrote_plain side bytes.now (state_in B.view.modules (B.value store.old) self.old)).state }
-        ensures held { AreHeld B.view (B.value store.new) self.new }
-        ensures pool { SamePool (B.value store.old) (B.value store.new) }
-    {
-        let chunks = chunk_count(bytes.len());
-        let down = match side {
-            Side::Master => {
-                let down = send(store, &mut self.master.driver, bytes, chunks);
-                self.from_master.written += down.taken as u64;
-                down
-            }
-            Side::Slave => {
-                let down = send(store, &mut self.slave.driver, bytes, chunks);
-                self.from_slave.written += down.taken as u64;
-                down
-            }
-        };
-        if down.enables {
-            self.enabled.enable(side.driver());
-        }
-        down.taken
-    }
-
     /// Writes bytes down a side's stream, and answers how many were taken: they go down from the head in chunks of at most 256,
     /// each an ordinary message, while band 0 of the first queue below has room.
     #[inline(always)]
@@ -171,7 +129,6 @@ impl<S: Drop> Streams<S> {
         requires held { AreHeld B.view (B.value store.old) self.old }
         requires in_range { in_range (state_in B.view.modules (B.value store.old) self.old) ≡ true }
         requires idle { AreIdle (state_in B.view.modules (B.value store.old) self.old) }
-        requires stays { is_closed (state_in B.view.modules (B.value store.old) self.old).master.opened ≡ false }
         requires room_m { chunk_count (length bytes.now) ≤ free_m (B.value store.old) }
         requires room_d { chunk_count (length bytes.now) ≤ free_d (B.value store.old) }
         ensures answer { Count result ≡ (wrote plain side bytes.now (state_in B.view.modules (B.value store.old) self.old)).answer }
@@ -182,10 +139,6 @@ impl<S: Drop> Streams<S> {
         ensures pool { SamePool (B.value store.old) (B.value store.new) }
         ensures left { spare (state_in B.view.modules (B.value store.old) self.old) ≤ spare (state_in B.view.modules (B.value store.new) self.new) }
     {
-        let modules = self.modules_on::<B>(Side::Master) + self.modules_on::<B>(Side::Slave);
-        if modules == 0 {
-            return self.write_alone(store, side, bytes);
-        }
         let chunks = chunk_count(bytes.len());
         let taken = self.send_chunks(store, side, bytes, chunks, told);
         let book = with_written(self.book_of(side), taken);

@@ -7,7 +7,6 @@ use Rattle.strm_types.specs.declared.kinds.MsgKind.{MsgKind}
 use Rattle.strm_types.specs.declared.kinds.MsgKind.TheVariants as kinds
 use Rattle.strm_types.specs.Message.{band_of, size_of, is_high_priority, is_held}
 use Rattle.strm_types.specs.Queue as plain
-use Rattle.strm_types.specs.Queue.{is_stopped}
 use Rattle.strm_blocks.specs.Blocks.{Block, block_at}
 use Rattle.strm_msg.specs.Messages.{message_of, IsChain}
 use Rattle.strm_msg.proofs.Chains.{kind-is, band-is, size-shown}
@@ -42,16 +41,6 @@ held-low _ is = absurd (cc)
 
 pub held-band : (chain : List Block) → is_held (block_at 0 chain).kind ≡ true → band_of (message_of chain) ≡ (block_at 0 chain).band
 held-band chain is = sym (band-same chain) ∙ ap (λ v. cond v 0 (block_at 0 chain).band) (held-low (block_at 0 chain).kind is)
-
--- whether flow control stops a message at a queue
-stopped-at : (chain : List Block) (q : plain.Queue ℕ) (v : Bool) → is_held (block_at 0 chain).kind ≡ v → (v && plain.is_full (band_of (message_of chain)) q) ≡ (v && plain.is_full (block_at 0 chain).band q)
-stopped-at chain q false is = refl
-stopped-at chain q true is = ap (λ b. plain.is_full b q) (held-band chain is)
-
-pub stopped-same : (chain : List Block) (q : plain.Queue ℕ) → is_stopped (message_of chain) q ≡ (is_held (block_at 0 chain).kind && plain.is_full (block_at 0 chain).band q)
-stopped-same chain q =
-    let held : is_held (message_of chain).kind ≡ is_held (block_at 0 chain).kind = ap is_held (kind-is chain) in
-    ap (λ v. v && plain.is_full (band_of (message_of chain)) q) held ∙ stopped-at chain q (is_held (block_at 0 chain).kind) refl
 
 -- a message that is stopped is one that flow control holds back
 pub stopped-held : (v w : Bool) → true ≡ (v && w) → v ≡ true

@@ -121,15 +121,6 @@ pub fn is_full<B: Blocks>(store: &B, queue: &Queue, band: Band) -> bool
     queue.is_full(band)
 }
 
-/// Whether flow control stops a message of this kind and band at a queue.
-pub fn is_stopped<B: Blocks>(store: &B, queue: &Queue, kind: MsgKind, band: Band) -> bool
-    requires ready { IsReady (B.value store.now) queue.now }
-    requires band { band.0 < BANDS }
-    ensures { result ≡ (is_held kind && is_full band.0 (queue_in (B.value store.now) queue.now)) }
-{
-    kind.is_held() && is_full(store, queue, band)
-}
-
 /// Lets waiting writers go where the count has come down to the low-water mark, and says whether one was.
 #[inline(always)]
 pub fn relieve(queue: &mut Queue) -> bool

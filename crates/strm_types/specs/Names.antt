@@ -100,16 +100,6 @@ has_service_at Driver = true
 abbrev pub has_service : QueueName → Bool
 has_service name = has_service_at name.place
 
--- the queues of a direction, from the writer's driver to the reader's head
-abbrev pub line_of : Dir → List QueueName
-line_of dir = driver_of (side_from dir) ∷ head_of (other (side_from dir)) ∷ []
-
--- the nearest queue with service before one on a line, where so far the last one was this
-abbrev pub nearest_before : QueueName → Option QueueName → List QueueName → Option QueueName
-nearest_before name last [] = None
-nearest_before name last (n ∷ line) =
-    if same_queue n name then last else nearest_before name (if has_service n then Some n else last) line
-
 -- what a side's stream carries up comes from the other side
 abbrev pub direction_at : Way → Side → Dir
 direction_at Down side = direction_from side
@@ -118,10 +108,6 @@ direction_at Up side = direction_from (other side)
 -- the direction in which a queue's messages go
 abbrev pub direction_of : QueueName → Dir
 direction_of name = direction_at name.way name.side
-
--- the queue that is enabled when a queue has room again: the nearest earlier one with service in its direction
-abbrev pub before : QueueName → Option QueueName
-before name = nearest_before name None (line_of (direction_of name))
 
 -- whether a queue is enabled
 abbrev pub is_enabled : QueueName → List QueueName → Bool

@@ -78,10 +78,6 @@ module _ {C : Type 0} where
   abbrev pub is_full : ℕ → Queue C → Bool
   is_full band q = nat_le (flow_of band q).high (count_of band q.messages)
 
-  -- Whether flow control stops a message at a queue.
-  abbrev pub is_stopped : Message C → Queue C → Bool
-  is_stopped m q = is_held m.kind && is_full (band_of m) q
-
   -- the queue with a message put on it
   abbrev pub put_on : Message C → Queue C → Queue C
   put_on m q = record q { messages = put m q.messages }

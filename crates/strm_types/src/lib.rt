@@ -40,7 +40,7 @@ pub use limits::{
     SIGNAL_LAST, SIGNALS_MAX, STOP_BLOCKS, TURN_BLOCKS, WRITE_BLOCKS, chunk_count, turn_blocks,
 };
 pub use modes::{ControlMode, Mode, Prio, ReadMode, Wanted};
-pub use names::{Dir, ModuleName, Openness, Place, QueueName, Side, Way, line};
+pub use names::{Dir, ModuleName, Openness, Place, QueueName, Side, Way};
 pub use options::{Marks, Options};
 pub use output::{COLUMN_MAX, Given, Posted};
 pub use refusals::{NoMemory, Refusal};

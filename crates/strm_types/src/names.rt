@@ -142,17 +142,6 @@ impl ModuleName {
     }
 }
 
-/// The queues of a direction that exist, from the writer's driver to the reader's head.
-pub fn line(direction: Dir) -> [QueueName; 2]
-    ensures { result ≡ names.line_of direction }
-{
-    let writer = match direction {
-        Dir::MasterToSlave => Side::Master,
-        Dir::SlaveToMaster => Side::Slave,
-    };
-    [writer.driver(), writer.other().head()]
-}
-
 impl QueueName {
     /// Whether the queue has a service procedure: every queue but a head's.
     pub fn has_service(self) -> bool
@@ -176,23 +165,5 @@ impl QueueName {
             Way::Down => self.side.direction(),
             Way::Up => self.side.other().direction(),
         }
-    }
-
-    /// The nearest earlier queue with a service procedure in the queue's direction, which is enabled when the queue has
-    /// room again (canput(9F), "back-enabling" of the STREAMS Programming Guide).
-    pub fn before(self) -> Option<QueueName>
-        ensures { result ≡ names.before self }
-    {
-        let queues = line(self.direction());
-        let mut last = None;
-        for queue in &queues {
-            if queue.is_same(self) {
-                return last;
-            }
-            if queue.has_service() {
-                last = Some(*queue);
-            }
-        }
-        None
     }
 }

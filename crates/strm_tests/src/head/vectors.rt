@@ -95,11 +95,7 @@ fn chunk_goes<B: Blocks>(rt: &impl Abort, alloc: Global, store: &mut B)
     let mut head = fresh(store);
     let free = store.free_blocks();
     assert!(rt; free.0 > 0 && free.1 > 0);
-    assert!(rt; write(store, false, b"abc").is_err());
-    assert_eq!(rt; store.free_blocks(), free);
-    let Ok(message) = write(store, true, b"abc") else {
-        unreachable!()
-    };
+    let message = write(store, b"abc");
     assert_eq!(rt; store.free_blocks(), (free.0 - 1, free.1 - 1));
     head.put(store, HERE, message, &mut Fates::none());
     reads(rt, alloc, store, &mut head, false, (b"abc", None));

@@ -2,6 +2,6 @@
 use Rattle.strm_head.proofs.Lone.{made-chunk}
 use Rattle.strm_head.proofs.sending.write.Goals as goal
 
-pub returns-clause-made : goal.returns-clause-made
-returns-clause-made g c =
+pub returns : goal.returns
+returns g c =
     made-chunk (g.B.Blocks.value c.args.store.now) (g.B.Blocks.value c.make.new.store) (g.B.Blocks.name c.make.result) c.args.chunk.now c.requires.few c.make.ensures

@@ -8,7 +8,6 @@ use Rattle.strm_types.specs.Cells.{plain}
 use Rattle.strm_laws.specs.Calls.{delivers}
 use Rattle.strm_types.specs.Events.{payload_of, request}
 use Rattle.strm_types.specs.Journal.{PlainEntry, content_max, reply_in}
-use Rattle.strm_laws.specs.CutOff.{IsCutOff}
 use Rattle.strm_laws.specs.Spares.{spare}
 use Rattle.strm_laws.specs.State.{opening}
 use Rattle.strm_laws.specs.Ledgers.{FewBooked}
@@ -17,7 +16,6 @@ use Rattle.strm_laws.specs.Refusals.{enough, blocks_asked, refused_at_once, refu
 use Rattle.strm_laws.specs.Pair.{PairState, AddsEntry, call_refused}
 use Rattle.strm_laws.proofs.Balances.{call-few, written-by-blocks}
 use Rattle.strm_laws.proofs.StackSpares.{call-low}
-use Rattle.strm_laws.proofs.CutOff.{journal-cut, opening-cut}
 use Rattle.strm_laws.proofs.Replay.{call-allowed, or_else-none}
 use Rattle.strm_blocks.specs.Blocks.{StoreValue, free_d, free_m}
 use Rattle.strm_blocks.proofs.Laws.{free_m-is}
@@ -98,11 +96,6 @@ returns-in-Some-clause-filled g c = search rules steps 30000
 
 pub carry_out-answer-requires-clause-held : goal.carry_out-answer-requires-clause-held
 carry_out-answer-requires-clause-held g c = search rules steps 100000
-
-pub carry_out-answer-requires-clause-cut_off : goal.carry_out-answer-requires-clause-cut_off
-carry_out-answer-requires-clause-cut_off g c =
-    let kept = c.self.invariant in
-    subst (λ t. IsCutOff t) (sym kept.replayed) (journal-cut plain opening (journal_of c.self.inside.journal) opening-cut kept.legal)
 
 pub carry_out-answer-requires-clause-allowed_by_state : goal.carry_out-answer-requires-clause-allowed_by_state
 carry_out-answer-requires-clause-allowed_by_state g c =

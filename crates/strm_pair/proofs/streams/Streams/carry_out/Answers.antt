@@ -1,4 +1,4 @@
--- Plain bytes have no origin: what goes down and what comes up are the bytes themselves. A write that isn't refused is one while the master isn't closed.
+-- Plain bytes have no origin: what goes down and what comes up are the bytes themselves.
 use Rattle.std.proofs.Common.{ℕ, ◌≡◌, List, ◌∙◌, sym, ap, take, arith}
 use Rattle.std.proofs.Math.Seq.{take-length}
 use denote.Ref.{Bor}
@@ -6,20 +6,14 @@ use Rattle.std.specs.Prelude.{option_map}
 use Rattle.strm_types.specs.declared.answers.Answer.TheVariants.{Bytes}
 use Rattle.strm_types.specs.declared.events.Event.{Event}
 use Rattle.strm_types.specs.declared.refusals.Refusal.TheVariants.{Einval}
-use Rattle.strm_laws.specs.Calls.{Outcome}
 use Rattle.strm_types.specs.Events.{request}
 use Rattle.strm_laws.specs.Pushes.{may_stand, named_by}
 use Rattle.strm_laws.specs.Refusals.{refused_at_once, refused_by_state}
 use Rattle.strm_laws.specs.State.{stream}
 use Rattle.strm_laws.proofs.Replay.{unless-none}
 use Rattle.strm_pair.specs.Pairs.{state_in}
-use Rattle.strm_pair.proofs.PlainWrites.{put-in_range, write-stays, read-is}
+use Rattle.strm_pair.proofs.Refusing.{put-in_range}
 use Rattle.strm_pair.proofs.streams.Streams.carry_out.Goals as goal
-
-pub write-requires-clause-stays : goal.write-requires-clause-stays
-write-requires-clause-stays g c =
-    let old = state_in g.B.Stacks.view.modules (g.B.Blocks.value c.args.store.now) c.args.self.now in
-    write-stays old c.args.caller c.in-Write.bytes.now c.requires.cut_off (ap (λ (e : Event (Bor (List ℕ))). refused_at_once old c.args.caller (request e)) (sym c.in-Write.is) ∙ c.requires.allowed)
 
 pub returns-in-Write-clause-answer : goal.returns-in-Write-clause-answer
 returns-in-Write-clause-answer g c = rw c.in-Write.is c.write.ensures.answer
@@ -32,10 +26,9 @@ returns-in-Write-clause-told g c = λ answer. rw c.in-Write.is c.write.ensures.t
 
 pub returns-in-Read-clause-answer : goal.returns-in-Read-clause-answer
 returns-in-Read-clause-answer g c =
-    let old = state_in g.B.Stacks.view.modules (g.B.Blocks.value c.args.store.now) c.args.self.now in
     let out = c.read.new.out.items in
     let whole : take c.len.result out ≡ out = ap (λ n. take n out) c.len.ensures.value ∙ take-length out in
-    rw c.in-Read.is (ap Bytes whole ∙ c.read.ensures.answer ∙ ap (λ (o : Outcome ℕ). o.answer) (sym (read-is c.args.caller.side c.in-Read.n old)))
+    rw c.in-Read.is (ap Bytes whole ∙ c.read.ensures.answer)
 
 pub returns-in-Ioctl-clause-answer : goal.returns-in-Ioctl-clause-answer
 returns-in-Ioctl-clause-answer g c = rw c.in-Ioctl.is c.ioctl.ensures.answer

@@ -1,45 +1,21 @@
--- A write by whether a module stands.
-use Rattle.std.proofs.Common.{ℕ, ◌≡◌, List, refl, sym, ap, ◌∙◌, arith}
+-- A write is its chunks, delivered one after the other, and what they took is booked.
+use Rattle.std.proofs.Common.{sym, ap, ◌∙◌, arith}
 use Rattle.strm_types.specs.declared.answers.Answer.TheVariants.{Count}
 use Rattle.strm_types.specs.declared.books.Book.{Book}
-use Rattle.strm_types.specs.declared.names.Side.{Side}
-use Rattle.strm_types.specs.declared.names.Side.TheVariants.{Master, Slave}
 use Rattle.strm_types.specs.Books.{with_written}
 use Rattle.strm_laws.specs.Calls.{Outcome}
 use Rattle.strm_types.specs.Cells.{plain}
-use Rattle.strm_types.specs.Deliver.{Fate, tallied}
+use Rattle.strm_types.specs.Deliver.{tallied}
 use Rattle.strm_types.specs.Names.{direction_from}
 use Rattle.strm_laws.specs.Spares.{spare}
 use Rattle.strm_laws.specs.State.{State, book, with_book}
 use Rattle.strm_types.specs.Write.{chunks_of}
 use Rattle.strm_laws.specs.Writes.{Wrote}
 use Rattle.strm_laws.proofs.Balances.{chunks-book}
-use Rattle.strm_pair.specs.PlainCalls.{wrote_plain}
 use Rattle.strm_pair.specs.Pairs.{state_in}
-use Rattle.strm_pair.proofs.PlainWrites.{none-counted, wrote-is, wrote-none, chunks-are, chunks-written, wrote-chunks}
+use Rattle.strm_pair.proofs.ChunkSteps.{chunks-are, chunks-written, wrote-chunks}
 use Rattle.strm_pair.proofs.PutBooks.{book-low, written-spare}
 use Rattle.strm_pair.proofs.streams.Streams.write.Goals as goal
-
-pub returns-then-modules-eq0-clause-answer : goal.returns-then-modules-eq0-clause-answer
-returns-then-modules-eq0-clause-answer g c =
-    let s = g.B.Blocks.value c.args.store.now in
-    let old = state_in g.B.Stacks.view.modules s c.args.self.now in
-    let none = none-counted old (omega (arith, c.modules_on.ensures.on s, c.modules_on-2.ensures.on s, c.if-modules-eq0.true)) in
-    c.write_alone.ensures.answer ∙ ap (λ (o : Outcome ℕ). o.answer) (sym (wrote-is c.args.side c.args.bytes.now old c.requires.stays none))
-
-pub returns-then-modules-eq0-clause-state : goal.returns-then-modules-eq0-clause-state
-returns-then-modules-eq0-clause-state g c =
-    let s = g.B.Blocks.value c.args.store.now in
-    let old = state_in g.B.Stacks.view.modules s c.args.self.now in
-    let none = none-counted old (omega (arith, c.modules_on.ensures.on s, c.modules_on-2.ensures.on s, c.if-modules-eq0.true)) in
-    c.write_alone.ensures.state ∙ ap (λ (o : Outcome ℕ). o.state) (sym (wrote-is c.args.side c.args.bytes.now old c.requires.stays none))
-
-pub returns-then-modules-eq0-clause-told : goal.returns-then-modules-eq0-clause-told
-returns-then-modules-eq0-clause-told g c =
-    let s = g.B.Blocks.value c.args.store.now in
-    let old = state_in g.B.Stacks.view.modules s c.args.self.now in
-    let none = none-counted old (omega (arith, c.modules_on.ensures.on s, c.modules_on-2.ensures.on s, c.if-modules-eq0.true)) in
-    ap (λ (gone : List (Fate ℕ)). tallied gone c.args.told.now) (sym (wrote-none c.args.side c.args.bytes.now old c.requires.stays none))
 
 pub with_written-book-requires : goal.with_written-book-requires
 with_written-book-requires g c =
@@ -82,16 +58,6 @@ returns-clause-told g c =
 
 pub returns-clause-held : goal.returns-clause-held
 returns-clause-held g c = c.keep_book.ensures.held (g.B.Blocks.value c.send_chunks-taken.new.store) c.send_chunks-taken.ensures.held
-
--- what is written isn't made
-plain-spare : (side : Side) (bytes : List ℕ) (s : State ℕ) → spare (wrote_plain side bytes s).state ≡ spare s
-plain-spare Master bytes s = refl
-plain-spare Slave bytes s = refl
-
-pub returns-then-modules-eq0-clause-left : goal.returns-then-modules-eq0-clause-left
-returns-then-modules-eq0-clause-left g c =
-    let old = state_in g.B.Stacks.view.modules (g.B.Blocks.value c.args.store.now) c.args.self.now in
-    omega (arith, ap spare c.write_alone.ensures.state, plain-spare c.args.side c.args.bytes.now old)
 
 pub returns-clause-left : goal.returns-clause-left
 returns-clause-left g c =
