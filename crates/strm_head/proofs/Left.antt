@@ -1,10 +1,9 @@
 -- What steps of a read leave of a list together, and which blocks are free then.
-use Rattle.std.proofs.Common.{ℕ, zero, suc, ◌≡◌, ◌≢◌, ◌<◌, ◌+◌, List, [], ◌∷◌, length, drop, inl, inr, refl, sym, ap, subst, ◌∙◌, arith}
+use Rattle.std.proofs.Common.{ℕ, zero, suc, ◌≡◌, ◌≢◌, ◌<◌, ◌+◌, List, [], ◌∷◌, length, drop, inl, inr, refl, sym, ap, ◌∙◌, arith}
 use Rattle.std.specs.Prelude.{sum_by, slice_index_or}
 use Rattle.std.proofs.lemmas.List.{drop-drop}
 use Rattle.std.proofs.lemmas.List.Sums.{sum_by-cons}
-use Rattle.strm_blocks.specs.Blocks.{Block, Held, StoreValue, IsStore, list_at, names_of, references, total, free_m}
-use Rattle.strm_blocks.specs.Outcomes.{Unpopped}
+use Rattle.strm_blocks.specs.Blocks.{Block, Held, StoreValue, IsStore, list_at, names_of}
 use Rattle.strm_blocks.proofs.Laws.{used-is, references-is, free_m-is}
 use Rattle.strm_queue.specs.declared.queue.Queue.{Queue}
 use Rattle.strm_queue.specs.Stored.{Keeps}
@@ -61,8 +60,13 @@ sum-other f k (x ∷ xs) [] long within same = absurd (omega (arith, long))
 sum-other f zero (x ∷ xs) (y ∷ ys) long within same =
     omega (arith, sum_by-cons f x xs, sum_by-cons f y ys, sum-same f xs ys (omega (arith, long)) (λ j. same (suc j) (λ e. omega (arith, e))))
 sum-other f (suc k) (x ∷ xs) (y ∷ ys) long within same =
-    omega (arith, sum_by-cons f x xs, sum_by-cons f y ys, ap f (same 0 (λ e. omega (arith, e))),
-    sum-other f k xs ys (omega (arith, long)) (omega (arith, within)) (λ j apart. same (suc j) (λ e. apart (omega (arith, e)))))
+    omega (
+      arith,
+      sum_by-cons f x xs,
+      sum_by-cons f y ys,
+      ap f (same 0 (λ e. omega (arith, e))),
+      sum-other f k xs ys (omega (arith, long)) (omega (arith, within)) (λ j apart. same (suc j) (λ e. apart (omega (arith, e)))),
+    )
 
 -- what left the list is free
 pub frees : (s t : StoreValue) (q q' : Queue) → IsStore s → IsStore t → Keeps s t q q' → Leaves (list_at s q.list) (list_at t q.list) → Frees s t q.list

@@ -1,5 +1,5 @@
 -- A chain whose blocks without bytes were freed is what the plain message leaves.
-use Rattle.std.proofs.Common.{ℕ, ◌≡◌, ◌≤◌, ◌<◌, inl, inr, Bool, true, false, cond, List, [], ◌∷◌, ◌++◌, length, refl, sym, ap, subst, ◌∙◌, arith, append-nil, length-append}
+use Rattle.std.proofs.Common.{ℕ, ◌≡◌, ◌<◌, inl, inr, Bool, true, false, cond, List, [], ◌∷◌, ◌++◌, length, refl, sym, ap, subst, ◌∙◌, arith, append-nil, length-append}
 use Rattle.std.specs.Prelude.{None, Some, nat_lt, unwrap_or, Option}
 use Rattle.std.specs.List.{AllByRecursion}
 use Rattle.std.proofs.Math.Decide.{dec_le}

@@ -5,7 +5,7 @@ use Rattle.strm_types.specs.declared.kinds.MsgKind.TheVariants as kinds
 use Rattle.strm_types.specs.declared.modes.ControlMode.{ControlMode}
 use Rattle.strm_types.specs.declared.modes.ControlMode.TheVariants.{Refuse, Data, Discard}
 use Rattle.strm_types.specs.Flush.{is_data_kind}
-use Rattle.strm_types.specs.Message.{Message, part, cells_of, band_of}
+use Rattle.strm_types.specs.Message.{Message, part, cells_of}
 use Rattle.strm_types.specs.Reads.{rest_with, rest_after, shown, offered}
 use Rattle.strm_blocks.specs.Blocks.{Block, block_at}
 use Rattle.strm_msg.specs.Adjusted.{without_bytes}

@@ -275,21 +275,21 @@ trimmed-kind k n (b ∷ chain) all = (all.0, trimmed-kind k (n - length b.bytes)
 
 pub front-cut : (n : ℕ) (chain : List Block) → IsChain chain → is_data_kind (block_at 0 chain).kind ≡ true → trimmed_by trimmed_head n chain ≡ without_data (n - length (control_bytes chain)) (without_control n chain)
 front-cut n chain one readable = elim (data-or-control (block_at 0 chain).kind readable) [
-    | inl is ↦
-        (let all = one.all_data is in
-        let none : n - length (control_bytes chain) ≡ n = omega (arith, ap (λ (xs : List Block). length (bytes_of xs)) (control-none chain all)) in
-        sym (ap (λ m. without_data m (without_control n chain)) none ∙ ap (without_data n) (all-data n chain all) ∙ data-trimmed n chain all))
-    | inr is ↦
-        (let p = one.parted is in
-        let k = (block_at 0 chain).kind in
-        let cut = trimmed_by trimmed_head n p.front in
-        let size : control_bytes chain ≡ bytes_of p.front = ap bytes_of (ap control_blocks p.joined ∙ control-front k p.front p.behind is p.of_kind p.of_data) in
-        ap (trimmed_by trimmed_head n) p.joined ∙ trimmed-both n p.front p.behind
-        ∙ ap (λ xs. cut ++ xs) (sym (data-trimmed (n - length (bytes_of p.front)) p.behind p.of_data))
-        ∙ sym (data-front k is (n - length (bytes_of p.front)) cut p.behind (trimmed-kind k n p.front p.of_kind))
-        ∙ ap (without_data (n - length (bytes_of p.front))) (sym (ap (without_control n) p.joined ∙ cut-front k is n p.front p.behind p.of_kind p.of_data))
-        ∙ ap (λ (xs : List ℕ). without_data (n - length xs) (without_control n chain)) (sym size))
-  ]
+  | inl is ↦
+      (let all = one.all_data is in
+      let none : n - length (control_bytes chain) ≡ n = omega (arith, ap (λ (xs : List Block). length (bytes_of xs)) (control-none chain all)) in
+      sym (ap (λ m. without_data m (without_control n chain)) none ∙ ap (without_data n) (all-data n chain all) ∙ data-trimmed n chain all))
+  | inr is ↦
+      (let p = one.parted is in
+      let k = (block_at 0 chain).kind in
+      let cut = trimmed_by trimmed_head n p.front in
+      let size : control_bytes chain ≡ bytes_of p.front = ap bytes_of (ap control_blocks p.joined ∙ control-front k p.front p.behind is p.of_kind p.of_data) in
+      ap (trimmed_by trimmed_head n) p.joined ∙ trimmed-both n p.front p.behind
+      ∙ ap (λ xs. cut ++ xs) (sym (data-trimmed (n - length (bytes_of p.front)) p.behind p.of_data))
+      ∙ sym (data-front k is (n - length (bytes_of p.front)) cut p.behind (trimmed-kind k n p.front p.of_kind))
+      ∙ ap (without_data (n - length (bytes_of p.front))) (sym (ap (without_control n) p.joined ∙ cut-front k is n p.front p.behind p.of_kind p.of_data))
+      ∙ ap (λ (xs : List ℕ). without_data (n - length xs) (without_control n chain)) (sym size))
+]
 
 control-data : (k : MsgKind) → is_control_kind k ≡ true → is_data_kind k ≡ true
 unfolding is_control_kind is_data_kind

@@ -1,6 +1,6 @@
 -- Blocks without bytes that leave a message.
 use Rattle.std.proofs.Common.{ℕ, zero, suc, ◌≡◌, ◌≢◌, ◌≤◌, ◌<◌, ◌+◌, Bool, true, false, cond, eqb, List, [], ◌∷◌, ◌++◌, length, inl, inr, Option, None, Some, refl, sym, ap, subst, ◌∙◌, arith}
-use Rattle.std.specs.Prelude.{MatchOption, nat_lt, ◌==◌}
+use Rattle.std.specs.Prelude.{MatchOption, nat_lt}
 use Rattle.std.proofs.lemmas.Bool.{cases_eq}
 use Rattle.std.proofs.lemmas.Bool.Decides.{nat_tests}
 use Rattle.std.proofs.lemmas.List.{nil_from_length}
@@ -10,7 +10,7 @@ use Rattle.strm_blocks.specs.Outcomes.{Unlinked}
 use Rattle.strm_blocks.proofs.Laws.{IsInHand-dropped, in_hand-dropped}
 use Rattle.strm_msg.specs.Bytes.{bytes_of}
 use Rattle.strm_msg.specs.Emptied.{filled_blocks, without_emptied, Beside, FreedWhole}
-use Rattle.strm_msg.proofs.Hands.{other-name, gone, held-chain, changed-chain, changed-in_hand, changed-same, changed-twice, dropped-changed}
+use Rattle.strm_msg.proofs.Hands.{other-name, gone, held-chain, changed-chain, changed-in_hand, changed-twice, dropped-changed}
 
 -- a block that shows bytes stays, and another one goes
 pub filled-stays : (b : Block) (chain : List Block) → 0 < length b.bytes → filled_blocks (b ∷ chain) ≡ b ∷ filled_blocks chain

@@ -60,7 +60,9 @@ pub fn free_emptied<B: Blocks>(store: &mut B, message: B::Mp) -> B::Mp
         Beside (dropped (B.value store.old) (B.name message)) (B.value store.new) (B.name result) (without_emptied chain) }
 {
     let band = store.band(&message);
-    let Some(rest) = keep_filled(store, message) else { unreachable!() };
+    let Some(rest) = keep_filled(store, message) else {
+        unreachable!()
+    };
     store.set_band(&rest, band);
     rest
 }

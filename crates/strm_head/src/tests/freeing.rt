@@ -2,8 +2,8 @@
 
 ghost use Rattle.std.specs.Prelude.{◌≤◌};
 
-use super::gets::{AB, BOTH, EMPTY, HIGH, ORDINARY, Sent, stands};
 use super::fresh;
+use super::gets::{AB, BOTH, EMPTY, HIGH, ORDINARY, Sent, stands};
 use crate::getmsg;
 use std::alloc::Global;
 use std::process::Abort;

@@ -1,5 +1,5 @@
 -- Where something is left it is what is in hand now, and goes back on the list.
-use Rattle.std.proofs.Common.{◌≡◌, ◌<◌, ◌∙◌, true, false, ap, sym, subst}
+use Rattle.std.proofs.Common.{◌<◌, ◌∙◌, ap, sym, subst}
 use Rattle.strm_blocks.specs.Blocks.{in_hand, list_at, dropped}
 use Rattle.strm_msg.specs.Emptied.{without_emptied}
 use Rattle.strm_queue.specs.Kept.{AreCounted, band_of}

@@ -1,5 +1,5 @@
 -- The bytes that are trimmed are those of the control part and then those of the data part.
-use Rattle.std.proofs.Common.{◌≡◌, ◌<◌, ◌-◌, ◌∙◌, length, sym, ap, subst, arith}
+use Rattle.std.proofs.Common.{◌≡◌, ◌-◌, ◌∙◌, length, sym, ap, subst, arith}
 use Rattle.std.proofs.lemmas.List.{length-drop}
 use Rattle.strm_blocks.specs.Blocks.{in_hand, changed, dropped, IsInHand, trimmed_head}
 use Rattle.strm_msg.specs.Adjusted.{trimmed_by}

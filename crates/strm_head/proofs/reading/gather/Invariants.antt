@@ -1,4 +1,4 @@
-use Rattle.std.proofs.Common.{◌≡◌, ◌≤◌, ◌<◌, ◌+◌, ◌++◌, Bool, true, false, length}
+use Rattle.std.proofs.Common.{◌≡◌, ◌≤◌, ◌<◌, ◌+◌, ◌++◌, true, false, length}
 use Rattle.strm_blocks.specs.Blocks.{list_at}
 use Rattle.strm_head.specs.Leaving.{StepLeaves}
 use Rattle.strm_head.specs.Drawing.{behind_passed, drawn_on, first_goes}

@@ -13,7 +13,7 @@ use Rattle.strm_queue.proofs.Holding.{first-chain, first-holds}
 use Rattle.strm_head.specs.Drawing.{discards, first_goes, more_behind}
 use Rattle.strm_head.specs.Parted.{cut_by, shown_chain, rest_chain}
 use Rattle.strm_head.proofs.Draws.{kept, freed}
-use Rattle.strm_head.proofs.Left.{step-part, step-taken, taken-first, taken-none}
+use Rattle.strm_head.proofs.Left.{step-part, step-taken, taken-first}
 use Rattle.strm_head.proofs.Rests.{alike, rest-read}
 use Rattle.strm_head.proofs.Returned.{changed-once, held-is, freed-held, beside-held, put-rest, part-taken, held-messages, held-keeps, flags-taken, band-within}
 use Rattle.strm_head.proofs.Showing.{shows}

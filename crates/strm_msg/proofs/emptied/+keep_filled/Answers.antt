@@ -1,6 +1,5 @@
 -- The first block stands in front of what is kept of the others, or goes.
-use Rattle.std.proofs.Common.{◌≡◌, ◌<◌, ◌∙◌, length, ap, sym, subst, arith}
-use Rattle.strm_blocks.specs.Blocks.{block_at, in_hand}
+use Rattle.std.proofs.Common.{arith}
 use Rattle.strm_blocks.proofs.Laws.{chain-some}
 use Rattle.strm_msg.proofs.Filled.{behind-shorter, opened-more, opened-first, opened-freed, opened-apart, opened-linked, opened-alone}
 use Rattle.strm_msg.proofs.Pulling.{behind-in_hand}

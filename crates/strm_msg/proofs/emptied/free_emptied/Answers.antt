@@ -1,6 +1,5 @@
 -- A message that shows bytes has a block that is left.
 use Rattle.strm_blocks.specs.Blocks.{in_hand}
-use Rattle.strm_msg.specs.Emptied.{FreedWhole}
 use Rattle.strm_msg.proofs.Filled.{banded-again, filled-some}
 use Rattle.strm_msg.proofs.emptied.free_emptied.Goals as goal
 
