@@ -16,4 +16,5 @@ pub mod Sent
 pub mod Heeding
 pub mod Commands
 pub mod Copied
+pub mod Left
 pub mod Lone

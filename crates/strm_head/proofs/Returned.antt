@@ -8,6 +8,8 @@ use Rattle.strm_types.specs.Queue as plain
 use Rattle.strm_blocks.specs.Blocks.{Block, StoreValue, list_at, in_hand, held, dropped, changed, placed, block_at, put_back}
 use Rattle.strm_blocks.specs.Outcomes.{Popped}
 use Rattle.strm_blocks.proofs.Laws.{dropped-held, in_hand-held}
+use Rattle.strm_msg.specs.Adjusted.{without_bytes}
+use Rattle.strm_msg.specs.Emptied.{without_emptied, Beside}
 use Rattle.strm_msg.specs.Messages.{message_of, IsChain, AreMessages}
 use Rattle.strm_msg.proofs.Chains.{put_back-chains}
 use Rattle.strm_queue.specs.declared.queue.Queue.{Queue}
@@ -16,7 +18,13 @@ use Rattle.strm_queue.specs.Kept.{AreCounted}
 use Rattle.strm_queue.specs.Stored.{messages_on, Holds, IsReady, Keeps, SameFlags}
 use Rattle.strm_queue.proofs.Holding.{put_back-messages, put_back-holds, first-holds, rest-messages, rest-holds}
 use Rattle.strm_queue.proofs.Gotten.{left, off, chain-is, behind}
-use Rattle.strm_queue.proofs.Placed.{Landed, landed-again, keeps-landed, put-back-on, changed-held}
+use Rattle.strm_queue.proofs.Placed.{Landed, landed, landed-again, keeps-landed, changed-held}
+use Rattle.strm_head.specs.Leaving.{PartTaken}
+
+-- a message that is put on a list
+pub put-beside : (base u new : StoreValue) (j k : ℕ) (rest : List Block) → Beside base u j rest → new ≡ placed (dropped u j) k (put_back (in_hand u j) (list_at u k)) → new ≡ placed base k (put_back rest (list_at base k))
+put-beside base u new j k rest b is =
+    is ∙ ap (λ v. placed v k (put_back (in_hand u j) (list_at v k))) b.others ∙ ap (λ xs. placed base k (put_back xs (list_at base k))) b.chain_is
 
 module _ (s got : StoreValue) (k i : ℕ) (within : k < length s.lists) (p : Popped s got k i) where
   -- another chain at the message
@@ -29,21 +37,33 @@ module _ (s got : StoreValue) (k i : ℕ) (within : k < length s.lists) (p : Pop
     pub held-is : in_hand t i ≡ chain
     held-is = ap (λ v. in_hand v i) t_is ∙ in_hand-held (left s got k i within p) i chain
 
-    pub changed-again : (f : List Block → List Block) (u : StoreValue) → u ≡ changed t i (f (in_hand t i)) → u ≡ held (left s got k i within p) i (f chain)
-    changed-again f u is =
-        is ∙ ap (λ c. changed t i (f c)) held-is ∙ ap (λ v. changed v i (f chain)) t_is ∙ changed-held (left s got k i within p) i chain (f chain)
-
     -- it is freed
     pub freed-held : (new : StoreValue) → new ≡ dropped t i → new ≡ left s got k i within p
     freed-held new is = is ∙ ap (λ v. dropped v i) t_is ∙ dropped-held (left s got k i within p) i chain
 
-    -- or put back
-    pub put-held : (new : StoreValue) → new ≡ placed (dropped t i) k (put_back (in_hand t i) (list_at t k)) → Landed s new k (put_back chain (list_at (left s got k i within p) k))
-    put-held new is =
-        let l = left s got k i within p in
-        let here : k < length l.lists = omega (arith, length-set s.lists k p.rest) in
-        landed-again s l new k p.rest (put_back chain (list_at l k)) (off s got k i within p)
-        (put-back-on l k i chain here new (is ∙ ap (λ v. placed (dropped v i) k (put_back (in_hand v i) (list_at v k))) t_is))
+    -- or something is left of it
+    pub beside-held : (f : List Block → List Block) (u : StoreValue) (j : ℕ) → Beside (dropped t i) u j (f (in_hand t i)) → Beside (left s got k i within p) u j (f chain)
+    beside-held f u j b = record { here = b.here; chain_is = b.chain_is ∙ ap f held-is; others = b.others ∙ freed-held (dropped t i) refl }
+
+  -- what is left of it is put back
+  pub put-rest : (rest : List Block) (u new : StoreValue) (j : ℕ) → Beside (left s got k i within p) u j rest → new ≡ placed (dropped u j) k (put_back (in_hand u j) (list_at u k))
+      → Landed s new k (put_back rest (list_at (left s got k i within p) k))
+  put-rest rest u new j b is =
+      let l = left s got k i within p in
+      let here : k < length l.lists = omega (arith, length-set s.lists k p.rest) in
+      landed-again s l new k p.rest (put_back rest (list_at l k)) (off s got k i within p)
+      (subst (λ v. Landed l v k (put_back rest (list_at l k))) (sym (put-beside l u new j k rest b is)) (landed l k (put_back rest (list_at l k)) here))
+
+  -- so it lost a part
+  pub part-taken : (rest cut : List Block) (new : StoreValue) → map without_bytes cut ≡ map without_bytes p.message → rest ≡ without_emptied cut → Landed s new k (put_back rest (list_at (left s got k i within p) k)) → PartTaken (list_at s k) (list_at new k)
+  part-taken rest cut new alike is landed = record {
+    message = p.message;
+    others = p.rest;
+    cut = cut;
+    blocks = alike;
+    was = p.joined;
+    is = landed.here ∙ ap (put_back rest) (off s got k i within p).here ∙ ap (λ xs. put_back xs p.rest) is;
+  }
 
   pub held-messages : (chain : List Block) (new : StoreValue) → Landed s new k (put_back chain (list_at (left s got k i within p) k)) → messages_on new k ≡ plain.put_back (message_of chain) (map message_of p.rest)
   held-messages chain new b =

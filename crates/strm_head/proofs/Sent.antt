@@ -20,7 +20,7 @@ use Rattle.strm_msg.specs.Messages.{message_of, part_of, AreData, IsChain}
 use Rattle.strm_msg.proofs.Making.{Made-one, Made-more}
 use Rattle.strm_msg.proofs.Chains.{control-front, data-behind, control-none, data-all, data-control}
 use Rattle.strm_head.specs.Sending.{control_kind, Sends}
-use Rattle.strm_head.proofs.Rests.{parted}
+use Rattle.strm_head.proofs.Seen.{parts-shown}
 
 -- what a put that isn't refused asks for
 pub record Allowed (prio : Prio) (control body : Option (List ℕ)) : Type 0 where
@@ -101,7 +101,7 @@ module _ (prio : Prio) (low : put_band prio < 8) (number : ℕ) (bytes : List �
   control-shown =
       let control : control_blocks (block ∷ behind) ≡ block ∷ [] = control-front (control_kind prio) (block ∷ []) behind (is-control prio) (refl, tt) all in
       let body : data_blocks (block ∷ behind) ≡ behind = data-behind (control_kind prio) (block ∷ []) behind (is-control prio) (refl, tt) all in
-      parted (block ∷ behind) (readable prio)
+      parts-shown (block ∷ behind) (readable prio)
       ∙ ap (λ xs. record { kind = control_kind prio; band = put_band prio; control = part_of xs; body = part_of (data_blocks (block ∷ behind)); plain = [] }) control
       ∙ ap (λ xs. record { kind = control_kind prio; band = put_band prio; control = Some (bytes ++ []); body = part_of xs; plain = [] }) body
       ∙ ap (λ xs. record { kind = control_kind prio; band = put_band prio; control = Some xs; body = part_of behind; plain = [] }) (append-nil bytes)
@@ -122,7 +122,7 @@ module _ (band number : ℕ) (low : band < 8) (bytes : List ℕ) where
 
   data-shown : message_of (data_block ∷ []) ≡ record { kind = kinds.Data; band = band; control = None; body = Some bytes; plain = [] }
   data-shown =
-      parted (data_block ∷ []) data-readable
+      parts-shown (data_block ∷ []) data-readable
       ∙ ap (λ xs. record { kind = kinds.Data; band = band; control = part_of xs; body = part_of (data_blocks (data_block ∷ [])); plain = [] }) (control-none (data_block ∷ []) (refl, tt))
       ∙ ap (λ xs. record { kind = kinds.Data; band = band; control = None; body = part_of xs; plain = [] }) (data-all (data_block ∷ []) (refl, tt))
       ∙ ap (λ xs. record { kind = kinds.Data; band = band; control = None; body = Some xs; plain = [] }) (append-nil bytes)

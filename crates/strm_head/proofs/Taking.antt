@@ -7,6 +7,8 @@ use Rattle.strm_types.specs.Queue as plain
 use Rattle.strm_blocks.specs.Blocks.{Block, StoreValue, list_at, in_hand, held, dropped, changed, placed, block_at, put_back}
 use Rattle.strm_blocks.specs.Outcomes.{Popped}
 use Rattle.strm_blocks.proofs.Laws.{dropped-held, in_hand-held}
+use Rattle.strm_msg.specs.Adjusted.{without_bytes}
+use Rattle.strm_msg.specs.Emptied.{without_emptied}
 use Rattle.strm_msg.specs.Messages.{message_of, IsChain, AreMessages}
 use Rattle.strm_msg.proofs.Chains.{put_back-chains}
 use Rattle.strm_queue.specs.declared.queue.Queue.{Queue}
@@ -17,6 +19,8 @@ use Rattle.strm_queue.proofs.Gotten.{left, off, chain-is}
 use Rattle.strm_queue.proofs.Holding.{first-holds, rest-messages, rest-holds, put_back-messages, put_back-holds}
 use Rattle.strm_queue.proofs.Placed.{Landed, landed, landed-again, keeps-landed, changed-held}
 use Rattle.strm_head.specs.Getting.{put_rest}
+use Rattle.strm_head.specs.Leaving.{Leaves}
+use Rattle.strm_head.proofs.Left.{leaves-part, leaves-taken, taken-first}
 
 -- the messages behind a get, where something of the first is left, or nothing is
 abbrev pub list_left : Bool → List Block → List (List Block) → List (List Block)
@@ -56,22 +60,29 @@ messages-left s new k true rest q l = ap (map message_of) l.here ∙ put_back-ch
 
 -- no other list changed, and the queue is ready
 module _ (s new : StoreValue) (q q' : Queue) (chain rest : List Block) (others : List (List Block)) (ready : IsReady s q) (stood : list_at s q.list ≡ chain ∷ others)
-    (one : IsChain rest) (kinds_kept : (test : MsgKind → Bool) → test kinds.Data ≡ true → test (block_at 0 chain).kind ≡ true → test (block_at 0 rest).kind ≡ true) where
+    (more : Bool) (one : more ≡ true → IsChain rest) (kinds_kept : more ≡ true → (test : MsgKind → Bool) → test kinds.Data ≡ true → test (block_at 0 chain).kind ≡ true → test (block_at 0 rest).kind ≡ true) where
   are : AreMessages (chain ∷ others)
   are = subst AreMessages stood ready.messages
 
-  are-left : (more : Bool) → AreMessages (list_left more rest others)
-  are-left false = rest-messages chain others are
-  are-left true = put_back-messages rest others one (rest-messages chain others are)
+  are-left : (v : Bool) → more ≡ v → AreMessages (list_left v rest others)
+  are-left false is = rest-messages chain others are
+  are-left true is = put_back-messages rest others (one is) (rest-messages chain others are)
 
-  holds-left : (more : Bool) (test : MsgKind → Bool) → test kinds.Data ≡ true → Holds test (list_at s q.list) → Holds test (list_left more rest others)
-  holds-left false test passes h = rest-holds test chain others (subst (Holds test) stood h)
-  holds-left true test passes h =
+  holds-left : (v : Bool) → more ≡ v → (test : MsgKind → Bool) → test kinds.Data ≡ true → Holds test (list_at s q.list) → Holds test (list_left v rest others)
+  holds-left false is test passes h = rest-holds test chain others (subst (Holds test) stood h)
+  holds-left true is test passes h =
       let all = subst (Holds test) stood h in
-      put_back-holds test rest others (kinds_kept test passes (first-holds test chain others all)) (rest-holds test chain others all)
+      put_back-holds test rest others (kinds_kept is test passes (first-holds test chain others all)) (rest-holds test chain others all)
 
-  pub left-keeps : (more : Bool) → Landed s new q.list (list_left more rest others) → q'.list ≡ q.list → AreCounted q'.flows (list_at new q'.list) → Keeps s new q q'
-  left-keeps more l list counted = keeps-landed s new q q' (list_left more rest others) l (are-left more) (holds-left more) list counted
+  pub left-keeps : Landed s new q.list (list_left more rest others) → q'.list ≡ q.list → AreCounted q'.flows (list_at new q'.list) → Keeps s new q q'
+  left-keeps l list counted = keeps-landed s new q q' (list_left more rest others) l (are-left more refl) (holds-left more refl) list counted
+
+-- what is left of the list
+pub left-leaves : (old new : List (List Block)) (chain rest cut : List Block) (others : List (List Block)) (more : Bool) → old ≡ chain ∷ others → map without_bytes cut ≡ map without_bytes chain → rest ≡ without_emptied cut
+    → new ≡ list_left more rest others → Leaves old new
+left-leaves old new chain rest cut others false was alike same is = leaves-taken old new (taken-first old new chain others was is)
+left-leaves old new chain rest cut others true was alike same is =
+    leaves-part old new (record { message = chain; others = others; cut = cut; blocks = alike; was = was; is = is ∙ ap (λ xs. put_back xs others) same })
 
 -- the queue behind it
 pub queue-left : (s new : StoreValue) (q q' : Queue) (ms : List (Message ℕ)) → messages_on new q.list ≡ ms → q'.list ≡ q.list → plain_flows q'.flows ≡ plain_flows q.flows → q'.want_read ≡ false → q'.no_enable ≡ q.no_enable

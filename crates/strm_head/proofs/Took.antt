@@ -8,7 +8,8 @@ use Rattle.strm_types.specs.Queue as plain
 use Rattle.strm_types.specs.Reads.{rest_with}
 use Rattle.strm_blocks.specs.Blocks.{Block, StoreValue, list_at, in_hand, changed, block_at}
 use Rattle.strm_blocks.specs.Outcomes.{Popped}
-use Rattle.strm_msg.specs.Bytes.{control_blocks, control_bytes, data_blocks, data_bytes, length_of_part}
+use Rattle.strm_msg.specs.Bytes.{bytes_of, control_blocks, control_bytes, data_blocks, data_bytes, length_of_part}
+use Rattle.strm_msg.specs.Emptied.{without_emptied}
 use Rattle.strm_msg.specs.Messages.{message_of, AreMessages, IsChain}
 use Rattle.strm_queue.specs.declared.queue.Queue.{Queue}
 use Rattle.strm_queue.specs.Flows.{plain_flows}
@@ -21,10 +22,13 @@ use Rattle.strm_queue.proofs.Holding.{first-chain, first-holds}
 use Rattle.strm_queue.proofs.Placed.{Landed}
 use Rattle.strm_head.specs.declared.getting.Gotten.{Gotten}
 use Rattle.strm_head.specs.declared.getting.Piece.{Piece}
-use Rattle.strm_head.specs.Getting.{cut_by, rest_left, put_rest, prio_at, Gives, TakesFirst}
+use Rattle.strm_head.specs.Getting.{put_rest, prio_at, Gives, TakesFirst}
+use Rattle.strm_head.specs.Leaving.{Leaves}
+use Rattle.strm_head.specs.Parted.{cut_by}
 use Rattle.strm_head.proofs.Pieces.{given-is, count-is, more-is, taken-is}
-use Rattle.strm_head.proofs.Rests.{parted, rest-one, rest-kind, rest-asked}
-use Rattle.strm_head.proofs.Taking.{list_left, cut-held, held-chain, rest-landed, messages-left, left-keeps, queue-left}
+use Rattle.strm_head.proofs.Rests.{alike, left-some, rest-one, rest-kind, rest-asked}
+use Rattle.strm_head.proofs.Seen.{parts-shown}
+use Rattle.strm_head.proofs.Taking.{list_left, cut-held, held-chain, rest-landed, messages-left, left-keeps, left-leaves, queue-left}
 
 -- what is taken of the first of some messages
 abbrev of_first : ℕ → ℕ → List (Message ℕ) → Got ℕ
@@ -52,7 +56,10 @@ module _ (s got cut : StoreValue) (q : Queue) (i cmax dmax n d : ℕ) (within : 
   others = map message_of p.rest
 
   abbrev rest : List Block
-  rest = rest_left first.more second.more (cut_by n d chain)
+  rest = without_emptied (cut_by n d chain)
+
+  abbrev more : Bool
+  more = first.more || second.more
 
   here : in_hand got i ≡ chain
   here = chain-is s got q.list i within p
@@ -76,10 +83,10 @@ module _ (s got cut : StoreValue) (q : Queue) (i cmax dmax n d : ℕ) (within : 
   d_least = count-is dmax (data_blocks chain) data_len data_there second.given d second_given d_is
 
   more_control : first.more ≡ nat_lt cmax (length (part m.control))
-  more_control = more-is cmax (control_blocks chain) control_len control_there first.more first_more ∙ ap (λ (x : Message ℕ). nat_lt cmax (length (part x.control))) (sym (parted chain readable))
+  more_control = more-is cmax (control_blocks chain) control_len control_there first.more first_more ∙ ap (λ (x : Message ℕ). nat_lt cmax (length (part x.control))) (sym (parts-shown chain readable))
 
   more_data : second.more ≡ nat_lt dmax (length (part m.body))
-  more_data = more-is dmax (data_blocks chain) data_len data_there second.more second_more ∙ ap (λ (x : Message ℕ). nat_lt dmax (length (part x.body))) (sym (parted chain readable))
+  more_data = more-is dmax (data_blocks chain) data_len data_there second.more second_more ∙ ap (λ (x : Message ℕ). nat_lt dmax (length (part x.body))) (sym (parts-shown chain readable))
 
   -- the message in hand then, and what is left of it
   abbrev without : StoreValue
@@ -88,11 +95,17 @@ module _ (s got cut : StoreValue) (q : Queue) (i cmax dmax n d : ℕ) (within : 
   in_cut : in_hand cut i ≡ cut_by n d chain
   in_cut = held-chain s got q.list i within p (cut_by n d chain) cut (cut-held s got q.list i within p (cut_by n d) cut cut_is)
 
-  rest_one : IsChain rest
-  rest_one = rest-one n d chain one readable first.more second.more
+  some_left : more ≡ true → 0 < length (bytes_of (cut_by n d chain))
+  some_left = left-some cmax dmax n d chain one readable n_least d_least first.more second.more more_control more_data
 
-  pub rest-low : kept.band_of (rest_left first.more second.more (in_hand cut i)) < 8
-  rest-low = subst (λ c. kept.band_of (rest_left first.more second.more c) < 8) (sym in_cut) (chain-low rest rest_one)
+  rest_one : more ≡ true → IsChain rest
+  rest_one is = rest-one n d chain one readable (some_left is)
+
+  pub rest-some : more ≡ true → 0 < length (bytes_of (in_hand cut i))
+  rest-some is = subst (λ c. 0 < length (bytes_of c)) (sym in_cut) (some_left is)
+
+  pub rest-low : more ≡ true → kept.band_of (without_emptied (in_hand cut i)) < 8
+  rest-low is = subst (λ c. kept.band_of (without_emptied c) < 8) (sym in_cut) (chain-low rest (rest_one is))
 
   -- what was given
   module _ (result : Gotten) (out : List ℕ) (out_is : out ≡ take n (control_bytes (in_hand got i)) ++ take d (data_bytes (in_hand got i)))
@@ -101,29 +114,29 @@ module _ (s got cut : StoreValue) (q : Queue) (i cmax dmax n d : ℕ) (within : 
     control-given : take n (control_bytes (in_hand got i)) ≡ part (option_map (take cmax) m.control)
     control-given =
         taken-is cmax n (control_blocks chain) (take n (control_bytes (in_hand got i))) n_least (ap (λ c. take n (control_bytes c)) here)
-        ∙ ap (λ (x : Message ℕ). part (option_map (take cmax) x.control)) (sym (parted chain readable))
+        ∙ ap (λ (x : Message ℕ). part (option_map (take cmax) x.control)) (sym (parts-shown chain readable))
 
     body-given : take d (data_bytes (in_hand got i)) ≡ part (option_map (take dmax) m.body)
     body-given =
         taken-is dmax d (data_blocks chain) (take d (data_bytes (in_hand got i))) d_least (ap (λ c. take d (data_bytes c)) here)
-        ∙ ap (λ (x : Message ℕ). part (option_map (take dmax) x.body)) (sym (parted chain readable))
+        ∙ ap (λ (x : Message ℕ). part (option_map (take dmax) x.body)) (sym (parts-shown chain readable))
 
     gives : Gives result out (parts_of cmax dmax m others)
     gives = record {
       given = out_is ∙ ap (λ xs. xs ++ take d (data_bytes (in_hand got i))) control-given ∙ ap (λ xs. part (option_map (take cmax) m.control) ++ xs) body-given;
-      control_there = control_result ∙ given-is cmax (control_blocks chain) control_len control_there first.given first_given ∙ ap (λ (x : Message ℕ). option_map (λ (cells : List ℕ). length cells) (option_map (take cmax) x.control)) (sym (parted chain readable));
-      body_there = body_result ∙ given-is dmax (data_blocks chain) data_len data_there second.given second_given ∙ ap (λ (x : Message ℕ). option_map (λ (cells : List ℕ). length cells) (option_map (take dmax) x.body)) (sym (parted chain readable));
+      control_there = control_result ∙ given-is cmax (control_blocks chain) control_len control_there first.given first_given ∙ ap (λ (x : Message ℕ). option_map (λ (cells : List ℕ). length cells) (option_map (take cmax) x.control)) (sym (parts-shown chain readable));
+      body_there = body_result ∙ given-is dmax (data_blocks chain) data_len data_there second.given second_given ∙ ap (λ (x : Message ℕ). option_map (λ (cells : List ℕ). length cells) (option_map (take dmax) x.body)) (sym (parts-shown chain readable));
       prio = prio_is ∙ ap (λ c. prio_at (message_of c)) here;
       more_control = more_control_is ∙ more_control;
       more_data = more_data_is ∙ more_data;
     }
 
     -- and what is left on the queue
-    module _ (new : StoreValue) (k : ℕ) (q' : Queue) (list_is : k ≡ q.list) (put_is : new ≡ put_rest (first.more || second.more) cut i k (rest_left first.more second.more (in_hand cut i))) (same : q'.list ≡ q.list) where
-      put-there : new ≡ put_rest (first.more || second.more) cut i q.list rest
+    module _ (new : StoreValue) (k : ℕ) (q' : Queue) (list_is : k ≡ q.list) (put_is : new ≡ put_rest more cut i k (without_emptied (in_hand cut i))) (same : q'.list ≡ q.list) where
+      put-there : new ≡ put_rest more cut i q.list rest
       put-there =
-          put_is ∙ ap (λ l. put_rest (first.more || second.more) cut i l (rest_left first.more second.more (in_hand cut i))) list_is
-          ∙ ap (λ c. put_rest (first.more || second.more) cut i q.list (rest_left first.more second.more c)) in_cut
+          put_is ∙ ap (λ l. put_rest more cut i l (without_emptied (in_hand cut i))) list_is
+          ∙ ap (λ c. put_rest more cut i q.list (without_emptied c)) in_cut
 
       there : Landed s new q.list (list_left (first.more || second.more) rest p.rest)
       there = rest-landed s got q.list i within p (first.more || second.more) (cut_by n d chain) rest cut new (cut-held s got q.list i within p (cut_by n d) cut cut_is) put-there
@@ -132,7 +145,7 @@ module _ (s got cut : StoreValue) (q : Queue) (i cmax dmax n d : ℕ) (within : 
       left-is =
           messages-left s new q.list (first.more || second.more) rest p.rest there
           ∙ left-same (first.more || second.more) (message_of rest) (rest_with (drop cmax (part m.control)) (drop dmax (part m.body)) m) others
-          (rest-asked cmax dmax n d chain one readable n_least d_least first.more second.more more_control more_data)
+          (λ is. rest-asked cmax dmax n d chain one readable n_least d_least (some_left is))
           ∙ ap (λ v. left_behind (v || second.more) cmax dmax m others) more_control
           ∙ ap (λ v. left_behind (nat_lt cmax (length (part m.control)) || v) cmax dmax m others) more_data
 
@@ -142,7 +155,9 @@ module _ (s got cut : StoreValue) (q : Queue) (i cmax dmax n d : ℕ) (within : 
           subst (TakesFirst result out s new q q') (ap (of_first cmax dmax) (sym (before s got q.list i within p) ∙ stood))
           (record { gives = gives; queue = queue-left s new q q' _ left-is same flows want no_enable })
 
+      pub leaves : Leaves (list_at s q.list) (list_at new q.list)
+      leaves = left-leaves (list_at s q.list) (list_at new q.list) chain rest (cut_by n d chain) p.rest more p.joined (alike n d chain one readable) refl there.here
+
       pub keeps : AreCounted q'.flows (list_at new q'.list) → Keeps s new q q'
       keeps counted =
-          left-keeps s new q q' chain rest p.rest ready.ready p.joined rest_one (λ test passes was. rest-kind n d chain one readable test passes was first.more second.more)
-          (first.more || second.more) there same counted
+          left-keeps s new q q' chain rest p.rest ready.ready p.joined more rest_one (λ is test passes was. rest-kind n d chain one readable (some_left is) test passes was) there same counted

@@ -1,28 +1,14 @@
 -- What a get takes of the first message of a head, and what it leaves of that message's blocks (getmsg(2)).
 use Rattle.std.specs.Prelude.{ℕ, Bool, if◌then◌else◌, ◌≡◌, List, ◌++◌, length, option_map}
-use Rattle.strm_types.specs.declared.kinds.MsgKind.TheVariants as kinds
 use Rattle.strm_types.specs.declared.modes.Prio.{Prio}
 use Rattle.strm_types.specs.declared.modes.Prio.TheVariants.{High, Band}
 use Rattle.strm_types.specs.Message.{Message, part, is_high_priority}
 use Rattle.strm_types.specs.Queue.{left_with}
 use Rattle.strm_types.specs.Gets.{Got}
-use Rattle.strm_blocks.specs.Blocks.{Block, StoreValue, block_at, list_at, placed, dropped, put_back}
-use Rattle.strm_msg.specs.Retyped.{retyped}
-use Rattle.strm_msg.specs.Taken.{without_control, without_data}
+use Rattle.strm_blocks.specs.Blocks.{Block, StoreValue, list_at, placed, dropped, put_back}
 use Rattle.strm_queue.specs.declared.queue.Queue.{Queue}
 use Rattle.strm_queue.specs.Stored.{queue_in}
 use Rattle.strm_head.specs.declared.getting.Gotten.{Gotten}
-
--- a chain without the first so many bytes of its control part and of its data part
-abbrev pub cut_by : ℕ → ℕ → List Block → List Block
-cut_by n d chain = without_data d (without_control n chain)
-
--- The chain that is left where bytes of the control part are, or of the data part. Blocks of a part of which nothing is left have
--- no bytes, and get the kind of the other part's: so the part is absent.
-abbrev pub rest_left : Bool → Bool → List Block → List Block
-rest_left control body chain =
-    if control then (if body then chain else retyped (length chain) (block_at 0 chain).kind chain)
-    else retyped (length chain) kinds.Data chain
 
 -- the store behind a get of a message in hand: what is left of it, if anything is, is put back on its list
 abbrev pub put_rest : Bool → StoreValue → ℕ → ℕ → List Block → StoreValue

@@ -6,22 +6,25 @@ ghost use Rattle.strm_types.specs.Gets.{head_get, parts_of};
 ghost use Rattle.strm_types.specs.GetQueues.{gets_none, get_queue, get_lets_go, get_told};
 ghost use Rattle.strm_types.specs.Message.{Message, part};
 ghost use Rattle.strm_blocks.specs.Blocks.{IsInHand, in_hand, list_at, changed};
-ghost use Rattle.strm_msg.specs.Bytes.{control_bytes, data_bytes, control_blocks, data_blocks, length_of_part};
+ghost use Rattle.strm_msg.specs.Bytes.{bytes_of, control_bytes, data_bytes, control_blocks, data_blocks, length_of_part};
+ghost use Rattle.strm_msg.specs.Emptied.{without_emptied};
 ghost use Rattle.strm_msg.specs.Messages.{message_of, IsChain};
 ghost use Rattle.strm_msg.specs.Taken.{without_control, without_data};
 ghost use Rattle.strm_queue.specs.Flows.{plain_flows};
 ghost use Rattle.strm_queue.specs.Kept.{AreCounted, band_of};
 ghost use Rattle.strm_queue.specs.Queues.{OnlyCounts};
 ghost use Rattle.strm_queue.specs.Stored.{queue_in, messages_on, IsHeadQueue, Keeps};
-ghost use Rattle.strm_head.specs.Getting.{cut_by, rest_left, put_rest, prio_at, Gives, TakesFirst};
+ghost use Rattle.strm_head.specs.Getting.{put_rest, prio_at, Gives, TakesFirst};
+ghost use Rattle.strm_head.specs.Leaving.{Frees, Leaves};
+ghost use Rattle.strm_head.specs.Parted.{cut_by};
 
 use crate::reading::grow;
 use crate::standing::get_refusal;
 use strm_blocks::Blocks;
-use strm_msg::{control_len, data_len, set_kinds, take_control, take_data};
+use strm_msg::{control_len, data_len, free_emptied, take_control, take_data};
 use strm_queue::Queue;
 use strm_queue::standing::relieve;
-use strm_types::{BANDS, Band, Content, Dir, Fates, MsgKind, Prio, Rule, Wanted};
+use strm_types::{BANDS, Band, Content, Dir, Fates, Prio, Rule, Wanted};
 
 /// What a getmsg(2) gave of the first message.
 #[derive(Clone, Copy, Debug, PartialEq)]
@@ -72,6 +75,13 @@ fn piece_of(len: Option<usize>, most: usize) -> Piece
             more: false,
         },
     }
+}
+
+// Whether one of two parts has more.
+fn has_more(first: Piece, second: Piece) -> bool
+    ensures { result ≡ (first.more || second.more) }
+{
+    first.more || second.more
 }
 
 // Takes the first so many bytes off a message's control part into an empty buffer.
@@ -127,22 +137,6 @@ fn take_parts<B: Blocks>(
     take_data_into(store, message, data_count, out);
 }
 
-// Makes a message whose bytes were taken what is left of it: the blocks of a part of which nothing is left get the kind of the
-// other part's, so that the part is absent.
-fn leave_parts<B: Blocks>(store: &mut B, message: &B::Mp, control: bool, body: bool)
-    requires { IsInHand (B.value store.old) (B.name message.now) }
-    ensures { let chain = in_hand (B.value store.old) (B.name message.now) in
-        B.value store.new ≡ changed (B.value store.old) (B.name message.now) (rest_left control body chain) }
-{
-    let count = store.blocks(message);
-    if !control {
-        set_kinds(store, message, count, MsgKind::Data);
-    } else if !body {
-        let kind = store.kind(message, 0);
-        set_kinds(store, message, count, kind);
-    }
-}
-
 // The priority of a message in hand.
 fn prio_of<B: Blocks>(store: &B, message: &B::Mp) -> Prio
     requires { IsInHand (B.value store.now) (B.name message.now) }
@@ -157,23 +151,24 @@ fn prio_of<B: Blocks>(store: &B, message: &B::Mp) -> Prio
 }
 
 // Puts back what is left of a message whose bytes were taken, where bytes of its control part or of its data part are left, and
-// frees it where none are.
-fn put_rest<B: Blocks>(store: &mut B, queue: &mut Queue, message: B::Mp, control: bool, body: bool)
+// frees it where none are. Blocks without bytes are freed.
+fn put_rest<B: Blocks>(store: &mut B, queue: &mut Queue, message: B::Mp, left: bool)
     requires counted { AreCounted queue.old.flows (list_at (B.value store.old) queue.old.list) }
     requires in_hand { IsInHand (B.value store.old) (B.name message) }
-    requires band { band_of (rest_left control body (in_hand (B.value store.old) (B.name message))) < BANDS }
-    ensures left { B.value store.new ≡ put_rest (control || body) (B.value store.old) (B.name message) queue.old.list
-        (rest_left control body (in_hand (B.value store.old) (B.name message))) }
+    requires some { left ≡ true → 0 < length (bytes_of (in_hand (B.value store.old) (B.name message))) }
+    requires band { left ≡ true → band_of (without_emptied (in_hand (B.value store.old) (B.name message))) < BANDS }
+    ensures left { B.value store.new ≡ put_rest left (B.value store.old) (B.name message) queue.old.list
+        (without_emptied (in_hand (B.value store.old) (B.name message))) }
     ensures counted { AreCounted queue.new.flows (list_at (B.value store.new) queue.new.list) }
     ensures flows { plain_flows queue.new.flows ≡ plain_flows queue.old.flows }
     ensures others { OnlyCounts queue.old queue.new }
 {
-    if !control && !body {
+    if !left {
         store.free(message);
         return;
     }
-    leave_parts(store, &message, control, body);
-    queue.putbq(store, message);
+    let rest = free_emptied(store, message);
+    queue.putbq(store, rest);
 }
 
 // Takes up to these many bytes of each part of the first message. What is left of the message is put back, and where nothing is
@@ -192,6 +187,7 @@ fn take_first<B: Blocks>(
     ensures took { (m : Message ℕ) (rest : List (Message ℕ)) → messages_on (B.value store.old) queue.old.list ≡ m ∷ rest →
         TakesFirst result out.new.items (B.value store.old) (B.value store.new) queue.old queue.new
         (parts_of cmax dmax m rest) }
+    ensures leaves { Leaves (list_at (B.value store.old) queue.old.list) (list_at (B.value store.new) queue.old.list) }
     ensures keeps { Keeps (B.value store.old) (B.value store.new) queue.old queue.new }
 {
     store.audit();
@@ -208,7 +204,7 @@ fn take_first<B: Blocks>(
         second.given.unwrap_or(0),
         out,
     );
-    put_rest(store, queue, message, first.more, second.more);
+    put_rest(store, queue, message, has_more(first, second));
     Gotten {
         control: first.given,
         body: second.given,
@@ -233,7 +229,8 @@ fn finds<B: Blocks>(store: &B, queue: &Queue, wanted: Wanted) -> bool
 /// that is asked for: getmsg(2), getpmsg(2). It tells that bytes of the direction went to a reader, and says whether a waiting writer
 /// is let go. What is left of the message is put back, without a part of which nothing is left; one that has no control part any
 /// more is M_DATA, of band 0 where it was of high priority. Where there is nothing to take nothing changes, and both parts are
-/// absent. It takes no block, copies each byte once, and takes a step for each block of the message.
+/// absent. It takes no block, frees each block of what is left that has no bytes, copies each byte once, and takes a step for each
+/// block of the message.
 pub fn getmsg<B: Blocks>(
     store: &mut B,
     queue: &mut Queue,
@@ -253,13 +250,16 @@ pub fn getmsg<B: Blocks>(
     ensures queue { queue_in (B.value store.new) queue.new ≡ get_queue wanted cmax dmax (queue_in (B.value store.old) queue.old) }
     ensures went { result.lets_go ≡ get_lets_go wanted cmax dmax (queue_in (B.value store.old) queue.old) }
     ensures told { fates.new ≡ get_told direction wanted cmax dmax (messages_on (B.value store.old) queue.old.list) fates.old }
+    ensures frees { Frees (B.value store.old) (B.value store.new) queue.old.list }
     ensures keeps { Keeps (B.value store.old) (B.value store.new) queue.old queue.new }
     ensures ready { IsHeadQueue (B.value store.new) queue.new }
 {
+    store.audit();
     if !finds(store, queue, wanted) {
         return NOTHING;
     }
     let mut got = take_first(store, queue, cmax, dmax, out);
+    store.audit();
     let count = out.len();
     fates.tell(direction, Rule::Read, count);
     got.lets_go = count > 0 && relieve(queue);

@@ -41,6 +41,7 @@ pub struct Waiting {
 impl Head {
     ghost use Rattle.strm_blocks.specs.Blocks.{StoreValue};
     ghost use Rattle.strm_types.specs.Heads.{with_mode};
+    ghost use Rattle.strm_head.specs.Leaving.{Frees};
     ghost use Rattle.strm_head.specs.Heads.{head_in};
 
     /// A head on an empty queue: RNORM and RPROTNORM. No signal waits, and no ioctl is under way.
@@ -161,6 +162,7 @@ impl Head {
             ≡ read_queue self.old.read_mode self.old.control_mode n (queue_in (B.value store.old) self.old.queue) }
         ensures went { result ≡ read_lets_go self.old.read_mode self.old.control_mode n (queue_in (B.value store.old) self.old.queue) }
         ensures told { fates.new ≡ read_told direction self.old.read_mode self.old.control_mode n (messages_on (B.value store.old) self.old.queue.list) fates.old }
+        ensures frees { Frees (B.value store.old) (B.value store.new) self.old.queue.list }
         ensures keeps { Keeps (B.value store.old) (B.value store.new) self.old.queue self.new.queue }
         ensures ready { IsHeadQueue (B.value store.new) self.new.queue }
         ensures modes { self.new ≡ record self.old { queue = self.new.queue } }

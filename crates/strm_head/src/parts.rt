@@ -2,14 +2,15 @@
 
 ghost use Rattle.std.specs.Prelude.{◌≡◌, ◌<◌, ◌≤◌, true, length};
 ghost use Rattle.strm_types.specs.Flush.{is_data_kind};
-ghost use Rattle.strm_blocks.specs.Blocks.{IsInHand, in_hand, changed, block_at};
+ghost use Rattle.strm_blocks.specs.Blocks.{IsInHand, in_hand, changed, dropped, block_at};
 ghost use Rattle.strm_msg.specs.Bytes.{bytes_of};
+ghost use Rattle.strm_msg.specs.Emptied.{Beside};
 ghost use Rattle.strm_msg.specs.Messages.{IsChain};
-ghost use Rattle.strm_head.specs.Parted.{shown_chain, joined_chain, rest_chain};
+ghost use Rattle.strm_head.specs.Parted.{shown_chain, rest_chain};
 
 use strm_blocks::Blocks;
-use strm_msg::{control_len, msgdsize, set_kinds, trim_front};
-use strm_types::{ControlMode, MsgKind};
+use strm_msg::{control_len, free_emptied, trim_front};
+use strm_types::ControlMode;
 
 /// Leaves a message with the bytes alone that a read could give of it: under RPROTDIS those of its control part go.
 pub(crate) fn show<B: Blocks>(store: &mut B, message: &B::Mp, control: ControlMode)
@@ -25,32 +26,16 @@ pub(crate) fn show<B: Blocks>(store: &mut B, message: &B::Mp, control: ControlMo
     }
 }
 
-// Makes the blocks of a message that loses its first `n` bytes one part, where no bytes of the other are left.
-fn join_parts<B: Blocks>(store: &mut B, message: &B::Mp, n: usize)
-    requires { IsInHand (B.value store.old) (B.name message.now) }
-    ensures { let chain = in_hand (B.value store.old) (B.name message.now) in
-        B.value store.new ≡ changed (B.value store.old) (B.name message.now) (joined_chain n chain) }
-{
-    let control = control_len(store, message).unwrap_or(0);
-    let blocks = store.blocks(message);
-    if control <= n {
-        set_kinds(store, message, blocks, MsgKind::Data);
-    } else if msgdsize(store, message) == 0 {
-        let kind = store.kind(message, 0);
-        set_kinds(store, message, blocks, kind);
-    }
-}
-
 /// Leaves a message without its first `n` bytes, which a read has given. It keeps its kind while bytes of its control part
-/// are left, and is M_DATA then; a part without bytes goes.
-pub(crate) fn leave_rest<B: Blocks>(store: &mut B, message: &B::Mp, n: usize)
-    requires in_hand { IsInHand (B.value store.old) (B.name message.now) }
-    requires chain { IsChain (in_hand (B.value store.old) (B.name message.now)) }
-    requires data { is_data_kind (block_at 0 (in_hand (B.value store.old) (B.name message.now))).kind ≡ true }
-    requires less { n < length (bytes_of (in_hand (B.value store.old) (B.name message.now))) }
-    ensures { let chain = in_hand (B.value store.old) (B.name message.now) in
-        B.value store.new ≡ changed (B.value store.old) (B.name message.now) (rest_chain n chain) }
+/// are left, and is M_DATA then; a part without bytes goes, and so does each block without.
+pub(crate) fn leave_rest<B: Blocks>(store: &mut B, message: B::Mp, n: usize) -> B::Mp
+    requires in_hand { IsInHand (B.value store.old) (B.name message) }
+    requires chain { IsChain (in_hand (B.value store.old) (B.name message)) }
+    requires data { is_data_kind (block_at 0 (in_hand (B.value store.old) (B.name message))).kind ≡ true }
+    requires less { n < length (bytes_of (in_hand (B.value store.old) (B.name message))) }
+    ensures { let chain = in_hand (B.value store.old) (B.name message) in
+        Beside (dropped (B.value store.old) (B.name message)) (B.value store.new) (B.name result) (rest_chain n chain) }
 {
-    join_parts(store, message, n);
-    trim_front(store, message, n);
+    trim_front(store, &message, n);
+    free_emptied(store, message)
 }

@@ -5,9 +5,10 @@ ghost use Rattle.std.specs.Bool.{OnTrue, OnFalse};
 ghost use Rattle.strm_types.specs.Deliver.{tallied};
 ghost use Rattle.strm_types.specs.Queue as plain;
 ghost use Rattle.strm_types.specs.Reads.{Drawn, wanted_after, head_draw, none_went, read_queue, read_lets_go, read_fates, read_told};
-ghost use Rattle.strm_blocks.specs.Blocks.{IsInHand, in_hand};
+ghost use Rattle.strm_blocks.specs.Blocks.{IsInHand, in_hand, list_at};
 ghost use Rattle.strm_msg.specs.Bytes.{bytes_of};
 ghost use Rattle.strm_queue.specs.Stored.{queue_in, messages_on, SameFlags, IsReady, IsHeadQueue, Keeps};
+ghost use Rattle.strm_head.specs.Leaving.{Frees, Leaves, StepLeaves, Taken};
 ghost use Rattle.strm_head.specs.Drawing.{drawn_on, Stepped, discards, drops_control, more_behind, behind_passed, first_goes};
 
 use crate::parts::{leave_rest, show};
@@ -108,6 +109,7 @@ fn keeps_rest(read: ReadMode, wanted: usize, size: usize) -> bool
 fn drop_first<B: Blocks>(store: &mut B, queue: &mut Queue)
     requires ready { IsHeadQueue (B.value store.old) queue.old }
     ensures left { messages_on (B.value store.new) queue.old.list ≡ drop 1 (messages_on (B.value store.old) queue.old.list) }
+    ensures taken { Taken (list_at (B.value store.old) queue.old.list) (list_at (B.value store.new) queue.old.list) }
     ensures flags { SameFlags queue.old queue.new }
     ensures keeps { Keeps (B.value store.old) (B.value store.new) queue.old queue.new }
 {
@@ -123,6 +125,7 @@ fn drop_passed<B: Blocks>(store: &mut B, queue: &mut Queue, control: ControlMode
     requires ready { IsHeadQueue (B.value store.old) queue.old }
     ensures left { messages_on (B.value store.new) queue.old.list
         ≡ behind_passed control (messages_on (B.value store.old) queue.old.list) }
+    ensures taken { Taken (list_at (B.value store.old) queue.old.list) (list_at (B.value store.new) queue.old.list) }
     ensures flags { SameFlags queue.old queue.new }
     ensures keeps { Keeps (B.value store.old) (B.value store.new) queue.old queue.new }
 {
@@ -152,6 +155,8 @@ fn take_first<B: Blocks>(
         let new = messages_on (B.value store.new) queue.old.list in
         (begun : Bool) → first_goes control begun old ≡ true →
         Stepped read control begun wanted result.more result.discarded old new out.old.items out.new.items }
+    ensures leaves { let old = list_at (B.value store.old) queue.old.list in
+        StepLeaves result.more old (list_at (B.value store.new) queue.old.list) }
     ensures flags { SameFlags queue.old queue.new }
     ensures keeps { Keeps (B.value store.old) (B.value store.new) queue.old queue.new }
 {
@@ -164,8 +169,8 @@ fn take_first<B: Blocks>(
     let part = wanted.min(len);
     copy_into(store, &message, part, out);
     if keeps_rest(read, wanted, len) {
-        leave_rest(store, &message, wanted);
-        queue.putbq(store, message);
+        let rest = leave_rest(store, message, wanted);
+        queue.putbq(store, rest);
         return LAST;
     }
     store.free(message);
@@ -190,6 +195,8 @@ fn draw_first<B: Blocks>(
     ensures took { let old = messages_on (B.value store.old) queue.old.list in
         let new = messages_on (B.value store.new) queue.old.list in
         Stepped read control begun wanted result.more result.discarded old new out.old.items out.new.items }
+    ensures leaves { let old = list_at (B.value store.old) queue.old.list in
+        StepLeaves result.more old (list_at (B.value store.new) queue.old.list) }
     ensures flags { SameFlags queue.old queue.new }
     ensures keeps { Keeps (B.value store.old) (B.value store.new) queue.old queue.new }
 {
@@ -218,6 +225,7 @@ fn gather<B: Blocks>(
         result ≡ length d.discarded }
     ensures left { messages_on (B.value store.new) queue.old.list
         ≡ (drawn_on read control false wanted (messages_on (B.value store.old) queue.old.list)).left }
+    ensures leaves { Leaves (list_at (B.value store.old) queue.old.list) (list_at (B.value store.new) queue.old.list) }
     ensures most { length out.new.items ≤ length out.old.items + wanted }
     ensures flags { SameFlags queue.old queue.new }
     ensures keeps { Keeps (B.value store.old) (B.value store.new) queue.old queue.new }
@@ -273,7 +281,8 @@ fn missing(before: usize, after: usize, given: usize, discarded: usize) -> usize
 }
 
 /// Gives up to `n` bytes of the first messages, tells by which rules bytes go, and says whether a waiting writer is let go.
-/// Bytes that leave the queue and are neither given nor discarded are those of control parts.
+/// Bytes that leave the queue and are neither given nor discarded are those of control parts. Each block of the message that stays in
+/// part shows bytes; all others that were read are free.
 pub fn read<B: Blocks>(
     store: &mut B,
     queue: &mut Queue,
@@ -293,14 +302,17 @@ pub fn read<B: Blocks>(
         queue_in (B.value store.new) queue.new ≡ read_queue read control n q }
     ensures went { result ≡ read_lets_go read control n (queue_in (B.value store.old) queue.old) }
     ensures told { fates.new ≡ read_told direction read control n (messages_on (B.value store.old) queue.old.list) fates.old }
+    ensures frees { Frees (B.value store.old) (B.value store.new) queue.old.list }
     ensures keeps { Keeps (B.value store.old) (B.value store.new) queue.old queue.new }
 {
+    store.audit();
     if takes_none(store, queue, control, n) {
         return false;
     }
     let before = droppable(store, queue, control);
     queue.want_read = false;
     let discarded = gather(store, queue, read, control, n, out);
+    store.audit();
     let after = droppable(store, queue, control);
     let dropped = missing(before, after, out.len(), discarded);
     tell(fates, direction, out.len(), discarded, dropped);

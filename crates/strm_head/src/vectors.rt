@@ -4,6 +4,7 @@ ghost use Rattle.std.specs.Prelude.{◌≡◌, ◌≤◌, ◌+◌, ◌++◌, ◌
 ghost use Rattle.strm_types.specs.declared.refusals.Refusal.TheVariants.{NoMemory};
 ghost use Rattle.strm_types.specs.Reads.{read_refusal, head_draw, read_queue, read_lets_go, read_told};
 ghost use Rattle.strm_queue.specs.Stored.{messages_on, queue_in, IsHeadQueue, Keeps};
+ghost use Rattle.strm_head.specs.Leaving.{Frees};
 
 use crate::head::Head;
 use std::alloc::Global;
@@ -51,6 +52,7 @@ impl Head {
             ≡ read_lets_go self.old.read_mode self.old.control_mode (min n READ_MAX) (queue_in (B.value store.old) self.old.queue)) }
         ensures told { OnOk result (fates.new
             ≡ read_told direction self.old.read_mode self.old.control_mode (min n READ_MAX) (messages_on (B.value store.old) self.old.queue.list) fates.old) }
+        ensures frees { OnOk result (Frees (B.value store.old) (B.value store.new) self.old.queue.list) }
         ensures keeps { OnOk result (Keeps (B.value store.old) (B.value store.new) self.old.queue self.new.queue) }
         ensures ready { IsHeadQueue (B.value store.new) self.new.queue }
         ensures modes { self.new ≡ record self.old { queue = self.new.queue } }

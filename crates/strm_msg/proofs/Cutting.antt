@@ -176,6 +176,10 @@ apart kinds.Proto is = refl
 apart kinds.Pcproto is = refl
 apart _ is = absurd (cc)
 
+all-data : (n : ℕ) (chain : List Block) → AreData chain → without_control n chain ≡ chain
+all-data n [] all = refl
+all-data n (b ∷ chain) all = ap (λ v. cond v (trimmed_head n b ∷ without_control (n - length b.bytes) chain) (b ∷ chain)) (data-control b.kind all.0)
+
 module _ (k : MsgKind) (is : is_control_kind k ≡ true) where
   run-none : (behind : List Block) → AreData behind → take_while (λ b. same_kind b.kind k) behind ≡ []
   run-none [] all = refl
@@ -191,12 +195,8 @@ module _ (k : MsgKind) (is : is_control_kind k ≡ true) where
       ∙ ap (λ v. cond v (b ∷ take_while test (front ++ behind)) []) (ap (λ x. same_kind x k) of_kind.0 ∙ same k)
       ∙ ap (λ xs. b ∷ xs) (run-front front behind of_kind.1 of_data)
 
-  cut-behind : (n : ℕ) (behind : List Block) → AreData behind → without_control n behind ≡ behind
-  cut-behind n [] all = refl
-  cut-behind n (b ∷ behind) all = ap (λ v. cond v (trimmed_head n b ∷ without_control (n - length b.bytes) behind) (b ∷ behind)) (data-control b.kind all.0)
-
   cut-front : (n : ℕ) (front behind : List Block) → OfKind k front → AreData behind → without_control n (front ++ behind) ≡ trimmed_by trimmed_head n front ++ behind
-  cut-front n [] behind of_kind of_data = cut-behind n behind of_data
+  cut-front n [] behind of_kind of_data = all-data n behind of_data
   cut-front n (b ∷ front) behind of_kind of_data =
       ap (λ v. cond v (trimmed_head n b ∷ without_control (n - length b.bytes) (front ++ behind)) (b ∷ front ++ behind)) (ap is_control_kind of_kind.0 ∙ is)
       ∙ ap (λ xs. trimmed_head n b ∷ xs) (cut-front (n - length b.bytes) front behind of_kind.1 of_data)
@@ -244,6 +244,52 @@ head-cut n chain one has = by (is_control_kind (block_at 0 chain).kind) refl
     by : (v : Bool) → is_control_kind (block_at 0 chain).kind ≡ v → adjusted (pos n) chain ≡ without_control n chain
     by true is = at-front n chain one has (fronted n chain one has (one.parted is) is)
     by false is = none-there n chain is has
+
+-- bytes that are trimmed off the front of a chain are those of its control part first, and then those of its data part
+trimmed-both : (n : ℕ) (xs ys : List Block) → trimmed_by trimmed_head n (xs ++ ys) ≡ trimmed_by trimmed_head n xs ++ trimmed_by trimmed_head (n - length (bytes_of xs)) ys
+trimmed-both n [] ys = ap (λ m. trimmed_by trimmed_head m ys) (let same : n ≡ n - 0 = omega arith in same)
+trimmed-both n (b ∷ xs) ys =
+    ap (λ zs. trimmed_head (min n (length b.bytes)) b ∷ zs) (trimmed-both (n - length b.bytes) xs ys)
+    ∙ ap (λ m. trimmed_by trimmed_head n (b ∷ xs) ++ trimmed_by trimmed_head m ys) (omega (arith, length-append b.bytes (bytes_of xs)))
+
+data-body : is_body_kind kinds.Data ≡ true
+unfolding is_body_kind
+data-body = refl
+
+data-trimmed : (n : ℕ) (chain : List Block) → AreData chain → without_data n chain ≡ trimmed_by trimmed_head n chain
+data-trimmed n [] all = refl
+data-trimmed n (b ∷ chain) all =
+    ap (λ v. cond v (trimmed_head n b ∷ without_data (n - length b.bytes) chain) (b ∷ without_data n chain)) (ap is_body_kind all.0 ∙ data-body)
+    ∙ ap (λ xs. trimmed_head n b ∷ xs) (data-trimmed (n - length b.bytes) chain all.1)
+    ∙ ap (λ xs. record b { bytes = xs } ∷ trimmed_by trimmed_head (n - length b.bytes) chain) (sym (drop-least n (min n (length b.bytes)) b.bytes refl))
+
+data-front : (k : MsgKind) → is_control_kind k ≡ true → (d : ℕ) (front behind : List Block) → OfKind k front → without_data d (front ++ behind) ≡ front ++ without_data d behind
+data-front k is d [] behind all = refl
+data-front k is d (b ∷ front) behind all =
+    ap (λ v. cond v (trimmed_head d b ∷ without_data (d - length b.bytes) (front ++ behind)) (b ∷ without_data d (front ++ behind))) (control-body b.kind (ap is_control_kind all.0 ∙ is))
+    ∙ ap (λ xs. b ∷ xs) (data-front k is d front behind all.1)
+
+trimmed-kind : (k : MsgKind) (n : ℕ) (chain : List Block) → OfKind k chain → OfKind k (trimmed_by trimmed_head n chain)
+trimmed-kind k n [] all = tt
+trimmed-kind k n (b ∷ chain) all = (all.0, trimmed-kind k (n - length b.bytes) chain all.1)
+
+pub front-cut : (n : ℕ) (chain : List Block) → IsChain chain → is_data_kind (block_at 0 chain).kind ≡ true → trimmed_by trimmed_head n chain ≡ without_data (n - length (control_bytes chain)) (without_control n chain)
+front-cut n chain one readable = elim (data-or-control (block_at 0 chain).kind readable) [
+  | inl is ↦
+      (let all = one.all_data is in
+      let none : n - length (control_bytes chain) ≡ n = omega (arith, ap (λ (xs : List Block). length (bytes_of xs)) (control-none chain all)) in
+      sym (ap (λ m. without_data m (without_control n chain)) none ∙ ap (without_data n) (all-data n chain all) ∙ data-trimmed n chain all))
+  | inr is ↦
+      (let p = one.parted is in
+      let k = (block_at 0 chain).kind in
+      let cut = trimmed_by trimmed_head n p.front in
+      let size : control_bytes chain ≡ bytes_of p.front = ap bytes_of (ap control_blocks p.joined ∙ control-front k p.front p.behind is p.of_kind p.of_data) in
+      ap (trimmed_by trimmed_head n) p.joined ∙ trimmed-both n p.front p.behind
+      ∙ ap (λ xs. cut ++ xs) (sym (data-trimmed (n - length (bytes_of p.front)) p.behind p.of_data))
+      ∙ sym (data-front k is (n - length (bytes_of p.front)) cut p.behind (trimmed-kind k n p.front p.of_kind))
+      ∙ ap (without_data (n - length (bytes_of p.front))) (sym (ap (without_control n) p.joined ∙ cut-front k is n p.front p.behind p.of_kind p.of_data))
+      ∙ ap (λ (xs : List ℕ). without_data (n - length xs) (without_control n chain)) (sym size))
+]
 
 control-data : (k : MsgKind) → is_control_kind k ≡ true → is_data_kind k ≡ true
 unfolding is_control_kind is_data_kind

@@ -9,6 +9,7 @@ pub mod Chains
 pub mod Counts
 pub mod Cutting
 pub mod Dropping
+pub mod Filled
 pub mod Gathering
 pub mod Hands
 pub mod InHand

@@ -2,6 +2,7 @@ pub mod Bytes
 pub mod Made
 pub mod Pulled
 pub mod Taken
+pub mod Emptied
 pub mod Messages
 pub mod Runs
 pub mod Adjusted

@@ -1,10 +1,10 @@
 //! Bytes trimmed at an end of a message.
 ghost use Rattle.std.specs.Prelude.{◌≡◌, ◌≤◌, ◌<◌, pos, map, length};
 ghost use Rattle.std.specs.Bool.{OnTrue, OnFalse};
-ghost use Rattle.strm_blocks.specs.Blocks.{IsInHand, in_hand, changed, block_at, with_block, free_m, free_d};
+ghost use Rattle.strm_blocks.specs.Blocks.{IsInHand, in_hand, changed, block_at, with_block, trimmed_head, free_m, free_d};
 ghost use Rattle.strm_msg.specs.Bytes.{bytes_of};
 ghost use Rattle.strm_msg.specs.Runs.{front_run};
-ghost use Rattle.strm_msg.specs.Adjusted.{adjusted, has_bytes, left_of, seen_from, trim_at, trimmed_front, without_bytes, without_head};
+ghost use Rattle.strm_msg.specs.Adjusted.{adjusted, has_bytes, left_of, seen_from, trim_at, trimmed_by, trimmed_front, without_bytes};
 ghost use Rattle.strm_msg.specs.Adjusted as adjusting;
 
 use crate::kinds::same_kind;
@@ -126,13 +126,13 @@ pub fn adjmsg<B: Blocks>(store: &mut B, message: &B::Mp, n: isize) -> bool
     true
 }
 
-/// Trims the first `n` bytes of a message, as `adjmsg` does, all of them within the blocks at its front that are of one kind.
+/// Trims the first `n` bytes of a message, or all of them where they are fewer, whatever the kinds of its blocks. All blocks stay, some
+/// of them with no bytes.
 pub fn trim_front<B: Blocks>(store: &mut B, message: &B::Mp, n: usize)
-    requires in_hand { IsInHand (B.value store.old) (B.name message.now) }
-    requires has { n ≤ length (bytes_of (front_run (in_hand (B.value store.old) (B.name message.now)))) }
+    requires { IsInHand (B.value store.old) (B.name message.now) }
     ensures { let chain = in_hand (B.value store.old) (B.name message.now) in
-        B.value store.new ≡ changed (B.value store.old) (B.name message.now) (without_head n chain) }
+        B.value store.new ≡ changed (B.value store.old) (B.name message.now) (trimmed_by trimmed_head n chain) }
 {
-    let run = run_at(store, message, End::Head);
-    trim_blocks(store, message, End::Head, run.blocks, n);
+    let count = store.blocks(message);
+    trim_blocks(store, message, End::Head, count, n);
 }

@@ -1,5 +1,6 @@
 //! Reads of a head in each read mode, and what comes up to it, with answers worked out by hand.
 
+mod freeing;
 mod gets;
 mod heeds;
 mod vectors;

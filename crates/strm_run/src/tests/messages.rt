@@ -4,7 +4,7 @@ use super::WELL;
 use super::scripts::Scene;
 
 /// What is put on one side and got on the other.
-pub const MESSAGES: [Scene; 11] = [
+pub const MESSAGES: [Scene; 12] = [
     (
         "High priority comes first, then the bands, and each in the order of its puts",
         WELL,
@@ -53,6 +53,45 @@ get s any 2 3
   msg 0 "ab" "wxy" cd
 get s
   msg 0 "c" "z" -
+"#,
+    ),
+    (
+        "What a get leaves of a message has no block that it emptied, of either part",
+        WELL,
+        r#"open 34
+  ok
+unlock
+  ok
+slave
+  ok
+put m 1 "ab" "cde"
+  ok
+run 10
+  ran 1
+get s any 9 0
+  msg 1 "ab" "" d
+write m "x"
+  ok 1
+run 10
+  ran 1
+get s
+  msg 1 - "cde" -
+get s
+  msg 0 - "x" -
+put m 1 "ab" "cde"
+  ok
+run 10
+  ran 1
+get s any 1 9
+  msg 1 "a" "cde" c
+write m "y"
+  ok 1
+run 10
+  ran 1
+get s
+  msg 1 "b" - -
+read s 9
+  data 1 "y"
 "#,
     ),
     (

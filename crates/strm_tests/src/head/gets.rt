@@ -12,13 +12,13 @@ use strm_head::{Gotten, Head, getmsg, make_message, put_refusal};
 use strm_types::{Band, Content, Dir, Fates, Prio, Refusal, Wanted};
 
 // The priority and the parts of a message.
-type Sent<'a> = (Prio, Option<&'a [u8]>, Option<&'a [u8]>);
+pub(super) type Sent<'a> = (Prio, Option<&'a [u8]>, Option<&'a [u8]>);
 
 // What a get hands back, and the bytes that it gives, those of the control part first.
 type Got<'a> = (Gotten, &'a [u8]);
 
 // A message comes up to a head, where it is one and two blocks are free.
-fn stands<B: Blocks>(store: &mut B, head: &mut Head, sent: Sent<'_>)
+pub(super) fn stands<B: Blocks>(store: &mut B, head: &mut Head, sent: Sent<'_>)
     requires { IsHeadQueue (B.value store.old) head.old.queue }
     ensures { IsHeadQueue (B.value store.new) head.new.queue }
 {
@@ -102,21 +102,21 @@ fn with_more(gotten: Gotten, control: bool, data: bool) -> Gotten {
     }
 }
 
-const ORDINARY: Prio = Prio::Band(Band(0));
+pub(super) const ORDINARY: Prio = Prio::Band(Band(0));
 
 const BANDED: Prio = Prio::Band(Band(2));
 
-const AB: &[u8] = b"ab";
+pub(super) const AB: &[u8] = b"ab";
 
 const CDE: &[u8] = b"cde";
 
 const ABCDE: &[u8] = b"abcde";
 
-const EMPTY: &[u8] = b"";
+pub(super) const EMPTY: &[u8] = b"";
 
-const BOTH: Sent<'static> = (BANDED, Some(AB), Some(CDE));
+pub(super) const BOTH: Sent<'static> = (BANDED, Some(AB), Some(CDE));
 
-const HIGH: Sent<'static> = (Prio::High, Some(AB), Some(CDE));
+pub(super) const HIGH: Sent<'static> = (Prio::High, Some(AB), Some(CDE));
 
 #[test]
 fn gets_give_the_message_that_is_asked_for(rt: HostRuntime) -> Result<(), Fail> {

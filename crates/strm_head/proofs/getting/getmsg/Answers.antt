@@ -6,6 +6,7 @@ use Rattle.strm_blocks.specs.Blocks.{list_at}
 use Rattle.strm_types.specs.Queue.{relieved, relieves}
 use Rattle.strm_queue.specs.Stored.{queue_in, messages_on}
 use Rattle.strm_queue.proofs.Kept.{keeps-counted, head-kept}
+use Rattle.strm_head.proofs.Left.{frees, frees-none}
 use Rattle.strm_head.proofs.Found.{found, told-found, gives-found, count-found, queue-goes, queue-waits, went-goes, went-waits}
 use Rattle.strm_head.proofs.getting.getmsg.Goals as goal
 
@@ -100,3 +101,16 @@ returns-else-count-gt0-clause-went g c =
     let zero : n ≡ 0 = omega (arith, c.if-count-gt0.false) in
     let none : nat_lt 0 n ≡ false = grind (arith, nat_tests) in
     none ∙ went-waits c.args.wanted c.args.cmax c.args.dmax q _ f.got f.some n count zero
+
+pub returns-then-count-gt0-clause-frees : goal.returns-then-count-gt0-clause-frees
+returns-then-count-gt0-clause-frees g c =
+    frees (g.B.Blocks.value c.args.store.now) (g.B.Blocks.value c.take_first-got.new.store) c.args.queue.now c.take_first-got.new.queue c.audit.ensures c.audit-2.ensures
+    c.take_first-got.ensures.keeps c.take_first-got.ensures.leaves
+
+pub returns-else-count-gt0-clause-frees : goal.returns-else-count-gt0-clause-frees
+returns-else-count-gt0-clause-frees g c =
+    frees (g.B.Blocks.value c.args.store.now) (g.B.Blocks.value c.take_first-got.new.store) c.args.queue.now c.take_first-got.new.queue c.audit.ensures c.audit-2.ensures
+    c.take_first-got.ensures.keeps c.take_first-got.ensures.leaves
+
+pub returns-then-not-finds-clause-frees : goal.returns-then-not-finds-clause-frees
+returns-then-not-finds-clause-frees g c = frees-none (g.B.Blocks.value c.args.store.now) c.args.queue.now.list

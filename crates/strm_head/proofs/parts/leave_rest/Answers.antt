@@ -1,33 +1,42 @@
--- The blocks from which bytes are trimmed have that many.
-use Rattle.std.proofs.Common.{◌≤◌, ◌∙◌, length, sym, ap, subst}
-use Rattle.strm_blocks.specs.Blocks.{in_hand, changed, IsInHand}
-use Rattle.strm_msg.specs.Adjusted.{without_head}
-use Rattle.strm_msg.specs.Bytes.{bytes_of}
-use Rattle.strm_msg.specs.Runs.{front_run}
-use Rattle.strm_msg.proofs.Hands.{changed-chain, changed-in_hand, changed-twice}
-use Rattle.strm_head.specs.Parted.{joined_chain, rest_chain}
-use Rattle.strm_head.proofs.Resting.{rest-is}
+-- The bytes that are trimmed are those of the control part and then those of the data part.
+use Rattle.std.proofs.Common.{◌≡◌, ◌-◌, ◌∙◌, length, sym, ap, subst, arith}
+use Rattle.std.proofs.lemmas.List.{length-drop}
+use Rattle.strm_blocks.specs.Blocks.{in_hand, changed, dropped, IsInHand, trimmed_head}
+use Rattle.strm_msg.specs.Adjusted.{trimmed_by}
+use Rattle.strm_msg.specs.Bytes.{bytes_of, control_bytes}
+use Rattle.strm_msg.specs.Emptied.{without_emptied}
+use Rattle.strm_msg.proofs.AdjustingBytes.{trimmed-heads}
+use Rattle.strm_msg.proofs.Cutting.{front-cut}
+use Rattle.strm_msg.proofs.Hands.{changed-chain, changed-in_hand, dropped-changed}
+use Rattle.strm_head.specs.Parted.{cut_by}
 use Rattle.strm_head.proofs.parts.leave_rest.Goals as goal
 
-pub trim_front-requires-clause-in_hand : goal.trim_front-requires-clause-in_hand
-trim_front-requires-clause-in_hand g c =
+pub free_emptied-requires-clause-in_hand : goal.free_emptied-requires-clause-in_hand
+free_emptied-requires-clause-in_hand g c =
     let s = g.B.Blocks.value c.args.store.now in
-    let i = g.B.Blocks.name c.args.message.now in
-    subst (λ v. IsInHand v i) (sym c.join_parts.ensures) (changed-in_hand s i (joined_chain c.args.n (in_hand s i)) i c.requires.in_hand)
+    let i = g.B.Blocks.name c.args.message in
+    subst (λ v. IsInHand v i) (sym c.trim_front.ensures) (changed-in_hand s i (trimmed_by trimmed_head c.args.n (in_hand s i)) i c.requires.in_hand)
 
-pub trim_front-requires-clause-has : goal.trim_front-requires-clause-has
-trim_front-requires-clause-has g c =
+pub free_emptied-requires-clause-some : goal.free_emptied-requires-clause-some
+free_emptied-requires-clause-some g c =
     let s = g.B.Blocks.value c.args.store.now in
-    let i = g.B.Blocks.name c.args.message.now in
+    let i = g.B.Blocks.name c.args.message in
     let chain = in_hand s i in
-    let r = rest-is c.args.n chain c.requires.chain c.requires.less c.requires.data in
-    subst (λ xs. c.args.n ≤ length (bytes_of (front_run xs))) (sym (ap (λ v. in_hand v i) c.join_parts.ensures ∙ changed-chain s i (joined_chain c.args.n chain) c.requires.in_hand)) r.has
+    let cut = trimmed_by trimmed_head c.args.n chain in
+    let now = ap (λ v. in_hand v i) c.trim_front.ensures ∙ changed-chain s i cut c.requires.in_hand in
+    omega (arith, ap (λ xs. length (bytes_of xs)) now, ap length (trimmed-heads c.args.n chain), length-drop c.args.n (bytes_of chain), c.requires.less)
 
 pub returns : goal.returns
 returns g c =
     let s = g.B.Blocks.value c.args.store.now in
-    let t = g.B.Blocks.value c.join_parts.new.store in
-    let i = g.B.Blocks.name c.args.message.now in
+    let t = g.B.Blocks.value c.trim_front.new.store in
+    let i = g.B.Blocks.name c.args.message in
     let chain = in_hand s i in
-    c.trim_front.ensures ∙ ap (λ xs. changed t i (without_head c.args.n xs)) (ap (λ v. in_hand v i) c.join_parts.ensures ∙ changed-chain s i (joined_chain c.args.n chain) c.requires.in_hand)
-    ∙ ap (λ v. changed v i (rest_chain c.args.n chain)) c.join_parts.ensures ∙ changed-twice s i (joined_chain c.args.n chain) (rest_chain c.args.n chain)
+    let cut = cut_by c.args.n (c.args.n - length (control_bytes chain)) chain in
+    let trimmed : t ≡ changed s i cut = c.trim_front.ensures ∙ ap (changed s i) (front-cut c.args.n chain c.requires.chain c.requires.data) in
+    let b = c.free_emptied.ensures in
+    record {
+      here = b.here;
+      chain_is = b.chain_is ∙ ap without_emptied (ap (λ v. in_hand v i) trimmed ∙ changed-chain s i cut c.requires.in_hand);
+      others = b.others ∙ ap (λ v. dropped v i) trimmed ∙ dropped-changed s i cut;
+    }

@@ -1,8 +1,11 @@
 -- What is passed over goes where a message is taken behind, and else all stay.
-use Rattle.std.proofs.Common.{◌≡◌, ◌∙◌, true, sym, ap, subst}
+use Rattle.std.proofs.Common.{◌≡◌, ◌∙◌, true, refl, sym, ap, subst}
+use Rattle.strm_blocks.specs.Blocks.{list_at}
 use Rattle.strm_queue.specs.Stored.{messages_on}
 use Rattle.strm_queue.proofs.Kept.{head-kept, keeps-both, keeps-none, flags-both}
 use Rattle.strm_head.specs.Drawing.{drawn_on, Stepped, behind_passed, first_goes}
+use Rattle.strm_head.specs.Leaving.{StepLeaves}
+use Rattle.strm_head.proofs.Left.{step-behind, step-taken, taken-none}
 use Rattle.strm_head.proofs.Draws.{stays, stepped-from}
 use Rattle.strm_head.proofs.Passed.{drawn-behind, all-stay}
 use Rattle.strm_head.proofs.Returned.{flags-none}
@@ -53,3 +56,18 @@ returns-clause-keeps g c =
 
 pub returns-clause-flags : goal.returns-clause-flags
 returns-clause-flags g c = flags-both c.args.queue.now c.drop_passed.new.queue c.take_first.new.queue c.drop_passed.ensures.flags c.take_first.ensures.flags
+
+pub returns-then-not-takes_one-clause-leaves : goal.returns-then-not-takes_one-clause-leaves
+returns-then-not-takes_one-clause-leaves g c =
+    let q = list_at (g.B.Blocks.value c.args.store.now) c.args.queue.now.list in
+    step-taken 0 q q (taken-none q q refl)
+
+pub returns-clause-leaves : goal.returns-clause-leaves
+returns-clause-leaves g c =
+    let s = g.B.Blocks.value c.args.store.now in
+    let t = g.B.Blocks.value c.drop_passed.new.store in
+    let u = g.B.Blocks.value c.take_first.new.store in
+    let k = c.args.queue.now.list in
+    let more = c.take_first.result.more in
+    step-behind more (list_at s k) (list_at t k) (list_at u k) c.drop_passed.ensures.taken
+    (subst (λ l. StepLeaves more (list_at t l) (list_at u l)) c.drop_passed.ensures.keeps.list c.take_first.ensures.leaves)

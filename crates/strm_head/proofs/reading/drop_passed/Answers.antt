@@ -1,8 +1,11 @@
 -- Each message that goes is one that is passed over.
-use Rattle.std.proofs.Common.{◌≡◌, ◌∙◌, true, drop, sym, ap, subst}
+use Rattle.std.proofs.Common.{◌≡◌, ◌∙◌, true, drop, refl, sym, ap, subst}
+use Rattle.strm_blocks.specs.Blocks.{list_at}
 use Rattle.strm_queue.specs.Stored.{messages_on}
 use Rattle.strm_queue.proofs.Kept.{head-kept, keeps-both, keeps-none, flags-both}
 use Rattle.strm_head.proofs.Returned.{flags-none}
+use Rattle.strm_head.specs.Leaving.{Taken}
+use Rattle.strm_head.proofs.Left.{taken-both, taken-none}
 use Rattle.strm_head.specs.Drawing.{behind_passed, first_passed}
 use Rattle.strm_head.proofs.Passed.{passed-gone, none-passed, passes-none}
 use Rattle.strm_head.proofs.reading.drop_passed.Goals as goal
@@ -34,6 +37,7 @@ loop-passed-preserved g c =
     record {
       passed = c.first_passed-passed-in-loop-passed.ensures ∙ ap (λ k. first_passed c.args.control (messages_on u k)) keeps.list;
       left = ap (behind_passed c.args.control) gone ∙ passed-gone c.args.control (messages_on t q.list) is ∙ l.invariant.left;
+      taken = taken-both (list_at s q.list) (list_at t q.list) (list_at u q.list) l.invariant.taken (subst (λ k. Taken (list_at t k) (list_at u k)) l.invariant.keeps.list c.drop_first.ensures.taken);
       flags = flags-both q l.queue c.drop_first.new.queue l.invariant.flags c.drop_first.ensures.flags;
       keeps = keeps;
     }
@@ -52,3 +56,8 @@ returns-then-not-drops_control-clause-flags g c = flags-none c.args.queue.now
 
 pub returns-then-not-drops_control-clause-keeps : goal.returns-then-not-drops_control-clause-keeps
 returns-then-not-drops_control-clause-keeps g c = keeps-none (g.B.Blocks.value c.args.store.now) c.args.queue.now c.requires.ready.ready
+
+pub returns-then-not-drops_control-clause-taken : goal.returns-then-not-drops_control-clause-taken
+returns-then-not-drops_control-clause-taken g c =
+    let q = list_at (g.B.Blocks.value c.args.store.now) c.args.queue.now.list in
+    taken-none q q refl

@@ -1,5 +1,7 @@
 use Rattle.std.proofs.Common.{◌≡◌, length}
+use Rattle.strm_blocks.specs.Blocks.{list_at}
 use Rattle.strm_queue.specs.Stored.{messages_on, SameFlags, Keeps}
+use Rattle.strm_head.specs.Leaving.{Taken}
 use Rattle.strm_head.specs.Drawing.{behind_passed, first_passed}
 use Rattle.strm_head.proofs.reading.drop_passed.Given as goal
 
@@ -9,6 +11,7 @@ invariant-loop-passed g l =
     record {
       passed : l.passed ≡ first_passed l.initial.control now;
       left : behind_passed l.initial.control now ≡ behind_passed l.initial.control (messages_on (g.B.Blocks.value l.initial.store) l.initial.queue.list);
+      taken : Taken (list_at (g.B.Blocks.value l.initial.store) l.initial.queue.list) (list_at (g.B.Blocks.value l.store) l.initial.queue.list);
       flags : SameFlags l.initial.queue l.queue;
       keeps : Keeps (g.B.Blocks.value l.initial.store) (g.B.Blocks.value l.store) l.initial.queue l.queue;
     }

@@ -1,4 +1,6 @@
-use Rattle.std.proofs.Common.{◌≡◌, ◌≤◌, ◌<◌, ◌+◌, ◌++◌, Bool, true, false, length}
+use Rattle.std.proofs.Common.{◌≡◌, ◌≤◌, ◌<◌, ◌+◌, ◌++◌, true, false, length}
+use Rattle.strm_blocks.specs.Blocks.{list_at}
+use Rattle.strm_head.specs.Leaving.{StepLeaves}
 use Rattle.strm_head.specs.Drawing.{behind_passed, drawn_on, first_goes}
 use Rattle.strm_queue.specs.Stored.{messages_on, SameFlags, Keeps}
 use Rattle.strm_head.proofs.reading.gather.Given as goal
@@ -14,6 +16,7 @@ invariant-loop-wanted g l =
       goes : l.begun ≡ false → first_goes l.initial.control false (behind_passed l.initial.control (messages_on (g.B.Blocks.value l.store) l.initial.queue.list)) ≡ true;
       none : 0 < l.wanted → l.discarded ≡ 0;
       fits : length l.out.items + l.wanted ≤ length l.initial.out.items + l.initial.wanted;
+      steps : StepLeaves l.wanted (list_at (g.B.Blocks.value l.initial.store) l.initial.queue.list) (list_at (g.B.Blocks.value l.store) l.initial.queue.list);
       flags : SameFlags l.initial.queue l.queue;
       keeps : Keeps (g.B.Blocks.value l.initial.store) (g.B.Blocks.value l.store) l.initial.queue l.queue;
     }

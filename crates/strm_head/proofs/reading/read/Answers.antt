@@ -6,6 +6,7 @@ use Rattle.strm_types.proofs.ReadRefuses.{takes-none}
 use Rattle.strm_blocks.specs.Blocks.{list_at}
 use Rattle.strm_queue.specs.Stored.{messages_on, queue_in}
 use Rattle.strm_queue.proofs.Kept.{keeps-none, keeps-counted, keeps-from}
+use Rattle.strm_head.proofs.Left.{frees, frees-none}
 use Rattle.strm_head.proofs.Seen.{takes-first}
 use Rattle.strm_head.proofs.Told.{told-none, told-some, queue-none, queue-some, goes-none, goes-some, queue-left, dropped-is}
 use Rattle.strm_head.proofs.reading.read.Goals as goal
@@ -129,3 +130,22 @@ returns-else-went-clause-told g c =
     let dropped : length d.dropped ≡ c.missing-dropped.result = dropped-is c.args.read c.args.control c.args.n s t c.args.queue.now _ c.gather-discarded.new.queue c.droppable-before.result c.droppable-after.result c.len.result c.gather-discarded.result c.requires.ready gathered.keeps refl gathered.left c.droppable-before.ensures c.droppable-after.ensures (sym given ∙ sym c.len.ensures.value) gathered.discarded ∙ sym c.missing-dropped.ensures in
     c.tell.ensures d (sym given ∙ sym c.len-2.ensures.value) (sym gathered.discarded) dropped
     ∙ told-some c.args.direction c.args.read c.args.control c.args.n q c.args.fates.now (sym c.takes_none.ensures ∙ c.if-takes_none.false)
+
+pub returns-then-takes_none-clause-frees : goal.returns-then-takes_none-clause-frees
+returns-then-takes_none-clause-frees g c = frees-none (g.B.Blocks.value c.args.store.now) c.args.queue.now.list
+
+pub returns-then-went-clause-frees : goal.returns-then-went-clause-frees
+returns-then-went-clause-frees g c =
+    let s = g.B.Blocks.value c.args.store.now in
+    let t = g.B.Blocks.value c.gather-discarded.new.store in
+    let q = c.args.queue.now in
+    let p = c.gather-discarded.new.queue in
+    frees s t q p c.audit.ensures c.audit-2.ensures (keeps-from s t q _ p refl c.gather-discarded.ensures.keeps) c.gather-discarded.ensures.leaves
+
+pub returns-else-went-clause-frees : goal.returns-else-went-clause-frees
+returns-else-went-clause-frees g c =
+    let s = g.B.Blocks.value c.args.store.now in
+    let t = g.B.Blocks.value c.gather-discarded.new.store in
+    let q = c.args.queue.now in
+    let p = c.gather-discarded.new.queue in
+    frees s t q p c.audit.ensures c.audit-2.ensures (keeps-from s t q _ p refl c.gather-discarded.ensures.keeps) c.gather-discarded.ensures.leaves

@@ -1,25 +1,26 @@
 -- The first message gives its bytes, and is freed or put back with what it has left.
-use Rattle.std.proofs.Common.{◌-◌, ◌≡◌, ◌∙◌, ◌++◌, ◌<◌, true, false, map, length, take, min, sym, ap, subst, arith}
+use Rattle.std.proofs.Common.{◌-◌, ◌≡◌, ◌∙◌, ◌++◌, ◌<◌, true, false, map, length, take, min, refl, sym, ap, subst, arith}
 use Rattle.std.specs.Bool.{OnTrue, OnFalse}
 use Rattle.strm_types.specs.Queue as plain
 use Rattle.strm_types.specs.Flush.{is_data_kind, counted_band}
 use Rattle.strm_types.specs.Reads.{offered}
 use Rattle.strm_blocks.specs.Blocks.{placed, dropped, put_back, in_hand, list_at, block_at}
-use Rattle.strm_msg.specs.Bytes.{bytes_of}
+use Rattle.strm_msg.specs.Bytes.{bytes_of, control_bytes}
 use Rattle.strm_msg.specs.Messages.{message_of, AreMessages, IsChain}
 use Rattle.strm_queue.specs.Stored.{messages_on, HoldsReadable}
-use Rattle.strm_queue.proofs.Gotten.{has-list, before, behind, freed-keeps}
+use Rattle.strm_queue.proofs.Gotten.{has-list, before, behind, off, freed-keeps}
 use Rattle.strm_queue.proofs.Holding.{first-chain, first-holds}
 use Rattle.strm_head.specs.Drawing.{discards, first_goes, more_behind}
-use Rattle.strm_head.specs.Parted.{shown_chain, rest_chain}
+use Rattle.strm_head.specs.Parted.{cut_by, shown_chain, rest_chain}
 use Rattle.strm_head.proofs.Draws.{kept, freed}
-use Rattle.strm_head.proofs.Resting.{rest-is}
-use Rattle.strm_head.proofs.Returned.{changed-once, held-is, changed-again, freed-held, put-held, held-messages, held-keeps, flags-taken, band-within}
+use Rattle.strm_head.proofs.Left.{step-part, step-taken, taken-first}
+use Rattle.strm_head.proofs.Rests.{alike, rest-read}
+use Rattle.strm_head.proofs.Returned.{changed-once, held-is, freed-held, beside-held, put-rest, part-taken, held-messages, held-keeps, flags-taken, band-within}
 use Rattle.strm_head.proofs.Showing.{shows}
 use Rattle.strm_head.proofs.reading.take_first.Goals as goal
 
-pub leave_rest-requires-clause-chain : goal.leave_rest-requires-clause-chain
-leave_rest-requires-clause-chain g c =
+pub leave_rest-rest-requires-clause-chain : goal.leave_rest-rest-requires-clause-chain
+leave_rest-rest-requires-clause-chain g c =
     let s = g.B.Blocks.value c.args.store.now in
     let got = g.B.Blocks.value c.getq.new.store in
     let t = g.B.Blocks.value c.show.new.store in
@@ -34,8 +35,8 @@ leave_rest-requires-clause-chain g c =
     let here = held-is s got q.list i within p (shown_chain c.args.control p.message) t (changed-once s got q.list i within p (shown_chain c.args.control) t c.show.ensures) in
     subst IsChain (sym here) v.one
 
-pub leave_rest-requires-clause-data : goal.leave_rest-requires-clause-data
-leave_rest-requires-clause-data g c =
+pub leave_rest-rest-requires-clause-data : goal.leave_rest-rest-requires-clause-data
+leave_rest-rest-requires-clause-data g c =
     let s = g.B.Blocks.value c.args.store.now in
     let got = g.B.Blocks.value c.getq.new.store in
     let t = g.B.Blocks.value c.show.new.store in
@@ -55,7 +56,6 @@ putbq-requires-clause-band g c =
     let s = g.B.Blocks.value c.args.store.now in
     let got = g.B.Blocks.value c.getq.new.store in
     let t = g.B.Blocks.value c.show.new.store in
-    let u = g.B.Blocks.value c.leave_rest.new.store in
     let i = g.B.Blocks.name c.in-Some.message in
     let q = c.args.queue.now in
     let ready = c.requires.ready in
@@ -69,17 +69,17 @@ putbq-requires-clause-band g c =
     let here = held-is s got q.list i within p chain t t_is in
     let why = subst (λ b. OnTrue b ((c.args.wanted < c.message_size-len.result) × (discards c.args.read ≡ false))) c.if-keeps_rest.true c.keeps_rest.ensures.keeps in
     let less : c.args.wanted < length (bytes_of chain) = omega (arith, why.0, c.message_size-len.ensures.bytes, ap (λ xs. length (bytes_of xs)) here) in
-    let r = rest-is c.args.wanted chain v.one less (ap is_data_kind v.kind ∙ readable) in
-    let u_is = changed-again s got q.list i within p chain t t_is (rest_chain c.args.wanted) u c.leave_rest.ensures in
-    subst (λ xs. counted_band (block_at 0 xs).kind (block_at 0 xs).band < 8) (sym (held-is s got q.list i within p (rest_chain c.args.wanted chain) u u_is)) (band-within (rest_chain c.args.wanted chain) r.one)
+    let r = rest-read c.args.wanted chain v.one less (ap is_data_kind v.kind ∙ readable) in
+    let u = g.B.Blocks.value c.leave_rest-rest.new.store in
+    let j = g.B.Blocks.name c.leave_rest-rest.result in
+    let b = beside-held s got q.list i within p chain t t_is (rest_chain c.args.wanted) u j c.leave_rest-rest.ensures in
+    subst (λ xs. counted_band (block_at 0 xs).kind (block_at 0 xs).band < 8) (sym b.chain_is) (band-within (rest_chain c.args.wanted chain) r.one)
 
 pub returns-then-keeps_rest-clause-took : goal.returns-then-keeps_rest-clause-took
 returns-then-keeps_rest-clause-took g c = λ begun takes.
     let s = g.B.Blocks.value c.args.store.now in
     let got = g.B.Blocks.value c.getq.new.store in
     let t = g.B.Blocks.value c.show.new.store in
-    let u = g.B.Blocks.value c.leave_rest.new.store in
-    let new = g.B.Blocks.value c.putbq.new.store in
     let i = g.B.Blocks.name c.in-Some.message in
     let q = c.args.queue.now in
     let ready = c.requires.ready in
@@ -95,25 +95,50 @@ returns-then-keeps_rest-clause-took g c = λ begun takes.
     let here = held-is s got q.list i within p chain t t_is in
     let bytes_is = ap bytes_of here ∙ v.bytes in
     let why = subst (λ b. OnTrue b ((c.args.wanted < c.message_size-len.result) × (discards c.args.read ≡ false))) c.if-keeps_rest.true c.keeps_rest.ensures.keeps in
-    let len_is : c.message_size-len.result ≡ length (offered c.args.control m) = c.message_size-len.ensures.bytes ∙ ap length bytes_is in
-    let less : c.args.wanted < length (offered c.args.control m) = omega (arith, why.0, len_is) in
-    let part_is : c.min-part.result ≡ c.args.wanted = omega (arith, c.min-part.ensures, less, len_is) in
-    let r = rest-is c.args.wanted chain v.one (omega (arith, less, ap length v.bytes)) (ap is_data_kind v.kind ∙ readable) in
-    let u_is = changed-again s got q.list i within p chain t t_is (rest_chain c.args.wanted) u c.leave_rest.ensures in
-    let b = put-held s got q.list i within p (rest_chain c.args.wanted chain) u u_is new (c.putbq.ensures.placed ∙ ap (λ l. placed (dropped u i) l (put_back (in_hand u i) (list_at u l))) c.getq.ensures.list) in
+    let less : c.args.wanted < length (bytes_of chain) = omega (arith, why.0, c.message_size-len.ensures.bytes, ap (λ xs. length (bytes_of xs)) here) in
+    let r = rest-read c.args.wanted chain v.one less (ap is_data_kind v.kind ∙ readable) in
+    let part_is : c.min-part.result ≡ c.args.wanted = omega (arith, c.min-part.ensures, why.0) in
+    let u = g.B.Blocks.value c.leave_rest-rest.new.store in
+    let j = g.B.Blocks.name c.leave_rest-rest.result in
+    let new = g.B.Blocks.value c.putbq.new.store in
+    let b = beside-held s got q.list i within p chain t t_is (rest_chain c.args.wanted) u j c.leave_rest-rest.ensures in
+    let landed = put-rest s got q.list i within p (rest_chain c.args.wanted chain) u new j b (c.putbq.ensures.placed ∙ ap (λ l. placed (dropped u j) l (put_back (in_hand u j) (list_at u l))) c.getq.ensures.list) in
     let stood = before s got q.list i within p in
     kept c.args.read c.args.control begun c.args.wanted m rest (messages_on s q.list) (messages_on new q.list) c.args.out.now.items c.copy_into.new.out.items c.requires.some stood
-    (sym (ap (first_goes c.args.control begun) stood) ∙ takes) less why.1
-    (held-messages s got q.list i within p (rest_chain c.args.wanted chain) new b ∙ ap (λ x. plain.put_back x rest) (r.is ∙ v.rest c.args.wanted))
+    (sym (ap (first_goes c.args.control begun) stood) ∙ takes) (omega (arith, less, ap length v.bytes)) why.1
+    (held-messages s got q.list i within p (rest_chain c.args.wanted chain) new landed ∙ ap (λ x. plain.put_back x rest) (r.is ∙ v.rest c.args.wanted))
     (c.copy_into.ensures ∙ ap (λ xs. c.args.out.now.items ++ take c.min-part.result xs) bytes_is ∙ ap (λ n. c.args.out.now.items ++ take n (offered c.args.control m)) part_is)
+
+pub returns-then-keeps_rest-clause-leaves : goal.returns-then-keeps_rest-clause-leaves
+returns-then-keeps_rest-clause-leaves g c =
+    let s = g.B.Blocks.value c.args.store.now in
+    let got = g.B.Blocks.value c.getq.new.store in
+    let t = g.B.Blocks.value c.show.new.store in
+    let i = g.B.Blocks.name c.in-Some.message in
+    let q = c.args.queue.now in
+    let ready = c.requires.ready in
+    let p = c.in-Some.ensures.taken in
+    let within = has-list s q c.audit.ensures in
+    let one = first-chain p.message p.rest (subst AreMessages p.joined ready.ready.messages) in
+    let readable = first-holds is_data_kind p.message p.rest (subst HoldsReadable p.joined ready.readable) in
+    let v = shows p.message one readable c.args.control in
+    let chain = shown_chain c.args.control p.message in
+    let t_is = changed-once s got q.list i within p (shown_chain c.args.control) t c.show.ensures in
+    let here = held-is s got q.list i within p chain t t_is in
+    let u = g.B.Blocks.value c.leave_rest-rest.new.store in
+    let j = g.B.Blocks.name c.leave_rest-rest.result in
+    let new = g.B.Blocks.value c.putbq.new.store in
+    let b = beside-held s got q.list i within p chain t t_is (rest_chain c.args.wanted) u j c.leave_rest-rest.ensures in
+    let landed = put-rest s got q.list i within p (rest_chain c.args.wanted chain) u new j b (c.putbq.ensures.placed ∙ ap (λ l. placed (dropped u j) l (put_back (in_hand u j) (list_at u l))) c.getq.ensures.list) in
+    let d = c.args.wanted - length (control_bytes chain) in
+    step-part 0 (list_at s q.list) (list_at new q.list) refl
+    (part-taken s got q.list i within p (rest_chain c.args.wanted chain) (cut_by c.args.wanted d chain) new (alike c.args.wanted d chain v.one (ap is_data_kind v.kind ∙ readable) ∙ v.blocks) refl landed)
 
 pub returns-then-keeps_rest-clause-keeps : goal.returns-then-keeps_rest-clause-keeps
 returns-then-keeps_rest-clause-keeps g c =
     let s = g.B.Blocks.value c.args.store.now in
     let got = g.B.Blocks.value c.getq.new.store in
     let t = g.B.Blocks.value c.show.new.store in
-    let u = g.B.Blocks.value c.leave_rest.new.store in
-    let new = g.B.Blocks.value c.putbq.new.store in
     let i = g.B.Blocks.name c.in-Some.message in
     let q = c.args.queue.now in
     let ready = c.requires.ready in
@@ -127,10 +152,13 @@ returns-then-keeps_rest-clause-keeps g c =
     let here = held-is s got q.list i within p chain t t_is in
     let why = subst (λ b. OnTrue b ((c.args.wanted < c.message_size-len.result) × (discards c.args.read ≡ false))) c.if-keeps_rest.true c.keeps_rest.ensures.keeps in
     let less : c.args.wanted < length (bytes_of chain) = omega (arith, why.0, c.message_size-len.ensures.bytes, ap (λ xs. length (bytes_of xs)) here) in
-    let r = rest-is c.args.wanted chain v.one less (ap is_data_kind v.kind ∙ readable) in
-    let u_is = changed-again s got q.list i within p chain t t_is (rest_chain c.args.wanted) u c.leave_rest.ensures in
-    let b = put-held s got q.list i within p (rest_chain c.args.wanted chain) u u_is new (c.putbq.ensures.placed ∙ ap (λ l. placed (dropped u i) l (put_back (in_hand u i) (list_at u l))) c.getq.ensures.list) in
-    held-keeps s got new q c.putbq.new.self i within p (rest_chain c.args.wanted chain) ready.ready r.one (λ test passes same. r.kind test passes (ap test v.kind ∙ same)) b
+    let r = rest-read c.args.wanted chain v.one less (ap is_data_kind v.kind ∙ readable) in
+    let u = g.B.Blocks.value c.leave_rest-rest.new.store in
+    let j = g.B.Blocks.name c.leave_rest-rest.result in
+    let new = g.B.Blocks.value c.putbq.new.store in
+    let b = beside-held s got q.list i within p chain t t_is (rest_chain c.args.wanted) u j c.leave_rest-rest.ensures in
+    let landed = put-rest s got q.list i within p (rest_chain c.args.wanted chain) u new j b (c.putbq.ensures.placed ∙ ap (λ l. placed (dropped u j) l (put_back (in_hand u j) (list_at u l))) c.getq.ensures.list) in
+    held-keeps s got new q c.putbq.new.self i within p (rest_chain c.args.wanted chain) ready.ready r.one (λ test passes same. r.kind test passes (ap test v.kind ∙ same)) landed
     (c.putbq.ensures.others.list ∙ c.getq.ensures.list) c.putbq.ensures.counted
 
 pub returns-clause-took : goal.returns-clause-took
@@ -182,3 +210,18 @@ returns-clause-keeps g c =
 pub returns-then-keeps_rest-clause-flags : goal.returns-then-keeps_rest-clause-flags
 returns-then-keeps_rest-clause-flags g c =
     flags-taken c.args.queue.now c.putbq.new.self (c.putbq.ensures.flows ∙ c.in-Some.ensures.flows) (c.putbq.ensures.others.want_read ∙ c.in-Some.ensures.want_read) (c.putbq.ensures.others.no_enable ∙ c.in-Some.ensures.no_enable)
+
+pub returns-clause-leaves : goal.returns-clause-leaves
+returns-clause-leaves g c =
+    let s = g.B.Blocks.value c.args.store.now in
+    let got = g.B.Blocks.value c.getq.new.store in
+    let t = g.B.Blocks.value c.show.new.store in
+    let new = g.B.Blocks.value c.free.new.self in
+    let i = g.B.Blocks.name c.in-Some.message in
+    let q = c.args.queue.now in
+    let p = c.in-Some.ensures.taken in
+    let within = has-list s q c.audit.ensures in
+    let t_is = changed-once s got q.list i within p (shown_chain c.args.control) t c.show.ensures in
+    let is = freed-held s got q.list i within p (shown_chain c.args.control p.message) t t_is new c.free.ensures in
+    step-taken c.step_behind.result.more (list_at s q.list) (list_at new q.list)
+    (taken-first (list_at s q.list) (list_at new q.list) p.message p.rest p.joined (ap (λ w. list_at w q.list) is ∙ (off s got q.list i within p).here))

@@ -1,5 +1,5 @@
 -- Before a read has begun the one that it takes is known of.
-use Rattle.std.proofs.Common.{◌≡◌, ◌∙◌, true, false, not, sym, ap, subst}
+use Rattle.std.proofs.Common.{◌≡◌, ◌∙◌, true, false, sym, ap}
 use Rattle.strm_queue.specs.Stored.{messages_on}
 use Rattle.strm_head.specs.Drawing.{behind_passed, first_goes}
 use Rattle.strm_head.proofs.standing.takes_one.Goals as goal
