@@ -4,11 +4,11 @@ ghost use Rattle.std.specs.Prelude.{◌≤◌};
 
 use super::fresh;
 use super::gets::{AB, BOTH, EMPTY, HIGH, ORDINARY, Sent, stands};
-use strm_head::getmsg;
 use std::alloc::Global;
 use std::process::Abort;
 use std::test::Fail;
 use strm_blocks::{Blocks, TableStore};
+use strm_head::getmsg;
 use strm_types::{Content, ControlMode, Dir, Fates, Wanted};
 
 // Gets from a head at which a message stands, and looks at how many blocks of ten are free then.
