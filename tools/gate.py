@@ -1,13 +1,13 @@
 #!/usr/bin/env python3
-"""Runs the gate and writes the table of docs/GATE.md: what each part of it costs.
+"""Runs `rt ci` and says what each part of it costs: the table of docs/GATE.md.
 
-    tools/gate.py [--log FILE]
+    tools/gate.py [--write]
 
-Run it at the top of the repository, with nothing else at work on the machine. It runs `.ci/run`, whose output goes to FILE
-(default: /tmp/gate.log), and looks every tenth of a second at the checker's processes below it: what each has used of the
-processor counts for the proof, the tests or an edit of its crate. A crate's edits are tried in the order of their names: the
-first one pays for the crate's check from nothing too, and behind the last one the crate is checked once more as it is; these
-two are told apart as further checks. The status is that of the gate.
+Run it at the top of the repository; .ci/run does. The output is that of `rt ci`, then the table, and then the closing line of `rt ci`
+once more; the status is that of `rt ci`. --write puts the table into docs/GATE.md too, for a run with nothing else at work on the
+machine. It looks twice a second at the checker's processes: what each has used of the processor counts for the proof, the tests or an
+edit of its crate. A crate's edits are tried in the order of their names: the first one pays for the crate's check from nothing too,
+and behind the last one the crate is checked once more as it is; these two are told apart as further checks.
 """
 import argparse
 import collections
@@ -18,6 +18,7 @@ import resource
 import statistics
 import subprocess
 import sys
+import tempfile
 import time
 
 TICKS = os.sysconf("SC_CLK_TCK")
@@ -100,13 +101,12 @@ def look_around(gate, known, seen):
 
 
 def run_gate(log):
-    """The status of the gate, its processes, and its seconds by the clock and of the processor."""
+    """The status of `rt ci`, its processes, and its seconds by the clock and of the processor. Its output goes to a file too."""
     known, seen, began = {}, [], time.monotonic()
-    with open(log, "wb") as out:
-        gate = subprocess.Popen(["bash", ".ci/run"], stdin=subprocess.DEVNULL, stdout=out, stderr=subprocess.STDOUT)
-        while gate.poll() is None:
-            look_around(str(gate.pid), known, seen)
-            time.sleep(0.1)
+    gate = subprocess.Popen(["bash", "-o", "pipefail", "-c", 'rt ci 2>&1 | tee "$0"', log], stdin=subprocess.DEVNULL)
+    while gate.poll() is None:
+        look_around(str(gate.pid), known, seen)
+        time.sleep(0.5)
     used = resource.getrusage(resource.RUSAGE_CHILDREN)
     return gate.returncode, seen, time.monotonic() - began, used.ru_utime + used.ru_stime
 
@@ -154,13 +154,15 @@ def write_table(lines):
 
 def main():
     parser = argparse.ArgumentParser(description=__doc__, formatter_class=argparse.RawDescriptionHelpFormatter)
-    parser.add_argument("--log", default="/tmp/gate.log")
+    parser.add_argument("--write", action="store_true")
     asked = parser.parse_args()
-    status, seen, wall, used = run_gate(asked.log)
-    closing = (text_of(asked.log).rstrip("\n").splitlines() or [""])[-1]
+    with tempfile.TemporaryDirectory(prefix="gate-") as room:
+        status, seen, wall, used = run_gate(f"{room}/log")
+        closing = (text_of(f"{room}/log").rstrip("\n").splitlines() or ["0 passed, 1 failed"])[-1]
     lines = [*table(seen, wall, used, closing)]
-    print("\n".join(lines))
-    write_table(lines)
+    print("\n".join(["", *lines, "", closing]), flush=True)
+    if asked.write:
+        write_table(lines)
     sys.exit(status)
 
 
