@@ -1,5 +1,5 @@
 -- A write is its chunks, delivered one after the other, and what they took is booked.
-use Rattle.std.proofs.Common.{sym, ap, ◌∙◌, arith}
+use Rattle.std.proofs.Common.{ℕ, sym, ap, ◌∙◌, arith}
 use Rattle.strm_types.specs.declared.answers.Answer.TheVariants.{Count}
 use Rattle.strm_types.specs.declared.books.Book.{Book}
 use Rattle.strm_types.specs.Books.{with_written}
